@@ -34,7 +34,7 @@ front_passes p xs =
     let below : i < n = omega (arith, length-take n xs) in
     rw (get_or-take n xs i 0 below) (prefix_len_passes p xs i 0 below))
 
--- what stands behind the front has none
+-- what stands after the front has none
 pub no_front : (p : ℕ → Bool) (xs : List ℕ) → prefix_len p (drop (prefix_len p xs) xs) ≡ 0
 no_front p [] = refl
 no_front p (x ∷ xs) = by_test (p x) refl (no_front p xs)

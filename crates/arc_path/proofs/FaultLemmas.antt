@@ -22,7 +22,7 @@ use Rattle.arc_path.proofs.Ends.{front_passes, no_front, first_fails}
 use Rattle.arc_path.proofs.Found.{digit_count, digits_front, number_front, word_front, kind_front, bind_ok, passed, done, ok_is}
 use Rattle.arc_path.proofs.Meant.{same_length}
 
--- a fault of these pieces, at a place from which on so many bytes are left
+-- a fault of these pieces, at a place from which on that many bytes are left
 record Faulty (pieces : List Piece) (e : Early) (text : List ℕ) : Type 0 where
   place : ℕ
   is : IsFaultIn pieces e.kind place text
@@ -43,7 +43,7 @@ there piece pieces e text shown rest is stands behind =
       left = omega (arith, ap length is, length-append shown rest);
     }
 
--- a reader that failed, or one behind it
+-- a reader that failed, or one after it
 after : {A B : Type 0} (r : Result A Early) (f : A → Result B Early) (e : Early) (P : Type 0) → (r ≡ Err e → P)
     → ((x : A) → r ≡ Ok x → f x ≡ Err e → P) → (r >>= f) ≡ Err e → P
 after (Ok x) f e P bad good h = good x refl h
@@ -92,7 +92,7 @@ starts_so : (radix : ℕ) (text : List ℕ) → digit_count radix text ≡ 0 →
 starts_so radix [] none = tt
 starts_so radix (c ∷ text) none = first_fails (λ c. is_digit c radix) c text none
 
--- what stands behind the digits begins with none
+-- what stands after the digits begins with none
 behind_digits : (radix : ℕ) (text : List ℕ) → StartsNoDigit radix (drop (digit_count radix text) text)
 behind_digits radix text = starts_so radix _ (no_front (λ c. is_digit c radix) text)
 
@@ -187,7 +187,7 @@ item_stands word text x pieces e h behind =
 abbrev pub partition_pieces : List Piece → List Piece
 partition_pieces pieces = Name (codes "partition(") ∷ Counted ∷ Name (codes ")") ∷ pieces
 
--- a number that was read, which is zero, or a fault behind it
+-- a number that was read, which is zero, or a fault after it
 counted_lacks : (text : List ℕ) (x : ℕ × List ℕ) (pieces : List Piece) (e : Early) → number_at 10 9 text ≡ Ok x
     → cond (eqb x.0 0) (fault_at Partition text) (word_at (codes ")") x.1) ≡ Err e
     → Faulty (Counted ∷ Name (codes ")") ∷ pieces) e text
@@ -242,7 +242,7 @@ partition_stands text x pieces e h behind =
 
 -- ---- the directory
 
--- behind a `\`, the first byte that can't be printed
+-- after a `\`, the first byte that can't be printed
 unprintable : (c : ℕ) (text rest : List ℕ) (d n : ℕ) (e : Early) → c ≡ 92 → n ≡ prefix_len is_printable text
     → drop n text ≡ d ∷ rest → e.kind ≡ Tail → e.left ≡ length (drop n text) → Faulty [] e (c ∷ text)
 unprintable c text rest d n e slash count behind tail left =

@@ -119,12 +119,12 @@ only_closing (c ∷ []) e =
     ap (λ (d : ℕ). d ∷ []) (lower_closing c (eqb-true (to_ascii_lowercase c) 41 (and_parts _ true e).0))
 only_closing (c ∷ d ∷ name) e = absurd (false≢true (and_parts (eqb (to_ascii_lowercase c) 41) false e).1)
 
--- what stands behind a number: `)`, and the rest
+-- what stands after a number: `)`, and the rest
 pub closing_behind : (text rest : List ℕ) → word_at (codes ")") text ≡ Ok rest → text ≡ codes ")" ++ rest
 closing_behind text rest e =
     let w = word_front (codes ")") text rest e in w.1 ∙ ap (λ (t : List ℕ). t ++ rest) (only_closing w.0 w.2)
 
--- a word, a number and `)` one after the other
+-- a word, a number and `)` in sequence
 item_of : (word : List ℕ) (radix most : ℕ) (text inside : List ℕ) (x : ℕ × List ℕ) (rest : List ℕ)
     → Front (IsNamed word) text inside
     → Front (IsNumeral radix most x.0) inside x.1
@@ -249,7 +249,7 @@ is_92 c e = by_test (is_backslash c) refl e
     by_test true is e = eqb-true c 92 is
     by_test false is e = absurd (false≢true (sym e))
 
--- a directory that was found, with what was dropped behind it
+-- a directory that was found, with what was dropped after it
 found_dir : (text dir : List ℕ) (k : ℕ) → k ≡ length text - suffix_len is_backslash text → take k text ≡ dir
     → list_all is_printable text ≡ true → IsBehindBackslash dir (92 ∷ text)
 found_dir text dir k at is all =

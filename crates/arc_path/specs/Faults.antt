@@ -1,6 +1,6 @@
 -- Which fault of a text is the first from the left? (this project's own)
 --
--- Said from the pieces of a path, one after the other; `Reading.antt` says how a text is read, and the law
+-- Said from the pieces of a path, in sequence; `Reading.antt` says how a text is read, and the law
 -- `the_first_fault_from_the_left_is_named` that both name the same.
 use Rattle.std.specs.Prelude.{◌≡◌, ◌≢◌, ◌⊎◌, ℕ, ◌+◌, ◌<◌, min, true, false, List, [], ◌∷◌, ◌++◌, length, codes}
 use Rattle.std.specs.List.{list_all}
@@ -15,13 +15,13 @@ use Rattle.arc_path.specs.Reading.{radix_of, most_of}
 use Rattle.nt_bytes.specs.Text.{is_printable}
 use Rattle.arc_path.specs.Spelling.{IsNumeral, word_of}
 
--- what has to stand next: a word in either case, a number in so many digits at most, or a partition's number
+-- what has to stand next: a word in either case, a number in that many digits at most, or a partition's number
 pub data Piece : Type 0 where
   Name : List ℕ → Piece
   Digits : ℕ → ℕ → Piece
   Counted : Piece
 
--- the pieces behind the first word
+-- the pieces after the first word
 abbrev pub pieces_of : ArcKind → List Piece
 pieces_of kind =
     Digits (radix_of kind) (most_of kind) ∷ Name (codes ")") ∷ Name (codes "disk(") ∷ Digits 10 9 ∷ Name (codes ")") ∷ Name (codes "rdisk(") ∷ Digits 10 9
@@ -32,7 +32,7 @@ abbrev pub StartsNoDigit : ℕ → List ℕ → Type 0
 StartsNoDigit radix [] = Unit {0}
 StartsNoDigit radix (c ∷ text) = is_digit c radix ≡ false
 
--- the piece stands here, and the rest is behind it
+-- the piece stands here, and the rest is after it
 abbrev pub Stands : Piece → List ℕ → List ℕ → Type 0
 Stands (Name word) shown rest = str_eq_ignore_ascii_case shown word ≡ true
 Stands (Digits radix most) shown rest = (value : ℕ) × IsNumeral radix most value shown × StartsNoDigit radix rest
@@ -65,14 +65,14 @@ Lacks (Name word) kind text = (kind ≡ Word) × BeginsNot word text
 Lacks (Digits radix most) kind text = (kind ≡ Number) × HasNoNumber radix most text
 Lacks Counted kind text = ((kind ≡ Number) × HasNoNumber 10 9 text) ⊎ ((kind ≡ Partition) × HasZero text)
 
--- behind all pieces something other than `\` stands first, or behind `\` and what can be printed something that can't be
+-- after all pieces something other than `\` stands first, or after `\` and what can be printed something that can't be
 abbrev pub IsTailFault : ℕ → List ℕ → Type 0
 IsTailFault place text =
     ((place ≡ 0) × (c : ℕ) × (rest : List ℕ) × (text ≡ c ∷ rest) × (c ≢ 92))
     ⊎ ((front : List ℕ) × (c : ℕ) × (rest : List ℕ) × (text ≡ 92 ∷ (front ++ c ∷ rest)) × (list_all is_printable front ≡ true) × (is_printable c ≡ false)
     × (place ≡ length front + 1))
 
--- the first of these pieces is lacking here, or it stands here and the fault is behind it
+-- the first of these pieces is lacking here, or it stands here and the fault is after it
 abbrev pub IsFaultIn : List Piece → ArcFaultKind → ℕ → List ℕ → Type 0
 IsFaultIn [] kind place text = (kind ≡ Tail) × IsTailFault place text
 IsFaultIn (piece ∷ pieces) kind place text =
@@ -80,7 +80,7 @@ IsFaultIn (piece ∷ pieces) kind place text =
     ⊎ ((shown : List ℕ) × (rest : List ℕ) × (behind : ℕ) × (text ≡ shown ++ rest) × Stands piece shown rest × IsFaultIn pieces kind behind rest
     × (place ≡ length shown + behind))
 
--- no first word stands at the front, or one does and the fault is behind it
+-- no first word is at the front, or one does and the fault is after it
 abbrev pub IsFaultAt : ArcFaultKind → ℕ → List ℕ → Type 0
 IsFaultAt kind place text =
     ((kind ≡ Kind) × ((k : ArcKind) → BeginsNot (word_of k) text) × (place ≡ 0))

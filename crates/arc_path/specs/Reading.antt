@@ -1,5 +1,5 @@
 -- An ARC path from left to right, with the first fault that is met (Microsoft's documentation of boot.ini; the faults and
--- their places are this project's own). A fault is told by how many bytes of the text are left where it stands.
+-- their places are this project's own). A fault is known from how many bytes of the text are left where it stands.
 use Rattle.std.specs.Prelude.{◌≡◌, ℕ, ◌-◌, min, ◌||◌, not, List, [], ◌∷◌, length, take, drop, Result, Ok, Err, nat_lt, ◌==◌, if◌then◌else◌, codes}
 use Rattle.std.specs.Char.{is_digit}
 use Rattle.std.specs.List.{prefix_len, suffix_len}
@@ -27,7 +27,7 @@ abbrev pub ◌>>=◌ : {A B : Type 0} → Result A Early → (A → Result B Ear
 abbrev pub fault_at : {A : Type 0} → ArcFaultKind → List ℕ → Result A Early
 fault_at kind rest = Err (record { kind = kind; left = length rest })
 
--- what stands behind the word, which is read in either case
+-- what stands after the word, which is read in either case
 unfoldable pub word_at : List ℕ → List ℕ → Result (List ℕ) Early
 word_at word text = if str_eq_ignore_ascii_case (take (length word) text) word then Ok (drop (length word) text) else fault_at Word text
 
@@ -45,7 +45,7 @@ item_at word text = do
   rest ← word_at (codes ")") number.1
   Ok (number.0, rest)
 
--- the first word, in either case, and what stands behind its `(`
+-- the first word, in either case, and what stands after its `(`
 unfoldable pub kind_at : List ℕ → Result (ArcKind × List ℕ) Early
 kind_at text =
     if str_eq_ignore_ascii_case (take 6 text) (codes "multi(") then Ok (Multi, drop 6 text)
@@ -59,7 +59,7 @@ radix_of Multi = 10
 radix_of Scsi = 10
 radix_of Signature = 16
 
--- how many digits a number behind the first word may have
+-- how many digits a number after the first word may have
 abbrev pub most_of : ArcKind → ℕ
 most_of Multi = 9
 most_of Scsi = 9
@@ -73,7 +73,7 @@ partition_at text = do
   rest ← if number.0 == 0 then fault_at Partition inside else word_at (codes ")") number.1
   Ok (number.0, rest)
 
--- the numbers, and what stands behind them
+-- the numbers, and what stands after them
 unfoldable pub numbers_at : List ℕ → Result (Numbers × List ℕ) Early
 numbers_at text = do
   kind ← kind_at text

@@ -16,7 +16,7 @@ use Rattle.nt_bytes.specs.Text.{is_backslash, is_printable}
 
 -- ---- every text of a path
 
--- digits that write the value: one or more, at most so many, leading zeros among them
+-- digits that write the value: one or more, at most that many, leading zeros among them
 pub record IsNumeral (radix most value : ℕ) (shown : List ℕ) : Type 0 where
   pub digits : AllDigits radix shown
   pub some : 0 < length shown

@@ -17,7 +17,7 @@ pub enum ArcKind {
     Signature,
 }
 
-/// A path to a directory on a partition. A signature stands in `controller`; `dir` is without the
+/// A path to a directory on a partition. A signature is in `controller`; `dir` is without the
 /// `\` before it, and empty where the text names no directory.
 #[derive(Debug, Drop)]
 pub struct Arc {

@@ -13,7 +13,7 @@ no_blank : (text : List ℕ) → length text ≤ position_or_len is_blank text �
 no_blank text all = All-from_get_or (λ c. is_blank c ≡ false) text 0
     (λ i lt. fails_before_first is_blank text i 0 (omega arith))
 
--- a word is a switch or no part of the answer, and the rest comes behind it
+-- a word is a switch or no part of the answer, and the rest comes after it
 abbrev WithWord : List ℕ → List (List ℕ) → List (List ℕ)
 WithWord word more = cond (is_switch word) (word ∷ more) more
 

@@ -19,7 +19,7 @@ or_assoc : {A : Type 0} (a b c : Option A) → option_or (option_or a b) c ≡ o
 or_assoc None b c = refl
 or_assoc (Some x) b c = refl
 
--- the section after the line goes on with the lines behind it
+-- the section after the line goes on with the lines after it
 abbrev pub Splits : Section → Section → List ℕ → Type 0
 Splits here after line = (wanted : Section) (more : List (List ℕ))
     → lines_in wanted here (said_lines (line ∷ more)) ≡ lines_in wanted here (said_lines (line ∷ []))

@@ -153,7 +153,7 @@ stays_so line e = by_test (opens_section line) (sym (stays_is line) ∙ e)
     by_test true f = absurd (false≢true f)
     by_test false f = refl
 
--- lines that open no section all stand in the section here
+-- lines that open no section all are in the section here
 within : (wanted here : Section) (body rest : List (List ℕ)) → list_all stays body ≡ true
     → lines_in wanted here (body ++ rest) ≡ only wanted here body ++ lines_in wanted here rest
 within wanted here [] rest all = by_test (same_section wanted here)

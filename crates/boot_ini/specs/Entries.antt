@@ -22,7 +22,7 @@ is_quoted (c ∷ text) = is_quote c
 abbrev pub title_of : List ℕ → List ℕ
 title_of text = if is_quoted text then before_first is_quote (drop 1 text) else trimmed (before_first is_slash text)
 
--- what stands behind the title
+-- what stands after the title
 abbrev pub behind_title : List ℕ → List ℕ
 behind_title text = if is_quoted text then after_first is_quote (drop 1 text) else drop (position_or_len is_slash text) text
 

@@ -1,4 +1,4 @@
--- What a text of boot.ini says (Microsoft's documentation of boot.ini; its limits, and what stands in for what is missing, are
+-- What a text of boot.ini says (Microsoft's documentation of boot.ini; its limits, and what is in for what is missing, are
 -- this project's own).
 use Rattle.std.specs.Prelude.{ℕ, ◌+◌, ◌<◌, ◌≤◌, ℤ, pos, negsuc, ◌&&◌, List, [], ◌∷◌, length, Option, Some, None, nat_lt, nat_le, if◌then◌else◌, codes}
 use Rattle.std.specs.List.{filter_map, position_or_len}
@@ -44,7 +44,7 @@ timeout_of (Some text) =
     else if is_digits text && nat_le (length text) 9 then pos (digits_value 10 text)
     else pos 30
 
--- the entry that stands in where there is none
+-- the entry that is in where there is none
 abbrev pub entries_or : List ℕ → List OsEntry → List OsEntry
 entries_or system [] = record { path = system; title = codes "Windows"; switches = [] } ∷ []
 entries_or system (e ∷ es) = e ∷ es
@@ -62,13 +62,13 @@ ini_of text system =
     let entries = entries_or system (entries_in text) in
     record { timeout = timeout_of (timeout_text text); chosen = chosen_of (default_path text) entries; entries = entries }
 
--- with so many entries there are too many; want of memory is free
+-- with that many entries there are too many; lack of memory is free
 abbrev pub RefusesEntries : ℕ → IniStop → Type 0
 RefusesEntries count stops.TooLong = ⊥
 RefusesEntries count stops.TooManyEntries = 64 < count
 RefusesEntries count stops.Memory = Unit {0}
 
--- when a text is refused: the length is judged first; want of memory is free
+-- when a text is refused: the length is judged first; lack of memory is free
 abbrev pub Refuses : List ℕ → IniStop → Type 0
 Refuses text stops.TooLong = 65536 < length text
 Refuses text stops.TooManyEntries = (length text ≤ 65536) × (64 < length (entries_in text))

@@ -28,7 +28,7 @@ opens_section (c ∷ line) = c == 91
 abbrev pub is_closing : ℕ → Bool
 is_closing c = c == 93
 
--- what stands behind the `[`, up to the first `]` or the line's end
+-- what stands after the `[`, up to the first `]` or the line's end
 abbrev pub section_name : List ℕ → List ℕ
 section_name line = before_first is_closing (drop 1 line)
 
@@ -48,7 +48,7 @@ same_section Systems Systems = true
 same_section Other Other = true
 same_section _ _ = false
 
--- the lines of the wanted section, where the first of them stands in the section `here`; a section may stand several times
+-- the lines of the wanted section, where the first of them is in the section `here`; a section may stand several times
 abbrev pub lines_in : Section → Section → List (List ℕ) → List (List ℕ)
 lines_in wanted here [] = []
 lines_in wanted here (line ∷ more) =
@@ -56,7 +56,7 @@ lines_in wanted here (line ∷ more) =
     else if same_section wanted here then line ∷ lines_in wanted here more
     else lines_in wanted here more
 
--- what stands before and behind the first `=`
+-- what stands before and after the first `=`
 abbrev pub sides : List ℕ → Option (List ℕ × List ℕ)
 sides line = if nat_lt (position_or_len is_equals line) (length line) then Some (before_first is_equals line, after_first is_equals line) else None
 

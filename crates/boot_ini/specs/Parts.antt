@@ -35,12 +35,12 @@ pub record Says (said line : List ℕ) : Type 0 where
   pub some : 0 < length said
   pub no_comment : (rest : List ℕ) → said ≢ codes ";" ++ rest
 
--- the line says nothing: blanks alone, or `;` first behind them
+-- the line says nothing: blanks alone, or `;` first after them
 abbrev pub IsSilent : List ℕ → Type 0
 IsSilent line = (list_all is_blank line ≡ true)
     ⊎ ((front : List ℕ) × (rest : List ℕ) × (list_all is_blank front ≡ true) × (line ≡ front ++ (codes ";" ++ rest)))
 
--- what the lines say, one after the other
+-- what the lines say, in sequence
 abbrev pub AreSaid : List (List ℕ) → List (List ℕ) → Type 0
 AreSaid said [] = said ≡ []
 AreSaid said (line ∷ more) =
@@ -53,7 +53,7 @@ IsNameOf Loader name = names_same name (codes "boot loader") ≡ true
 IsNameOf Systems name = names_same name (codes "operating systems") ≡ true
 IsNameOf Other name = (names_same name (codes "boot loader") ≡ false) × (names_same name (codes "operating systems") ≡ false)
 
--- the line opens the section: `[`, its name, and perhaps `]` with anything behind it
+-- the line opens the section: `[`, its name, and perhaps `]` with anything after it
 pub record Opens (section : Section) (line : List ℕ) : Type 0 where
   pub name : List ℕ
   pub behind : List ℕ

@@ -35,14 +35,14 @@ IsFirst key value (line ∷ more) =
 
 -- ---- entries
 
--- the title in quotes, where the last one may lack, and what is behind it
+-- the title in quotes, where the last one may lack, and what is after it
 pub record IsQuoted (title behind text : List ℕ) : Type 0 where
   pub shown : List ℕ
   pub spelled : text ≡ codes "\"" ++ (title ++ shown)
   pub no_quote : has_no 34 title ≡ true
   pub closed : ((shown ≡ []) × (behind ≡ [])) ⊎ (shown ≡ codes "\"" ++ behind)
 
--- the title, between blanks, and what is behind it, from the first `/` on
+-- the title, between blanks, and what is after it, from the first `/` on
 pub record IsPlain (title behind text : List ℕ) : Type 0 where
   pub front : List ℕ
   pub spelled : text ≡ front ++ behind

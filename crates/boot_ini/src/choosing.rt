@@ -16,7 +16,7 @@ use std::alloc::{AllocError, Global};
 pub enum Chosen {
     /// This entry is the system.
     Entry(u32),
-    /// There are not so many entries.
+    /// There are not that many entries.
     NoEntry,
     /// This entry begins with a drive, so another loader starts it.
     OtherLoader(u32),

@@ -37,7 +37,7 @@ fn split_title(text: &[u8]) -> (&[u8], &[u8])
     (trim(title), behind)
 }
 
-/// The word at the front, and what follows the blank behind it.
+/// The word at the front, and what follows the blank after it.
 fn split_word(text: &[u8]) -> (&[u8], &[u8])
     requires { 0 < length text.now }
     ensures word { result.0.now ≡ before_first is_blank text.now }
@@ -82,7 +82,7 @@ fn made_entry(alloc: Global, path: &[u8], text: &[u8]) -> Result<OsEntry, AllocE
     })
 }
 
-/// The entry on a line, if it has a path and a `=` behind it.
+/// The entry on a line, if it has a path and a `=` after it.
 pub fn entry_on(alloc: Global, line: &[u8]) -> Result<Option<OsEntry>, AllocError>
     ensures { IfOk result (λ e. e ≡ entry_of line.now) }
 {

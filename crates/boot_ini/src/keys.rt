@@ -15,7 +15,7 @@ pub enum Section {
     Other,
 }
 
-/// What stands before and behind the first `=`.
+/// What stands before and after the first `=`.
 pub fn split_line(line: &[u8]) -> Option<(&[u8], &[u8])>
     ensures { option_map (λ x. (x.0.now, x.1.now)) result ≡ sides line.now }
 {

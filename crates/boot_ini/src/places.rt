@@ -1,4 +1,4 @@
-//! Where a byte stands in a text, and what stands before and behind it.
+//! Where a byte is in a text, and what stands before and after it.
 
 ghost use Rattle.std.specs.Prelude.{◌≡◌, ◌+◌, ◌≤◌, ◌==◌, length, take, drop};
 ghost use Rattle.std.specs.List.{position_or_len};
@@ -18,7 +18,7 @@ pub fn place_of(byte: u8, text: &[u8]) -> usize
     place
 }
 
-/// What stands before a place, and what stands behind the byte there; nothing does behind the text's end.
+/// What stands before a place, and what stands after the byte there; nothing does after the text's end.
 pub fn split_around(text: &[u8], place: usize) -> (&[u8], &[u8])
     requires { place ≤ length text.now }
     ensures before { result.0.now ≡ take place text.now }

@@ -158,7 +158,7 @@ fn chosen(default: Option<&[u8]>, entries: &[OsEntry]) -> u32
     }
 }
 
-/// What the text says. Where it has no entry, one at the system's path stands in.
+/// What the text says. Where it has no entry, one at the system's path is in.
 pub fn read_boot_ini(alloc: Global, text: &[u8], system: &[u8]) -> Result<BootIni, IniStop>
     ensures read { IfOk result (λ ini. ini ≡ ini_of text.now system.now) }
     ensures chosen { IfOk result (λ ini. HasNumber ini.chosen ini.entries) }

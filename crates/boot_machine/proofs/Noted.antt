@@ -14,7 +14,7 @@ Failing = List ℕ × ℕ
 abbrev names : List ℕ → Failing → Bool
 names name f = folds_same f.0 name
 
--- what the three functions are where the name stands at k
+-- what the three functions are where the name is at k
 pub record At (name : List ℕ) (fs : List Failing) (k : ℕ) (f : Failing) : Type 0 where
   pub count : failures_of fs name ≡ f.1
   pub less : one_failure_less fs name ≡ set fs k (f.0, f.1 - 1)

@@ -245,7 +245,7 @@ pub is_some_there : (o : Option ℕ) → is_there o ≡ true → IsSome o
 is_some_there None h = absurd (false≢true h)
 is_some_there (Some x) h = refl
 
--- what stands at a place of a list is there
+-- what is at a place of a list is there
 pub some_within : {X : Type 0} (o : Option (Bor X)) (xs : List X) (k : ℕ) → option_copied o ≡ slice_get xs k
     → k < length xs → IsSome o
 some_within None [] k is lt = absurd (omega (arith, lt))

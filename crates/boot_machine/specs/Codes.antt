@@ -1,4 +1,4 @@
--- What the logic asks of a type that a model has as its value: a code that tells values apart (this project's own).
+-- What the logic asks of a type that a model has as its value: a code that distinguishes values (this project's own).
 use Rattle.std.specs.Prelude.{◌≡◌, ℕ, zero, suc, Bool, List, Option, refl}
 use Rattle.std.specs.Coded.{Coded, code_by, coded×, coded_ℕ, coded_bool, coded_list, coded_option}
 use Rattle.hive_model.specs.Tree.{Tree}

@@ -18,14 +18,14 @@ abbrev pub is_at_end : Option Start → Bool
 is_at_end None = true
 is_at_end (Some s) = not (is_there (next_in s))
 
--- no entries are taken behind the phase
+-- no entries are taken after the phase
 abbrev pub is_last_phase : Phase → Bool
 is_last_phase Boot = false
 is_last_phase System = false
 is_last_phase Automatic = true
 is_last_phase Done = true
 
--- no start runs that takes entries behind its phase
+-- no start runs that takes entries after its phase
 abbrev pub is_in_last_phase : Option Start → Bool
 is_in_last_phase None = true
 is_in_last_phase (Some s) = is_last_phase s.phase

@@ -72,7 +72,7 @@ impl Failures {
         }
     }
 
-    /// Notes a name behind the others.
+    /// Notes a name after the others.
     fn add(&mut self, alloc: Global, name: &[u16], count: u32) -> Result<(), AllocError>
         ensures ok { OnOk result (self.new ≡ self.old ++ (folded name.now, count) ∷ []) }
         ensures kept { OnErr result (self.new ≡ self.old) }

@@ -2,7 +2,7 @@
 //!
 //! `Machine` is seen as the book's machine: a start that runs, the failures to come, whether the
 //! next start falls back, and the vital names. Each call is one named step of it. It knows nothing of a disk or of a tree but
-//! the control set that it is handed. After want of memory the machine is as it was. Rules:
+//! the control set that it is handed. After lack of memory the machine is as it was. Rules:
 //! Windows Internals, 4th edition, startup; docs/startup.md.
 #![tactic(auto)]
 

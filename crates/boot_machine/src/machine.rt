@@ -28,7 +28,7 @@ use std::alloc::{AllocError, Global};
 use std::marker::Model;
 
 /// A start that runs, if one does, the attempts that are to fail, whether the next start falls back, and the
-/// names without which no start passes its boot phase. After want of memory it is as it was.
+/// names without which no start passes its boot phase. After lack of memory it is as it was.
 #[derive(Drop)]
 pub struct Machine {
     pub(crate) start: Option<Start>,
@@ -229,7 +229,7 @@ impl Machine {
         }
     }
 
-    /// Whether no entries are taken behind the phase, or no start runs.
+    /// Whether no entries are taken after the phase, or no start runs.
     pub fn in_last_phase(&self) -> bool
         ensures { result ≡ is_in_last_phase self.now.start }
     {

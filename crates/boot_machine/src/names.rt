@@ -8,7 +8,7 @@ use nt_bytes::Units;
 use service_entries::Entry;
 use std::alloc::{AllocError, Global};
 
-/// Puts a name behind the others, where there is room.
+/// Puts a name after the others, where there is room.
 fn put(names: &mut Vec<Units>, name: Units)
     requires { vec_len names.old < vec_capacity names.old }
     ensures { names.new.items ≡ names.old.items ++ name ∷ [] }

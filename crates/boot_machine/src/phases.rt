@@ -11,7 +11,7 @@ ghost use Rattle.boot_machine.specs.Steps.{is_last_phase};
 use boot_phases::Phase;
 use boot_report::PhaseWord;
 
-/// The phase behind a phase.
+/// The phase after a phase.
 pub(crate) fn phase_after(phase: Phase) -> Phase
     ensures { phase_in result ≡ phase_after (phase_in phase) }
 {
@@ -32,7 +32,7 @@ pub(crate) fn is_done(phase: Phase) -> bool
     }
 }
 
-/// Whether no entries are taken behind the phase.
+/// Whether no entries are taken after the phase.
 pub(crate) fn is_last(phase: Phase) -> bool
     ensures { result ≡ is_last_phase (phase_in phase) }
 {

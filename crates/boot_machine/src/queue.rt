@@ -15,7 +15,7 @@ use service_entries::Entry;
 use std::alloc::{AllocError, Global};
 use std::marker::Model;
 
-/// The entries of a phase, those of them that wait, and who was started. What an entry needs stands in
+/// The entries of a phase, those of them that wait, and who was started. What an entry needs is in
 /// `waiting`, and at the same place of `rests` what else it has.
 #[derive(Drop)]
 pub(crate) struct Queue {

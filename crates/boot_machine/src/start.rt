@@ -182,7 +182,7 @@ impl Start {
         Ok(unmet)
     }
 
-    /// Goes on from the last phase, behind which nothing is taken of a set, and answers the names of those that wait.
+    /// Goes on from the last phase, after which nothing is taken of a set, and answers the names of those that wait.
     pub(crate) fn end_phases(&mut self, alloc: Global) -> Result<Names, AllocError>
         requires { is_last_phase self.old.phase ≡ true }
         ensures start { IfOk result (λ _. (set : Tree) → self.new ≡ after_phase set self.old) }
@@ -268,7 +268,7 @@ fn planned(
     Queue::new(alloc, entries.into_vec(), started)
 }
 
-/// The entries behind a last phase, which are none, whatever the set is.
+/// The entries after a last phase, which are none, whatever the set is.
 fn nothing_planned(alloc: Global, last: Phase, started: &Started) -> Result<Queue, AllocError>
     requires { is_last_phase (phase_in last) ≡ true }
     ensures { IfOk result (λ q. (set : Tree) (tried : List (List ℕ)) → q

@@ -1,4 +1,4 @@
--- The steps of a plan, one after another.
+-- The steps of a plan, in sequence.
 use Rattle.std.proofs.Common.{◌≡◌, ℕ, Bool, List, sym, ap, ◌∙◌, subst}
 use Rattle.std.specs.Prelude.{slice_get, Result, IfOk}
 use Rattle.std.specs.declared.alloc.AllocError.{AllocError}

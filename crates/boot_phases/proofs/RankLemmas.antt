@@ -68,7 +68,7 @@ pub in_order_ordered : (rs : List Rank) → InOrder (ordered_of rs)
 in_order_ordered [] = tt
 in_order_ordered (r ∷ rs) = in_order_placed r (ordered_of rs) (in_order_ordered rs)
 
--- how often a rank stands in a list
+-- how often a rank is in a list
 abbrev pub one : Rank → Rank → ℕ
 one z r = cond (is_eq (rank_order z r)) 1 0
 
@@ -102,7 +102,7 @@ equal_not_before Less h = absurd (false≢true h)
 equal_not_before Equal h = refl
 equal_not_before Greater h = absurd (false≢true h)
 
--- what stands in a list is not before what the list is not before
+-- what is in a list is not before what the list is not before
 not_before_deep : (z r : Rank) (rs : List Rank) → AllByRecursion (λ s. is_before s r ≡ false) rs → 0 < count z rs
     → is_before z r ≡ false
 not_before_deep z r [] all some = absurd (omega arith)

@@ -36,7 +36,7 @@ rising_filter p (suc n) b = by_case (p b) (above p n b (b + 1) (omega arith)) (r
     by_case true all rest = (all, rest)
     by_case false all rest = rest
 
--- ---- what stands at rising indices
+-- ---- what is at rising indices
 
 at_later : (x : ℕ) (xs : List ℕ) (k y : ℕ) → AllByRecursion (λ z. x < z) xs → slice_get xs k ≡ Some y → x < y
 at_later x [] k y all is = absurd cc

@@ -9,7 +9,7 @@ use Rattle.start_model.specs.Entries.{Entry}
 use Rattle.start_model.specs.Order.{Rank}
 use Rattle.boot_phases.specs.Apart.{StandApart}
 
--- the entries that none of these ranks is of still stand in their slots
+-- the entries that none of these ranks is of still are in their slots
 abbrev pub AreLeft : List Entry → List Rank → List (Option Entry) → Type 0
 AreLeft es gone slots = (q : ℕ) → list_any (λ (r : Rank). nat_eq r.place q) gone ≡ false
     → get_or slots q None ≡ slice_get es q

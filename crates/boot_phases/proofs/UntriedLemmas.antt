@@ -88,7 +88,7 @@ need_by es (p ∷ ps) (suc k) h =
     let s = stands es p h.0 in
     need_by es ps k h.1 ∙ sym (ap (λ (ns : List Need). slice_get ns (suc k)) (first_need es p ps s.0 s.1))
 
--- what the entry at a place needs that stands at an index
+-- what the entry at a place needs that is at an index
 pub need_there : (es : List Entry) (ps : List ℕ) (k : ℕ) → All (λ p. p < length es) ps
     → option_map need_of (option_and_then (slice_get es) (slice_get ps k)) ≡ slice_get (needs_at es ps) k
 need_there es ps k h = need_by es ps k (recursion_from_All (λ p. p < length es) ps h)
@@ -188,7 +188,7 @@ pub record IsSeen (n : ℕ) (ps bs : List ℕ) : Type 0 where
   pub len : length bs ≡ n
   pub leads : (k : ℕ) → k < length ps → get_or bs (get_or ps k 0) 0 ≡ k
 
--- what stands in front stays
+-- what is in front stays
 still : (n : ℕ) (ps bs : List ℕ) (b : ℕ) → IsSeen n ps bs → (k : ℕ) → k < length ps
     → get_or (bs ++ b ∷ []) (get_or ps k 0) 0 ≡ k
 still n ps bs b is k lt =

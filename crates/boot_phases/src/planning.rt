@@ -71,7 +71,7 @@ fn slots_of(alloc: Global, table: ServiceTable) -> Result<Vec<Option<Entry>>, Al
     entries.into_vec().into_iter().map(Some).collect(alloc)
 }
 
-/// Takes what stands in a slot, and leaves it empty.
+/// Takes what is in a slot, and leaves it empty.
 fn take_at(slots: &mut Vec<Option<Entry>>, place: usize) -> Option<Entry>
     ensures taken { result ≡ slice_index_or slots.old.items place None }
     ensures left { slots.new.items ≡ slice_set slots.old.items place None }

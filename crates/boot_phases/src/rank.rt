@@ -1,4 +1,4 @@
-//! Where an entry stands in its phase.
+//! Where an entry is in its phase.
 
 ghost use Rattle.std.specs.Prelude.{◌≡◌, ℕ, ◌<◌, true, List, length, slice_get, slice_index_or, count_by, AllPairs, IfOk};
 ghost use Rattle.std.specs.List.{filter_map};
@@ -65,13 +65,13 @@ pub(crate) fn in_order(ranks: &mut Vec<Rank>)
     ranks.sort_unstable();
 }
 
-/// Where the places of the ranks rise, as in the registry, as many ranks are before a rank as stand ahead of it.
+/// Where the places of the ranks rise, as in the registry, the same number of ranks are before a rank as stand ahead of it.
 pub fn each_place_counts_those_before()
     ensures { (ranks : List Rank) → AllPairs (λ a b. a.place < b.place) ranks → (k : ℕ) (d : Rank) → k < length (ordered_of ranks)
         → count_by (λ s. is_before s (slice_index_or (ordered_of ranks) k d)) ranks ≡ k }
 {}
 
-/// In the order of a phase each rank is before each later one, and ranks stand in it as often as among
+/// In the order of a phase each rank is before each later one, and ranks are in it as often as among
 /// those that are put in order.
 pub fn a_plan_is_in_order()
     ensures before { (set : Tree) (phase : InBook) (tried : List (List ℕ)) → AllPairs (λ a b. is_before a b ≡ true) (ordered_of (ranks_of set phase tried)) }

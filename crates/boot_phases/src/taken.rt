@@ -104,7 +104,7 @@ fn group_of(alloc: Global, entry: &Entry) -> Result<Option<Units>, AllocError>
     }
 }
 
-/// The places that stand at these indices of a list of places.
+/// The places that are at these indices of a list of places.
 fn chosen(alloc: Global, places: &[u32], indices: &[u32]) -> Result<Places, AllocError>
     ensures { IfOk result (λ p. p ≡ filter_map (slice_get places.now) indices.now) }
 {

@@ -90,7 +90,7 @@ impl<'a> Untried<'a> {
         }
     }
 
-    /// This index, if the one that it leads to stands at this place of the table.
+    /// This index, if the one that it leads to is at this place of the table.
     fn there<'b>(&self, index: &'b usize, place: u32) -> &'b [usize]
         ensures { result.now ≡ (if option_map_or (nat_eq place) (slice_get self.now.places index.now) false then index.now ∷ [] else []) }
     {

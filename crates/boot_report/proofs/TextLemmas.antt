@@ -1,4 +1,4 @@
--- The whole lines of a report's text are its lines, and each tells by its first letters what it tells.
+-- The whole lines of a report's text are its lines, and each reports by its first letters what it reports.
 use Rattle.std.proofs.Common.{◌≡◌, ℕ, zero, suc, ◌+◌, ◌-◌, ◌/◌, ◌%◌, ◌<◌, ◌==◌, Bool, true, false, not, eqb, cond, List, [], ◌∷◌, ◌++◌, length, take, Option, Some, None, refl, sym, ap, ◌∙◌, arith, append_assoc}
 use Rattle.std.specs.Prelude.{codes, filter_map}
 use Rattle.std.specs.List.{slice_split, list_all, count_by, cons_option}
@@ -182,7 +182,7 @@ no_lf-verdict book.NoSystem = refl
 no_lf-verdict book.NoControlSet = refl
 no_lf-verdict book.NoLastKnownGood = refl
 
--- behind a text without LF, a blank and one more
+-- after a text without LF, a blank and one more
 with_blank : (a b : List ℕ) → has_no_lf a ≡ true → has_no_lf b ≡ true → has_no_lf (a ++ codes " " ++ b) ≡ true
 with_blank a b e f = no_lf-append (a ++ codes " ") b (no_lf-append a (codes " ") e refl) f
 
@@ -257,7 +257,7 @@ whole-cons line rest e =
 whole-end : (line : List ℕ) → has_no_lf line ≡ true → whole_lines line ≡ []
 whole-end line e = rw (only_part line e) refl
 
--- ---- what each line tells of the disk
+-- ---- what each line reports the disk
 
 abbrev told_before : Option Outcome → List Outcome → List Outcome
 told_before None more = more
@@ -307,7 +307,7 @@ filtered : (line : List ℕ) (more : List (List ℕ))
     → filter_map outcome_of (line ∷ more) ≡ told_before (outcome_of line) (filter_map outcome_of more)
 filtered line more = told_is (outcome_of line) (filter_map outcome_of more)
 
--- the text of lines, and a line in part behind it
+-- the text of lines, and a line in part after it
 front_of : (l : Line) (ls : List Line) (rest : List ℕ) → text_of (l ∷ ls) ++ rest ≡ body l ++ 10 ∷ (text_of ls ++ rest)
 front_of l ls rest = rw (text-body l) (simp append_assoc)
 

@@ -26,7 +26,7 @@ fn push_unit(out: &mut Vec<u8>, unit: u16) -> Result<(), AllocError>
     out.extend_from_slice(&text)
 }
 
-/// Puts a name behind: each unit from 0x20 to 0x7E as a byte, another as `\u` and four hexadecimal digits.
+/// Puts a name after: each unit from 0x20 to 0x7E as a byte, another as `\u` and four hexadecimal digits.
 pub fn push_name(out: &mut Vec<u8>, name: &[u16]) -> Result<(), AllocError>
     ensures { OnOk result (out.new.items ≡ out.old.items ++ name_text name.now) }
 {

@@ -1,4 +1,4 @@
--- What the beginning of a start comes to.
+-- What the beginning of a start amounts to.
 use Rattle.std.proofs.Common.{◌≡◌, ◌<◌, ◌^◌, ◌+◌, ℕ, Bool, true, false, cond, List, [], ◌∷◌, length, map, Option, Some, None, refl, sym, ap, subst, ◌∙◌, arith}
 use Rattle.std.specs.Prelude.{Result, Ok, Err, OnOk, IfSome, ◌==◌, not}
 use Rattle.std.specs.Option.{is_some, unwrap_or}
@@ -109,7 +109,7 @@ begun m r r' d s number on_good counts live is starts = record {
   };
 }
 
--- ---- behind a commit or a load
+-- ---- after a commit or a load
 
 pub up_or_down : (s : Session) (r r' : Runner) (d : DiskState) (o : Option Session) → LeavesUp s r r' d o
     → IsUpOrDown d o
@@ -170,7 +170,7 @@ pub begin_full : (on_good : Bool) (m : RunState) (plan : SetPlan) (version : Hiv
 begin_full on_good m plan version t why some same live made =
     ap (begin_planned on_good m plan) (sym (stepped_is m version t plan.steps some same live ∙ made))
 
--- the planned set, behind the steps
+-- the planned set, after the steps
 pub taken_made : (on_good : Bool) (plan : SetPlan) (version : HiveVersion) (t u : Tree) → (plan.steps ≡ [] → ⊥)
     → begin_plan_of (select_numbers_of t) (usable_numbers_of t) on_good ≡ Ok plan
     → edited version t plan.steps ≡ Ok u → IsTaken u plan.chosen
@@ -273,7 +273,7 @@ pub on_done : {T E : Type 0} → {P : Type 0} → (r : Result T E) → P → OnO
 on_done (Ok v) p = p
 on_done (Err e) p = tt
 
--- behind a commit that was stopped
+-- after a commit that was stopped
 pub commit_over : (m : RunState) (tree : Tree) (next : RunState → Act) (r : Runner) (d : DiskState) (rest : Act)
     → CommitLeft m tree next r d None rest → TurnLeft r d None rest
 commit_over m tree next r d rest h =

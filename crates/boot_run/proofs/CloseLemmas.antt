@@ -1,4 +1,4 @@
--- What a flush and the end of a start come to.
+-- What a flush and the end of a start amount to.
 use Rattle.std.proofs.Common.{◌≡◌, ℕ, Bool, true, false, cond, List, [], ◌∷◌, ◌++◌, Option, Some, None, refl, sym, ap, subst, ◌∙◌}
 use Rattle.std.specs.Prelude.{Result, Ok, Err, OnOk, option_map}
 use Rattle.std.specs.Option.{option_map_or}
@@ -124,7 +124,7 @@ end_plays result word m r r' x y d e ends counts machine starts off left said =
     (still-off d d e (still d) off) ends.none said kept
     (λ v. here_turn (start_over false m) r' e None over kept)
 
--- behind the commit of a start that ends
+-- after the commit of a start that ends
 pub end_done : {E : Type 0}
     → (result : Result (Unit {0}) E) (word : Verdict) (m : RunState) (tree : Tree) (s : Session) (r r' : Runner)
     (x y : Told) (d e : DiskState) (rest : Act)

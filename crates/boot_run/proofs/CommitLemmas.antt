@@ -1,4 +1,4 @@
--- What a commit of the session comes to in the book's run.
+-- What a commit of the session amounts to in the book's run.
 use Rattle.std.proofs.Common.{◌≡◌, ◌⊎◌, ◌+◌, ◌%◌, inl, inr, ⊎_elim, ℕ, Bool, true, false, List, [], ◌∷◌, ◌++◌, Option, Some, None, refl, sym, ap, subst, ◌∙◌}
 use Rattle.nt_bytes.specs.declared.version.HiveVersion.{HiveVersion}
 use Rattle.hive_model.specs.Base.{version_of}
@@ -55,7 +55,7 @@ module _ (m : RunState) (next : RunState → Act) (what : CommitWord) (s : Sessi
   pub commit_alone : Alone d e
   commit_alone = alone-by d e c.history c.counts
 
-  -- no memory: nothing was said
+  -- no memory: nothing was printed
   pub commit_memory : tally_now e ≡ tally_now d → (x : Told) → Breaks (commit what s.tree m next) x x.said d e
   commit_memory none x =
       breaks-silent (commit what s.tree m next) x d e (record { alone = commit_alone; same = none }) commit_open

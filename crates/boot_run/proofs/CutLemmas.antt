@@ -1,4 +1,4 @@
--- What a cut and an order come to.
+-- What a cut and an order amount to.
 use Rattle.std.proofs.Common.{◌≡◌, ◌⊎◌, ◌≤◌, ◌<◌, ◌+◌, inl, inr, ⊎_elim, ℕ, Bool, true, false, List, [], ◌∷◌, ◌++◌, Option, Some, None, refl, sym, ap, subst, ◌∙◌, append-nil, arith}
 use Rattle.std.proofs.Math.Nat.{eq-or-lt_of_le}
 use Rattle.std.specs.Prelude.{Result, Ok, Err, min}
@@ -34,7 +34,7 @@ next_rises n h = ⊎_elim (λ e. inr (omega arith)) (λ l. inl (omega arith)) (e
 next_no_less : (n : ℕ) → n ≤ 18446744073709551615 → NoLess n (next n)
 next_no_less n h = no_less-bounded n (next n) (omega arith) (omega arith)
 
--- The power is cut, and that is told or not yet: the cut counts once, and has its cause in that.
+-- The power is cut, and that is reported or not yet: the cut counts once, and has its cause in that.
 module _ (d f : DiskState) (bounded : IsBounded d) (marked : IsMarked d) (is : f ≡ turned_off (cut_off d)) where
   cut_cause : HasCause PowerCut (since_wake d) (tally_now f)
   cut_cause =
@@ -62,7 +62,7 @@ module _ (d f : DiskState) (bounded : IsBounded d) (marked : IsMarked d) (is : f
   cut_once : tally_now f ≡ with_cut (tally_now d)
   cut_once = ap (λ (t : DiskState). tally_now t) is
 
-  -- the verdict is told
+  -- the verdict is reported
   cut_goes : (m : RunState) (x y : Told) → Tells x y (VerdictLine book.Cut ∷ [])
       → Goes (play (cut_act m)) (play (done (start_over false m))) x y d f
   cut_goes m x y said = record {

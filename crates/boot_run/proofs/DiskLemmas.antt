@@ -1,4 +1,4 @@
--- What a disk with nothing in flight may be left as, and what is left when it is turned off.
+-- What a disk with nothing in flight may be left as, and what remains when it is turned off.
 use Rattle.std.proofs.Common.{◌≡◌, ◌⊎◌, inl, inr, ⊎_elim, ℕ, Bool, true, false, List, [], ◌∷◌, ◌++◌, refl, sym, ap, subst, ◌∙◌, append-nil}
 use Rattle.std.specs.Prelude.{Result, Ok, Err, IsErrOf}
 use Rattle.hive_model.specs.Image.{Image, Write, Address, IsCrashImage}

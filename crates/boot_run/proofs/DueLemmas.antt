@@ -125,7 +125,7 @@ start_by change r r' d h keeps machine sound =
     let P : MachineState → Type 0 = λ k. IsRunningBy k.start h.tree in
     (sound.0, subst P (sym machine) (keeps r.machine.start sound.1))
 
--- whatever is due, nothing of it is said yet
+-- whatever is due, nothing of it is printed yet
 pub due_may : (o : Option Start) (m : RunState) (next : RunState → Act) (c : Image) → m.disk.other ≡ None → Stays next
     → MayLoad m.disk c → MayLoad (play (save_where_due o m next) [] []).disk c
 due_may None m next c none stays h = stays m c none h

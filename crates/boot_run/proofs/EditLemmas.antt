@@ -1,4 +1,4 @@
--- What an edit of the live tree comes to in the book's run.
+-- What an edit of the live tree amounts to in the book's run.
 use Rattle.std.proofs.Common.{◌≡◌, ◌<◌, ◌⊎◌, inl, inr, ⊎_elim, ℕ, zero, suc, Bool, true, false, not, ◌||◌, List, [], ◌∷◌, length, get_or, Option, Some, None, refl, sym, ap, subst, ◌∙◌, arith}
 use Rattle.std.proofs.lemmas.Bool.{false≢true}
 use Rattle.std.specs.Prelude.{◌↔◌, Result, Ok, Err, OnOk, OnErr, IfSome}
@@ -107,9 +107,9 @@ edit_live m h k d live base changed = record {
   loads = live.loads;
 }
 
--- ---- what is said
+-- ---- what is printed
 
--- whatever comes of the edit, nothing of it is said yet
+-- whatever comes of the edit, nothing of it is printed yet
 pub edit_may : (e : Edit) (m : RunState) (c : Image) (r : Result Tree Refusal) → MayLoad m.disk c
     → MayLoad (play (edit_done (Edits e) m r) [] []).disk c
 edit_may e m c (Ok tree) h = h

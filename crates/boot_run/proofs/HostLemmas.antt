@@ -1,4 +1,4 @@
--- What calls one behind another leave of their host.
+-- What calls in sequence leave of their host.
 use Rattle.std.proofs.Common.{◌≡◌, ℕ, true, refl, sym, ap, ◌∙◌, subst}
 use Rattle.std.specs.Prelude.{Result, Ok, Err}
 use Rattle.std.specs.Result.{IsErrAnd}
@@ -29,7 +29,7 @@ counts-then (Err stops.Write) a b c k p q =
     let P : ℕ → Type 0 = λ n. Rises n c.writes in
     record { reads = q.reads ∙ p.reads; writes = subst P p.writes q.writes; loud = λ e. q.loud (k.quiet e) }
 
--- a call that is done, and one behind it
+-- a call that is done, and one after it
 pub leaves-then : {U : Type 0} → (r : Result U RunStop) (a b c : HostState) → StillHost a b → LeavesHost r b c
     → LeavesHost r a c
 leaves-then r a b c p q = record {

@@ -1,4 +1,4 @@
--- A line that is said first, and what follows.
+-- A line that is printed first, and what follows.
 use Rattle.std.proofs.Common.{◌≡◌, ℕ, List, [], ◌∷◌, true, sym}
 use Rattle.std.specs.Prelude.{Result}
 use Rattle.std.specs.Result.{is_err}
@@ -15,7 +15,7 @@ use Rattle.run_parts.proofs.GoesLemmas.{goes-line}
 use Rattle.run_parts.proofs.BreakLemmas.{or-breaks, breaks-line}
 use Rattle.boot_run.proofs.PlayLemmas.{plays-as, plays-then}
 
--- the line was told, and a call behind it plays the rest
+-- the line was reported, and a call after it plays the rest
 pub said_then : {T E : Type 0}
     → (r : Result T E) (Left : T → Act → Type 0) (whole : Act) (l : Line) (rest same : Act) (x y z : Told)
     (d f : DiskState)
@@ -26,7 +26,7 @@ said_then r Left whole l rest same x y z d f is eq none told p =
     (plays-then r Left (say l rest) rest x y z d d f (goes-line l rest x y d d (still d) none told)
     (plays-as r Left Left same rest y z d f eq (λ v a k. k) p))
 
--- a front of the line was said, and the call was refused
+-- a prefix of the line was printed, and the call was refused
 pub said_front : {T E : Type 0} → (r : Result T E) (Left : T → Act → Type 0) → is_err r ≡ true
     → (whole : Act) (l : Line) (rest : Act) (x y : Told) (d : DiskState)
     → say l rest ≡ whole → outcomes_in (l ∷ []) ≡ [] → SaysFront x.said y.said (line_text l)

@@ -1,4 +1,4 @@
--- What a load comes to in the book's run.
+-- What a load amounts to in the book's run.
 use Rattle.std.proofs.Common.{◌≡◌, ◌⊎◌, inl, inr, ℕ, Bool, true, false, List, [], ◌∷◌, ◌++◌, Option, Some, None, refl, sym, ap, subst, ◌∙◌, append-nil}
 use Rattle.nt_bytes.specs.declared.fault.HiveFault.{HiveFault}
 use Rattle.nt_bytes.specs.declared.version.HiveVersion.{HiveVersion}
@@ -178,7 +178,7 @@ module _ (m : RunState) (next : RunState → Act) (i : Image) (d d1 e : DiskStat
         (alone-off d1 e f load_alone off) stopped_cause (counted-off u d1 e f counted off) told is front stopped_may
         stopped_may)
 
--- the disk is down behind a load that was stopped
+-- the disk is down after a load that was stopped
 pub load_down : (i : Image) (d d1 e f : DiskState) → Loaded i d d1 e → LoadsAny i → f ≡ turned_off e → IsDown f
 load_down i d d1 e f c any off =
     let P : DiskState → Type 0 = λ t. IsDown t in

@@ -1,4 +1,4 @@
--- Parts of an event in place of each other, behind each other, and what a sound runner's disk may load as.
+-- Parts of an event in place of each other, after each other, and what a sound runner's disk may load as.
 use Rattle.std.proofs.Common.{◌≡◌, ℕ, Bool, true, false, List, [], ◌∷◌, ◌++◌, Option, Some, None, refl, sym, ap, subst, ◌∙◌}
 use Rattle.std.specs.Prelude.{Result, Ok, Err}
 use Rattle.hive_model.specs.Image.{Image}
@@ -28,7 +28,7 @@ plays-as (Ok v) Left Left' whole whole' x y d e is f p =
 plays-as (Err v) Left Left' whole whole' x y d e is f p = let P : Act → Type 0 = λ a. Breaks a x y.said d e in
     subst P is p
 
--- one part behind another
+-- one part after another
 pub plays-then : {T E : Type 0}
     → (r : Result T E) (Left : T → Act → Type 0) (whole mid : Act) (x y z : Told) (d e f : DiskState)
     → Goes (play whole) (play mid) x y d e → PlaysOr mid y z e f r Left → PlaysOr whole x z d f r Left
@@ -36,7 +36,7 @@ plays-then (Ok v) Left whole mid x y z d e f g p =
     (p.0, (goes-then (play whole) (play mid) (play p.0) x y z d e f g p.1.0, p.1.1))
 plays-then (Err v) Left whole mid x y z d e f g p = breaks-then whole mid x y z.said d e f g p
 
--- one line, that tells no outcome
+-- one line, that reports no outcome
 pub plays-line : {T E : Type 0}
     → (r : Result T E) (Left : T → Act → Type 0) (l : Line) (rest : Act) (x y : Told) (d e : DiskState)
     → Still d e → outcomes_in (l ∷ []) ≡ [] → TellsOr l x y r → EachCrash e (MayLoad (play rest [] []).disk)

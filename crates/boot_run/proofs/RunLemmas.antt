@@ -47,7 +47,7 @@ use Rattle.boot_run.proofs.CloseLemmas.{ending}
 abbrev Left : Type 0
 Left = RunState × List Woken × List Outcome
 
--- ---- what is left of wakes and outcomes
+-- ---- what remains of wakes and outcomes
 
 -- where nothing was given, nothing is left, and the disk is that of the state
 record NothingLeft (act : Act) (m : RunState) (ws : List Woken) (os : List Outcome) : Type 0 where
@@ -73,7 +73,7 @@ play-left (acts.wake disk next) m ws os e = absurd cc
 play-left (acts.mark note act) m ws os e = let p = play-left act m ws os e in
     record { wakes = p.wakes; outcomes = p.outcomes; disk = p.disk }
 
--- ---- the rest of the script behind an act, where nothing more happens
+-- ---- the rest of the script after an act, where nothing more happens
 
 then-may : (go : RunState → List Woken → List Outcome → RunResult) (c : Image)
     → ((m : RunState) → IsClosed m → MayLoad m.disk c → MayLoad (go m [] []).disk c) → (act : Act)
@@ -92,7 +92,7 @@ then-may go c more act closed (Some (m, ws, os)) e may =
 -- ---- one event more
 
 module _ (choice : Option ℕ → Choice) where
-  -- an act, and the rest of the script behind it
+  -- an act, and the rest of the script after it
   abbrev before : List Event → Act → Going
   before es act = λ w o. then_run (run_from choice es) (play act w o) (play act w o).rest
 
@@ -298,7 +298,7 @@ no_verdict m r rest x d counts off =
     let P : Act → Type 0 = λ b. Goes (play b) (play rest) x x d d in
     (rest, (subst P (verdict_off m.machine.start rest gone) (goes-nothing (play rest) x d d (still d)), refl))
 
--- the last line, behind the verdict
+-- the last line, after the verdict
 pub closes : {E : Type 0} → (result : Result (Unit {0}) E) (m : RunState) (x y z : Told) (d : DiskState)
     → EachCrash d (MayLoad m.disk)
     → ((a : Act) × (Goes (play (closing_act m)) (play a) x y d d × (a ≡ acts.say lines.EndLine (acts.done m))))
@@ -312,7 +312,7 @@ closes result m x y z d left p said =
 
 -- ---- the report
 
--- a run that was played, on a disk that is turned off behind it
+-- a run that was played, on a disk that is turned off after it
 pub reports_off : (whole : Going) (x y : Told) (d e f : DiskState) → f ≡ turned_off e → Played whole x y d e
     → Reports whole x y d f
 reports_off whole x y d e f off p =
@@ -341,7 +341,7 @@ pub placed_loads : (placed : Woken) (d : DiskState) → EachCrash d (λ (c : Ima
 placed_loads placed d loads image crash =
     record { woken = placed; loads = loads image crash; possible = record { state = inl refl; dirty = refl } }
 
--- the whole run: what was told before it is nothing
+-- the whole run: what was reported before it is nothing
 pub whole_report : (choice : Option ℕ → Choice) (script : List Event) (placed : Woken) (host : HostState) (s : Summary)
     (y : Told) (d e f : DiskState) → f ≡ turned_off e → summary_in s ≡ no_summary
     → Played (run_from choice script (first_state placed)) (told_by host s) y d e

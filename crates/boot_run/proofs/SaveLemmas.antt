@@ -1,4 +1,4 @@
--- What the save of a good start comes to in the book's run.
+-- What the save of a good start amounts to in the book's run.
 use Rattle.std.proofs.Common.{◌≡◌, ℕ, Bool, true, false, not, ◌==◌, ◌≤◌, List, [], ◌∷◌, ◌++◌, length, Option, Some, None, refl, sym, ap, subst, ◌∙◌, is_some, eq-eqb}
 use Rattle.std.proofs.lemmas.Bool.{false≢true, or_left}
 use Rattle.std.specs.Prelude.{Result, Ok, Err, OnOk, IfSome, option_map}
@@ -54,7 +54,7 @@ live_machine machine m s d l =
       loads = l.loads;
     }
 
--- what may be left of the disk behind the note
+-- what may be left of the disk after the note
 pub noted_may : (ok : Bool) (s : Start) (m : RunState) (next : RunState → Act) (h : Session) (d : DiskState) → IsUp h d
     → IsLive m h d → Stays next
     → EachCrash d (MayLoad (play (next (noted_saved ok s m)) [] []).disk)
@@ -101,7 +101,7 @@ pub noting_stays : (numbers : SelectNumbers) (s : Start) (next : RunState → Ac
     → Stays (noting numbers s next)
 noting_stays numbers s next stays m c none h = stays (noted_saved true s m) c none h
 
--- a line is said, and the save is noted
+-- a line is printed, and the save is noted
 pub noted_plays : {E : Type 0}
     → (result : Result (Unit {0}) E) (line told : Line) (ok : Bool) (s : Start) (m : RunState) (next : RunState → Act)
     (h : Session) (r r' : Runner) (x y : Told) (d : DiskState)
@@ -122,7 +122,7 @@ noted_plays (Err e) line told ok s m next h r r' x y d is none out counts up liv
     breaks-line line (next (noted_saved ok s m)) x y.said d d (still d) none (subst P is said)
     (noted_may ok s m next h d up live stays)
 
--- behind the commit of a save
+-- after the commit of a save
 pub noting_plays : {E : Type 0}
     → (result : Result (Unit {0}) E) (o : Option Session) (there : Session) (numbers : SelectNumbers) (told : Line)
     (s : Start) (m : RunState) (tree : Tree) (next : RunState → Act)
@@ -280,7 +280,7 @@ module _ (m : RunState) (h : Session) (d : DiskState) (live : IsLive m h d) (clo
       plays-as result Left Left (save_refused true s m next) (saved_by s clone m next (save_of m.version m.live clone))
       x y d e (ap (saved_by s clone m next) (sym there)) (λ v a k. k) p
 
--- whatever the save is, nothing of it is said yet
+-- whatever the save is, nothing of it is printed yet
 pub saved_may : (s : Start) (clone : Tree) (m : RunState) (next : RunState → Act) (c : Image)
     (r : Result SetChange ChangeStop) → m.disk.other ≡ None → Stays next → MayLoad m.disk c
     → MayLoad (play (saved_by s clone m next r) [] []).disk c

@@ -1,4 +1,4 @@
--- What a step of the starter comes to in the book's run.
+-- What a step of the starter amounts to in the book's run.
 use Rattle.std.proofs.Common.{◌≡◌, ℕ, ◌+◌, ◌<◌, ◌≤◌, ◌^◌, ◌==◌, Bool, true, false, not, cond, List, [], ◌∷◌, ◌++◌, length, map, Option, Some, None, refl, sym, ap, subst, ◌∙◌, arith, append-nil, append_assoc}
 use Rattle.std.proofs.lemmas.Bool.{false≢true, ne_eqb}
 use Rattle.std.proofs.lemmas.List.Edits.{length-remove}
@@ -52,7 +52,7 @@ judged_goes Log m next e = refl
 judged_goes FallBack m next e = absurd cc
 judged_goes Stop m next e = absurd cc
 
--- the verdict ends the start: it tells no outcome, and what it says of a fallback is the book's
+-- the verdict ends the start: it reports no outcome, and what it prints of a fallback is the book's
 record Ends (word : Verdict) (j : Judgement) (m : RunState) (next : RunState → Act) : Type 0 where
   act : end_with word (falls_back word) m ≡ judged j m next
   none : outcomes_in (VerdictLine word ∷ []) ≡ []
@@ -145,7 +145,7 @@ phase_keeps (Some s) set tree held h = record {
   clone = h.clone;
 }
 
--- behind the last phase
+-- after the last phase
 
 none_waits : (set : Tree) (phase : Phase) (tried : List (List ℕ)) → is_last_phase phase ≡ true
     → length (plan_of set (phase_after phase) tried) ≡ 0
@@ -196,9 +196,9 @@ pub last_next : {E : Type 0} (r : Result (List (List ℕ)) E) (m m' : MachineSta
 last_next (Ok names) m m' tree h is = on_next m.start m m' tree refl h is
 last_next (Err e) m m' tree h is = tt
 
--- ---- lines that tell no outcome, one behind another
+-- ---- lines that tell no outcome, in sequence
 
--- none of the lines tells an outcome
+-- none of the lines reports an outcome
 abbrev pub AreQuiet : List Line → Type 0
 AreQuiet [] = Unit {0}
 AreQuiet (l ∷ ls) = (outcomes_in (l ∷ []) ≡ []) × AreQuiet ls
@@ -240,7 +240,7 @@ say_all-append : (a b : List Line) (act : Act) → say_all (a ++ b) act ≡ say_
 say_all-append [] b act = refl
 say_all-append (l ∷ a) b act = ap (say l) (say_all-append a b act)
 
--- some were told, and of the next one a front
+-- some were reported, and of the next one a front
 pub breaks_all : (ls : List Line) (act : Act) (x : Told) (y : List ℕ) (d : DiskState) → AreQuiet ls → SaysPart ls x y
     → EachCrash d (MayLoad (play act [] []).disk) → Breaks (say_all ls act) x y d d
 breaks_all ls act x y d quiet p left =
@@ -255,7 +255,7 @@ breaks_all ls act x y d quiet p left =
     (goes_all p.first (say p.line more) x p.mid d q.0 p.told)
     (breaks-line p.line more p.mid y d d (still d) q.1.0 p.front (subst L (sym (all_disk p.rest act)) left)))
 
--- ---- what is said, one part behind another
+-- ---- what is printed, one part after another
 
 pub says_none : (ls : List Line) (l : Line) (x : Told) → SaysPart (ls ++ l ∷ []) x x.said
 says_none [] l x = record {
@@ -295,7 +295,7 @@ says_then (Ok v) ls l x y z p q = tells-then x y z ls (l ∷ []) p q
 says_then (Err e) ls l x y z p q =
     record { first = ls; line = l; rest = []; parts = refl; mid = y; told = p; front = q }
 
--- behind some that were told, others
+-- after some that were reported, others
 pub says_behind : {T : Type 0} → (r : Result T RunStop) (ls more : List Line) (x y z : Told) → Tells x y ls
     → SaysAll more y z r → SaysAll (ls ++ more) x z r
 says_behind (Ok v) ls more x y z p q = tells-then x y z ls more p q
@@ -366,7 +366,7 @@ some_missing : (names : List (List ℕ)) → (length names == 0) ≡ false → n
 some_missing [] e is = false≢true (sym e)
 some_missing (name ∷ names) e is = cc
 
--- the names that the runner's machine gave, and the lists that they were said by
+-- the names that the runner's machine gave, and the lists that they were printed by
 pub stopped_act : (s : Start) (m : RunState) (next : RunState → Act) (r : Runner) (unmet missing us ms : List (List ℕ))
     → Counts m r → m.machine.start ≡ Some s → unmet ≡ option_map_or unmet_in r.machine.start []
     → missing ≡ option_map_or (missing_in r.machine.vital) r.machine.start [] → (length missing == 0) ≡ false
@@ -394,7 +394,7 @@ ends_none v j is h = let P : Option Word → Type 0 = λ o. EndsBy o j in subst 
 pub ends_some : (v : Option Word) (word : Word) (j : Judgement) → v ≡ Some word → EndsBy v j → EndsBy (Some word) j
 ends_some v word j is h = let P : Option Word → Type 0 = λ o. EndsBy o j in subst P is h
 
--- nothing of a change of phase is said yet
+-- nothing of a change of phase is printed yet
 pub all_may : (s : Start) (m : RunState) (next : RunState → Act) (c : Image)
     → MayLoad (play (save_where_due (Some (after_phase (live_set m s.number) s))
     (with_machine (with_start (after_phase (live_set m s.number) s) m.machine) m) next) [] []).disk c

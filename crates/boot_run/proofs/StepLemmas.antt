@@ -127,7 +127,7 @@ pub go_may : (steps : Option ℕ) (m : RunState) (c : Image) → m.disk.other �
 go_may None m c none h = go_stays (enough_steps m.machine.start m) m c none h
 go_may (Some n) m c none h = go_stays n m c none h
 
--- whatever the step is, nothing of it is said yet
+-- whatever the step is, nothing of it is printed yet
 pub step_may : (s : Start) (m : RunState) (next : RunState → Act) (c : Image) (o : Option (MachineState × Tried))
     → m.disk.other ≡ None → Stays next → MayLoad m.disk c
     → MayLoad (play (starter_step s m next o) [] []).disk c
@@ -138,7 +138,7 @@ step_may s m next c (Some one) none stays h = judged_may one.1.judgement (with_m
 
 -- ---- a change of phase
 
--- the book's state behind it is what the runner counts
+-- the book's state after it is what the runner counts
 pub next_counts : (tree : Tree) (m : RunState) (s : Start) (r r' : Runner) → m.live ≡ tree → m.machine.start ≡ Some s
     → Counts m r → r'.starts ≡ r.starts → NextPhase tree r.machine r'.machine
     → Counts (with_machine (with_start (after_phase (live_set m s.number) s) m.machine) m) r'

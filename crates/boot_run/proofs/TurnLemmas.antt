@@ -1,4 +1,4 @@
--- What one event comes to.
+-- What one event amounts to.
 use Rattle.std.proofs.Common.{◌≡◌, ◌≤◌, ℕ, Bool, true, false, cond, List, [], ◌∷◌, Option, Some, None, refl, sym, ap, subst, ◌∙◌}
 use Rattle.std.specs.Prelude.{Result, Ok, Err, IfOk, IfSome, option_map}
 use Rattle.std.specs.Option.{option_map_or}
@@ -162,7 +162,7 @@ beside_goes ev m r r' x d e hive machine starts disk agrees p =
       ),
     )
 
--- failures or a vital name are noted, and nothing is said
+-- failures or a vital name are noted, and nothing is printed
 pub aside_goes : (ev : Event) (m : RunState) (x : Told) (d : DiskState)
     → aside_act ev m ≡ done (record m { machine = aside_machine ev m.machine })
     → (a : Act) × (Goes (play (aside_act ev m)) (play a) x x d d
@@ -418,7 +418,7 @@ unfolding event_step_of
 event_refused choice ev why m r counts is =
     ap (act_unless choice ev m) (sym (ap (λ (k : MachineState). refusal_of k ev) counts.machine ∙ is))
 
--- the refusal is said, and all is as it was
+-- the refusal is printed, and all is as it was
 pub refused_plays : {E : Type 0}
     → (result : Result (Unit {0}) E) (ev : Event) (why : RefusedWord) (m : RunState) (r r' : Runner) (x y : Told)
     (d : DiskState) (hive : Option Session)

@@ -1,4 +1,4 @@
--- Names that are said one after the other, each in a line of its own.
+-- Names that are printed in sequence, each in a line of its own.
 use Rattle.std.proofs.Common.{◌≡◌, ◌≤◌, ◌-◌, ℕ, List, [], ◌∷◌, ◌++◌, length, take, drop, map, get_or, sym, ap, subst, ◌∙◌, append_assoc}
 use Rattle.reg_tree.proofs.Outcomes.{uncons}
 use Rattle.start_model.specs.Lines.{Line}
@@ -6,7 +6,7 @@ use Rattle.run_parts.specs.Parts.{Told, Tells}
 use Rattle.run_parts.proofs.GoesLemmas.{tells-then}
 use Rattle.boot_run.specs.Views.{TellsBefore}
 
--- one more name was said, a copy of the next one
+-- one more name was printed, a copy of the next one
 pub name_next : (line : List ℕ → Line) (names : List (List ℕ)) (name copy : List ℕ) (all : List Line) (x y z : Told)
     → 1 ≤ length names → name ≡ get_or names 0 name → copy ≡ name
     → TellsBefore all (map line names) x y → Tells y z (line copy ∷ [])

@@ -6,7 +6,7 @@ use Rattle.start_model.specs.Boot.{woken_state, loaded_state}
 use Rattle.start_model.specs.Lines as lines
 use Rattle.start_model.specs.Lines.{LoadLine}
 
--- the hive was loaded, its line is said, and the run goes on; or the load was stopped, and the start ends
+-- the hive was loaded, its line is printed, and the run goes on; or the load was stopped, and the start ends
 abbrev pub loaded : RunState → (RunState → Act) → Woken → Outcome → Act
 loaded m next w Finished = say (LoadLine w.state.sequence w.dirty) (next (loaded_state m w))
 loaded m next w PowerCut = end_with lines.Cut false (woken_state m w)

@@ -66,7 +66,7 @@ pub record Counts (m : RunState) (r : Runner) : Type 0 where
   pub machine : m.machine ≡ r.machine
   pub starts : m.starts ≡ r.starts
 
--- what the disk carries stands for the state; the live tree is not told
+-- what the disk carries stands for the state; the live tree is not reported
 pub record IsStored (m : RunState) (hive : Session) (disk : DiskState) : Type 0 where
   pub sequence : m.sequence ≡ hive.base.first
   pub version : m.version ≡ version_of hive.base.minor
@@ -91,7 +91,7 @@ pub record Agrees (m : RunState) (r : Runner) (disk : DiskState) (hive : Option 
   pub counts : Counts m r
   pub by : AgreesBy m disk hive
 
--- ---- what is left of an act
+-- ---- what remains of an act
 
 -- the act came to its end
 pub record TurnLeft (r : Runner) (disk : DiskState) (hive : Option Session) (rest : Act) : Type 0 where
@@ -103,7 +103,7 @@ pub record TurnLeft (r : Runner) (disk : DiskState) (hive : Option Session) (res
 abbrev pub OffLeft : Runner → DiskState → Unit {0} → Act → Type 0
 OffLeft r disk u rest = TurnLeft r disk None rest
 
--- the verdict of a start that ends by itself: it tells no outcome, and nothing falls back
+-- the verdict of a start that ends by itself: it reports no outcome, and nothing falls back
 pub record IsEnding (word : Verdict) : Type 0 where
   pub falls : falls_back word ≡ false
   pub none : outcomes_in (VerdictLine word ∷ []) ≡ []
@@ -119,7 +119,7 @@ abbrev pub LeavesUp : Session → Runner → Runner → DiskState → Option Ses
 LeavesUp before r r' disk None = IsDown disk × (r'.machine.start ≡ None)
 LeavesUp before r r' disk (Some hive) = IsUp hive disk × ((hive.tree ≡ before.tree) × ((hive.changed ≡ false) × KeepsRunner r r'))
 
--- the start is over, and the disk may load as before the commit or as after it; or the run goes on behind it
+-- the start is over, and the disk may load as before the commit or as after it; or the run goes on after it
 abbrev pub CommitLeft : RunState → Tree → (RunState → Act) → Runner → DiskState → Option Session → Act → Type 0
 CommitLeft m tree next r' disk None rest =
     (rest ≡ done (start_over false (opened_state m tree)))
@@ -133,7 +133,7 @@ abbrev pub LoadsUp : Runner → Runner → DiskState → Option Session → Type
 LoadsUp r r' disk None = IsDown disk × (r'.machine.start ≡ None)
 LoadsUp r r' disk (Some hive) = IsUp hive disk × ((hive.changed ≡ false) × KeepsRunner r r')
 
--- the start is over, and the disk may load as what it woke up with; or the run goes on behind the load
+-- the start is over, and the disk may load as what it woke up with; or the run goes on after the load
 abbrev pub LoadLeftAt : Woken → RunState → (RunState → Act) → Runner → DiskState → Option Session → Act → Type 0
 LoadLeftAt w m next r' disk None rest =
     (rest ≡ done (start_over false (woken_state m w))) × (Counts (start_over false (woken_state m w)) r' × EachCrash disk (MayLoad (woken_at w)))

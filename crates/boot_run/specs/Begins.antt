@@ -1,4 +1,4 @@
--- How does a start begin that has a plan, what do events do that leave the session alone, and what does a run come to? (this project's own)
+-- How does a start begin that has a plan, what do events do that leave the session alone, and what does a run amount to? (this project's own)
 use Rattle.std.specs.Prelude.{◌≡◌, not, ◌==◌, Bool, true, false, ℕ, List, length, Option, Some, None, Result, Ok, Err, IfSome}
 use Rattle.hive_model.specs.Tree.{Tree}
 use Rattle.hive_model.specs.Edit.{Refusal}
@@ -33,7 +33,7 @@ use Rattle.boot_run.specs.declared.stop.RunStop.{RunStop}
 
 -- ---- the beginning of a start
 
--- the plan is the book's, or the book has none for the stated reason; of want of memory nothing is said
+-- the plan is the book's, or the book has none for the stated reason; of lack of memory nothing is printed
 abbrev pub Planned : Result SetPlan SelectStop → Result SetPlan SetStop → Type 0
 Planned (Ok made) plan = plan ≡ Ok made
 Planned (Err stops.NoControlSet) plan = plan ≡ Err NoControlSet
@@ -41,7 +41,7 @@ Planned (Err stops.NoLastKnownGood) plan = plan ≡ Err NoLastKnownGood
 Planned (Err stops.NoFreeNumber) plan = plan ≡ Err NoFreeNumber
 Planned (Err stops.Memory) plan = Unit {0}
 
--- behind the `set` line: the tree of the plan is committed where it has steps, and the start begins; or it ends as full
+-- after the `set` line: the tree of the plan is committed where it has steps, and the start begins; or it ends as full
 abbrev pub begin_planned : Bool → RunState → SetPlan → Result Tree Refusal → Act
 begin_planned on_good m plan (Ok t) =
     begin_with on_good (record { chosen = plan.chosen; numbers = plan.numbers; has_steps = not (length plan.steps == 0); tree = t }) m
@@ -103,11 +103,11 @@ abbrev pub RunsOr : {T E : Type 0} → Going → Told → Told → DiskState →
 RunsOr whole told told' old new (Ok x) = Played whole told told' old new
 RunsOr whole told told' old new (Err e) = RunBreaks whole told told'.said old new
 
--- what was told before the run
+-- what was reported before the run
 abbrev pub untold : HostState → Told
 untold host = record { said = host.said; summary = no_summary }
 
--- what was told in it: the summary is the answer
+-- what was reported in it: the summary is the answer
 abbrev pub answered : HostState → Result Summary RunStop → Told
 answered host (Ok summary) = told_by host summary
 answered host (Err stop) = untold host

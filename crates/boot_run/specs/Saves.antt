@@ -19,6 +19,6 @@ abbrev pub PlansOr : Option SetPlan → Result SetPlan SetStop → Type 0
 PlansOr None r = (stop : SetStop) × (r ≡ Err stop)
 PlansOr (Some plan) r = r ≡ Ok plan
 
--- behind the commit of a save: the numbers are said, the save is noted, and the run goes on
+-- after the commit of a save: the numbers are printed, the save is noted, and the run goes on
 abbrev pub noting : SelectNumbers → Start → (RunState → Act) → RunState → Act
 noting numbers s next after = say (select_line numbers) (next (noted_saved true s after))

@@ -56,6 +56,6 @@ pub record NextPhase (tree : Tree) (old new : MachineState) : Type 0 where
   pub there : set_of tree start.number ≡ Some set
   pub machine : new ≡ with_start (after_phase set start) old
 
--- Of so many steps from a state on these are left, for a start that goes on; or the start is over.
+-- Of that many steps from a state on these are left, for a start that goes on; or the start is over.
 abbrev pub StepsTo : ℕ → RunState → ℕ → Told → Told → DiskState → DiskState → Runner → Option Session → Type 0
 StepsTo most m left x y d e r o = (rest : Act) × (Goes (play (go_steps most m)) (play rest) x y d e × OnLeft (go_steps left) r e o rest)

@@ -14,15 +14,15 @@ use Rattle.boot_run.specs.declared.stop.RunStop.{RunStop}
 abbrev pub summary_in : Summary → book.Summary
 summary_in s = record { started = s.started; failed = s.failed; unmet = s.unmet; verdict = option_map verdict_of s.verdict; sequence = s.sequence }
 
--- what a host was told, counted so
+-- what a host was reported, counted so
 abbrev pub told_by : HostState → Summary → Told
 told_by host summary = record { said = host.said; summary = summary_in summary }
 
--- what was told through the runner
+-- what was reported through the runner
 abbrev pub told_in : HostState → Runner → Told
 told_in host runner = told_by host runner.summary
 
--- a run at a moment: what was told, and the disk
+-- a run at a moment: what was reported, and the disk
 pub record Moment : Type 0 where
   pub told : Told
   pub disk : DiskState
@@ -35,7 +35,7 @@ moment host runner disk = record { told = told_in host runner; disk = disk }
 abbrev pub RunsTo : {T : Type 0} → Act → Moment → Moment → Result T RunStop → (T → Act → Type 0) → Type 0
 RunsTo act old new result Left = PlaysOr act old.told new.told old.disk new.disk result Left
 
--- of these lines some were told, and of the next one a front was said
+-- of these lines some were reported, and of the next one a front was printed
 pub record SaysPart (lines : List Line) (old : Told) (said : List ℕ) : Type 0 where
   pub first : List Line
   pub line : Line
@@ -45,13 +45,13 @@ pub record SaysPart (lines : List Line) (old : Told) (said : List ℕ) : Type 0 
   pub told : Tells old mid first
   pub front : SaysFront mid.said said (line_text line)
 
--- of these lines those before the rest were told
+-- of these lines those before the rest were reported
 pub record TellsBefore (lines rest : List Line) (old new : Told) : Type 0 where
   pub first : List Line
   pub parts : lines ≡ first ++ rest
   pub told : Tells old new first
 
--- these lines were told; or those before one, of which a front was said
+-- these lines were reported; or those before one, of which a front was printed
 abbrev pub SaysAll : {T : Type 0} → List Line → Told → Told → Result T RunStop → Type 0
 SaysAll lines old new (Ok x) = Tells old new lines
 SaysAll lines old new (Err e) = SaysPart lines old new.said

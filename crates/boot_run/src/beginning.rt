@@ -81,7 +81,7 @@ fn begin_start<H: Host>(
     say(alloc, host, &mut runner.summary, Line::Phase { word })
 }
 
-/// Behind the commit of a beginning the start begins; behind one that was stopped it is over.
+/// After the commit of a beginning the start begins; after one that was stopped it is over.
 fn begin_behind<H: Host>(
     alloc: Global,
     number: u32,

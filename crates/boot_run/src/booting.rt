@@ -129,8 +129,8 @@ fn boot_by<H: Host, B: Bench>(
     }
 }
 
-/// One more start: a fallback that is due is taken, and boot.ini says how it goes on. Behind 4,294,967,295 starts the run is
-/// given up as for want of memory.
+/// One more start: a fallback that is due is taken, and boot.ini says how it goes on. After 4,294,967,295 starts the run is
+/// given up as for lack of memory.
 pub(crate) fn boot<H: Host, B: Bench>(
     alloc: Global,
     ini: &BootIni,

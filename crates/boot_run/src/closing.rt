@@ -43,7 +43,7 @@ pub(crate) fn flush<H: Host, B: Bench>(
     Ok(Some(hive))
 }
 
-/// Behind a commit that was done the start ends; behind one that was stopped it is over.
+/// After a commit that was done the start ends; after one that was stopped it is over.
 fn end_behind<H: Host, B: Bench>(
     alloc: Global,
     word: Verdict,

@@ -1,4 +1,4 @@
-//! A commit of the session, and the line that tells of it.
+//! A commit of the session, and the line that reports it.
 
 ghost use Rattle.std.specs.Prelude.{◌≡◌, true, IfOk};
 ghost use Rattle.boot_report.specs.Report.{commit_of};

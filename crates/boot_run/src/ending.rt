@@ -23,7 +23,7 @@ use hive_store::Hive;
 use nt_edge::{Bench, Host};
 use std::alloc::Global;
 
-/// The disk is turned off, the start is over, and its verdict is said.
+/// The disk is turned off, the start is over, and its verdict is printed.
 pub(crate) fn end_with<H: Host, B: Bench>(
     alloc: Global,
     word: Verdict,

@@ -1,4 +1,4 @@
-//! A load of a session, and the line that tells of it.
+//! A load of a session, and the line that reports it.
 
 ghost use Rattle.std.specs.Prelude.{◌≡◌, true, IfOk};
 ghost use Rattle.nt_edge.specs.Crash.{EachCrash};

@@ -63,7 +63,7 @@ fn say_both<H: Host>(
     say_missing(alloc, missing, summary, host)
 }
 
-/// The start stops: what waits is unmet, and the vital names that are missing are said.
+/// The start stops: what waits is unmet, and the vital names that are missing are printed.
 pub(crate) fn stop_without<H: Host, B: Bench>(
     alloc: Global,
     unmet: &[Units],

@@ -33,7 +33,7 @@ pub(crate) fn resolved(alloc: Global, path: &[Units], number: u32) -> Result<Nam
     path_of(alloc, first, rest)
 }
 
-/// The path with this first component and these behind it.
+/// The path with this first component and these after it.
 fn path_of(alloc: Global, first: Units, rest: &[Units]) -> Result<Names, AllocError>
     ensures { IfOk result (λ p. p ≡ first ∷ rest.now) }
 {

@@ -3,7 +3,7 @@
 use crate::summary::Summary;
 use boot_machine::Machine;
 
-/// The machine, how many starts there were, and what was told so far, counted.
+/// The machine, how many starts there were, and what was reported so far, counted.
 #[derive(Drop)]
 pub struct Runner {
     pub(crate) machine: Machine,

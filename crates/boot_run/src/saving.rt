@@ -55,7 +55,7 @@ fn note<H: Host>(
     Ok(())
 }
 
-/// Behind the commit of a save: the numbers are said, and the save is noted. A start that was stopped is over.
+/// After the commit of a save: the numbers are printed, and the save is noted. A start that was stopped is over.
 fn note_behind<H: Host>(
     alloc: Global,
     numbers: SelectNumbers,

@@ -80,7 +80,7 @@ pub(crate) fn live_set(alloc: Global, hive: &Hive, number: u32) -> Result<Key, A
     }
 }
 
-/// How many keys stand below `Services` of the set of this number, which must be there. No key is copied.
+/// How many keys are below `Services` of the set of this number, which must be there. No key is copied.
 pub(crate) fn count_services(alloc: Global, hive: &Hive, number: u32) -> Result<usize, AllocError>
     requires { is_usable hive.now.tree number ≡ true }
     ensures { IfOk result (λ n. n ≡ length (services_of (unwrap_or (set_of hive.now.tree number) no_set))) }

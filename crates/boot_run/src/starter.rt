@@ -116,7 +116,7 @@ fn try_next<H: Host, B: Bench>(
 
 // ---- a change of phase
 
-/// Goes on from the last phase, behind which nothing is taken of a set. Answers what was unmet.
+/// Goes on from the last phase, after which nothing is taken of a set. Answers what was unmet.
 fn end_phases(alloc: Global, runner: &mut Runner) -> Result<Names, RunStop>
     requires { is_in_last_phase runner.old.machine.start ≡ true }
     ensures machine { IfOk result (λ _. (set : Tree) → runner.new.machine ≡ on_start (after_phase set) runner.old.machine) }
@@ -169,7 +169,7 @@ fn next_phase(alloc: Global, hive: &Hive, runner: &mut Runner) -> Result<Names, 
     plan_phase(alloc, hive, runner)
 }
 
-/// The phase ends and the next one begins: what still waits is said as unmet, and then the phase.
+/// The phase ends and the next one begins: what still waits is printed as unmet, and then the phase.
 fn say_phase<H: Host>(
     alloc: Global,
     hive: &Hive,
@@ -279,7 +279,7 @@ fn step<H: Host, B: Bench>(
     try_next(alloc, hive, runner, host, bench)
 }
 
-/// At most so many steps of the starter, while a start is under way.
+/// At most that many steps of the starter, while a start is under way.
 fn take_steps<H: Host, B: Bench>(
     alloc: Global,
     most: u128,
@@ -307,7 +307,7 @@ fn take_steps<H: Host, B: Bench>(
     Ok(())
 }
 
-/// So many steps as are enough for all that the start can still do: one for each entry that waits or that the set could
+/// That many steps as are enough for all that the start can still do: one for each entry that waits or that the set could
 /// still give, and three for the phases.
 fn enough(alloc: Global, hive: &Hive, runner: &Runner) -> Result<u128, RunStop>
     requires { IsRunningBy runner.now.machine.start hive.now.tree }
@@ -323,7 +323,7 @@ fn enough(alloc: Global, hive: &Hive, runner: &Runner) -> Result<u128, RunStop>
     Ok(services as u128 + u32::MAX as u128 + 3)
 }
 
-/// How many steps are taken at most: so many, or as many as there can be.
+/// How many steps are taken at most: that many, or the same number as there can be.
 fn most_steps(
     alloc: Global,
     steps: Option<u32>,
@@ -340,7 +340,7 @@ fn most_steps(
     }
 }
 
-/// So many steps of the starter, or all that there can be.
+/// That many steps of the starter, or all that there can be.
 pub(crate) fn go<H: Host, B: Bench>(
     alloc: Global,
     steps: Option<u32>,

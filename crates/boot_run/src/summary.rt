@@ -1,4 +1,4 @@
-//! What the lines of a report come to.
+//! What the lines of a report amount to.
 
 ghost use Rattle.std.specs.Prelude.{◌≡◌};
 ghost use Rattle.boot_report.specs.Report.{line_of, try_of};

@@ -90,12 +90,12 @@ fn events<H: Host, B: Bench>(
     }
 }
 
-/// Plays a script on a disk that is off, whatever it wakes up with. Each line is said at once, behind the step that it tells of.
+/// Plays a script on a disk that is off, whatever it wakes up with. Each line is printed at once, after the step that it reports.
 /// The disk is off afterwards, whatever the answer.
 ///
 /// # Errors
 ///
-/// `Write` if a line can't be said, and `Memory` if there is no memory: what was said is a front of the report then.
+/// `Write` if a line can't be said, and `Memory` if there is no memory: what was printed is a prefix of the report then.
 pub fn run<H: Host, B: Bench>(
     alloc: Global,
     script: &[Event],
@@ -107,8 +107,8 @@ pub fn run<H: Host, B: Bench>(
     requires down { IsDown (B.state bench.old) }
     requires counts { All HasCounts script.now }
     ensures off { (B.state bench.new).on ≡ false }
-    // What was said is the report of the book's run on what the disk woke up with, or at a refusal a front of it; and what was
-    // done to the disk are the run's notes, or a front of them.
+    // What was printed is the report of the book's run on what the disk woke up with, or at a refusal a prefix of it; and what was
+    // done to the disk are the run's notes, or a prefix of them.
     ensures report { (placed : Woken) → (H.state host.old).tells ≡ true
         → EachCrash (B.state bench.old) (λ (c : Image). Loads c placed.state placed.dirty)
         → ReportsOr (run_of (choices ini.now system.now) (map event_in script.now) placed) (untold (H.state host.old))

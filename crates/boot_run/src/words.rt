@@ -51,7 +51,7 @@ pub(crate) fn refused_word(refusal: EventRefusal) -> RefusedWord
     }
 }
 
-/// The word of an edit's refusal; none for want of memory.
+/// The word of an edit's refusal; none for lack of memory.
 pub(crate) fn edit_word(stop: EditStop) -> Option<RefusedWord>
     ensures { option_map refused_of result ≡ option_map reason_of (refusal_of stop) }
 {

@@ -48,7 +48,7 @@ no_front p (x ∷ xs) = by_test (p x) refl (no_front p xs)
 spaces_once : (line : List ℕ) → without_spaces (without_spaces line) ≡ without_spaces line
 spaces_once line = ap (λ (k : ℕ). drop k (without_spaces line)) (no_front is_space line)
 
--- the words of a line are those behind the spaces before it
+-- the words of a line are those after the spaces before it
 same_words : (line : List ℕ) → 0 < length (without_spaces line) → words_of (without_spaces line) ≡ words_of line
 same_words line some =
     next_word (without_spaces line) (rw (spaces_once line) some)

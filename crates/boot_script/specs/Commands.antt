@@ -75,7 +75,7 @@ remove_of [] = Err Word
 remove_of (a ∷ []) = Ok (Remove (path_of a))
 remove_of (a ∷ b ∷ more) = Err Word
 
--- a command that stands alone
+-- a command that is alone
 abbrev pub alone_of : Event → List (List ℕ) → Result Event ScriptFaultKind
 alone_of event [] = Ok event
 alone_of event (a ∷ more) = Err Word
@@ -119,7 +119,7 @@ edit_of name words =
     else if bytes_eq name (codes "remove") then remove_of words
     else Err Word
 
--- the event of a command with these words behind it
+-- the event of a command with these words after it
 unfoldable pub command_of : List ℕ → List (List ℕ) → Result Event ScriptFaultKind
 command_of name words =
     if bytes_eq name (codes "boot") then boot_of words

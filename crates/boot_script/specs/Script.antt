@@ -1,6 +1,6 @@
 -- What are the events of a text, or which line is the first faulty one? (this project's own)
 --
--- Lines end with LF, and a CR before it is dropped. Lines of spaces, and lines whose first byte behind
+-- Lines end with LF, and a CR before it is dropped. Lines of spaces, and lines whose first byte after
 -- spaces is `#`, are skipped. At most 65,536 bytes and 64 `boot` lines.
 use Rattle.std.specs.Prelude.{◌≡◌, ℕ, ◌+◌, ◌≤◌, List, [], ◌∷◌, ◌++◌, length, Option, Some, None, Result, Ok, Err, nat_lt, ◌==◌, if◌then◌else◌, option_to_list}
 use Rattle.std.specs.List.{All}
@@ -40,14 +40,14 @@ abbrev pub put_before : {X : Type 0} → List X → Result (List X) ScriptFault 
 put_before front (Ok items) = Ok (front ++ items)
 put_before front (Err f) = Err f
 
--- what a line gives, where so many starts were asked for before, and what follows it
+-- what a line gives, where that many starts were asked for before, and what follows it
 abbrev pub after_line : ℕ → ℕ → Result (Option Event) ScriptFaultKind → (ℕ → Result (List Event) ScriptFault) → Result (List Event) ScriptFault
 after_line n boots (Err kind) next = at_line n kind
 after_line n boots (Ok event) next =
     if nat_lt 64 (boots + starts event) then at_line n TooManyStarts
     else put_before (option_to_list event) (next (boots + starts event))
 
--- the events of the lines from line n on, after so many `boot` lines, or the first fault
+-- the events of the lines from line n on, after that many `boot` lines, or the first fault
 unfoldable pub events_from : ℕ → ℕ → List (List ℕ) → Result (List Event) ScriptFault
 events_from n boots [] = Ok []
 events_from n boots (line ∷ more) = after_line n boots (line_event line) (λ boots. events_from (n + 1) boots more)
@@ -78,12 +78,12 @@ abbrev pub FailsBy : {X : Type 0} → ScriptStop → Result (List X) ScriptFault
 FailsBy stops.Memory read = Unit {0}
 FailsBy (stops.Fault f) read = read ≡ Err f
 
--- the events, or the fault, or want of memory
+-- the events, or the fault, or lack of memory
 abbrev pub GivesScript : Result (List Event) ScriptStop → Result (List Event) ScriptFault → Type 0
 GivesScript (Ok events) read = read ≡ Ok events
 GivesScript (Err e) read = FailsBy e read
 
--- the line's event is added, and so many `boot` lines are there with it
+-- the line's event is added, and that many `boot` lines are there with it
 pub record TakesLine (old new : List Event) (line : List ℕ) (boots after : ℕ) : Type 0 where
   pub event : Option Event
   pub reads : line_event line ≡ Ok event

@@ -23,7 +23,7 @@ abbrev pub ends_word : List ℕ → Bool
 ends_word [] = true
 ends_word (c ∷ rest) = is_space c
 
--- the line begins with spaces and the word, and the rest is behind it
+-- the line begins with spaces and the word, and the rest is after it
 pub record Opens (word line rest : List ℕ) : Type 0 where
   pub gap : List ℕ
   pub shown : List ℕ
@@ -32,14 +32,14 @@ pub record Opens (word line rest : List ℕ) : Type 0 where
   pub is_shown : IsBare word shown ⊎ IsQuoted word shown
   pub ends : ends_word rest ≡ true
 
--- the line is these words, each behind spaces, and spaces in the end
+-- the line is these words, each after spaces, and spaces in the end
 abbrev pub IsLineOf : List (List ℕ) → List ℕ → Type 0
 IsLineOf [] line = list_all is_space line ≡ true
 IsLineOf (word ∷ words) line = (rest : List ℕ) × Opens word line rest × IsLineOf words rest
 
 -- ---- lines and the whole text
 
--- a line that says nothing: spaces, and perhaps `#` with anything behind it
+-- a line that says nothing: spaces, and perhaps `#` with anything after it
 abbrev pub IsSilent : List ℕ → Type 0
 IsSilent line = (list_all is_space line ≡ true) ⊎ ((gap : List ℕ) × (rest : List ℕ) × (list_all is_space gap ≡ true) × (line ≡ gap ++ 35 ∷ rest))
 
@@ -48,7 +48,7 @@ abbrev pub AsksFor : Option Event → List ℕ → Type 0
 AsksFor None line = IsSilent line
 AsksFor (Some event) line = (words : List (List ℕ)) × IsLineOf words line × IsSpelledBy event words
 
--- the lines, one after the other, ask for these events
+-- the lines, in sequence, ask for these events
 abbrev pub AskFor : List Event → List (List ℕ) → Type 0
 AskFor events [] = events ≡ []
 AskFor events (line ∷ more) =

@@ -22,7 +22,7 @@ wide_bytes c = c ∷ 0 ∷ []
 abbrev pub text_bytes : List ℕ → List ℕ
 text_bytes text = flat_map wide_bytes text ++ 0 ∷ 0 ∷ []
 
--- texts, each with a zero unit, and a zero unit behind them
+-- texts, each with a zero unit, and a zero unit after them
 abbrev pub texts_bytes : List (List ℕ) → List ℕ
 texts_bytes texts = flat_map text_bytes texts ++ 0 ∷ 0 ∷ []
 

@@ -96,7 +96,7 @@ fn alone(words: &[&[u8]], event: Event) -> Result<Event, ScriptFaultKind>
     }
 }
 
-/// The event of the command with these words behind it.
+/// The event of the command with these words after it.
 #[tactic(auto, unfolding(crate::specs::Commands::command_of))]
 fn command(alloc: Global, name: &[u8], words: &[&[u8]]) -> Result<Event, LineStop>
     ensures { Gives (λ e. e) result (command_of name.now (map (λ w. w.now) words.now)) }

@@ -110,7 +110,7 @@ fn dword(alloc: Global, words: &[&[u8]]) -> Result<(u32, Bytes), LineStop>
     Ok((4, bytes))
 }
 
-/// The type and the bytes of the value that the words behind its name give.
+/// The type and the bytes of the value that the words after its name give.
 #[tactic(auto, unfolding(crate::specs::Values::data_of))]
 pub fn data(alloc: Global, kind: &[u8], words: &[&[u8]]) -> Result<(u32, Bytes), LineStop>
     ensures { Gives (λ d. (d.0, d.1)) result (data_of kind.now (map (λ w. w.now) words.now)) }

@@ -25,7 +25,7 @@ numbers_next step left x rest all more whole lt is pushed far =
 room_at : (step k : ℕ) (rest : List ℕ) → step * (k + 1) ≤ length rest → step * k ≤ length (drop step rest)
 room_at step k rest h = omega (arith, h, length-drop step rest)
 
--- the rest is long enough for what is left
+-- the rest is long enough for what remains
 pub room_next : (step left : ℕ) (rest : List ℕ) → 0 < left → step * left ≤ length rest
     → step * (left - 1) ≤ length (drop step rest)
 room_next step left rest lt h =

@@ -1,4 +1,4 @@
-//! What is spelled is read back, whatever fills the cell behind it.
+//! What is spelled is read back, whatever fills the cell after it.
 
 ghost use Rattle.std.specs.Prelude.{◌≡◌, ◌<◌, ◌^◌, ◌++◌, ℕ, List, length, Ok};
 ghost use Rattle.hive_model.specs.KeyNode.{KeyNode, IsKeyNode, key_node_at, key_node_text};

@@ -2,7 +2,7 @@
 //!
 //! Each reader takes the payload of a cell and answers its form, or the first check of it that
 //! fails at the cell's offset. It asks nothing of the bytes. Each writer answers the payload that
-//! a form is spelled as, and what is spelled is read back, whatever fills the cell behind it.
+//! a form is spelled as, and what is spelled is read back, whatever fills the cell after it.
 //! Rules: regf format 1.3 and 1.5, key node, key value, big data, key security, subkey lists.
 #![tactic(auto)]
 

@@ -57,7 +57,7 @@ pub fn lf_bytes(alloc: Global, offsets: &[u32], hints: &[[u8; 4]]) -> Result<Byt
     Ok(bytes)
 }
 
-/// The hash of a unit behind others of this hash.
+/// The hash of a unit after others of this hash.
 fn hash_behind(hash: u32, unit: u16) -> u32
     ensures { result ≡ (37 * hash + folded_unit unit) % 4294967296 }
 {

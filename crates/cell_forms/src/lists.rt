@@ -32,7 +32,7 @@ pub struct ListForm {
     pub offsets: Offsets,
 }
 
-/// So many numbers of four bytes, each a step behind the one before.
+/// That many numbers of four bytes, each a step after the one before.
 fn numbers(alloc: Global, step: usize, count: usize, bytes: &[u8]) -> Result<Offsets, AllocError>
     requires wide { 4 ≤ step }
     requires inside { step * count ≤ length bytes.now }

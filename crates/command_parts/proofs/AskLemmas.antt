@@ -22,7 +22,7 @@ more_more (suc a) b n =
 none_more : (p : ℕ) → p + 0 ≡ p
 none_more p = omega arith
 
--- it asked for nothing, behind p files
+-- it asked for nothing, after p files
 pub reads_asks : {A B : Type 0} (n p : ℕ) (s : Result A Refusal) (k : A → ℕ) (e : Obstacle) (q : Result B Obstacle)
     (g h : ℕ)
     → n ≡ p + behind_step s k → Reads s (Err e) → IsErrAnd q (λ x. x ≡ e) → h ≡ more p g → AsksUntil n q g h
@@ -83,7 +83,7 @@ last_asks {B} n e (Err x) g h unwritten is some asked =
       gets = asked;
     }
 
--- so many files behind p others
+-- that many files after p others
 pub more_behind : (n p k : ℕ) (g m h : ℕ) → n ≡ p + k → m ≡ more p g → h ≡ more k m → h ≡ more n g
 more_behind n p k g m h whole before asked =
     let all : k + p ≡ n = omega (arith, whole) in
@@ -98,7 +98,7 @@ some_behind least n p k g m h whole before some =
       gets = more_behind (p + some.asked) p some.asked g m h refl before some.gets;
     }
 
--- the last step asked for some of k files, behind p files
+-- the last step asked for some of k files, after p files
 pub behind_asks : (A : Type 0) {B : Type 0} (n p k : ℕ) (e : Obstacle) (q : Result B Obstacle) (g m h : ℕ) → n ≡ p + k
     → m ≡ more p g → AsksUntil {A = A} k (Err e) m h → IsErrAnd q (λ x. x ≡ e) → AsksUntil n q g h
 behind_asks A n p k e (Ok x) g m h whole before asks is = absurd is

@@ -18,7 +18,7 @@ use Rattle.command_parts.specs.Refusals.{Ends, IsToldAs, refusal, refusal_status
 use Rattle.command_parts.specs.Saves.{Saves, no_saves, FilesAs}
 use Rattle.command_parts.proofs.LeaveLemmas.{keeps_then, counts_by, stop_counts}
 
--- ---- files and disk behind a status
+-- ---- files and disk after a status
 
 -- nothing was done to the disk
 pub untouched_by : (status : Status) (disk : DiskState) → disk ≡ new_state → IsUntouchedBy status disk
@@ -55,7 +55,7 @@ unchanged saves statuses.ReadFault held old new undone same = same
 unchanged saves statuses.WriteFault held old new undone same = λ q other. ap (λ (f : Files). f q) same
 unchanged saves statuses.Memory held old new undone same = λ q other. ap (λ (f : Files). f q) same
 
--- ---- a status that was told
+-- ---- a status that was reported
 
 pub refused_open : (r : Refusal) → refusal_status r ≡ statuses.Done → ⊥
 refused_open refusals.Usage e = absurd cc
@@ -135,7 +135,7 @@ memory_decides ends saves host disk off end = record {
   unread = λ e. absurd cc;
 }
 
--- a refusal was said, and nothing was done to the disk
+-- a refusal was printed, and nothing was done to the disk
 pub refusal_decides : (ends : Status → List ℕ → List ℕ → Type 0) (saves : Saves) (why : Refusal) (status : Status)
     (old new : HostState) (disk : DiskState)
     → disk ≡ new_state → Leaves (Ends (refusal why)) status old new → KeepsFiles old new
@@ -168,7 +168,7 @@ nothing_saved statuses.ReadFault held old new same = same
 nothing_saved statuses.WriteFault held old new same = λ q other. ap (λ (f : Files). f q) same
 nothing_saved statuses.Memory held old new same = λ q other. ap (λ (f : Files). f q) same
 
--- a text was said, and the disk is a new one
+-- a text was printed, and the disk is a new one
 pub told_decides : (ends : Status → List ℕ → List ℕ → Type 0) (text : List ℕ) (status : Status) (old new : HostState)
     → Leaves (Ends (record { status = statuses.Done; text = text })) status old new → KeepsFiles old new
     → AsksNone old new → IsToldAs statuses.Done status
@@ -190,7 +190,7 @@ told_decides ends text status old new leaves files unasked told lift = record {
   unread = told_unread statuses.Done status told (λ e. absurd cc);
 }
 
--- ---- behind a search for inputs
+-- ---- after a search for inputs
 
 module _ {A : Type 0} (wanted : Result A Refusal) (All : Result A Refusal → Status → List ℕ → List ℕ → Type 0)
     (saves : Saves) where
@@ -241,7 +241,7 @@ module _ {A : Type 0} (wanted : Result A Refusal) (All : Result A Refusal → St
     untouched = untouched_by status disk fresh;
   }
 
-  -- the outside stopped, and nothing was said
+  -- the environment stopped, and nothing was printed
   pub stopped_decides : (stop : HostStop) (old new : HostState) (disk : DiskState) → disk ≡ new_state
       → ((o n : List ℕ) → n ≡ o → (stop ≡ Write → ⊥) → All wanted (stopped_as stop) o n)
       → Looks {A = A} wanted (Err (Stopped stop)) old new

@@ -1,4 +1,4 @@
--- What two calls leave of a host, one behind the other.
+-- What two calls leave of a host, in sequence.
 use Rattle.std.proofs.Common.{◌≡◌, ℕ, List, [], Option, Some, None, refl, sym, subst, ◌∙◌, append-nil}
 use Rattle.std.specs.Prelude.{Result, Ok, Err}
 use Rattle.nt_edge.specs.Host.{HostState, SaysFront, KeepsHost, KeepsFiles, KeepsCounts, Counts, CountsFault}
@@ -54,6 +54,6 @@ stop_counts Read old new c = c
 stop_counts Write old new c = c
 stop_counts Memory old new c = c
 
--- nothing was said
+-- nothing was printed
 pub no_front : (t old new : List ℕ) → new ≡ old → SaysFront old new t
 no_front t old new same = record { front = []; rest = t; cut = refl; said = same ∙ sym (append-nil old) }

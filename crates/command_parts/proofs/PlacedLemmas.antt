@@ -9,7 +9,7 @@ use Rattle.nt_edge.proofs.Placing.{placed_both, sector_past}
 use Rattle.command_parts.specs.declared.inputs.HiveFiles.{HiveFiles}
 use Rattle.command_parts.specs.Placed.{placed_disk, with_log}
 
--- so many bytes of a file are placed
+-- that many bytes of a file are placed
 abbrev pub front : List ℕ → List ℕ
 front bytes = take (min (length bytes) 33554432) bytes
 

@@ -242,7 +242,7 @@ saves-both saves r old mid new d e f x y = record {
   settles = settles-then x.taken y.taken d e f x.settles y.settles;
 }
 
--- ---- the status behind it
+-- ---- the status after it
 
 pub counts_saved : (r : Result (Unit {0}) HostStop) (old new : HostState) → CountsFault r old new
     → CountsBy (stop_in (saved_status r)) old new

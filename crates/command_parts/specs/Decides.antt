@@ -8,7 +8,7 @@ use Rattle.command_parts.specs.Leaves.{Leaves}
 use Rattle.command_parts.specs.Placed.{IsUntouchedBy}
 use Rattle.command_parts.specs.Saves.{Saves, FilesAs}
 
--- which statuses a part of the program ends with, from what was said before to what was said then
+-- which statuses a part of the program ends with, from what was printed before to what was printed then
 abbrev pub Ending : Type 1
 Ending = Status → List ℕ → List ℕ → Type 0
 

@@ -40,7 +40,7 @@ ini_in text system =
     else if nat_lt 64 (length (entries_in text)) then Err IniTooManyEntries
     else Ok (ini_of text system)
 
--- the log, where the words name one
+-- the log, where the command line names one
 abbrev pub log_in : Files → Option (List ℕ) → Result (Option (List ℕ)) Refusal
 log_in files None = Ok None
 log_in files (Some name) = do
@@ -70,6 +70,6 @@ asks_hive files hive log = 1 + behind_step (file_in hive (files hive)) (λ prima
 abbrev pub AsksHive : {A : Type 0} → List ℕ → Option (List ℕ) → Result A Obstacle → HostState → HostState → Type 0
 AsksHive hive log result old new = old.tells ≡ true → AsksUntil (asks_hive old.files hive log) result old.gets new.gets
 
--- so many files were asked for, up to the stop that the status says
+-- that many files were asked for, up to the stop that the status says
 abbrev pub AsksSoMany : (Files → ℕ) → Status → HostState → HostState → Type 0
 AsksSoMany count status old new = old.tells ≡ true → AsksBy (count old.files) (stop_in status) old.gets new.gets

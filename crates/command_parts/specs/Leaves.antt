@@ -18,19 +18,19 @@ stopped_as Read = ReadFault
 stopped_as Write = WriteFault
 stopped_as NoMemory = Memory
 
--- which stop of the outside a status says, if any
+-- which stop of the environment a status says, if any
 abbrev pub stop_in : Status → Option HostStop
 stop_in ReadFault = Some Read
 stop_in WriteFault = Some Write
 stop_in Memory = Some NoMemory
 stop_in status = None
 
--- a fault of the outside rose its own count, and nothing else rose any
+-- a fault of the environment rose its own count, and nothing else rose any
 abbrev pub CountsBy : Option HostStop → HostState → HostState → Type 0
 CountsBy None old new = KeepsCounts old new
 CountsBy (Some stop) old new = Counts old new stop
 
--- the status is allowed what was said from the old to the new, and a fault is that of the host
+-- the status is allowed what was printed from the old to the new, and a fault is that of the host
 pub record Leaves (ends : Status → List ℕ → List ℕ → Type 0) (status : Status) (old new : HostState) : Type 0 where
   pub keeps : KeepsHost old new
   pub counts : CountsBy (stop_in status) old new
@@ -43,26 +43,26 @@ abbrev pub named : Option (List ℕ) → ℕ
 named None = 0
 named (Some name) = 1
 
--- a count after so many more, up to its end
+-- a count after that many more, up to its end
 abbrev pub more : ℕ → ℕ → ℕ
 more zero count = count
 more (suc n) count = min (more n count + 1) 18446744073709551615
 
--- at most so many files were asked for, and at least so many
+-- at most that many files were asked for, and at least that many
 pub record AsksSome (least most : ℕ) (old new : ℕ) : Type 0 where
   pub asked : ℕ
   pub not_less : least ≤ asked
   pub not_more : asked ≤ most
   pub gets : new ≡ more asked old
 
--- how many of so many files were asked for where the outside stopped: at a read fault one of them, while something was
+-- how many of that many files were asked for where the environment stopped: at a read fault one of them, while something was
 -- said all of them
 abbrev pub AsksStopped : HostStop → ℕ → ℕ → ℕ → Type 0
 AsksStopped Read n old new = AsksSome 1 n old new
 AsksStopped Write n old new = new ≡ more n old
 AsksStopped NoMemory n old new = AsksSome 0 n old new
 
--- all of so many files were asked for, unless the outside stopped
+-- all of that many files were asked for, unless the environment stopped
 abbrev pub AsksUntil : {A : Type 0} → ℕ → Result A Obstacle → ℕ → ℕ → Type 0
 AsksUntil n (Ok a) old new = new ≡ more n old
 AsksUntil n (Err (Refused r)) old new = new ≡ more n old
@@ -72,7 +72,7 @@ abbrev pub AsksBy : ℕ → Option HostStop → ℕ → ℕ → Type 0
 AsksBy n None old new = new ≡ more n old
 AsksBy n (Some stop) old new = AsksStopped stop n old new
 
--- a search answers this, unless the outside stopped
+-- a search answers this, unless the environment stopped
 abbrev pub Gives : {A : Type 0} → Result A Refusal → Result A Obstacle → Type 0
 Gives wanted (Ok a) = wanted ≡ Ok a
 Gives wanted (Err (Refused r)) = wanted ≡ Err r

@@ -8,15 +8,15 @@ use Rattle.command_parts.specs.declared.status.Status.{Status}
 use Rattle.command_parts.specs.declared.status.Status.TheVariants.{Done, WriteFault, Memory}
 use Rattle.command_parts.specs.Leaves.{named}
 
--- the image of a hive and its log, which is absent where the words name none
+-- the image of a hive and its log, which is absent where the command line names none
 abbrev pub image_in : HiveFiles → Image
 image_in files = image_of files.primary (unwrap_or files.log [])
 
--- each file that the words name was placed on a new disk, which is off, and nothing else was done to it
+-- each file that the command line names was placed on a new disk, which is off, and nothing else was done to it
 abbrev pub placed_disk : HiveFiles → DiskState
 placed_disk files = record new_state { held = image_in files; history = record new_state.history { placings = 1 + named files.log } }
 
--- with the first 32 MiB of a log placed behind, where there is one
+-- with the first 32 MiB of a log placed after, where there is one
 abbrev pub with_log : Option (List ℕ) → DiskState → DiskState
 with_log None disk = disk
 with_log (Some log) disk = placed Log (take (min (length log) 33554432) log) disk

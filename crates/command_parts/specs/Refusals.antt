@@ -11,7 +11,7 @@ use Rattle.command_parts.specs.declared.refusal.Refusal.TheVariants.{Usage, NoFi
 use Rattle.command_parts.specs.Kinds.{script_kind_word, hive_kind_word}
 use Rattle.command_parts.specs.Leaves.{stop_in}
 
--- a status, and all that is said with it
+-- a status, and all that is printed with it
 pub record Answer : Type 0 where
   pub status : Status
   pub text : List ℕ
@@ -39,17 +39,17 @@ refusal r = record { status = refusal_status r; text = refusal_text r }
 
 -- ---- how a call ends
 
--- this status, or that of a stop while something was said
+-- this status, or that of a stop while something was printed
 abbrev pub IsToldAs : Status → Status → Type 0
 IsToldAs told status = (status ≡ told) ⊎ ((status ≡ statuses.WriteFault) ⊎ (status ≡ statuses.Memory))
 
--- where the outside stopped, nothing was said at a read fault, and else a front of the text
+-- where the environment stopped, nothing was printed at a read fault, and else a prefix of the text
 abbrev pub StopsBy : Option HostStop → List ℕ → List ℕ → List ℕ → Type 0
 StopsBy None text old new = ⊥
 StopsBy (Some Read) text old new = new ≡ old
 StopsBy (Some Write) text old new = SaysFront old new text
 StopsBy (Some NoMemory) text old new = SaysFront old new text
 
--- the status and what was said are the answer's, or the outside stopped
+-- the status and what was printed are the answer's, or the environment stopped
 abbrev pub Ends : Answer → Status → List ℕ → List ℕ → Type 0
 Ends answer status old new = ((status ≡ answer.status) × (new ≡ old ++ answer.text)) ⊎ StopsBy (stop_in status) answer.text old new

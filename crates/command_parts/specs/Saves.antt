@@ -43,7 +43,7 @@ IsSaved saves name = (saves.hive ≡ Some name) ⊎ (saves.log ≡ Some name)
 abbrev pub KeepsUnsaved : Saves → Files → Files → Type 0
 KeepsUnsaved saves old new = (name : List ℕ) → (IsSaved saves name → ⊥) → new name ≡ old name
 
--- At the end those files are saved and no other is changed. Where the outside stopped, no other was changed either, and a
+-- At the end those files are saved and no other is changed. Where the environment stopped, no other was changed either, and a
 -- refusal changes none.
 abbrev pub FilesAs : Saves → Status → Image → Files → Files → Type 0
 FilesAs saves Done held old new = HasSaved saves held new × KeepsUnsaved saves old new
@@ -53,7 +53,7 @@ FilesAs saves refused held old new = new ≡ old
 
 -- ---- the disk
 
--- So many files were taken from a disk, which settled to what a loss of power may have left.
+-- That many files were taken from a disk, which settled to what a loss of power may have left.
 pub record Settles (taken : ℕ) (old new : DiskState) : Type 0 where
   pub left : (c : Image) → LeftOf new c → LeftOf old c
   pub on : new.on ≡ old.on
@@ -71,7 +71,7 @@ IsStill disk = disk.flight ≡ []
 
 -- ---- a call that saves
 
--- nothing was said and no file asked for, and only the fault of writing a file was counted
+-- nothing was printed and no file asked for, and only the fault of writing a file was counted
 pub record WritesAlone (result : Result (Unit {0}) HostStop) (old new : HostState) : Type 0 where
   pub keeps : KeepsHost old new
   pub unsaid : IsUnsaid old new
@@ -103,12 +103,12 @@ pub record SavesBoth (saves : Saves) (result : Result (Unit {0}) HostStop) (old 
   pub all : OnOk result (taken ≡ saved_count saves)
   pub settles : Settles taken before after
 
--- the status behind it
+-- the status after it
 abbrev pub saved_status : Result (Unit {0}) HostStop → Status
 saved_status (Ok u) = Done
 saved_status (Err stop) = stopped_as stop
 
--- a text was said and both files saved; or the one or the other was stopped: no file was put before the whole text was said, and
+-- a text was printed and both files saved; or the one or the other was stopped: no file was put before the whole text was printed, and
 -- none for which the disk had no memory
 pub record FinishesAs (text : List ℕ) (saves : Saves) (status : Status) (old new : HostState) (before after : DiskState) : Type 0 where
   pub leaves : Leaves (Ends (record { status = Done; text = text })) status old new

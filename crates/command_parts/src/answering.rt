@@ -12,7 +12,7 @@ use nt_bytes::Bytes;
 use nt_edge::Host;
 use std::alloc::Global;
 
-/// A report, and whether it tells that something was found.
+/// A report, and whether it shows that something was found.
 #[derive(Debug, Drop)]
 pub struct Told {
     pub text: Bytes,

@@ -13,7 +13,7 @@ use nt_bytes::Bytes;
 use nt_edge::{Host, HostStop};
 use std::alloc::Global;
 
-/// A hive's file, and that of its log where the words name one.
+/// A hive's file, and that of its log where the command line names one.
 #[derive(Drop)]
 pub struct HiveFiles {
     pub primary: Bytes,
@@ -86,7 +86,7 @@ pub fn ini_in(alloc: Global, text: &[u8], system: &[u8]) -> Result<BootIni, Obst
     }
 }
 
-/// The bytes of the log, where the words name one.
+/// The bytes of the log, where the command line names one.
 fn log_in<H: Host>(
     alloc: Global,
     host: &mut H,
@@ -102,7 +102,7 @@ fn log_in<H: Host>(
     }
 }
 
-/// The hive and its log, or the first obstacle. Nothing is said.
+/// The hive and its log, or the first obstacle. Nothing is printed.
 pub fn hive_in<H: Host>(
     alloc: Global,
     host: &mut H,

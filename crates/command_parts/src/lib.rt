@@ -1,11 +1,11 @@
 //! What the commands share: the files that they read, how they end, and the files that they save.
 //!
 //! - `inputs`: the files that words name, each asked for once, up to the first obstacle.
-//! - `refusal`, `kinds`, `status`: how the first obstacle is said, and which status the program then has.
+//! - `refusal`, `kinds`, `status`: how the first obstacle is printed, and which status the program then has.
 //! - `answering`: how a command ends that answers by what a hive loads as.
 //! - `placing`: a hive with its log, read whole or judged, and placed on a disk.
 //! - `lines`: a line that counts something.
-//! - `saving`: the two files of a disk, saved under the names that the words have for them.
+//! - `saving`: the two files of a disk, saved under the names that the command line has for them.
 #![tactic(auto)]
 
 mod answering;

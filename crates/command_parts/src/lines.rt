@@ -5,7 +5,7 @@ ghost use Rattle.std.specs.Fmt.{decimal};
 
 use std::alloc::{AllocError, Global};
 
-/// Puts a word and a number behind a line.
+/// Puts a word and a number after a line.
 pub fn push_count(
     alloc: Global,
     line: &mut Vec<u8>,

@@ -1,4 +1,4 @@
-//! Why a command is not begun, and how that is said.
+//! Why a command is not begun, and how that is printed.
 
 ghost use Rattle.std.specs.Prelude.{◌≡◌, ◌++◌, None, IfOk, codes};
 ghost use Rattle.std.specs.Fmt.{decimal};
@@ -16,11 +16,11 @@ use std::alloc::{AllocError, Global};
 /// The first obstacle of a command.
 #[derive(Debug, Drop)]
 pub enum Refusal {
-    /// The words have no reading, or the system's path has none.
+    /// The words cannot be parsed, or the system's path has none.
     Usage,
-    /// A file that the words name is absent.
+    /// A file that the command line names is absent.
     NoFile(Bytes),
-    /// The script has no reading.
+    /// The script cannot be parsed.
     ScriptFault(ScriptFault),
     /// boot.ini is over 65,536 bytes.
     IniTooLong,
@@ -30,7 +30,7 @@ pub enum Refusal {
     HiveFault(HiveFault),
 }
 
-/// A refusal, or a stop of the outside.
+/// A refusal, or a stop of the environment.
 #[derive(Debug, Drop)]
 pub enum Obstacle {
     Refused(Refusal),

@@ -63,7 +63,7 @@ pub fn save<H: Host, B: Bench>(
     save_file(HiveFile::Log, saves.log, host, bench)
 }
 
-/// The status behind a call that saves.
+/// The status after a call that saves.
 pub fn saved(done: Result<(), HostStop>) -> Status
     ensures { result ≡ saved_status done }
 {

@@ -3,30 +3,30 @@
 ghost use Rattle.std.specs.Prelude.{◌≡◌};
 ghost use Rattle.command_parts.specs.Exits.{exit_of};
 
-/// The exit status. What is said with it is one line, but for `Done`.
+/// The exit status. What is printed with it is one line, but for `Done`.
 #[derive(Clone, Copy, Debug, PartialEq, Eq)]
 pub enum Status {
-    /// All was done; the report was said.
+    /// All was done; the report was printed.
     Done,
-    /// The words have no reading. Said: `bad usage`.
+    /// The words cannot be parsed. Said: `bad usage`.
     Usage,
-    /// A file that the words name is absent. Said: `no file NAME`.
+    /// A file that the command line names is absent. Said: `no file NAME`.
     NoFile,
-    /// The script has no reading. Said: `script fault LINE KIND`.
+    /// The script cannot be parsed. Said: `script fault LINE KIND`.
     ScriptFault,
     /// boot.ini is over 65,536 bytes, or has over 64 entries. Said: `boot.ini fault KIND`.
     BootIniFault,
     /// The hive has a fault. Said: `hive fault KIND at OFFSET`.
     HiveFault,
-    /// A file could not be read: the host's count of read faults rose. Nothing more is said.
+    /// A file could not be read: the host's count of read faults rose. Nothing more is printed.
     ReadFault,
-    /// Something could not be said: the host's count of write faults rose. Nothing more is said.
+    /// Something could not be said: the host's count of write faults rose. Nothing more is printed.
     WriteFault,
-    /// There was no memory. Nothing more is said.
+    /// There was no memory. Nothing more is printed.
     Memory,
     /// A registry text has a fault. Said: `reg fault LINE KIND`.
     RegFault,
-    /// All was done, and the report tells that something was found. An answer, no refusal.
+    /// All was done, and the report says that something was found. An answer, no refusal.
     Found,
 }
 

@@ -38,7 +38,7 @@ abbrev pub page_read : Option Page → Reading
 page_read None = refused None
 page_read (Some page) = help page
 
--- what a word asks for that stands alone
+-- what a word asks for that is alone
 abbrev pub alone : Reading → List Text → Reading
 alone reading [] = reading
 alone reading (word ∷ words) = refused None
@@ -61,7 +61,7 @@ asked_by row values =
     and_then (asks_of row.command (value_named row.options values))
     (λ asked. Ok (asked, flag_in (value_named row.options values) (codes "--json")))
 
--- what the words after the command ask of it, or the first reason from the left why they have no reading
+-- what the words after the command ask of it, or the first reason from the left why they cannot be parsed
 abbrev pub asked_of : CommandRow → List Text → Result (Asked × Bool) Reason
 asked_of row words = and_then (walked row.options (record { values = no_values; waiting = None }) words) (asked_by row)
 
@@ -84,7 +84,7 @@ first_read first words =
     else if bytes_eq first (codes "--version") then alone version words
     else command_read first words (row_named first)
 
--- what the words ask for
+-- what the command line asks for
 unfoldable pub reading_of : List Text → Reading
 reading_of [] = refused None
 reading_of (first ∷ words) = first_read first words

@@ -18,7 +18,7 @@ pub record Known : Type 0 where
   pub place : ℕ
   pub row : OptionRow
 
--- the number that at most so many decimal digits write, from the least to the greatest; leading zeros are read
+-- the number that at most that many decimal digits write, from the least to the greatest; leading zeros are read
 abbrev pub number_of : ℕ → ℕ → ℕ → Text → Option ℕ
 number_of digits least greatest text =
     if is_digits text && (nat_le (length text) digits && (nat_le least (digits_value 10 text) && nat_le (digits_value 10 text) greatest))

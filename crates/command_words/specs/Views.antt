@@ -33,7 +33,7 @@ use Rattle.command_words.specs.declared.commands.Given.{Given}
 use Rattle.command_words.specs.Walk.{State, Values, value_named}
 use Rattle.command_words.specs.declared.walk.Walk.{Walk}
 
--- what `run` is asked for, as the texts behind the references
+-- what `run` is asked for, as the texts after the references
 abbrev pub run_seen : RunWords → RunAsked
 run_seen r = record {
   hive = r.hive.now;
@@ -129,7 +129,7 @@ command_seen (Import i) = import (import_seen i)
 command_seen (commands.Key w) = key (key_seen w)
 command_seen (commands.Replay w) = replay (replay_seen w)
 
--- a reason, as the texts behind the references
+-- a reason, as the texts after the references
 abbrev pub reason_seen : CodeReason → Reason
 reason_seen (reasons.UnknownCommand word) = unknown_command word.now
 reason_seen (reasons.LeftOver word) = left_over word.now

@@ -89,7 +89,7 @@ abbrev pub finished : Values → Option Known → Result Values Reason
 finished values None = Ok values
 finished values (Some known) = Err (no_value known.row.name)
 
--- the values that the words give after those before
+-- the values that the command line gives after those before
 abbrev pub walked : List OptionRow → State → List Text → Result Values Reason
 walked rows state [] = finished state.values state.waiting
 walked rows state (word ∷ words) = and_then (with_step rows state.values word state.waiting) (λ next. walked rows next words)

@@ -23,7 +23,7 @@ begins_with_hyphen (c ∷ cs) = is_hyphen c
 
 -- ---- the commands
 
--- the system that a machine has where the words name none
+-- the system that a machine has where the command line names none
 abbrev pub usual_system : Text
 usual_system = codes "multi(0)disk(0)rdisk(0)partition(1)\\WINDOWS"
 
@@ -113,7 +113,7 @@ pub data Asked : Type 0 where
   key : KeyAsked → Asked
   replay : ReplayAsked → Asked
 
--- why words have no reading; an option is named with its hyphens
+-- why words cannot be parsed; an option is named with its hyphens
 pub data Reason : Type 0 where
   unknown_command : Text → Reason
   left_over : Text → Reason

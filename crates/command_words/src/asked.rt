@@ -2,7 +2,7 @@
 
 use crate::reason::Reason;
 
-/// The system that a machine has where the words name none.
+/// The system that a machine has where the command line names none.
 pub const USUAL_SYSTEM: &str = "multi(0)disk(0)rdisk(0)partition(1)\\WINDOWS";
 
 /// What `run` is asked for: the names of the files that it reads and saves, and the ARC path of the system.
@@ -160,6 +160,6 @@ pub enum Reading<'a> {
     Version,
     /// A command is asked for, and whether each line of its report is to be a JSON object.
     Command(Command<'a>, bool),
-    /// The words have no reading. There is no reason where there are no words, or the first one asks for help or the version.
+    /// The words cannot be parsed. There is no reason where there are no words, or the first one asks for help or the version.
     Refused(Option<Reason<'a>>),
 }

@@ -5,7 +5,7 @@ ghost use Rattle.command_words.specs.Table.{count_of, depth_of, number_of, set_n
 
 use nt_bytes::{are_digits, value_of};
 
-/// The number from the least to the greatest that at most so many decimal digits write.
+/// The number from the least to the greatest that at most that many decimal digits write.
 fn number_in(text: &[u8], digits: usize, least: u32, greatest: u32) -> Option<u32>
     requires { digits ≤ 10 }
     ensures { result ≡ number_of digits least greatest text.now }

@@ -11,7 +11,7 @@
 //! `replay --hive F [--log F] [--log1 F] [--log2 F] [--save-hive F] [--json]`.
 //! Options come in any order after the command, also around N, as `--name value` or as `--name=value`.
 //!
-//! The words have no reading exactly where one of these holds, and the reason is the first from the left: there is no command,
+//! The words cannot be parsed exactly where one of these holds, and the reason is the first from the left: there is no command,
 //! or another one; an option is one that the command does not have, is given twice, has no value, or is missing though the
 //! command needs it; a word is left over; a word is empty or is `--`; a value is empty; a value in a word of its own begins
 //! with `-`; the N of `make` is missing; an N is not one to five decimal digits with a value from 1 to 10000, for `twin` one

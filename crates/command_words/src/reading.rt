@@ -177,7 +177,7 @@ fn first_read<'a>(alloc: Global, first: &'a str, words: &'a [&'a str]) -> Readin
     command_read(alloc, first, words)
 }
 
-/// What the words ask for, the program's name left out, or the first reason from the left why they have no reading.
+/// What the command line asks for, the program's name left out, or the first reason from the left why they cannot be parsed.
 #[tactic(auto, unfolding(crate::specs::Reading::reading_of))]
 pub fn read_words<'a>(alloc: Global, words: &'a [&'a str]) -> Reading<'a>
     ensures { reading_seen result ≡ reading_of (map (λ w. w.now) words.now) }

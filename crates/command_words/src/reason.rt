@@ -1,6 +1,6 @@
-//! Why words have no reading.
+//! Why words cannot be parsed.
 
-/// Why words have no reading. An option is named with its hyphens, the word of `make` by `N`.
+/// Why words cannot be parsed. An option is named with its hyphens, the word of `make` by `N`.
 #[derive(Clone, Copy, Debug, PartialEq, Eq)]
 pub enum Reason<'a> {
     /// The first word is no command.

@@ -109,7 +109,7 @@ macro_rules! command {
     };
 }
 
-/// The commands. What is left out here is no command.
+/// The commands. What remains out here is no command.
 static COMMANDS: &[CommandEntry] = &[
     command!(
         "run",

@@ -297,7 +297,7 @@ fn finished<'a>(walk: Walk<'a>) -> Result<Walk<'a>, Reason<'a>>
     }
 }
 
-/// The values that the words give, or the first reason from the left why they have no reading.
+/// The values that the command line gives, or the first reason from the left why they cannot be parsed.
 pub fn walked<'a>(
     alloc: Global,
     options: &[CommandOption],

@@ -1,4 +1,4 @@
--- What a disk that keeps its calls has kept behind some more of them.
+-- What a disk that keeps its calls has kept after some more of them.
 use Rattle.std.proofs.Common.{◌≡◌, ◌<◌, ◌++◌, Bool, true, false, List, [], ◌∷◌, length, refl, sym, ap, arith, length-append}
 use Rattle.std.proofs.lemmas.Bool.{both_ways}
 use Rattle.nt_edge.specs.Calls.{Made, Synced, Makes}

@@ -21,7 +21,7 @@ made_of Sync = Synced
 abbrev pub calls_of : Traced → List Made
 calls_of traced = map made_of traced.calls.items
 
--- its state is that of the disk behind it
+-- its state is that of the disk after it
 abbrev pub traced_state : Traced → DiskState
 traced_state traced = state_of traced.disk
 
@@ -30,7 +30,7 @@ pub record HasKept (traced : Traced) (made : List Made) : Type 0 where
   pub all : traced.whole ≡ true → made ≡ calls_of traced
   pub fewer : traced.whole ≡ false → length (calls_of traced) < length made
 
--- These calls were made. It is whole behind them where it was whole before and has kept each of them, behind those
+-- These calls were made. It is whole after them where it was whole before and has kept each of them, after those
 -- from before. Where it was whole and is not, it has kept fewer.
 pub record KeepsMore (old new : Traced) (calls : List Made) : Type 0 where
   pub before : new.whole ≡ true → old.whole ≡ true

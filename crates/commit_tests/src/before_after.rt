@@ -40,7 +40,7 @@ pub fn is_size(size: usize) -> bool
 }
 
 impl Change {
-    /// A change from so many pages to so many, with one byte of the second sector turned.
+    /// A change from that many pages to that many, with one byte of the second sector turned.
     pub fn new(alloc: Global, from: u32, to: u32) -> Result<Change, AllocError> {
         let base = block(5, 5, 0, from.saturating_mul(4096));
         let file = primary(alloc, &base, from.saturating_mul(8))?;

@@ -41,7 +41,7 @@ fn letter(file: HiveFile) -> char {
     }
 }
 
-/// The bytes of the writes, one after the other.
+/// The bytes of the writes, in sequence.
 fn written(alloc: Global, calls: &[Call]) -> Result<Bytes, AllocError> {
     let mut all = Bytes::new(alloc);
     for call in calls {
@@ -72,7 +72,7 @@ struct Seen {
     found: Result<(bool, Vec<u8>), LoadStop>,
     /// The reads, which are the same in both.
     reads: String,
-    /// The calls of the recovery behind them.
+    /// The calls of the recovery after them.
     behind: String,
     /// What those wrote.
     written: Bytes,
@@ -113,7 +113,7 @@ fn with_marks(alloc: Global, marks: &[u32]) -> Result<Bytes, AllocError> {
     Ok(bytes)
 }
 
-/// What a recovery writes: so many sectors of the log, and the base block closed.
+/// What a recovery writes: that many sectors of the log, and the base block closed.
 fn restored(alloc: Global, run: u32, size: u32) -> Result<Bytes, AllocError> {
     let mut bytes = marked(alloc, LOGGED, run)?;
     let closed = file(alloc, &block(6, 6, 0, size))?;
@@ -122,7 +122,7 @@ fn restored(alloc: Global, run: u32, size: u32) -> Result<Bytes, AllocError> {
 }
 
 /// A hive whose log is whole: the second number of its primary, the front of the log's bits and how many
-/// sectors it has behind them; the marks of the bins data that are found; the reads, and the calls behind.
+/// sectors it has after them; the marks of the bins data that are found; the reads, and the calls at the end.
 type Row = (
     u32,
     &'static [u8],
@@ -251,7 +251,7 @@ fn a_hive_is_read_and_recovered_in_order(rt: HostRuntime) -> Result<(), Fail> {
 }
 
 /// The second number of the primary and how many sectors its bins data have; the numbers of the log, the front of its bits
-/// and how many sectors it has behind them; and the reads.
+/// and how many sectors it has after them; and the reads.
 type Faulty = (u32, u32, u32, &'static [u8], u32, &'static str);
 
 static FAULTY: [Faulty; 7] = [
@@ -272,7 +272,7 @@ fn faulty_files(alloc: Global, row: &Faulty) -> Result<(Bytes, Bytes), AllocErro
     Ok((primary, log))
 }
 
-/// The reads end with the fault, and nothing was done behind them.
+/// The reads end with the fault, and nothing was done after them.
 fn has_stopped(rt: &impl Abort, seen: &Seen, row: &Faulty) {
     let (_, sectors, number, _, run, reads) = row;
     assert!(rt; seen.found.is_err(), "{sectors} {number} {run}");
@@ -287,7 +287,7 @@ fn up_to_a_fault(rt: &impl Abort, alloc: Global, row: &Faulty) -> Result<(), Fai
     Ok(())
 }
 
-/// Nothing is read behind a sector that is absent, nor behind one whose content is a fault; nothing is
+/// Nothing is read after a sector that is absent, nor after one whose content is a fault; nothing is
 /// written.
 #[test]
 fn nothing_is_read_behind_a_fault(rt: HostRuntime) -> Result<(), Fail> {

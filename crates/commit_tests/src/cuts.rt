@@ -1,5 +1,5 @@
 //! A cut at each call of a commit, with each way of leaving what is in flight, and a second one at each call of
-//! the recovery behind it.
+//! the recovery after it.
 
 use super::*;
 use hive_commit::{CommitStop, LoadStop};
@@ -40,7 +40,7 @@ fn found(number: u32, dirty: bool) -> Found {
     }
 }
 
-/// A cut at this call in each way, and what is left.
+/// A cut at this call in each way, and what remains.
 fn cut_each_way(
     rt: &impl Abort,
     alloc: Global,
@@ -56,7 +56,7 @@ fn cut_each_way(
     Ok(())
 }
 
-/// A cut at each sync of a change from so many pages to so many.
+/// A cut at each sync of a change from that many pages to that many.
 fn cut_each_sync(rt: &impl Abort, alloc: Global, from: u32, to: u32) -> Result<(), Fail> {
     let old = found(5, false);
     let open = found(6, true);
@@ -106,7 +106,7 @@ fn a_cut_at_a_write_leaves_the_old_or_the_new(rt: HostRuntime) -> Result<(), Fai
     cut_each_write(&rt, rt.alloc(), &change)
 }
 
-/// Tears what is in flight at this sync of a commit, and then cuts the recovery. Answers what the start behind it
+/// Tears what is in flight at this sync of a commit, and then cuts the recovery. Answers what the start after it
 /// finds.
 fn cut_again(
     rt: &impl Abort,

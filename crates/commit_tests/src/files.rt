@@ -1,4 +1,4 @@
-//! Files of a hive, made field by field. Each sector of the bins data, and each that a log has behind its
+//! Files of a hive, made field by field. Each sector of the bins data, and each that a log has after its
 //! bits, has a mark of its own, so that one is seen where another should be.
 
 use nt_bytes::Bytes;
@@ -28,7 +28,7 @@ pub fn file(alloc: Global, base: &BaseBlock) -> Result<Bytes, AllocError> {
     Bytes::from_slice(alloc, &sector)
 }
 
-/// So many sectors with marks that count up from this one.
+/// That many sectors with marks that count up from this one.
 pub fn marked(alloc: Global, first: u32, sectors: u32) -> Result<Bytes, AllocError> {
     let mut bytes = Bytes::new(alloc);
     for n in 0..sectors {
@@ -38,7 +38,7 @@ pub fn marked(alloc: Global, first: u32, sectors: u32) -> Result<Bytes, AllocErr
     Ok(bytes)
 }
 
-/// A primary of so many bins sectors, marked from 1 on, whatever its base block says.
+/// A primary of that many bins sectors, marked from 1 on, whatever its base block says.
 pub fn primary(alloc: Global, base: &BaseBlock, sectors: u32) -> Result<Bytes, AllocError> {
     let bins = marked(alloc, 1, sectors)?;
     let mut bytes = file(alloc, base)?;
@@ -47,11 +47,11 @@ pub fn primary(alloc: Global, base: &BaseBlock, sectors: u32) -> Result<Bytes, A
     Ok(bytes)
 }
 
-/// The mark of the first sector that a log has behind its bits.
+/// The mark of the first sector that a log has after its bits.
 #[cfg(test)]
 pub const LOGGED: u32 = 100;
 
-/// A log with this front of its bits, if any, and so many sectors behind them, marked from `LOGGED` on.
+/// A log with this front of its bits, if any, and that many sectors after them, marked from `LOGGED` on.
 #[cfg(test)]
 pub fn log(alloc: Global, base: &BaseBlock, front: &[u8], run: u32) -> Result<Bytes, AllocError> {
     let mut bytes = file(alloc, base)?;

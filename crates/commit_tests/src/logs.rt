@@ -9,7 +9,7 @@ use std::alloc::Global;
 use std::process::Abort;
 use std::test::Fail;
 
-/// The log of a change from one page to so many begins with these bits, and has the second sector and those past the old end.
+/// The log of a change from one page to that many begins with these bits, and has the second sector and those past the old end.
 fn has_those_that_differ(
     rt: &impl Abort,
     alloc: Global,

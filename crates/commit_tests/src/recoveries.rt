@@ -1,4 +1,4 @@
-//! A dirty primary is recovered: a stop within the recovery leaves what it stands for, and behind it the
+//! A dirty primary is recovered: a stop within the recovery leaves what it stands for, and after it the
 //! primary is clean.
 
 ghost use Rattle.std.specs.Prelude.{◌≡◌, false, []};

@@ -23,7 +23,7 @@ pub reported_as : (inputs : ControlInputs) (root : Tree) (sequence : ℕ) (versi
 reported_as inputs root sequence version text loads is =
     (record { state = state_of root sequence version; dirty = loads.0 }, loads.1, is)
 
--- the outside stopped the search for the files
+-- the environment stopped the search for the files
 pub unsaid_control : (wanted : Result ControlInputs Refusal) (stop : HostStop) (old new : List ℕ) → new ≡ old
     → (stop ≡ Write → ⊥)
     → EndsControl wanted (stopped_as stop) old new

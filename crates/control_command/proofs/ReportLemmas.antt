@@ -1,4 +1,4 @@
--- What is said of commands, one after the other.
+-- What is said of commands, in sequence.
 use Rattle.std.proofs.Common.{◌≡◌, ℕ, ◌+◌, List, ◌++◌, Option, Some, refl, sym, ap, ◌∙◌, subst}
 use Rattle.std.specs.Prelude.{codes, Result, Ok, Err, OnOk, IfOk}
 use Rattle.std.specs.Option.{option_map_or}
@@ -11,7 +11,7 @@ use Rattle.service_control.specs.Calls.{StopsBy}
 use Rattle.control_command.specs.declared.command.ControlCommand.{ControlCommand}
 use Rattle.control_command.specs.Report.{Answered, Adds, answers_to, default_set, report_of, unless, refused_line}
 
--- a refusal that is no want of memory is the reason
+-- a refusal that is no lack of memory is the reason
 pub is_reason : (stop : ControlStop) (why : Option ControlStop) → StopsBy why stop → (stop ≡ stops.Memory → ⊥)
     → why ≡ Some stop
 is_reason stops.NoService why s named = s
@@ -24,7 +24,7 @@ is_reason (stops.InUse n) why s named = s
 is_reason stops.Unmet why s named = s
 is_reason stops.Memory why s named = absurd (named refl)
 
--- it was refused, and the refusal was said
+-- it was refused, and the refusal was printed
 pub refused_adds : (why : Option ControlStop) (command name : List ℕ) (old control : ControlState) (done : Answered)
     (stop : ControlStop) (before after : List ℕ)
     → StopsBy why stop → (stop ≡ stops.Memory → ⊥) → control ≡ old → after ≡ before ++ refused_line command name stop

@@ -25,8 +25,8 @@ use Rattle.control_command.specs.Report.{report_of}
 abbrev pub reported : ControlInputs → Woken → Answer
 reported inputs placed = record { status = statuses.Done; text = report_of placed.state.tree inputs.commands }
 
--- The first obstacle is said. Without one the hive has a first fault, and that is said; or it loads as a state, and the report on
--- its tree is said; or there was no memory or a read fault before anything was said.
+-- The first obstacle is printed. Without one the hive has a first fault, and that is printed; or it loads as a state, and the report on
+-- its tree is printed; or there was no memory or a read fault before anything was printed.
 abbrev pub EndsControl : Result ControlInputs Refusal → Status → List ℕ → List ℕ → Type 0
 EndsControl (Err r) status old new = Ends (refusal r) status old new
 EndsControl (Ok inputs) status old new =

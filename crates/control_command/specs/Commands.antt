@@ -63,7 +63,7 @@ abbrev pub GivesCommands : Result (List ControlCommand) ScriptStop → Result (L
 GivesCommands (Ok commands) read = read ≡ Ok commands
 GivesCommands (Err stop) read = FailsBy stop read
 
--- a line was read, and its command stands behind the others
+-- a line was read, and its command stands after the others
 pub record TakesLine (old new : List ControlCommand) (line : List ℕ) : Type 0 where
   pub command : Option ControlCommand
   pub reads : line_command line ≡ Ok command

@@ -1,6 +1,6 @@
 -- What does the command read, or what is the first obstacle? (this project's own)
 --
--- The text of the commands is absent or has no reading; then the hive or its log is absent.
+-- The text of the commands is absent or cannot be parsed; then the hive or its log is absent.
 use Rattle.std.specs.Prelude.{◌≡◌, ℕ, ◌+◌, true, List, Result, Ok, Err}
 use Rattle.nt_edge.specs.Host.{Files, HostState}
 use Rattle.boot_script.specs.declared.stop.ScriptFault.{ScriptFault}

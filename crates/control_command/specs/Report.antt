@@ -25,7 +25,7 @@ name_line word name = word ++ codes " " ++ name_text name ++ codes "\n"
 abbrev pub name_lines : List ℕ → List (List ℕ) → List ℕ
 name_lines word names = flat_map (name_line word) names
 
--- the word of a refusal, and the name behind it
+-- the word of a refusal, and the name after it
 abbrev pub stop_text : ControlStop → List ℕ
 stop_text NoService = codes "no-service"
 stop_text Disabled = codes "disabled"
@@ -48,7 +48,7 @@ pub record Answered : Type 0 where
   pub text : List ℕ
   pub state : ControlState
 
--- a refusal is said, and leaves all as it was; else this
+-- a refusal is printed, and leaves all as it was; else this
 abbrev pub unless : Option ControlStop → List ℕ → List ℕ → ControlState → Answered → Answered
 unless why command name c done = option_map_or (λ stop. record { text = refused_line command name stop; state = c }) why done
 
@@ -65,14 +65,14 @@ answer_to c (StopAll name) =
     unless (off_refusal c name) (codes "stopall") name c (record { text = name_lines (codes "stopped") (stopped_by c name); state = after_stop_all c name })
 answer_to c Listing = record { text = name_lines (codes "running") (names_of c.running); state = c }
 
--- the answer was put behind what was said, and its state is this
+-- the answer was put after what was printed, and its state is this
 pub record Adds (answer : Answered) (control : ControlState) (old new : List ℕ) : Type 0 where
   pub state : control ≡ answer.state
   pub said : new ≡ old ++ answer.text
 
 -- ---- the report
 
--- what is said of each command, one after the other
+-- what is said of each command, in sequence
 abbrev pub answers_to : ControlState → List ControlCommand → List ℕ
 answers_to c [] = codes "end\n"
 answers_to c (command ∷ more) = (answer_to c command).text ++ answers_to (answer_to c command).state more

@@ -42,7 +42,7 @@ fn control_inputs<H: Host>(alloc: Global, inputs: &ControlInputs, host: &mut H) 
     }
 }
 
-/// Gets the commands and the hive that the words name, and says what comes of the commands; or says the first
+/// Gets the commands and the hive that the command line names, and says what comes of the commands; or says the first
 /// obstacle. No call of a disk is made.
 pub fn control<H: Host>(alloc: Global, words: ControlWords<'_>, host: &mut H) -> Status
     ensures decides { DecidesControl (control_seen words.entry) result (H.state host.old) (H.state host.new) }

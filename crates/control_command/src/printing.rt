@@ -31,7 +31,7 @@ pub(crate) fn push_lines(out: &mut Vec<u8>, word: &[u8], names: &[Units]) -> Res
     Ok(())
 }
 
-/// A word with a kept name behind it.
+/// A word with a kept name after it.
 fn push_kept(out: &mut Vec<u8>, word: &[u8], name: &Units) -> Result<(), AllocError>
     ensures { OnOk result (out.new.items ≡ out.old.items ++ (word.now ++ name_text name.now)) }
 {
@@ -39,7 +39,7 @@ fn push_kept(out: &mut Vec<u8>, word: &[u8], name: &Units) -> Result<(), AllocEr
     push_name(out, name.as_slice())
 }
 
-/// Why a command was refused. Want of memory is no refusal.
+/// Why a command was refused. Lack of memory is no refusal.
 fn push_stop(out: &mut Vec<u8>, stop: &ControlStop) -> Result<(), AllocError>
     ensures text { OnOk result (out.new.items ≡ out.old.items ++ stop_text stop.now) }
     ensures named { OnOk result (stop.now ≡ stops.Memory → ⊥) }

@@ -33,7 +33,7 @@ command_calls c (StopAll name) =
     (record { text = name_lines (codes "stopped") (stopped_by c name); state = after_stop_all c name })
 command_calls c Listing = refl
 
--- calls behind others
+-- calls after others
 pub after_more : (c : ControlState) (calls more : List Call)
     → after_calls c (calls ++ more) ≡ after_calls (after_calls c calls) more
 after_more c [] more = refl
@@ -46,7 +46,7 @@ call_first c command more =
     ap (λ d. after_calls d (all_calls_by more)) (command_calls c command)
     ∙ sym (after_more c (calls_by command) (all_calls_by more))
 
--- what is said from a command on, in this state
+-- what is printed from a command on, in this state
 abbrev from : ControlCommand → List ControlCommand → ControlState → List ℕ
 from command back now = (answer_to now command).text ++ answers_to (after_calls now (calls_by command)) back
 

@@ -35,7 +35,7 @@ parted running name =
     parted_by (leaning_of running name) running
     (length-map-range_with_len (is_leaning running name) 0 (length running))
 
--- one more command behind others
+-- one more command after others
 pub one_more : (set : Tree) (commands : List ControlCommand) (name : List ℕ)
     → control_behind set (commands ++ StopAll name ∷ []) ≡ after_call (control_behind set commands) (stop_all name)
 one_more set commands name =

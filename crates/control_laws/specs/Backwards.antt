@@ -8,7 +8,7 @@ use Rattle.start_model.specs.Demand.{Need}
 abbrev pub some_has : List Need → List ℕ → Type 0
 some_has needs name = list_any (λ n. folds_same name n.name) needs ≡ true
 
--- what one of these names in DependOnService, and another one has, stands behind it
+-- what one of these names in DependOnService, and another one has, stands after it
 abbrev pub EachBeforeItsNeeds : List Need → Type 0
 EachBeforeItsNeeds stopped =
     (front back : List Need) (n : Need) (name : List ℕ) → stopped ≡ front ++ n ∷ back → Contains n.services name

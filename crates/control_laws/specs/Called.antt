@@ -20,11 +20,11 @@ calls_by Listing = []
 abbrev pub all_calls_by : List ControlCommand → List Call
 all_calls_by commands = flat_map calls_by commands
 
--- the services behind these commands on a set
+-- the services after these commands on a set
 abbrev pub control_behind : Tree → List ControlCommand → ControlState
 control_behind set commands = after_calls (control_of set) (all_calls_by commands)
 
--- what is said of commands, one after the other
+-- what is said of commands, in sequence
 abbrev pub said_to : ControlState → List ControlCommand → List ℕ
 said_to c [] = []
 said_to c (command ∷ more) = (answer_to c command).text ++ said_to (answer_to c command).state more

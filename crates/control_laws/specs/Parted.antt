@@ -1,4 +1,4 @@
--- What is left of some services where others are taken out? (this project's own)
+-- What remains of some services where others are taken out? (this project's own)
 use Rattle.std.specs.Prelude.{List, [], ◌∷◌}
 use Rattle.start_model.specs.Demand.{Need}
 

@@ -14,8 +14,8 @@ pub fn a_command_is_its_call()
     ensures { (c : ControlState) (command : ControlCommand) → (answer_to c command).state ≡ after_calls c (calls_by command) }
 {}
 
-/// What a report says of a command is the answer in the state that the calls of the commands before it leave, behind what was
-/// said of those (`answer`); behind the last one stands `end` (`end`). The report on a tree begins with the services of its
+/// What a report says of a command is the answer in the state that the calls of the commands before it leave, after what was
+/// said of those (`answer`); after the last one stands `end` (`end`). The report on a tree begins with the services of its
 /// Default set (`report`).
 pub fn a_report_tells_the_calls()
     ensures answer { (c : ControlState) (front back : List ControlCommand) (command : ControlCommand) → let now = after_calls c (all_calls_by front) in

@@ -13,19 +13,19 @@ ghost use Rattle.control_laws.specs.Backwards.{EachBeforeItsNeeds};
 ghost use Rattle.control_laws.specs.Called.{control_behind};
 ghost use Rattle.control_laws.specs.Parted.{ArePartedIn};
 
-/// Behind any commands, what a listing names has its needs: what each names in DependOnService stands before it, and each group
+/// After any commands, what a listing names has its needs: what each names in DependOnService stands before it, and each group
 /// in DependOnGroup has a started service.
 pub fn what_is_listed_has_its_needs()
     ensures { (set : Tree) (commands : List ControlCommand) → AreMet (control_behind set commands).running }
 {}
 
-/// Behind any commands, what a `stopall` stops, in the order of its lines: each one stands before those that it needs.
+/// After any commands, what a `stopall` stops, in the order of its lines: each one stands before those that it needs.
 pub fn what_is_stopped_goes_backwards()
     ensures { (set : Tree) (commands : List ControlCommand) (name : List ℕ)
         → EachBeforeItsNeeds (reverse (leaning_in (control_behind set commands).running name)) }
 {}
 
-/// Behind any commands, a `stopall` of a started service parts those that are started: some are stopped, and the others stay as they
+/// After any commands, a `stopall` of a started service parts those that are started: some are stopped, and the others stay as they
 /// were, in their order.
 pub fn who_is_not_stopped_stays()
     ensures { (set : Tree) (commands : List ControlCommand) (name : List ℕ) → let now = control_behind set commands in off_refusal now name ≡ None
@@ -38,7 +38,7 @@ pub fn names_of_a_set_differ()
     ensures default { (tree set : Tree) → HoldsKeys tree → default_set tree ≡ Some set → HoldsKeys set }
 {}
 
-/// Behind any commands of a report on a tree that a hive can hold, a start starts no more than it has to.
+/// After any commands of a report on a tree that a hive can hold, a start starts at most it has to.
 pub fn a_start_takes_no_more()
     ensures { (tree set : Tree) (commands : List ControlCommand) (name : List ℕ) → HoldsKeys tree → default_set tree ≡ Some set
         → IsLeast (control_behind set commands) name }

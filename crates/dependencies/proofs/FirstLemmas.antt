@@ -40,7 +40,7 @@ first_is_none p xs d h = position_from-zero p xs ∙ none_at p 0 xs d h
 
 -- ---- the root
 
--- the root has no more than any node
+-- the root has at most any node
 below_all : (firsts : List ℕ) (count fuel k : ℕ) → AreNodesBut 0 firsts count → k ≤ fuel → 0 < k → k < 2 * count
     → get_or firsts 1 0 ≤ get_or firsts k 0
 below_all firsts count zero k nodes le pos lt = absurd (omega (arith, le, pos))
@@ -63,7 +63,7 @@ below_all firsts count (suc fuel) k nodes le pos lt = elim (cases_eq k 1) [
       ]
 ]
 
--- what a node has stands at a leaf
+-- what a node has is at a leaf
 pub record HasLeaf (firsts : List ℕ) (count k : ℕ) : Type 0 where
   pub at : ℕ
   pub low : count ≤ at
@@ -99,7 +99,7 @@ out_of_leaf : (b : Bool) (p r : ℕ) → r ≤ leaf_of b p → p < r → b ≡ f
 out_of_leaf true p r le lt = absurd (omega (arith, le, lt))
 out_of_leaf false p r le lt = refl
 
--- so the root has no more than any place that is in the set
+-- so the root has at most any place that is in the set
 root_below : (s : List Bool) (firsts : List ℕ) → IsTreeOf s firsts → (p : ℕ) → p < length s
     → get_or firsts 1 0 ≤ leaf_of (member s p) p
 root_below s firsts tree p lt =

@@ -35,7 +35,7 @@ or_by false false h = refl
 abbrev pub with_met : WantsState → List Bool → WantsState
 with_met w met = record w { met = met }
 
--- the flags are right again once the owner of a want that is met has its own written anew
+-- the flags are right again once the owner of a want that is met has its own rewritten
 pub one_met : (w other : WantsState) (ready waits : List Bool) (want : ℕ) → AreReadyBut w.count ready waits w other
     → want < length w.met → length w.owners ≡ length w.met → member w.met want ≡ false
     → (owner : ℕ) → owner ≡ get_or w.owners want 0 → owner < w.count

@@ -65,7 +65,7 @@ not_found names name at gap = any_none (folds_same name) names other
       | inr behind ↦ ap is_eq (gap.higher k d behind lt)
     ]
 
--- so what a search answers, by halves, says whether the name is there
+-- so what a search answers, by binary search, says whether the name is there
 pub searched : (names : List (List ℕ)) (name : List ℕ) (r : Result ℕ ℕ) → AreInOrder names
     → IsSearchInRange r (length names) → IsBinarySearchResult (λ y. folded_order y name) names r
     → record { found : IfOk r (λ at. list_any (folds_same name) names ≡ true); absent : IfErr r (IsGap names name) }

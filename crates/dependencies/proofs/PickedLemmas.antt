@@ -34,7 +34,7 @@ pub record IsPicked {X : Type 0} (bs : List Bool) (xs : List X) (i k at : ℕ) :
 pub some_is : (a b : ℕ) → Some a ≡ Some b → a ≡ b
 some_is a b e = cc
 
--- what is picked at place k stands at some place of the list, and without it the others stay
+-- what is picked at place k is at some place of the list, and without it the others stay
 pub picked : {X : Type 0} (bs : List Bool) (xs : List X) (i k at : ℕ)
     → slice_get (items_where_true bs (range_with_len i (length xs))) k ≡ Some at → IsPicked bs xs i k at
 picked [] xs i k at h = absurd cc

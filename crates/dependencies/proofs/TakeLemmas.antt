@@ -107,7 +107,7 @@ takes table place taken work is lt why = record {
     other : (k : ℕ) → k ≢ place → member (set taken place true) k ≡ member taken k
     other k ne = get_or-set_other taken place k true false ne
 
--- ---- places, one after another
+-- ---- places, in sequence
 
 -- places taken in one by one are those of a longer front each time
 pub listed_more : (table : List Need) (places : List ℕ) (i d : ℕ)
@@ -172,7 +172,7 @@ listed_all table name t w t' w' step = alike table _ _ t w t' w' same step
         ∙ sym (or-false (folds_same (get_or (names_of table) k []) name)))
         ∙ sym (named_at table (name ∷ []) k lt)
 
--- ---- names, one after another
+-- ---- names, in sequence
 
 named_both : (table : List Need) (xs ys : List (List ℕ)) (k : ℕ)
     → is_named table (xs ++ ys) k ≡ (is_named table xs k || is_named table ys k)

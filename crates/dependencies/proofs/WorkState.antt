@@ -125,7 +125,7 @@ or_cases : (a b : Bool) → (a || b) ≡ true → (a ≡ true) ⊎ ((a ≡ false
 or_cases true b h = inl refl
 or_cases false b h = inr (refl, h)
 
--- behind it, what it pulls in is taken or is work
+-- after it, what it pulls in is taken or is work
 pub worked_more : (table : List Need) (place : ℕ) (taken : List Bool) (work rest : List ℕ) (taken' : List Bool)
     (work' : List ℕ)
     → work ≡ rest ++ place ∷ [] → IsWorked table taken work → IsWork table taken' work'

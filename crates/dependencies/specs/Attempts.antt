@@ -1,4 +1,4 @@
--- Which entries of a phase are attempted one after another, asked in two ways? (this project's own)
+-- Which entries of a phase are attempted in sequence, asked in two ways? (this project's own)
 use Rattle.std.specs.Prelude.{Bool, true, List, [], ◌∷◌, ◌++◌, length, replicate, remove, slice_get, if◌then◌else◌}
 use Rattle.std.specs.Option.{option_map_or, option_to_list}
 use Rattle.start_model.specs.Demand.{Need}

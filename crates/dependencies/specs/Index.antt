@@ -1,7 +1,7 @@
 -- How are names kept, so that one is found without a scan? (this project's own)
 --
 -- In runs, each of them in folded order. As the bits of a number that is counted up, the last runs become one together
--- with each new name, so that n names stand in at most log n runs.
+-- with each new name, so that n names are in at most log n runs.
 use Rattle.std.specs.Prelude.{◌≡◌, ℕ, ◌≤◌, ◌||◌, Bool, false, List, [], ◌∷◌, ◌++◌, length, take, Option}
 use Rattle.std.specs.List.{list_any, AllWithin}
 use Rattle.std.specs.Option.{option_map_or}
@@ -10,7 +10,7 @@ use Rattle.std.specs.declared.cmp.Ordering.TheVariants.{Less, Greater}
 use Rattle.nt_bytes.specs.Folding.{folds_same, folded_order}
 use Rattle.start_model.specs.Ready.{Label, has_name, has_group}
 
--- the names stand in their folded order
+-- the names are in their folded order
 abbrev pub AreInOrder : List (List ℕ) → Type 0
 AreInOrder names = IsSorted folded_order names
 
@@ -36,7 +36,7 @@ is_that name q = option_map_or (folds_same q) name false
 abbrev pub AddsAlike : List (List (List ℕ)) → Option (List ℕ) → Option (List ℕ) → Type 0
 AddsAlike runs first second = (q : List ℕ) → (stands_in runs q || is_that second q) ≡ (stands_in runs q || is_that first q)
 
--- so many runs stay, and behind them one run has the names of the others and this one, where there is one
+-- that many runs stay, and after them one run has the names of the others and this one, where there is one
 abbrev pub AreCarried : List (List (List ℕ)) → Option (List ℕ) → ℕ → List (List ℕ) → Type 0
 AreCarried runs name kept run = (q : List ℕ) → stands_in (take kept runs ++ run ∷ []) q ≡ (stands_in runs q || is_that name q)
 

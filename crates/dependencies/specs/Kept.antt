@@ -1,4 +1,4 @@
--- What stands beside the entries of a phase, so that the next is at hand? (this project's own)
+-- What is beside the entries of a phase, so that the next is at hand? (this project's own)
 use Rattle.std.specs.Prelude.{◌≡◌, ℕ, ◌+◌, ◌^◌, ◌<◌, ◌≤◌, Bool, List, length, count_by}
 use Rattle.start_model.specs.Demand.{Need}
 use Rattle.start_model.specs.Ready.{Label}
@@ -6,7 +6,7 @@ use Rattle.dependencies.specs.declared.wants.Kind.TheVariants.{Service, Group}
 use Rattle.dependencies.specs.Wants.{WantsState, AreWantsOf, AreReadyBut}
 
 -- the wants of both kinds with their names, the places that are ready, and room for the places of those that still wait
--- behind the places of those that were started
+-- after the places of those that were started
 pub record IsKept (needs : List Need) (waits : List Bool) (started : List Label) (done capacity : ℕ)
     (service_names : List (List ℕ)) (services : WantsState) (group_names : List (List ℕ)) (groups : WantsState) (ready : List Bool) : Type 0 where
   pub few : length needs < 2 ^ 32

@@ -59,6 +59,6 @@ abbrev pub unmet_count : List Need → List Label → ℕ
 unmet_count needs started =
     count_by (λ s. not (has_name started s)) (services_in needs) + count_by (λ g. not (has_group started g)) (groups_in needs)
 
--- a count with so many more, as far as a u64 goes
+-- a count with that many more, as far as a u64 goes
 abbrev pub raised : ℕ → ℕ → ℕ
 raised count more = count + min more (2 ^ 64 - 1 - count)

@@ -1,6 +1,6 @@
 -- How many names of an entry are not met? (this project's own)
 --
--- A want is a name that an entry depends on. All wants of a kind stand in one list, and each knows its owner, the place
+-- A want is a name that an entry depends on. All wants of a kind are in one list, and each knows its owner, the place
 -- of the entry that gives the name.
 use Rattle.std.specs.Prelude.{◌≡◌, ◌≢◌, ℕ, ◌+◌, ◌==◌, ◌<◌, ◌≤◌, Bool, true, not, ◌&&◌, List, [], ◌∷◌, ◌++◌, length, map, All, count_by, slice_index, slice_index_or, if◌then◌else◌}
 use Rattle.std.specs.List.{flat_map}
@@ -51,7 +51,7 @@ pub record AreCounted (owners : List ℕ) (met : List Bool) (unmet : List ℕ) :
   pub owned : All (λ o. o < length unmet) owners
   pub counted : (p : ℕ) → p < length unmet → slice_index unmet p ≡ unmet_among owners met p
 
--- the same wants, of which as many or more are met
+-- the same wants, of which the same number of or more are met
 pub record IsNearer (old new : WantsState) : Type 0 where
   pub count : new.count ≡ old.count
   pub owners : new.owners ≡ old.owners

@@ -43,7 +43,7 @@ pub fn next_ready(waiting: &Needs, started: &Started) -> Option<u32>
 }
 
 /// The place that `Waiting::next` answers, and the one that `next_ready` answers among those that wait, are of
-/// the same entry, attempt after attempt, whatever each of them comes to.
+/// the same entry, attempt after attempt, whatever each of them amounts to.
 pub fn both_ways_try_the_same()
     ensures { (needs : List Needed) (started : List Label) (oks : List Bool)
         → tried_by_place oks (all_waiting needs started) ≡ tried_plainly oks started needs }

@@ -28,7 +28,7 @@ impl Model for NamesInOrder {
 }
 
 impl NamesInOrder {
-    /// These names. Those that stand in order already, one part behind another, are merged.
+    /// These names. Those that are in order already, one part after another, are merged.
     pub(crate) fn new(names: Vec<Units>) -> Result<NamesInOrder, AllocError>
         ensures { IfOk result (λ s. (q : List ℕ) → is_among s q ≡ is_among names.items q) }
     {

@@ -6,7 +6,7 @@ ghost use Rattle.dependencies.specs.Firsts.{AreNodesBut, leaf_of};
 use std::alloc::{AllocError, Global};
 use std::marker::Model;
 
-/// What stands at a leaf whose place is not in the set. No place is as great.
+/// What is at a leaf whose place is not in the set. No place is as great.
 const NONE: usize = usize::MAX;
 
 /// A set of the places below a number, seen as a truth value for each. Beside them stands a tree of
@@ -29,7 +29,7 @@ impl Model for PlaceSet {
 }
 
 impl PlaceSet {
-    /// None of so many places.
+    /// None of that many places.
     pub(crate) fn new(alloc: Global, count: usize) -> Result<PlaceSet, AllocError>
         requires { count < 2 ^ 32 }
         ensures { IfOk result (λ s. s ≡ replicate count false) }

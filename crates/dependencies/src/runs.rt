@@ -16,7 +16,7 @@ pub(crate) fn stands_in(runs: &[NamesInOrder], name: &[u16]) -> bool
     runs.iter().any(|run| run.has(name))
 }
 
-/// A copy of the name, unless it stands in the runs, or there is none.
+/// A copy of the name, unless it is in the runs, or there is none.
 pub(crate) fn unlisted(
     alloc: Global,
     runs: &[NamesInOrder],
@@ -30,7 +30,7 @@ pub(crate) fn unlisted(
     }
 }
 
-/// A copy of the name, unless it stands in the runs.
+/// A copy of the name, unless it is in the runs.
 fn unlisted_name(
     alloc: Global,
     runs: &[NamesInOrder],
@@ -55,7 +55,7 @@ pub(crate) fn one_run(alloc: Global, names: Vec<Units>) -> Result<Vec<NamesInOrd
     Ok(runs)
 }
 
-/// How many runs stay where a name comes to so many, and the run that goes behind them.
+/// How many runs stay where a name reaches that many, and the run that goes after them.
 pub(crate) fn carried(
     alloc: Global,
     runs: &[NamesInOrder],
@@ -89,7 +89,7 @@ fn merged(
     NamesInOrder::new(names)
 }
 
-/// The names of the runs, one run behind another.
+/// The names of the runs, one run after another.
 fn gathered(alloc: Global, runs: &[NamesInOrder]) -> Result<Vec<Units>, AllocError>
     ensures { IfOk result (λ names. names.items ≡ flat_map (λ run. run) runs.now) }
 {
@@ -100,7 +100,7 @@ fn gathered(alloc: Global, runs: &[NamesInOrder]) -> Result<Vec<Units>, AllocErr
     Ok(names)
 }
 
-/// Puts copies of the names behind the others.
+/// Puts copies of the names after the others.
 fn append(alloc: Global, names: &[Units], all: &mut Vec<Units>) -> Result<(), AllocError>
     ensures { OnOk result (all.new.items ≡ all.old.items ++ names.now) }
 {
@@ -110,7 +110,7 @@ fn append(alloc: Global, names: &[Units], all: &mut Vec<Units>) -> Result<(), Al
     Ok(())
 }
 
-/// Puts a name behind the others, where there is one.
+/// Puts a name after the others, where there is one.
 pub(crate) fn push_some(names: &mut Vec<Units>, name: Option<Units>) -> Result<(), AllocError>
     ensures { OnOk result (names.new.items ≡ names.old.items ++ option_to_list name) }
 {
@@ -123,7 +123,7 @@ pub(crate) fn push_some(names: &mut Vec<Units>, name: Option<Units>) -> Result<(
     }
 }
 
-/// Puts a run in place of those behind the first ones, where there is room.
+/// Puts a run in place of those after the first ones, where there is room.
 pub(crate) fn replace(runs: &mut Vec<NamesInOrder>, kept: usize, run: NamesInOrder)
     requires { vec_len runs.old < vec_capacity runs.old }
     ensures { runs.new.items ≡ take kept runs.old.items ++ run ∷ [] }

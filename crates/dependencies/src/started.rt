@@ -63,7 +63,7 @@ impl Started {
         })
     }
 
-    /// Puts an entry behind the others. Without memory for it they stay as they were.
+    /// Puts an entry after the others. Without memory for it they stay as they were.
     pub fn push(
         &mut self,
         alloc: Global,
@@ -126,7 +126,7 @@ fn make_room(
     Ok(())
 }
 
-/// Puts an entry behind the others, where there is room.
+/// Puts an entry after the others, where there is room.
 fn put(entries: &mut Vec<(Units, Option<Units>)>, entry: (Units, Option<Units>))
     requires { vec_len entries.old < vec_capacity entries.old }
     ensures { entries.new.items ≡ entries.old.items ++ entry ∷ [] }

@@ -28,7 +28,7 @@ impl TestCount {
         TestCount { made: 0 }
     }
 
-    /// How many tests were made; the greatest u64 where they are as many or more.
+    /// How many tests were made; the greatest u64 where they are the same number of or more.
     pub fn made(&self) -> u64
         ensures { result ≡ self.now }
     {

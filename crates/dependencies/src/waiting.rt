@@ -180,7 +180,7 @@ impl Waiting {
     }
 }
 
-/// Puts a place behind the others, where there is room.
+/// Puts a place after the others, where there is room.
 fn put(places: &mut Vec<u32>, place: u32)
     requires { vec_len places.old < vec_capacity places.old }
     ensures items { places.new.items ≡ places.old.items ++ place ∷ [] }
@@ -219,7 +219,7 @@ fn places_left(alloc: Global, waits: &[bool]) -> Result<Places, AllocError>
     Ok(places)
 }
 
-/// Puts what is kept of the entries at these places behind the others.
+/// Puts what is kept of the entries at these places after the others.
 fn append_labels(
     alloc: Global,
     needs: &[Need],
@@ -248,7 +248,7 @@ fn label_at(
     }
 }
 
-/// Puts what is kept of an entry behind the others, where there is one.
+/// Puts what is kept of an entry after the others, where there is one.
 fn push_label(
     labels: &mut Vec<(Units, Option<Units>)>,
     label: Option<(Units, Option<Units>)>,

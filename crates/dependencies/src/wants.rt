@@ -39,7 +39,7 @@ impl Model for Wants {
 }
 
 impl Wants {
-    /// Wants of these owners, of which none is met, where there are so many entries.
+    /// Wants of these owners, of which none is met, where there are that many entries.
     pub(crate) fn new(alloc: Global, owners: Vec<usize>, count: usize) -> Result<Wants, AllocError>
         requires { All (λ o. o < count) owners.items }
         ensures { IfOk result (λ w. w ≡ record { count = count; owners = owners.items; met = replicate (length owners.items) false }) }
@@ -143,7 +143,7 @@ fn given(need: &Need, kind: Kind) -> &[Units]
     }
 }
 
-/// Puts the names of one entry behind the others.
+/// Puts the names of one entry after the others.
 fn append(
     alloc: Global,
     given: &[Units],

@@ -1,4 +1,4 @@
--- The sectors of a log, one after another.
+-- The sectors of a log, in sequence.
 use Rattle.std.proofs.Common.{◌≡◌, ◌<◌, ◌≤◌, ◌+◌, ◌-◌, ◌*◌, ◌/◌, ℕ, Bool, true, false, cond, List, [], ◌∷◌, length, refl, sym, ap, ◌∙◌, add-one, arith}
 use Rattle.hive_model.specs.Recovery.{sector, rank, first_dirty}
 use Rattle.hive_log.proofs.Ranks.{rank_below}

@@ -18,7 +18,7 @@ use Rattle.dirt_log.specs.declared.reading.OldReading.TheVariants.{Broken, Other
 abbrev pub bits_of : List ℕ → ℕ → Bool
 bits_of log = bit (drop 516 log)
 
--- each of the first sectors of the bins data is the log's, or among so many that the hive's file has
+-- each of the first sectors of the bins data is the log's, or among that many that the hive's file has
 abbrev pub has_rest : (ℕ → Bool) → ℕ → ℕ → Bool
 has_rest bits have zero = true
 has_rest bits have (suc i) = has_rest bits have i && (bits i || nat_lt i have)
@@ -36,7 +36,7 @@ first_failing (check ∷ checks) = if check.0 then first_failing checks else Som
 abbrev pub needed : List ℕ → ℕ → ℕ
 needed log size = first_dirty size + rank (bits_of log) (size / 512)
 
--- What a log with bins data of this size has to be, beside a hive's file of so many bytes. A log that is too short lacks first
+-- What a log with bins data of this size has to be, beside a hive's file of that many bytes. A log that is too short lacks first
 -- the sector at its end.
 abbrev pub dirt_checks : List ℕ → ℕ → ℕ → List (Bool × LogFault)
 dirt_checks log size have =
@@ -52,7 +52,7 @@ abbrev pub whole_or : Option LogFault → List ℕ → Base → OldReading
 whole_or None log logged = Whole logged.first (rank (bits_of log) (logged.size / 512))
 whole_or (Some fault) log logged = Broken fault
 
--- What a log with this base block is to the hive of the other one, whose file has so many bytes: its two numbers are one, it
+-- What a log with this base block is to the hive of the other one, whose file has that many bytes: its two numbers are one, it
 -- has the hive's stamp, and its number is one of the hive's two; and then it is whole.
 unfoldable pub old_reading_of : List ℕ → Base → Base → ℕ → OldReading
 old_reading_of log logged hive have =
@@ -64,7 +64,7 @@ old_reading_of log logged hive have =
     else OtherStamp logged.first)
     else Broken (fault_at LogSequence 4)
 
--- n sectors from number i on, those whose bit is on as pages: the next one of them stands in this sector of the log
+-- n sectors from number i on, those whose bit is on as pages: the next one of them is in this sector of the log
 unfoldable pub marked_pages : (ℕ → Bool) → List ℕ → ℕ → ℕ → ℕ → List Page
 marked_pages bits log next i zero = []
 marked_pages bits log next i (suc n) =

@@ -148,7 +148,7 @@ fn whole_or(fault: Option<LogFault>, log: &[u8], logged: &BaseBlock) -> OldReadi
     }
 }
 
-/// What a log with this base block is to the hive of the other one, whose file has so many bytes.
+/// What a log with this base block is to the hive of the other one, whose file has that many bytes.
 #[tactic(auto, unfolding(crate::specs::Dirt::old_reading_of))]
 pub fn read_old(log: &[u8], logged: &BaseBlock, hive: &BaseBlock, have: usize) -> OldReading
     ensures { result ≡ old_reading_of log.now logged.now hive.now have }

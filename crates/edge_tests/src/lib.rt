@@ -1,4 +1,4 @@
-//! The outside in memory: its disk with its bench, and its hosts.
+//! The environment in memory: its disk with its bench, and its hosts.
 //!
 //! No crate of the program stands on this one: it is for its tests.
 #![tactic(auto)]

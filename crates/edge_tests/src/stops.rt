@@ -232,7 +232,7 @@ fn a_cut_now_keeps_what_it_should(rt: HostRuntime) -> Result<(), Fail> {
     Ok(())
 }
 
-/// A write torn by a cut, and then what reads find there, behind it, and there again once it is written anew.
+/// A write torn by a cut, and then what reads find there, after it, and there again once it is rewritten.
 fn tear<B: Bench>(bench: &mut B) -> Result<[Presence; 3], DiskStop>
     requires { (B.state bench.old).on ≡ false }
 {

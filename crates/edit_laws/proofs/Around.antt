@@ -1,4 +1,4 @@
--- Where the cells of one key and those below it differ, the walk before and behind it is the same; so cells are still
+-- Where the cells of one key and those below it differ, the walk before and after it is the same; so cells are still
 -- used once.
 use Rattle.std.proofs.Common.{◌≡◌, ℕ, suc, ◌+◌, Bool, true, false, List, [], ◌∷◌, ◌++◌, length, refl, sym, ◌∙◌, ap, subst, inl, inr, Ok, arith, append_assoc}
 use Rattle.std.specs.Prelude.{◌⊎◌, flat_map}
@@ -38,7 +38,7 @@ regroup [] [] (x ∷ b) v e r = ap (λ (l : List (ℕ × Bool)). x ∷ l) (regro
 regroup [] (x ∷ f) b v e r = ap (λ (l : List (ℕ × Bool)). x ∷ l) (regroup [] f b v e r)
 regroup (x ∷ o) f b v e r = ap (λ (l : List (ℕ × Bool)). x ∷ l) (regroup o f b v e r)
 
--- two lists that differ in a part of them, and are the same before and behind it
+-- two lists that differ in a part of them, and are the same before and after it
 pub record IsSwapped (us vs old new : List (ℕ × Bool)) : Type 0 where
   pub before : List (ℕ × Bool)
   pub behind : List (ℕ × Bool)
@@ -47,7 +47,7 @@ pub record IsSwapped (us vs old new : List (ℕ × Bool)) : Type 0 where
 
 -- ---- along a path
 
--- how many levels are left at the top, where so many are where a path leads
+-- how many levels are left at the top, where that many are where a path leads
 abbrev pub above : List (List ℕ) → ℕ → ℕ
 above [] left = left
 above (m ∷ p) left = suc (above p left)

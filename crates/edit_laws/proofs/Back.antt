@@ -153,7 +153,7 @@ values_from cells names (at ∷ rest) v o s (inr h) u =
     (uses o s)
     (values_from cells (names ++ names_of (λ (k : KeyValue). k.name) (reading key_value_at cells at)) rest v o s h u)
 
--- a child's use, whatever names it is told
+-- a child's use, whatever names it is given
 keys_from : (checks : List (List ℕ) → ℕ → List Check) (cells : Cells) (names : List (List ℕ)) (offsets : List ℕ)
     (y o : ℕ) (role : Role) → In offsets y → ((told : List (List ℕ)) → IsUsed (checks told y) o role)
     → IsUsed (keys_in_turn checks cells names offsets) o role
@@ -260,7 +260,7 @@ security_used cells n o h = go (n.security == nowhere) h
     go false (inl e) = record { way = true; used = inl (ap (λ (a : ℕ). uses a true) e); security = λ s. refl }
     go false (inr h) = absurd h
 
--- what is used behind a node is used at the key
+-- what is used after a node is used at the key
 behind : (left : ℕ) (cells : Cells) (root : Bool) (names : List (List ℕ)) (at o : ℕ) (role : Role) (n : KeyNode)
     → reading (node_at root) cells at ≡ Ok n → IsUsed (below_node (key_checks left cells false) cells n at) o role
     → IsUsed (key_checks (suc left) cells root names at) o role

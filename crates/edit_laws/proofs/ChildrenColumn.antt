@@ -33,7 +33,7 @@ use Rattle.edit_laws.proofs.Column.{IsColumn, stays, child_same, child_owned, lo
 
 -- ---- trees in parts
 
--- trees that stand in two parts
+-- trees that are in two parts
 pub record StandBoth (cells : Cells) (xs ys : List ℕ) (ts : List Tree) : Type 0 where
   pub left : List Tree
   pub right : List Tree
@@ -304,7 +304,7 @@ module _ (b c : Cells) (root : ℕ) (t : Tree) (p : List (List ℕ)) (x left : �
       (subst (λ (l : List ℕ). AllStand b l ts) offsets s.2)) in
       (one, stand_both b gone back one.right one.second)
 
-  -- the key is rewritten: its children are those before, those that come, and those behind
+  -- the key is rewritten: its children are those before, those that come, and those after
   pub children_rewritten : (one : StandBoth b front (gone ++ back) (listed ts)) (two : StandBoth b gone back one.right)
       (come : List Tree) → HasApartNames (key hd ts) → AllStand c put (trees come)
       → ((u : Tree) → In come u → levels u ≤ left)

@@ -31,7 +31,7 @@ use Rattle.edit_laws.proofs.OwnedUses.{plain_is, owned_use, secure_there}
 use Rattle.edit_laws.proofs.Rewritten.{owned_same}
 
 -- Of the uses of the key at x and the keys below it some gave way (old), and its node and the rest are kept: outside of its node, of the
--- old ones and of what of security is counted anew, cells are the same.
+-- old ones and of what of security is counted again, cells are the same.
 pub record IsColumn (b c : Cells) (root : ℕ) (t : Tree) (p : List (List ℕ)) (x left : ℕ) (old rest : List (ℕ × Bool))
     (counted : List ℕ) : Type 0 where
   pub well : IsWellFormed b root t

@@ -362,7 +362,7 @@ module _ (b c : Cells) (root : ℕ) (t : Tree) (p : List (List ℕ)) (x : ℕ) (
             (in_left (value_list_at b x) (cells_of_values b (v ∷ [])) o (subst (In (value_list_at b x)) l.0 j)))
             (λ (never : IsUnheld b list). inr (subst (IsUnheld b) l.0 never)) (g.from l.1)
 
-  -- a value is added behind the others, in cells that were none, with a new list
+  -- a value is added after the others, in cells that were none, with a new list
   pub adds_value : (offsets : List ℕ) (w : ℕ) (q : List ℕ) (list : ℕ) (i : Item) → value_places b x ≡ offsets
       → AddsValue b c x n offsets w q list i → ChangesValues b c x offsets [] (w ∷ []) [] (i ∷ [])
   adds_value offsets w q list i places g = record {

@@ -1,4 +1,4 @@
--- Steps that grow the data in order stay within their strain, and one that finds no room behind them has a strain
+-- Steps that grow the data in order stay within their strain, and one that finds no room after them has a strain
 -- over the limit.
 use Rattle.std.proofs.Common.{◌≡◌, ℕ, ◌+◌, ◌<◌, ◌≤◌, List, [], ◌∷◌, ◌++◌, subst, Ok, arith}
 use Rattle.nt_bytes.specs.declared.version.HiveVersion.{HiveVersion}
@@ -9,7 +9,7 @@ use Rattle.hive_model.specs.Footprint.{room_of, needed_sizes, strain_of}
 use Rattle.edit_laws.specs.Sizes.{total, AreSome, AreGrown}
 use Rattle.edit_laws.proofs.RoomLemmas.{room_some, strain_one, strain_more, strain_least, no_room}
 
--- what stands behind steps has with them no less strain than alone, from the length that they left
+-- what stands after steps has with them no less strain than alone, from the length that they left
 pub strain_behind : (version : HiveVersion) (bytes now : ℕ) (t u : Tree) (steps further : List Step)
     → AreGrown version bytes t steps now u
     → strain_of version now u further ≤ strain_of version bytes t (steps ++ further)
@@ -29,14 +29,14 @@ strain_behind version bytes now t u (step ∷ steps) further g =
     (omega (arith, r, grown)) in
     let e = strain_one version bytes t g.0 step (steps ++ further) g.3 in omega (arith, deep, m, e)
 
--- the data are no longer than the strain of the steps that grew them, and of any behind
+-- the data are no longer than the strain of the steps that grew them, and of any after
 pub grown_within : (version : HiveVersion) (bytes now : ℕ) (t u : Tree) (steps further : List Step)
     → AreGrown version bytes t steps now u → now ≤ strain_of version bytes t (steps ++ further)
 grown_within version bytes now t u steps further g =
     let l = strain_least version now u further in let b = strain_behind version bytes now t u steps further g in
     omega (arith, l, b)
 
--- Where a step behind others finds no room below a limit for cells that it may need, the strain of all is over the
+-- Where a step after others finds no room below a limit for cells that it may need, the strain of all is over the
 -- limit.
 pub no_room_behind : (version : HiveVersion) (bytes now limit : ℕ) (t u v : Tree) (steps further : List Step)
     (step : Step) (asked : List ℕ) → AreGrown version bytes t steps now u → after_step step u ≡ Ok v

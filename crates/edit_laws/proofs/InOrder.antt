@@ -1,4 +1,4 @@
--- Steps done one behind another: the cells stand for the tree after all of them, and what lies outside the footprint
+-- Steps done in sequence: the cells stand for the tree after all of them, and what lies outside the footprint
 -- is left.
 use Rattle.std.proofs.Common.{◌≡◌, ℕ, Bool, true, false, cond, List, [], ◌∷◌, refl, sym, ◌∙◌, ap, subst, inl, Option, Some, Result, Ok}
 use Rattle.std.specs.Prelude.{find, option_and_then}

@@ -79,7 +79,7 @@ some_tree a b e = cc
 
 -- ---- a step on a key's children
 
--- the step names the key above, its lists, what goes, and what is counted anew
+-- the step names the key above, its lists, what goes, and what is counted again
 record NamesAbove (b : Cells) (root : ℕ) (t : Tree) (step : Step) (p : List (List ℕ))
     (gone counted : List ℕ) : Type 0 where
   key : Matches t step p node

@@ -122,7 +122,7 @@ segments_plain cells n (at ∷ rest) o h =
     plain_append (use_as false (bytes_in (segment_part n)) cells at) (segments_checks cells (n - segment_bytes) rest)
     (plain_use (bytes_in (segment_part n)) cells at) (segments_plain cells (n - segment_bytes) rest) o h
 
--- what is checked behind a cell of big data
+-- what is checked after a cell of big data
 abbrev pub behind_big : Cells → ℕ → BigData → List Check
 behind_big cells n big =
     use_as false (offsets_in big.segments) cells big.list

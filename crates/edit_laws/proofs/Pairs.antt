@@ -30,7 +30,7 @@ pub pairwise_to : {X : Type 0} (R : X → X → Type 0) (xs : List X) → Pairwi
 pairwise_to R [] h = λ i j d lt within. absurd (omega arith)
 pairwise_to R (x ∷ xs) h = AllPairs-cons R x xs (all_from (R x) xs h.0) (pairwise_to R xs h.1)
 
--- two lists one behind the other: each by itself, and the first's before the second's
+-- two lists in sequence: each by itself, and the first's before the second's
 pub record InParts {X : Type 0} (R : X → X → Type 0) (xs ys : List X) : Type 0 where
   pub left : Pairwise R xs
   pub right : Pairwise R ys
@@ -72,7 +72,7 @@ pairwise_map {X} {Y} R S f (x ∷ xs) to h = (
   pairwise_map R S f xs (λ a b i j. to a b (inr i) (inr j)) h.1,
 )
 
--- one of a list, with what stands before and behind it
+-- one of a list, with what stands before and after it
 pub record IsAmong {X : Type 0} (xs : List X) (x : X) : Type 0 where
   pub before : List X
   pub behind : List X

@@ -1,4 +1,4 @@
--- A part of a payload is written anew: every other field is read as before, and a node or a value with it.
+-- A part of a payload is rewritten: every other field is read as before, and a node or a value with it.
 use Rattle.std.proofs.Common.{◌≡◌, ℕ, zero, suc, ◌+◌, ◌-◌, ◌<◌, ◌≤◌, ◌^◌, Bool, true, false, cond, List, [], ◌∷◌, ◌++◌, length, take, drop, refl, sym, ◌∙◌, ap, subst, inl, inr, ⊎_elim, Result, Ok, Err, arith, length-append, length-drop}
 use Rattle.std.specs.Prelude.{◌⊎◌, ◌==◌, nat_lt, if◌then◌else◌, slice_range}
 use Rattle.std.specs.Int.{w16, w32, w64, from_le_bytes}
@@ -98,7 +98,7 @@ part_patches from part p fits = record { length_same = long; before = front; beh
         (range_behind (take to p) (drop to p) k n))
         ∙ ap (λ (l : List ℕ). slice_range l i (i + n)) (whole_at to p)
 
--- what stands in the part
+-- what is in the part
 pub in_part : (from : ℕ) (part p : List ℕ) (i n : ℕ) → from ≤ length p → i + n ≤ length part
     → slice_range (with_part from part p) (from + i) (from + i + n) ≡ slice_range part i (i + n)
 in_part from part p i n fits lt =
@@ -163,7 +163,7 @@ node_text p n e =
       fields = sym same ∙ ap (key_node_in p) name;
     }
 
--- a node with a part between its parent and its name written anew is read with the new fields
+-- a node with a part between its parent and its name rewritten is read with the new fields
 pub node_patched : (from to : ℕ) (p q : List ℕ) (n : KeyNode) → key_node_at p ≡ Ok n → IsPatchOf from to p q
     → 20 ≤ from → to ≤ 72 → key_node_at q ≡ Ok (key_node_in q n.name)
 node_patched from to p q n e patch low high =
@@ -228,7 +228,7 @@ pub second_of_two : (from a b : ℕ) (p : List ℕ) → from ≤ length p → b 
 second_of_two from a b p fits lt =
     ap (from_le_bytes w32) (in_part from (two_numbers a b) p 4 4 fits (omega arith)) ∙ from_le_bytes-to_le_bytes_4 b lt
 
--- a node's count and list of values are written anew
+-- a node's count and list of values are rewritten
 pub values_written : (p : List ℕ) (n : KeyNode) (count list : ℕ) → key_node_at p ≡ Ok n → count < 2 ^ 32
     → list < 2 ^ 32 → HasNewValues (with_part 36 (two_numbers count list) p) n count list
 values_written p n count list e c l =
@@ -290,7 +290,7 @@ value_text p v e =
       fields = sym same ∙ ap (key_value_in p) name;
     }
 
--- a value with its size, place and type written anew is read with these and its name
+-- a value with its size, place and type rewritten is read with these and its name
 pub value_patched : (p q : List ℕ) (v : KeyValue) → key_value_at p ≡ Ok v → IsPatchOf 4 16 p q
     → is_overfull (u32_in q 4) ≡ false → key_value_at q ≡ Ok (key_value_in q v.name)
 value_patched p q v e patch fits =
@@ -304,7 +304,7 @@ value_patched p q v e patch fits =
     (ap (λ (f : ℕ). value_name_at (is_narrow_value f) (slice_range q 20 (20 + u16_in q 2))) flags
     ∙ ap (value_name_at (is_narrow_value (u16_in p 16))) bytes ∙ t.name)
 
--- the three numbers of a value that are written anew
+-- the three numbers of a value that are rewritten
 pub value_written : (p : List ℕ) (v : KeyValue) (size offset kind : ℕ) → key_value_at p ≡ Ok v → size < 2 ^ 32
     → offset < 2 ^ 32 → kind < 2 ^ 32 → is_overfull size ≡ false
     → key_value_at (with_part 4 (three_numbers size offset kind) p)

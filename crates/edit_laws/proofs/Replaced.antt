@@ -229,7 +229,7 @@ each_most none u i = absurd i
 each_most (more t ts) u (inl e) = subst (λ (w : Tree). levels w ≤ max (levels t) (most_levels ts)) e (omega arith)
 each_most (more t ts) u (inr i) = let l = each_most ts u i in omega arith
 
--- children have no more levels than so many where the first of a name has no more when it is changed
+-- children have no more levels than that many where the first of a name has no more when it is changed
 first_low : (P : Tree → Type 0) (name : List ℕ) (path : List (List ℕ)) (f : Tree → Tree) (us : List Tree) (m : ℕ)
     → ((w : Tree) → levels w ≤ m → ((k : Tree) → find_key path w ≡ Some k → P k) → levels (f w) ≤ m)
     → ((w : Tree) → In us w → levels w ≤ m)
@@ -253,7 +253,7 @@ first_low P name path f (w ∷ us) m deep all hit u i =
     pick false is rest (inl e) = subst (λ (z : Tree). levels z ≤ m) e (all w (inl refl))
     pick false is rest (inr j) = rest (found false is) j
 
--- a tree has no more levels than so many where the changed key has no more
+-- a tree has no more levels than that many where the changed key has no more
 pub replaced_levels : (change : Tree → Tree) (path : List (List ℕ)) (t : Tree) (m : ℕ) → levels t ≤ m
     → ((k : Tree) → find_key path t ≡ Some k → length path + levels (change k) ≤ m)
     → levels (at_key path change t) ≤ m

@@ -1,4 +1,4 @@
--- A key gets other values: the cells are well-formed again, and the tree with those values stands in them.
+-- A key gets other values: the cells are well-formed again, and the tree with those values is in them.
 use Rattle.std.proofs.Common.{◌≡◌, ℕ, List, [], ◌∷◌, ◌++◌, length, refl, sym, subst, Result, Ok, arith}
 use Rattle.nt_bytes.specs.declared.fault.HiveFaultKind.{HiveFaultKind}
 use Rattle.hive_model.specs.Bins.{Cells}

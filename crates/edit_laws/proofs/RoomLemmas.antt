@@ -98,7 +98,7 @@ strain_least version bytes t (step ∷ steps) =
     go (Ok u) deep = let d = deep u in omega (arith, d)
     go (Err e) deep = omega arith
 
--- Where a bin for cells that a step may need, one behind another, is not to be had below a limit, its strain is over
+-- Where a bin for cells that a step may need, in sequence, is not to be had below a limit, its strain is over
 -- the limit.
 pub no_room : (version : HiveVersion) (bytes limit : ℕ) (t u : Tree) (step : Step) (steps : List Step)
     (asked : List ℕ) → after_step step t ≡ Ok u → AreSome asked (needed_sizes version t step u) → 0 < total asked

@@ -321,7 +321,7 @@ own_same b c at s =
 pub places_kept : (b c : Cells) (at : ℕ) → IsSame b c at → child_places c at ≡ child_places b at
 places_kept b c at s = places_same b c at (s.each node at (λ z. z) refl) (λ o i. s.each lists o (λ z. z) i)
 
--- what is used one behind another is the same where each is
+-- what is used in sequence is the same where each is
 pub uses_over : (left : ℕ) (b c : Cells) (offsets : List ℕ)
     → ((y : ℕ) → In offsets y → tree_uses left c y ≡ tree_uses left b y)
     → flat_map (tree_uses left c) offsets ≡ flat_map (tree_uses left b) offsets

@@ -37,7 +37,7 @@ pub names_append : (us vs : List Tree) → names_in (us ++ vs) ≡ names_in us +
 names_append [] vs = refl
 names_append (u ∷ us) vs = ap (λ (l : List (List ℕ)). (head u).name ∷ l) (names_append us vs)
 
--- the one key that stands at one place
+-- the one key that is at one place
 pub one_tree : (cells : Cells) (y : ℕ) (us : List Tree) → AllStand cells (y ∷ []) (trees us)
     → (u : Tree) × (us ≡ u ∷ []) × Stands cells y u
 one_tree cells y [] a = absurd (let d : y ∷ [] ≡ [] = a in cc)

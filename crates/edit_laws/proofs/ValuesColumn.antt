@@ -264,7 +264,7 @@ module _ (b c : Cells) (root : ℕ) (t : Tree) (p : List (List ℕ)) (x left : �
         (subst (λ (o : ℕ). MatchBool (g.old.child_count == 0) (s.0 ≡ [])
         ((entries_at c o ≡ Ok s.0) × (length s.0 ≡ g.old.child_count))) (sym g.same.child_list) l)
 
-    -- the key is rewritten: its values are those before, those that come, and those behind
+    -- the key is rewritten: its values are those before, those that come, and those after
     pub values_rewritten : (before behind : List Item) → items_at b front ≡ Ok before → items_at b back ≡ Ok behind
         → HasApartNames (key hd ts) → ItemsDiffer (before ++ (come ++ behind))
         → RewritesKey b c root x (suc left) (key (record hd { values = before ++ (come ++ behind) }) ts) old new []

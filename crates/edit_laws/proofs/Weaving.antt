@@ -24,7 +24,7 @@ pub old_front : {X : Type 0} (bs us old kept : List X) → Woven us old kept →
 old_front [] us old kept w = w
 old_front (b ∷ bs) us old kept w = inl (bs ++ old, refl, old_front bs us old kept w)
 
--- one list behind the other
+-- one list after the other
 pub woven_on : {X : Type 0} (us vs o p k l : List X) → Woven us o k → Woven vs p l → Woven (us ++ vs) (o ++ p) (k ++ l)
 woven_on {X} [] vs o p k l e w =
     subst (λ (z : List X). Woven vs (z ++ p) (k ++ l)) (sym e.0) (subst (λ (z : List X). Woven vs p (z ++ l)) (sym e.1) w)

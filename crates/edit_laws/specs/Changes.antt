@@ -32,7 +32,7 @@ pub record MovesValue (b c : Cells) (x : ℕ) (n : KeyNode) (front back : List �
   pub used : (o : ℕ) → In (used_in (value_checks c [] w)) o → In (used_in (value_checks b [] v)) o ⊎ IsUnheld b o
   pub once : Pairwise (λ p q. p ≡ q → ⊥) (used_in (value_checks c [] w))
 
--- A value stands at an offset, and the node at x counts it and names a new list, with it behind these: list and value are in cells
+-- A value is at an offset, and the node at x counts it and names a new list, with it after these: list and value are in cells
 -- that were none, and the old list may be gone.
 pub record AddsValue (b c : Cells) (x : ℕ) (n : KeyNode) (offsets : List ℕ) (w : ℕ) (q : List ℕ) (list : ℕ) (i : Item) : Type 0 where
   pub version : c.version ≡ b.version

@@ -9,7 +9,7 @@ use Rattle.edit_laws.specs.Framed.{IsUnheld}
 use Rattle.edit_laws.specs.Uses.{Once, plain, tree_uses}
 use Rattle.edit_laws.specs.Relists.{descriptor_at, IsSecurityCell, SaysTheRest}
 
--- a payload reads as a node that has so many children and their list here, and says the same as another of all but its children
+-- a payload reads as a node that has that many children and their list here, and says the same as another of all but its children
 pub record HasNewChildren (q : List ℕ) (n : KeyNode) (count list : ℕ) : Type 0 where
   pub new : KeyNode
   pub read : key_node_at q ≡ Ok new
@@ -17,8 +17,8 @@ pub record HasNewChildren (q : List ℕ) (n : KeyNode) (count list : ℕ) : Type
   pub count_is : new.child_count ≡ count
   pub list_is : new.child_list ≡ list
 
--- A key stands at an offset, and the node at x counts it and names new lists, with it between these: lists and key are in cells that
--- were none, but for cells of security that are counted anew, and the old lists may be gone.
+-- A key is at an offset, and the node at x counts it and names new lists, with it between these: lists and key are in cells that
+-- were none, but for cells of security that are counted again, and the old lists may be gone.
 pub record InsertsChild (b c : Cells) (root x left : ℕ) (n : KeyNode) (front back : List ℕ) (y : ℕ) (q : List ℕ) (list : ℕ) (counted : List ℕ) : Type 0 where
   pub version : c.version ≡ b.version
   pub there : c.payload x ≡ Ok q

@@ -36,10 +36,10 @@ pub record SaysTheRest (old new : KeyNode) : Type 0 where
   pub class : new.class ≡ old.class
   pub class_length : new.class_length ≡ old.class_length
 
--- From cells b to cells c the key at an offset gets children (put) in place of others (gone), between those before and behind them,
--- where so many levels are left for them: of the cells that are allocated in b none changes but its node, its lists, those of the
--- children that go and of all below these, and cells of security that are counted anew, which keep their descriptors. What the lists
--- and the children that come use in c, the lists and the children that go used in b, or it was not allocated there, or is counted anew
+-- From cells b to cells c the key at an offset gets children (put) in place of others (gone), between those before and after them,
+-- where that many levels are left for them: of the cells that are allocated in b none changes but its node, its lists, those of the
+-- children that go and of all below these, and cells of security that are counted again, which keep their descriptors. What the lists
+-- and the children that come use in c, the lists and the children that go used in b, or it was not allocated there, or is counted again
 -- and used as security; and they use each cell once.
 pub record ChangesChildren (b c : Cells) (root x left : ℕ) (front gone put back counted : List ℕ) : Type 0 where
   pub version : c.version ≡ b.version
@@ -63,12 +63,12 @@ abbrev pub StandsBefore : List ℕ → List (List ℕ) → Type 0
 StandsBefore name [] = Unit {0}
 StandsBefore name (m ∷ ms) = is_gt (folded_order m name) ≡ true
 
--- the place of a new name among keys at these offsets: behind those whose names do not fold greater, before the first whose does
+-- the place of a new name among keys at these offsets: after those whose names do not fold greater, before the first whose does
 pub record HasPlace (b : Cells) (name : List ℕ) (front back : List ℕ) : Type 0 where
   pub small : (m : List ℕ) → In (map (node_name b) front) m → is_gt (folded_order m name) ≡ false
   pub great : StandsBefore name (map (node_name b) back)
 
--- a key at an offset has this name, and what of security is counted anew is its own or of a key below it
+-- a key at an offset has this name, and what of security is counted again is its own or of a key below it
 pub record Deletes (b : Cells) (root : ℕ) (parent : List (List ℕ)) (name : List ℕ) (y : ℕ) (counted : List ℕ) : Type 0 where
   pub named : folds_same name (node_name b y) ≡ true
   pub count : (o : ℕ) → In counted o → (q : List (List ℕ)) × Extends (parent ++ name ∷ []) q × Owns b root q security o

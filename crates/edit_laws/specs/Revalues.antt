@@ -35,7 +35,7 @@ abbrev pub ListsValues : Cells → KeyNode → List ℕ → Type 0
 ListsValues cells node offsets =
     MatchBool (node.value_count == 0) (offsets ≡ []) (reading (offsets_in node.value_count) cells node.value_list ≡ Ok offsets)
 
--- From cells b to cells c the key at an offset gets values (put) in place of others (gone), between those before and behind them: of
+-- From cells b to cells c the key at an offset gets values (put) in place of others (gone), between those before and after them: of
 -- the cells that are allocated in b none changes but its node, its value list and those of the values that go. What the list and the
 -- values that come use in c, the list and the values that go used in b, or it was not allocated there, and they use no cell twice.
 pub record ChangesValues (b c : Cells) (x : ℕ) (front gone put back : List ℕ) (come : List Item) : Type 0 where

@@ -22,8 +22,8 @@ is_secure lists = false
 
 -- From cells b to cells c the key at x is rewritten, and this tree stands there then, under the name that stood there. Of what it and
 -- the keys below it used, some is kept, and some (old) gave way to something new, that was old or was in no cell, or is security that is
--- counted anew; new is used once. Of the cells that are allocated in b none changes but its node, the old ones, and cells of security
--- that are counted anew, which keep their descriptors.
+-- counted again; new is used once. Of the cells that are allocated in b none changes but its node, the old ones, and cells of security
+-- that are counted again, which keep their descriptors.
 pub record RewritesKey (b c : Cells) (root x left : ℕ) (k : Tree) (old new : List (ℕ × Bool)) (counted : List ℕ) : Type 0 where
   pub kept : List (ℕ × Bool)
   pub version : c.version ≡ b.version

@@ -6,7 +6,7 @@ use Rattle.hive_model.specs.Size.{size}
 use Rattle.hive_model.specs.Edit.{Step, after_step}
 use Rattle.hive_model.specs.Footprint.{room_of, needed_sizes}
 
--- the sizes of keys one behind another, under a key with this descriptor
+-- the sizes of keys in sequence, under a key with this descriptor
 abbrev pub sizes_of : HiveVersion → List ℕ → List Tree → ℕ
 sizes_of version shared [] = 0
 sizes_of version shared (t ∷ ts) = size version shared t + sizes_of version shared ts
@@ -23,7 +23,7 @@ AreSome (x ∷ xs) [] = ⊥
 AreSome (x ∷ xs) (y ∷ ys) = ((x ≡ y) × AreSome xs ys) ⊎ AreSome (x ∷ xs) ys
 
 -- From bins data of one length to those of another steps are made in order, none refused, from the one tree to the other, and each
--- makes the data longer by no more than the room for cells that it may need.
+-- makes the data longer by at most the room for cells that it may need.
 abbrev pub AreGrown : HiveVersion → ℕ → Tree → List Step → ℕ → Tree → Type 0
 AreGrown version bytes t [] now u = (now ≤ bytes) × (t ≡ u)
 AreGrown version bytes t (step ∷ steps) now u =

@@ -30,7 +30,7 @@ own_uses cells at =
     ++ (secure (security_cell_at cells at)
     ++ (plain (all_value_cells cells at) ++ plain (list_cells_at cells at))))
 
--- the uses of a key and of all below it, so many levels down
+-- the uses of a key and of all below it, that many levels down
 abbrev pub tree_uses : ℕ → Cells → ℕ → List (ℕ × Bool)
 tree_uses zero cells at = []
 tree_uses (suc left) cells at = own_uses cells at ++ flat_map (tree_uses left cells) (child_places cells at)

@@ -9,15 +9,15 @@ use Rattle.edit_laws.specs.Revalues.{SaysTheSame}
 abbrev pub with_part : ℕ → List ℕ → List ℕ → List ℕ
 with_part from part p = take from p ++ (part ++ drop (from + length part) p)
 
--- two numbers of four bytes one behind the other
+-- two numbers of four bytes in sequence
 abbrev pub two_numbers : ℕ → ℕ → List ℕ
 two_numbers a b = to_le_bytes w32 a ++ to_le_bytes w32 b
 
--- three numbers of four bytes one behind another
+-- three numbers of four bytes in sequence
 abbrev pub three_numbers : ℕ → ℕ → ℕ → List ℕ
 three_numbers a b c = to_le_bytes w32 a ++ (to_le_bytes w32 b ++ to_le_bytes w32 c)
 
--- a payload reads as a node that has so many values and their list here, and says the same as another of all but its values
+-- a payload reads as a node that has that many values and their list here, and says the same as another of all but its values
 pub record HasNewValues (q : List ℕ) (n : KeyNode) (count list : ℕ) : Type 0 where
   pub new : KeyNode
   pub read : key_node_at q ≡ Ok new

@@ -15,7 +15,7 @@ ghost use Rattle.edit_laws.specs.Takes.{TakesChild};
 ghost use Rattle.edit_laws.specs.Done.{IsDone};
 ghost use Rattle.edit_laws.specs.Lessened.{HasChildThere};
 
-/// A key is deleted where the lists of the key above were written anew without it, the node above counts the others and names
+/// A key is deleted where the lists of the key above were rewritten without it, the node above counts the others and names
 /// these lists, and what it and the keys below it used may be free, but for cells of security, which keep their descriptors.
 pub fn a_key_is_taken_out()
     ensures { (b l c : Cells) (root : ℕ) (t u : Tree) (parent : List (List ℕ)) (name : List ℕ) (x y left list : ℕ) (n : KeyNode) (front back : List ℕ)

@@ -26,7 +26,7 @@ pub fn a_step_has_the_cells_that_it_names()
         → IsMatched cells root t step o → Contains (step_cells cells root t step) o }
 {}
 
-/// Steps that are done one behind another make the tree that they make in order, which stands in the cells after them, and
+/// Steps that are done in sequence make the tree that they make in order, which is in the cells after them, and
 /// leave each allocated cell outside their footprint.
 pub fn steps_are_done_in_order()
     ensures tree { (root : ℕ) (steps : List Step) (b c : Cells) (t u : Tree) → AreDone root b t steps c u → after_steps t steps ≡ Ok u }

@@ -1,4 +1,4 @@
--- The pages of an entry, one after another.
+-- The pages of an entry, in sequence.
 use Rattle.std.proofs.Common.{◌≡◌, ◌≤◌, ◌+◌, ◌-◌, ◌*◌, ◌/◌, ◌%◌, ◌<◌, ◌==◌, ◌&&◌, ℕ, Bool, true, false, List, [], ◌∷◌, length, refl, sym, ap, ◌∙◌, add-one, arith}
 use Rattle.std.specs.Prelude.{nat_le, not, slice_range}
 use Rattle.std.proofs.lemmas.Bool.{and_parts, eqb-true, leb-true}

@@ -25,7 +25,7 @@ judged log entry =
     else Broken EntryHash)
     else Broken EntrySize
 
--- what stands at this sector, after an entry of the number before
+-- what is at this sector, after an entry of the number before
 unfoldable pub found_at : List ℕ → ℕ → Option ℕ → Found
 found_at log sector before =
     if begins_entry log sector
@@ -42,7 +42,7 @@ run_by sector NoEntry next = record { entries = []; fault = None }
 run_by sector (Broken kind) next = record { entries = []; fault = Some (record { kind = kind; at = 512 * sector }) }
 run_by sector (Whole entry) next = with_entry entry (next entry)
 
--- the run from a sector on, of at most so many entries
+-- the run from a sector on, of at most that many entries
 unfoldable pub run_from : ℕ → List ℕ → ℕ → Option ℕ → Run
 run_from zero log sector before = record { entries = []; fault = None }
 run_from (suc n) log sector before =

@@ -143,7 +143,7 @@ fn follows(before: Option<u32>, number: u32) -> bool
     }
 }
 
-/// What stands at this sector of a log of whole sectors, after an entry of the number before.
+/// What is at this sector of a log of whole sectors, after an entry of the number before.
 #[tactic(auto, unfolding(crate::specs::Runs::found_at))]
 pub(crate) fn found_at(log: &[u8], sector: usize, before: Option<u32>) -> Found
     requires whole { 512 * (length log.now / 512) ≡ length log.now }

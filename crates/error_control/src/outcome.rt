@@ -7,7 +7,7 @@ ghost use Rattle.error_control.specs.Judgement.{judgement_in};
 /// What follows from a failed attempt.
 #[derive(Clone, Copy, Debug, PartialEq, Eq)]
 pub enum Judgement {
-    /// The start goes on, and nobody is told.
+    /// The start goes on, and nobody is notified.
     Ignore,
     /// The start goes on, and the failure is logged.
     Log,

@@ -1,4 +1,4 @@
--- What a call of the disk asks of its files puts it behind the calls that were made.
+-- What a call of the disk asks of its files puts it after the calls that were made.
 use Rattle.std.proofs.Common.{◌≡◌, ◌≤◌, ◌+◌, ◌*◌, ◌++◌, ◌∷◌, [], List, ℕ, refl, subst, sym}
 use Rattle.std.proofs.lemmas.List.{append-nil, append_assoc}
 use Rattle.std.proofs.lemmas.List.Elements.{All-nil, All-push}

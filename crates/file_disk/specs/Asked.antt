@@ -1,13 +1,13 @@
 -- What is an open file asked for, and what do the calls of a disk ask of its two files? (This project's own.)
 --
 -- As of a disk's calls (`nt_edge`, Calls), what a file says of its own is a set of lists, among which is the list of those that were made; each
--- call puts itself behind each list of the set.
+-- call puts itself after each list of the set.
 use Rattle.std.specs.Prelude.{◌≡◌, ◌≤◌, ◌+◌, ◌*◌, ℕ, List, [], ◌∷◌, ◌++◌, All, Result, Ok, Err}
 use Rattle.hive_model.specs.Image.{File, Primary, Log, Address}
 use Rattle.nt_bytes.specs.Counts.{Rises}
 use Rattle.nt_edge.specs.Calls.{Made, ReadAt, Wrote, Synced}
 
--- a call of an open file, whatever it answered: a read of at most so many bytes from a place on, a write of these bytes there, a sync
+-- a call of an open file, no matter what it answered: a read of at most that many bytes from a place on, a write of these bytes there, a sync
 pub data Asked : Type 0 where
   ReadFrom : ℕ → ℕ → Asked
   WroteTo : ℕ → List ℕ → Asked
@@ -54,7 +54,7 @@ AsksFor (ReadAt at) primary log = ReadsOf at primary log
 AsksFor (Wrote (at, bytes)) primary log = OfFile at.file (WroteTo (512 * at.sector) bytes ∷ []) primary log
 AsksFor Synced primary log = (primary ≡ SyncedFile ∷ []) × (log ≡ SyncedFile ∷ [])
 
--- since some moment these calls of the disk were made, where the two files were asked for these lists in all
+-- since some moment these calls of the disk were made, where the two files were asked for these lists in total
 pub data Told : List Made → List Asked → List Asked → Type 0 where
   begun : {primary log : List Asked} → Told [] primary log
   more : {made : List Made} {primary log : List Asked} (call : Made) (asked_primary asked_log : List Asked) → Told made primary log

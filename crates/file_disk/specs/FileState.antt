@@ -1,4 +1,4 @@
--- Two open files as a disk: it is on, tells nothing that it holds, and counts their failures as its faults. (This project's own.)
+-- Two open files as a disk: it is on, reports nothing that it holds, and counts their failures as its faults. (This project's own.)
 use Rattle.std.specs.Prelude.{◌+◌, true, ℕ, [], None, Result, Ok, Err}
 use Rattle.nt_bytes.specs.Counts.{capped}
 use Rattle.nt_edge.specs.Disk.{DiskState, IsBounded}
@@ -7,7 +7,7 @@ use Rattle.nt_edge.specs.declared.disk.DiskStop.TheVariants.{Failed}
 use Rattle.std.proofs.Common.{lit≤}
 use Rattle.std.proofs.Math.Nat.{min-le_right}
 
--- a disk over files with so many failures in all: no cut comes, and it lacks no memory
+-- a disk over files with that many failures in total: no cut comes, and it lacks no memory
 abbrev pub counting : ℕ → ℕ → DiskState
 counting primary log = record {
   held = λ _. None;

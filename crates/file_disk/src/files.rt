@@ -14,7 +14,7 @@ pub trait SectorFile {
     /// How many of them failed, up to the end of the count.
     ghost failed: { Self → ℕ };
 
-    /// Reads bytes from this place on, as many as the file gives at once; none at and past its end.
+    /// Reads bytes from this place on, the same number as the file gives at once; none at and past its end.
     fn read_at(&mut self, into: &mut [u8], place: u64) -> IoResult<usize>
         ensures asked { Asks (asked self.old) (asked self.new) (ReadFrom place (length into.old) ∷ []) }
         ensures failed { CountsFailure result (failed self.old) (failed self.new) }

@@ -1,6 +1,6 @@
 //! A disk of sectors over two open files.
 //!
-//! It tells no content, since a file that is written past its end has sectors between that nobody wrote. It counts each failed call as a
+//! It reports no content, since a file that is written past its end has sectors between that nobody wrote. It counts each failed call as a
 //! fault, says what its calls ask of the two files, and is always on: a real loss of power ends the program.
 #![tactic(auto)]
 

@@ -15,7 +15,7 @@ fn place_of(sector: u32) -> u64
     512 * u64::from(sector)
 }
 
-/// Reads bytes of a sector from this one of its bytes on, as many as the file gives at once.
+/// Reads bytes of a sector from this one of its bytes on, the same number as the file gives at once.
 fn read_on<F: SectorFile>(
     file: &mut F,
     sector: u32,
@@ -49,7 +49,7 @@ fn fill<F: SectorFile>(file: &mut F, sector: u32, into: &mut [u8; 512]) -> Resul
     Ok(got)
 }
 
-/// Whether a sector of which so many bytes are in the file is there.
+/// Whether a sector of which that many bytes are in the file is there.
 fn presence(there: usize) -> Presence
     ensures { result ≡ (if nat_eq there 0 then Absent else Whole) }
 {

@@ -9,10 +9,10 @@ use std::fs::File;
 use std::io::{Error, ErrorKind, Result as IoResult};
 use std::os::unix::fs::FileExt;
 
-/// How often a read is made anew where a signal ended it.
+/// How often a read is made again where a signal ended it.
 const MOST_TRIES: u32 = 1_000_000;
 
-/// An open file of the system. It tells nothing but how many of its calls failed.
+/// An open file of the system. It reports nothing but how many of its calls failed.
 #[derive(Drop)]
 pub struct SystemFile {
     file: File,

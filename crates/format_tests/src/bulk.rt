@@ -17,7 +17,7 @@ fn root(alloc: Global) -> Result<Key, AllocError> {
     })
 }
 
-/// The bulk of a packed hive whose root is alone: its one free cell stands at 120.
+/// The bulk of a packed hive whose root is alone: its one free cell is at 120.
 #[test]
 fn a_root_alone_has_its_bulk(rt: HostRuntime) -> Result<(), Fail> {
     let tree = root(rt.alloc())?;
@@ -26,7 +26,7 @@ fn a_root_alone_has_its_bulk(rt: HostRuntime) -> Result<(), Fail> {
     Ok(())
 }
 
-/// A root with the one value `A` of type 3, of so many bytes.
+/// A root with the one value `A` of type 3, of that many bytes.
 fn root_with_value(alloc: Global, len: usize) -> Result<Key, AllocError> {
     let mut bytes = Bytes::new(alloc);
     bytes.append_zeros(len)?;
@@ -39,7 +39,7 @@ fn root_with_value(alloc: Global, len: usize) -> Result<Key, AllocError> {
     Ok(key)
 }
 
-/// Data of over 16,344 bytes stand in segments in version 1.5, and in one cell in version 1.3.
+/// Data of over 16,344 bytes are in segments in version 1.5, and in one cell in version 1.3.
 #[test]
 fn long_data_have_their_bulk(rt: HostRuntime) -> Result<(), Fail> {
     let cases = [

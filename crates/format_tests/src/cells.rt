@@ -1,4 +1,4 @@
-//! A hive with one key, packed: one bin with the key node's cell and a free one behind it.
+//! A hive with one key, packed: one bin with the key node's cell and a free one after it.
 
 use hive_cells::read_cells;
 use nt_bytes::{Bytes, HiveFault, HiveFaultKind, ReadStop};

@@ -29,7 +29,7 @@ const LIST: [u8; 20] = [
     0x6c, 0x66, 2, 0, 0x90, 0, 0, 0, 0x43, 0x6f, 0x6e, 0x74, 0x10, 2, 0, 0, 0x53, 0x65, 0x6c, 0x65,
 ];
 
-/// A security cell with a descriptor of two bytes, and what fills the cell behind it.
+/// A security cell with a descriptor of two bytes, and what fills the cell after it.
 const SECURITY: [u8; 24] = [
     0x73, 0x6b, 0, 0, 0x78, 0, 0, 0, 0x78, 0, 0, 0, 3, 0, 0, 0, 2, 0, 0, 0, 1, 2, 0xaa, 0xaa,
 ];

@@ -1,5 +1,5 @@
 //! Cells allocated, written and freed in place. A cell has four bytes for its size, and whole eight
-//! in all; a bin has a header of 32 bytes.
+//! in total; a bin has a header of 32 bytes.
 
 use hive_cells::{OpenHeap, read_cells};
 use nt_bytes::Bytes;
@@ -9,11 +9,11 @@ use std::test::Fail;
 
 #[derive(Clone, Copy)]
 enum Deed {
-    /// A cell for a payload of so many bytes, and where it stands.
+    /// A cell for a payload of that many bytes, and where it stands.
     Alloc(u32, Option<u32>),
     /// The cell at an offset is freed.
     Free(u32),
-    /// The lowest free cell of so many bytes.
+    /// The lowest free cell of that many bytes.
     Fit(u32, Option<u32>),
     /// How many bytes the bins data have.
     Long(usize),
@@ -62,7 +62,7 @@ fn done(alloc: Global, heap: &mut OpenHeap, deed: Deed) -> Result<bool, AllocErr
     }
 }
 
-/// Does each deed go as it says, one after another from the heap of no bins?
+/// Does each deed go as it says, in sequence from the heap of no bins?
 fn play(rt: &impl Abort, alloc: Global, deeds: &[Deed]) -> Result<(), Fail> {
     let mut heap = empty_heap(alloc)?;
     for (number, deed) in deeds.iter().enumerate() {

@@ -83,7 +83,7 @@ module _ (sizes tops : List ℕ) (kept : IsKept sizes tops) where
       let top = under_top sizes tops kept j (omega (arith, kept.whole)) in
       omega (arith, top, none (j / 512) (omega arith) (omega arith))
 
-  -- ---- the three answers behind the page of the place itself
+  -- ---- the three answers after the page of the place itself
 
   pub none_below : (slot : ℕ) → slot ≤ length sizes → AreNone sizes (512 * (slot / 512)) slot
       → AreNone tops 0 (slot / 512) → AreNone sizes 0 slot

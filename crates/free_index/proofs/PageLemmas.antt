@@ -132,7 +132,7 @@ kept_set sizes tops slot size top kept inside is =
           ];
     }
 
--- a page that stands in front of what is appended
+-- a page that is in front of what is appended
 page_front : (sizes more : List ℕ) (q : ℕ) → 512 * q + 512 ≤ length sizes → page (sizes ++ more) q ≡ page sizes q
 page_front sizes more q inside =
     ap (take (512 * q + 512 - 512 * q)) (drop-append-le (512 * q) sizes more (omega arith))
@@ -192,7 +192,7 @@ greatest_least : (xs : List ℕ) (v : ℕ) → ((i : ℕ) → get_or xs i 0 ≤ 
 greatest_least [] v each = omega arith
 greatest_least (x ∷ xs) v each = omega (arith, each 0, greatest_least xs v (λ i. each (suc i)))
 
--- what stands in the page after a change
+-- what is in the page after a change
 changed_page : (sizes : List ℕ) (p slot size top : ℕ) → 512 * p + 512 ≤ length sizes → slot < length sizes → size ≤ top
     → ((i : ℕ) → i < 512 → get_or sizes (512 * p + i) 0 ≤ top) → greatest (page (set sizes slot size) p) ≤ top
 changed_page sizes p slot size top inside within small each =

@@ -1,4 +1,4 @@
-//! The free cells of a heap by place: which is the lowest that holds so many bytes, and which is the
+//! The free cells of a heap by place: which is the lowest that holds that many bytes, and which is the
 //! last before a place. It takes no memory but in `grow`.
 //!
 //! It is seen as its sizes: for each slot of eight bytes the size of the free cell that begins there,

@@ -1,4 +1,4 @@
--- The file of bins data with a clean base block loads as the tree that stands in the bins.
+-- The file of bins data with a clean base block loads as the tree that is in the bins.
 use Rattle.std.proofs.Common.{◌≡◌, ℕ, zero, suc, ◌+◌, ◌-◌, ◌*◌, ◌/◌, ◌<◌, ◌≤◌, true, false, cond, List, [], ◌++◌, length, take, drop, replicate, Some, None, Result, Ok, Err, refl, sym, ◌∙◌, ap, subst, arith, append-nil, append_assoc, length-append, length-take, length-drop}
 use Rattle.std.specs.Prelude.{slice_index, IfOk}
 use Rattle.std.proofs.lemmas.Bool.{lt-ltb}

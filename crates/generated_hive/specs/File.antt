@@ -5,7 +5,7 @@ use Rattle.hive_model.specs.Base.{Base, base_text}
 use Rattle.hive_model.specs.Packed.{packed}
 use Rattle.generated_hive.specs.Generated.{generated}
 
--- the base block of a clean hive of version 1.3 with sequence number 1, without stamp and file name, of so many bytes of bins data
+-- the base block of a clean hive of version 1.3 with sequence number 1, without stamp and file name, of that many bytes of bins data
 abbrev pub clean_base : ℕ → Base
 clean_base size = record {
   first = 1;
@@ -24,6 +24,6 @@ clean_base size = record {
 unfoldable pub clean_file : List ℕ → List ℕ
 clean_file bins = base_text (clean_base (length bins)) ++ replicate 3584 0 ++ bins
 
--- the file of the system of so many services
+-- the file of the system of that many services
 unfoldable pub generated_file : ℕ → List ℕ
 generated_file count = clean_file (packed V3 (generated count))

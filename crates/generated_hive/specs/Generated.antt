@@ -1,4 +1,4 @@
--- The system that a hive is generated with: a control set of so many services in ten groups (this project's own; types of
+-- The system that a hive is generated with: a control set of that many services in ten groups (this project's own; types of
 -- values and what a service has: Microsoft's documentation of registry value types and of service entries).
 --
 -- Each key has no class, no descriptor and no stamp.
@@ -21,11 +21,11 @@ number_value name number = record { name = name; kind = 4; bytes = to_le_bytes w
 unfoldable pub string_value : List ℕ → List ℕ → Item
 string_value name text = record { name = name; kind = 1; bytes = text_bytes text }
 
--- strings, with a zero unit behind the last (REG_MULTI_SZ)
+-- strings, with a zero unit after the last (REG_MULTI_SZ)
 unfoldable pub strings_value : List ℕ → List (List ℕ) → Item
 strings_value name texts = record { name = name; kind = 7; bytes = flat_map text_bytes texts ++ to_le_bytes w16 0 }
 
--- numbers of four bytes one behind another (REG_BINARY)
+-- numbers of four bytes in sequence (REG_BINARY)
 unfoldable pub numbers_value : List ℕ → List ℕ → Item
 numbers_value name numbers = record { name = name; kind = 3; bytes = flat_map (to_le_bytes w32) numbers }
 
@@ -117,7 +117,7 @@ order_values i =
 unfoldable pub generated_service : ℕ → Tree
 generated_service i = plain_key (service_name i) (order_values i ++ need_values i) []
 
--- the first services, so many
+-- the first services, that many
 abbrev pub first_services : ℕ → List Tree
 first_services count = map generated_service (range_with_len 0 count)
 
@@ -142,6 +142,6 @@ generated_select =
     ∷ [])
     []
 
--- the system of so many services
+-- the system of that many services
 unfoldable pub generated : ℕ → Tree
 generated count = key (flagged_head (codes "ROOT") 0x000C []) (trees (generated_set count ∷ generated_select ∷ []))

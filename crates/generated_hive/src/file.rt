@@ -13,7 +13,7 @@ use nt_bytes::{Bytes, HiveVersion};
 use regf_base::{BaseBlock, base_bytes};
 use std::alloc::{AllocError, Global};
 
-/// The base block of a clean hive with sequence number 1 and so many bytes of bins data.
+/// The base block of a clean hive with sequence number 1 and that many bytes of bins data.
 fn block(size: u32) -> BaseBlock
     ensures { result ≡ clean_base size }
 {
@@ -45,7 +45,7 @@ fn file(alloc: Global, bins: &[u8]) -> Result<Bytes, AllocError>
     Ok(bytes)
 }
 
-/// The primary file of a system with one control set of so many services, at most 10,000: a clean hive of version 1.3
+/// The primary file of a system with one control set of that many services, at most 10,000: a clean hive of version 1.3
 /// with sequence number 1. The work is linear in their number.
 #[tactic(auto, unfolding(crate::specs::File::generated_file))]
 pub fn generated_hive(alloc: Global, count: u32) -> Result<Bytes, AllocError>

@@ -1,6 +1,6 @@
-//! The hive of a system that is generated: a control set with as many services as are asked for.
+//! The hive of a system that is generated: a control set with the same number of services as are asked for.
 //!
-//! The services stand in ten groups, start in each of the three phases, and one in four needs another.
+//! The services are in ten groups, start in each of the three phases, and one in four needs another.
 //! Rules: this project's own.
 #![tactic(auto)]
 

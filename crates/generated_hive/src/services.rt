@@ -115,7 +115,7 @@ fn need(alloc: Global, i: u32) -> Result<Value, AllocError>
     })
 }
 
-/// Puts behind what the service needs, if anything.
+/// Puts after what the service needs, if anything.
 fn push_need(alloc: Global, values: &mut Values, i: u32) -> Result<(), AllocError>
     ensures { OnOk result (values.new ≡ values.old ++ need_values i) }
 {
@@ -135,7 +135,7 @@ fn service(alloc: Global, i: u32) -> Result<Key, AllocError>
     plain(alloc, &name(i), values, Keys::new(alloc))
 }
 
-/// The first services, so many.
+/// The first services, that many.
 pub(crate) fn services(alloc: Global, count: u32) -> Result<Keys, AllocError>
     requires { count ≤ 10000 }
     ensures { IfOk result (λ keys. keys ≡ first_services count) }

@@ -115,7 +115,7 @@ fn select(alloc: Global) -> Result<Key, AllocError>
     plain(alloc, b"Select", values, Keys::new(alloc))
 }
 
-/// The tree of a system with one control set of so many services. Each key is made once and moved to its place, so the
+/// The tree of a system with one control set of that many services. Each key is made once and moved to its place, so the
 /// work is linear in their number.
 #[tactic(auto, unfolding(crate::specs::Generated::generated))]
 pub fn generated_tree(alloc: Global, count: u32) -> Result<Key, AllocError>

@@ -21,7 +21,7 @@ pub(crate) fn number(alloc: Global, name: &[u8], number: u32) -> Result<Value, A
     })
 }
 
-/// Puts the text behind in UTF-16, and a zero unit.
+/// Puts the text after in UTF-16, and a zero unit.
 pub(crate) fn put_text(out: &mut Bytes, text: &[u8]) -> Result<(), AllocError>
     ensures { OnOk result (out.new ≡ out.old ++ text_bytes text.now) }
 {

@@ -4,7 +4,7 @@ use Rattle.hive_model.specs.Tree.{Tree}
 use Rattle.start_model.specs.Possible.{Possible, Woken}
 use Rattle.start_model.specs.Fits.{ArePossible, IsPossible}
 
--- the first wakes are what the disk could load as then, and there are as many of them; more may be left over
+-- the first wakes are what the disk could load as then, and there are the same number of of them; more may be left over
 abbrev pub FitsSoFar : List Woken → List Possible → Type 0
 FitsSoFar wakes [] = Unit {0}
 FitsSoFar [] (p ∷ ps) = ⊥

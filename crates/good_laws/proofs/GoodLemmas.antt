@@ -190,7 +190,7 @@ same_good_set t u k = split (good_is_usable t) refl
     split false is = ap (λ b. cond b (set_of u (select_numbers_of u).good) None) (still_usable t u k ∙ is)
         ∙ ap (λ b. cond b (set_of t (select_numbers_of t).good) None) (sym is)
 
--- behind a tree that was held, the first one is that
+-- after a tree that was held, the first one is that
 other_last : (h : List Note) (t u : Tree) (set : Tree) → HasHeld h → IsGoodSet (held_in h ++ t ∷ []) (saved_in h) set
     → IsGoodSet (held_in h ++ u ∷ []) (saved_in h) set
 other_last h t u set b g =

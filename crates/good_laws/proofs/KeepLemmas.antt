@@ -119,7 +119,7 @@ runs_note P h k live None held saved r = tt
 runs_note P h k live (Some s) held saved r =
     start_by P h k live s (running_note h k live s.number held saved r.on_set) r
 
--- a note that tells of no tree
+-- a note that reports no tree
 going_note : (P : Tree → Type 0) (h k : List Note) (m : RunState) → held_in k ≡ held_in h → saved_in k ≡ saved_in h
     → KeepsGoing P h m → KeepsGoing P k m
 going_note P h k m held saved g =
@@ -138,7 +138,7 @@ disk_saved h clone disk d =
 
 -- ---- a commit
 
--- behind the end of a commit, its tree is held
+-- after the end of a commit, its tree is held
 after_commit : (h : List Note) (tree : Tree) → IsFine h tree → IsFine (push h (Ended Finished)) tree
 after_commit h tree f = fine_note h (push h (Ended Finished)) tree (same_held h (Ended Finished) refl)
     (same_saved h (Ended Finished) refl) f
@@ -167,7 +167,7 @@ commit-keeps P what h m tree next fine disk then = (opened, λ o. by_case o)
     by_case PowerCut = stopped PowerCut
     by_case DeviceFault = stopped DeviceFault
 
--- the running start behind a commit of this tree
+-- the running start after a commit of this tree
 run_committed : (h : List Note) (tree : Tree) (n : ℕ) → IsRunning h tree n
     → IsRunning (push (push h (Ended Finished)) (Held tree)) tree n
 run_committed h tree n r =

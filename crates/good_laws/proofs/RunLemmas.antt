@@ -23,7 +23,7 @@ Left = RunState × List Woken × List Outcome
 
 -- ---- the trees among the notes
 
--- each tree that is held is fine behind the notes before it
+-- each tree that is held is fine after the notes before it
 abbrev pub AllHeld : List Note → List Note → Type 0
 AllHeld h [] = Unit {0}
 AllHeld h (n ∷ ns) = HeldFine h n × AllHeld (push h n) ns

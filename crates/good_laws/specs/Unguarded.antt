@@ -16,7 +16,7 @@ disabling = set_value (set_name 1 ∷ codes "Services" ∷ codes "Disk" ∷ []) 
 abbrev pub disabled : Tree
 disabled = system (disk_only 1 4 ∷ select 1 1 0 1 ∷ [])
 
--- A start takes the one set, keeps no copy of it, and a flush commits the edit. Whatever is noted behind that: a save of the
+-- A start takes the one set, keeps no copy of it, and a flush commits the edit. Whatever is noted after that: a save of the
 -- same set, for one.
 abbrev pub without_guard : List Note → List Note
 without_guard after = (Woke (loads_as (placed unguarded)) ∷ Held unguarded ∷ Ended Finished ∷ Ended Finished ∷ []) ++ Held disabled ∷ after

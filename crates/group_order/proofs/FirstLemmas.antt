@@ -26,7 +26,7 @@ one_longer n len true h =
 one_longer n len false h =
     ⊎_elim (λ below. grind (arith, nat_tests)) (λ above. grind (arith, nat_tests)) (cases_lt n len)
 
--- what stands behind a list is first where nothing in the list passes
+-- what stands after a list is first where nothing in the list passes
 pub position_push : {X : Type 0} (p : X → Bool) (xs : List X) (y : X)
     → position p (xs ++ y ∷ []) ≡ option_or (position p xs) (cond (p y) (Some (length xs)) None)
 position_push p xs y =
@@ -83,7 +83,7 @@ got_within xs n = by_case (cases_lt n (length xs))
     by_case (inr past) = slice_get_past xs n past
         ∙ ap (λ b. option_and_then (slice_get xs) (cond b (Some n) None)) (sym (le-ltb n (length xs) past))
 
--- what passes first is what stands at the first place
+-- what passes first is what is at the first place
 pub find_at_place : {X : Type 0} (p : X → Bool) (xs : List X)
     → find p xs ≡ option_and_then (slice_get xs) (position p xs)
 find_at_place p xs = find_at p xs ∙ got_within xs (position_or_len p xs)
@@ -118,7 +118,7 @@ place_kept places tags t has listed =
         ∙ ap (λ b. option_or (position (λ x. nat_eq x q) tags) (cond b (Some (length tags)) None))
         (sym (ne_eqb t q other))
 
--- a new one stands behind them all
+-- a new one stands after them all
 pub place_added : (places more : BTreeMap ℕ ℕ) (tags : List ℕ) (t : ℕ) → HasFirstPlaces places tags
     → is_some (get nat_cmp places t) ≡ false
     → ((q : ℕ) → get nat_cmp more q ≡ cond (is_at (nat_cmp t) q) (Some (length tags)) (get nat_cmp places q))

@@ -22,7 +22,7 @@ one_kept n x false true h = refl
 one_kept n x true false h = ap (λ a. cond (not a) (x ∷ []) []) h
 one_kept n x false false h = ap (λ a. cond (not a) (x ∷ []) []) h
 
--- one more name behind counts where none before it folds alike
+-- one more name after counts where none before it folds alike
 first_names_push : (ns : List (List ℕ)) (x : List ℕ)
     → first_names (ns ++ x ∷ []) ≡ first_names ns ++ cond (list_any (λ n. folds_same n x) ns) [] (x ∷ [])
 first_names_push [] x = refl

@@ -13,7 +13,7 @@ found_in : (values : List Item) (name : List ℕ)
 found_in values name = ap (option_and_then (slice_get values)) (position-map (folds_same name) (λ v. v.name) values)
     ∙ sym (find_at_place (is_item name) values)
 
--- what stands at the first place of the name is the first value of the name
+-- what is at the first place of the name is the first value of the name
 pub found_at : (key : Option Tree) (places : List (List ℕ)) (name : List ℕ) (found : Option ℕ)
     → places ≡ map (λ v. v.name) (values_in key) → found ≡ position (folds_same name) places
     → option_and_then (slice_get (values_in key)) found ≡ option_and_then (find_item name) key

@@ -182,7 +182,7 @@ fn read_tags(alloc: Global, bytes: &[u8]) -> Result<Tags, AllocError>
     Tags::from_vec(alloc, numbers(alloc, bytes, held.min(count))?)
 }
 
-/// This many numbers behind the count.
+/// This many numbers after the count.
 fn numbers(alloc: Global, bytes: &[u8], count: usize) -> Result<Vec<u32>, AllocError>
     requires within { 4 + 4 * count ≤ length bytes.now }
     ensures numbers { IfOk result (λ v. v.items ≡ map (λ k. u32_in bytes.now (4 + 4 * k)) (range_with_len 0 count)) }

@@ -114,7 +114,7 @@ pub tree_stop : (stands : Standing) (image : Image) (found : Recovered) → stan
 tree_stop stands image found is (read.Fault f) held = inr (found, is, held)
 tree_stop stands image found is read.Memory held = tt
 
--- ---- what is told
+-- ---- what is reported
 
 module _ (stands : Standing) (found : Recovered) (tree : Tree) (number : Option ℕ)
     (holds : Holds found (held_state found tree)) where

@@ -99,7 +99,7 @@ copy_written file image base bins fits kind even size is =
       bins_there = is.bins_there;
     }
 
--- ---- a copy written anew
+-- ---- a copy rewritten
 
 module _ (file : File) (h0 : Image) (opened closed : Base) (bits : ℕ → Bool) (new : List ℕ)
     (stays : (i : ℕ) → 512 * i < length new → bits i ≡ false → h0 (copy_at file (8 + i)) ≡ Some (Bytes (sector new i)))

@@ -1,4 +1,4 @@
--- What stands stays: of a disk that was only read, and of one that was mended.
+-- What stands stays: of a disk that was only read, and of one that was repaired.
 use Rattle.std.proofs.Common.{◌≡◌, ℕ, List, [], Result, Ok, sym, ◌∙◌, ap, subst}
 use Rattle.nt_bytes.specs.declared.fault.HiveFault.{HiveFault}
 use Rattle.hive_model.specs.Base.{Base}
@@ -25,7 +25,7 @@ module _ (stands : Standing) where
     same_found base bins is =
         ok_is {E = HiveFault} found (record { base = base; bins = bins; dirty = is.dirty }) (sym exact ∙ is.kept)
 
-    -- a mending leaves what was read, and that is what stood
+    -- a repair leaves what was read, and that is what stood
     pub kept_mended : (given : Base) (data_given : List ℕ) → given ≡ found.base → data_given ≡ found.bins
         → (new : DiskState) → EachCrash new (IsKeptAs stands given data_given)
         → (base : Base) (bins : List ℕ) → IsKeptAs stands base bins image → EachCrash new (IsKeptAs stands base bins)

@@ -1,4 +1,4 @@
--- A load of two copies: what was read is mended, or is clean already.
+-- A load of two copies: what was read is repaired, or is clean already.
 use Rattle.std.proofs.Common.{◌≡◌, ℕ, Bool, true, false, List, length, Ok, sym, ◌∙◌, ap, subst}
 use Rattle.std.specs.Prelude.{if◌then◌else◌}
 use Rattle.nt_bytes.specs.declared.fault.HiveFault.{HiveFault}
@@ -32,13 +32,13 @@ module _ (image held : Image) (found : Recovered) (second : Bool) (is : StandsBy
   behind_given other = subst (λ (i : Image). IsBehind i given) (sym same)
       (subst (λ (b : Base). IsBehind image b) (sym given_is) (is.behind other))
 
--- what was mended is what was found
+-- what was repaired is what was found
 pub pair_as : (image : Image) (found : Recovered) (given : Base) (data_given : List ℕ) → given ≡ found.base
     → data_given ≡ found.bins → IsPair image given data_given → IsPair image found.base found.bins
 pair_as image found given data_given given_is data_is is =
     subst (λ (b : Base). IsPair image b found.bins) given_is (subst (λ (l : List ℕ). IsPair image given l) data_is is)
 
--- what is good and equal is not mended
+-- what is good and equal is not repaired
 pub pair_undirty : (image : Image) (found : Recovered) → twin_of image ≡ Ok found → (base : Base) (bins : List ℕ)
     → IsPair image base bins → found.dirty ≡ false
 pair_undirty image found exact base bins is =

@@ -1,4 +1,4 @@
--- What a cut in a mending or in a commit of two copies leaves.
+-- What a cut in a repair or in a commit of two copies leaves.
 use Rattle.std.proofs.Common.{◌≡◌, ◌<◌, ◌+◌, ◌*◌, ◌/◌, ◌==◌, ℕ, Bool, true, false, List, length, Some, None, refl, sym, ◌∙◌, ap, arith, inl, inr, ⊎_elim}
 use Rattle.std.specs.Prelude.{not}
 use Rattle.std.proofs.lemmas.Bool.{eq-eqb, and_from}
@@ -48,7 +48,7 @@ torn_behind : (c : Image) (base : Base) → base.first ≡ base.second → c (co
 torn_behind c base even torn =
     record { opened = None; block = ap base_at torn; unfinished = tt; goes = eq-eqb base.first base.second even }
 
--- ---- the second copy is mended
+-- ---- the second copy is repaired
 
 pub second_mended : (h0 h1 : Image) (base : Base) (bins : List ℕ) → HasCopy Primary h0 base bins → NumbersFit base
     → TextsFit base
@@ -59,7 +59,7 @@ second_mended h0 h1 base bins is numbers texts other written = record {
       (checked_of Primary h0 base bins is).kind_is is.clean is.size written;
 }
 
--- ---- the primary is mended
+-- ---- the primary is repaired
 
 module _ (h0 : Image) (base : Base) (bins : List ℕ) (bits : ℕ → Bool) (behind : IsBehind h0 base)
     (is : HasCopy Log h0 base bins) (whole : 512 * (length bins / 512) ≡ length bins) where

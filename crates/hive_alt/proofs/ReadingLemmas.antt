@@ -1,4 +1,4 @@
--- Reads, one after the other.
+-- Reads, in sequence.
 use Rattle.std.proofs.Common.{◌++◌, ◌∷◌, [], Bool, List, Result}
 use Rattle.nt_edge.specs.Calls.{Made, ReadAt, Makes}
 use Rattle.hive_model.specs.Image.{Address}

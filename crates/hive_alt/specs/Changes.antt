@@ -69,7 +69,7 @@ committed_by found no_select = None
 committed_by found too_large = None
 committed_by found (changed u) = Some (next_number found.base.first)
 
--- The image stands for what was found, which holds the tree, of which this becomes; these are the number and the mending.
+-- The image stands for what was found, which holds the tree, of which this becomes; these are the number and the repair.
 pub record IsLoaded (stands : Standing) (image : Image) (number : Option ℕ) (loaded : ℕ) (mended : Bool) (change : Change) : Type 0 where
   pub found : Recovered
   pub tree : Tree
@@ -87,7 +87,7 @@ pub record IsDone (stands : Standing) (before after : Image) (number : Option �
   pub committed : done.committed ≡ committed_by loaded.found change
   pub stands_for : StandsFor stands (after_change loaded.found loaded.tree change) after
 
--- a stop after the load has its number and its mending, and a change was to be made
+-- a stop after the load has its number and its repair, and a change was to be made
 abbrev pub WasLoaded : Standing → Image → Option ℕ → Option (ℕ × Bool) → Type 0
 WasLoaded stands image number None = Unit {0}
 WasLoaded stands image number (Some x) = (u : Tree) × IsLoaded stands image number x.0 x.1 (changed u)

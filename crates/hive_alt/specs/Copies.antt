@@ -1,4 +1,4 @@
--- What a copy of a hive has, and what a cut leaves of one that is written anew. (This project's own.)
+-- What a copy of a hive has, and what a cut leaves of one that is rewritten. (This project's own.)
 use Rattle.std.specs.Prelude.{◌≡◌, ◌⊎◌, ◌+◌, ◌-◌, ◌*◌, ◌%◌, ◌&&◌, nat_le, nat_lt, if◌then◌else◌, Bool, true, false, ℕ, List, Option, Some, Ok}
 use Rattle.hive_model.specs.Base.{Base, base_text}
 use Rattle.hive_model.specs.Image.{Image, File, Primary, Log, Address, Bytes, IsLeftBy, same_file, same_address}
@@ -49,13 +49,13 @@ pub record IsWritten (file : File) (image : Image) (base : Base) (bins : List �
   pub block : image (copy_at file 0) ≡ Some (Bytes (base_text base))
   pub bins_there : HasBins (copy_in file image) bins
 
--- A cut while a copy is written anew: all is as before; or its base block is the one that opens it, or can't be read; or it
+-- A cut while a copy is rewritten: all is as before; or its base block is the one that opens it, or can't be read; or it
 -- is written.
 abbrev pub IsRewriting : File → Image → Base → Base → List ℕ → Image → Type 0
 IsRewriting file before opened closed bins cut =
     ((a : Address) → cut a ≡ before a) ⊎ (IsLeftBy (copy_at file 0, base_text opened) (cut (copy_at file 0)) ⊎ IsWritten file cut closed bins)
 
--- What was read, of an image: what it stands for; of which copy, and that both are good and equal where nothing is to be mended.
+-- What was read, of an image: what it stands for; of which copy, and that both are good and equal where nothing is to be repaired.
 pub record StandsBy (image : Image) (found : Recovered) (second : Bool) : Type 0 where
   pub exact : twin_of image ≡ Ok found
   pub good : HasCopy (if second then Log else Primary) image found.base found.bins
@@ -63,7 +63,7 @@ pub record StandsBy (image : Image) (found : Recovered) (second : Bool) : Type 0
   pub mended : second ≡ true → found.dirty ≡ true
   pub pair : found.dirty ≡ false → IsPair image found.base found.bins
 
--- The base block that opens a second copy which is mended: the first number is that of what stands, the second is the one
+-- The base block that opens a second copy which is repaired: the first number is that of what stands, the second is the one
 -- before, modulo 2^32.
 abbrev pub unfinished_of : Base → Base
 unfinished_of base = record base { second = (base.first + 4294967295) % 4294967296 }

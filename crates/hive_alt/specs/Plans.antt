@@ -66,11 +66,11 @@ ChecksFor stands image (Ok u) = (found : Recovered) × (tree : Tree) × IsFound 
 ChecksFor stands image (Err (read.Fault f)) = StandFault stands image f
 ChecksFor stands image (Err read.Memory) = Unit {0}
 
--- what a commit behind a load answers
+-- what a commit after a load answers
 abbrev pub committed_to : ℕ → Bool → Base → Changed
 committed_to number was_mended base = record { loaded = number; mended = was_mended; committed = Some (next_number base.first) }
 
--- a stop of the commit has the number and the mending of the load
+-- a stop of the commit has the number and the repair of the load
 abbrev pub IsCommitStop : ℕ → Bool → ChangeStop → Type 0
 IsCommitStop number was_mended (stops.Fault f) = ⊥
 IsCommitStop number was_mended (stops.NoSelect loaded mended) = ⊥

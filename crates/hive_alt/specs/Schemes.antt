@@ -9,11 +9,11 @@ use Rattle.hive_model.specs.Load.{Holds, HeldFault}
 use Rattle.nt_edge.specs.Calls.{Made}
 use Rattle.hive_log.specs.Asked.{MakesReads}
 
--- what each image stands for, and whether a load mends something; or the first check that fails
+-- what each image stands for, and whether a load repairs something; or the first check that fails
 abbrev pub Standing : Type 0
 Standing = Image → Result Recovered HiveFault
 
--- the image stands for this base block and these bins data, be there something to mend or not
+-- the image stands for this base block and these bins data, be there something to repair or not
 pub record IsKeptAs (stands : Standing) (base : Base) (bins : List ℕ) (image : Image) : Type 0 where
   pub dirty : Bool
   pub kept : stands image ≡ Ok (record { base = base; bins = bins; dirty = dirty })

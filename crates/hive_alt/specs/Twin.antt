@@ -67,7 +67,7 @@ second_has image bins (suc n) = second_has image bins n && has_bytes (sector bin
 abbrev pub is_second : Image → Base → List ℕ → Bool
 is_second image base bins = has_fields base (second_in image) && second_has image bins (length bins / 512)
 
--- the primary stands; something is to be mended where the second copy is not the same
+-- the primary stands; something is to be repaired where the second copy is not the same
 abbrev pub standing : Image → Base → Result (List ℕ) HiveFault → Result Recovered HiveFault
 standing image base (Err fault) = Err fault
 standing image base (Ok bins) = Ok (record { base = base; bins = bins; dirty = not (is_second image base bins) })
@@ -76,7 +76,7 @@ standing image base (Ok bins) = Ok (record { base = base; bins = bins; dirty = n
 abbrev pub by_first : Image → Base → Result Recovered HiveFault
 by_first image base = standing image base (gathered (read_in Primary image) 0 (base.size / 512))
 
--- behind the second copy's base block; the primary is to be mended
+-- after the second copy's base block; the primary is to be repaired
 abbrev pub by_second_block : Image → Option Base → Base → Result Recovered HiveFault
 by_second_block image opened second =
     if goes_with opened second
@@ -87,11 +87,11 @@ by_second_block image opened second =
 abbrev pub by_second : Image → Option Base → Result Recovered HiveFault
 by_second image opened = second_in image >>= by_second_block image opened
 
--- behind rule 1: the primary's base block, none where it can't be read
+-- after rule 1: the primary's base block, none where it can't be read
 abbrev pub by_copies : Image → Option Base → Result Recovered HiveFault
 by_copies image None = by_second image None
 by_copies image (Some base) = if base.first == base.second then by_first image base else by_second image (Some base)
 
--- what an image with two copies stands for, and whether a load mends something; or the first check that fails
+-- what an image with two copies stands for, and whether a load repairs something; or the first check that fails
 unfoldable pub twin_of : Image → Result Recovered HiveFault
 twin_of image = base_in image >>= by_copies image

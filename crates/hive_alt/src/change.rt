@@ -14,14 +14,14 @@ use thiserror::Error;
 pub struct Changed {
     /// The sequence number of what was loaded.
     pub loaded: u32,
-    /// Whether the load mended something.
+    /// Whether the load repaired something.
     pub mended: bool,
     /// The new sequence number. None where nothing was to be done.
     pub committed: Option<u32>,
 }
 
 /// Why a change of the default set stopped. A stop after the load has the sequence number of what was loaded, and
-/// whether the load mended something.
+/// whether the load repaired something.
 #[derive(Clone, Copy, Debug, PartialEq, Eq, Error)]
 pub enum ChangeStop {
     /// The hive has this fault. Nothing was written.

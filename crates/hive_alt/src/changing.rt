@@ -63,7 +63,7 @@ fn load_checked<S: Scheme, D: Disk>(alloc: Global, disk: &mut D) -> Result<Loade
     Ok(Loaded { found, tree })
 }
 
-/// Commits the changed tree, packed, and answers for the load behind it.
+/// Commits the changed tree, packed, and answers for the load after it.
 fn commit_change<S: Scheme, D: Disk>(
     disk: &mut D,
     loaded: u32,

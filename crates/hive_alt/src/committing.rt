@@ -1,4 +1,4 @@
-//! A commit to two copies: the second copy is written anew, and then the primary.
+//! A commit to two copies: the second copy is rewritten, and then the primary.
 
 ghost use Rattle.std.specs.Prelude.{◌≡◌, true, [], length, IfOk, OnOk, IsOk};
 ghost use Rattle.hive_model.specs.Base.{is_bins_size};

@@ -1,6 +1,6 @@
 //! Ways to keep a hive on a disk: with a log, and with a second whole copy.
 //!
-//! A `Scheme` says what two files stand for, how a load mends them, and how a commit goes so that a cut
+//! A `Scheme` says what two files stand for, how a load repairs them, and how a commit goes so that a cut
 //! leaves what was before or what is after. `LogScheme` is the log of `hive_log` and `hive_commit`;
 //! `TwinScheme` keeps a second copy of the primary in the log's place. Rules: docs/format.md, "A twin file".
 #![tactic(auto)]

@@ -1,4 +1,4 @@
-//! A load that mends: of two copies that are not both good and equal, the other one is written anew.
+//! A load that repairs: of two copies that are not both good and equal, the other one is rewritten.
 
 ghost use Rattle.std.specs.Prelude.{◌≡◌, ◌<◌, ◌*◌, true, false, ℕ, List, [], length, Ok, Err, IfOk, OnOk};
 ghost use Rattle.nt_bytes.specs.declared.fault.HiveFault.{HiveFault};
@@ -21,7 +21,7 @@ use nt_edge::{Disk, DiskStop, HiveFile};
 use regf_base::{BaseBlock, numbers_fit, texts_fit};
 use std::alloc::Global;
 
-/// The base block that opens a second copy which is mended: its second number is the one before.
+/// The base block that opens a second copy which is repaired: its second number is the one before.
 fn unfinished_block(base: &BaseBlock) -> BaseBlock
     ensures { result ≡ unfinished_of base.now }
 {
@@ -80,7 +80,7 @@ fn mend_first<D: Disk>(disk: &mut D, base: &BaseBlock, bins: &[u8]) -> Result<()
     Ok(())
 }
 
-/// Writes the copy anew that does not stand.
+/// Writes the copy again that does not stand.
 fn mend<D: Disk>(disk: &mut D, second: bool, base: &BaseBlock, bins: &[u8]) -> Result<(), DiskStop>
     requires on { (D.state disk.old).on ≡ true }
     requires still { D.tells ≡ true → (D.state disk.old).flight ≡ [] }

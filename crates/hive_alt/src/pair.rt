@@ -42,7 +42,7 @@ pub(crate) fn read_pair<D: Disk>(alloc: Global, disk: &mut D) -> Result<Seen, Lo
     }
 }
 
-/// Behind the primary's base block.
+/// After the primary's base block.
 fn read_behind_first<D: Disk>(
     alloc: Global,
     disk: &mut D,

@@ -1,4 +1,4 @@
-//! A copy written anew: opened, its bins sectors, closed.
+//! A copy rewritten: opened, its bins sectors, closed.
 
 ghost use Rattle.std.specs.Prelude.{◌≡◌, ◌<◌, ◌≤◌, ◌+◌, ◌*◌, ◌/◌, true, false, ℕ, Some, [], length, OnOk};
 ghost use Rattle.hive_model.specs.Image as book;

@@ -42,7 +42,7 @@ pub trait Scheme {
         ensures exact { ReadsFiles result (stands (image_of primary.now second.now)) }
         ensures sized { IfOk result (λ r. is_bins_size (length r.bins) ≡ true) };
 
-    /// Reads what the disk stands for, and mends it. `Fault` is the first check that fails.
+    /// Reads what the disk stands for, and repairs it. `Fault` is the first check that fails.
     fn load<D: Disk>(alloc: Global, disk: &mut D) -> Result<Recovered, LoadStop>
         requires on { (D.state disk.old).on ≡ true }
         requires still { D.tells ≡ true → (D.state disk.old).flight ≡ [] }
@@ -86,7 +86,7 @@ pub trait Scheme {
             → (Rises (D.state disk.old).faults (D.state disk.new).faults → ⊥)
             → (Rises (D.state disk.old).lacks (D.state disk.new).lacks → ⊥) → IsOk result };
 
-    /// Between two calls the image stands for what it has, and there is nothing to mend.
+    /// Between two calls the image stands for what it has, and there is nothing to repair.
     fn settled_is_clean()
         ensures { (image : Image) (base : Base) (bins : List ℕ) → is_bins_size (length bins) ≡ true
             → settled image base bins → stands image ≡ Ok (record { base = base; bins = bins; dirty = false }) };

@@ -14,7 +14,7 @@ use std::alloc::Global;
 /// A hive with a second whole copy of its primary in the place of a log.
 ///
 /// The primary stands where its base block can be read and has two equal numbers, and else the second copy. A load
-/// writes the other one anew where both are not good and equal. A commit takes six stages with one sync each: the second
+/// writes the other one again where both are not good and equal. A commit takes six stages with one sync each: the second
 /// copy opened, its sectors that differ, closed; then the same on the primary. A cut in the first three leaves what was
 /// before, in the last two what is after, in the fourth one of them.
 #[derive(Clone, Copy, Debug, PartialEq, Eq)]

@@ -19,7 +19,7 @@ use Rattle.hive_cells.proofs.PlaceLemmas.{Place, place_of, Edited, edited, bytes
 
 -- ---- the bytes
 
--- a part written over the front of what stands behind b
+-- a part written over the front of what stands after b
 pub put_front : (b x y k : List ℕ) (at n : ℕ) → length b ≡ at → length x ≡ n → n ≤ length y
     → take at (b ++ (y ++ k)) ++ (x ++ drop (at + n) (b ++ (y ++ k))) ≡ b ++ (x ++ (drop n y ++ k))
 put_front b x y k at n long sized inside =
@@ -37,7 +37,7 @@ rest_payload c n =
     drop-drop 4 n (cell_bytes c) ∙ ap (λ (m : ℕ). drop m (cell_bytes c)) turn ∙ sym (drop-drop n 4 (cell_bytes c))
     ∙ ap (drop n) (payload_back c)
 
--- what is left free
+-- what remains free
 abbrev pub left_of : ℕ → Cell → Cell
 left_of n c = record { allocated = false; payload = drop n c.payload }
 
@@ -79,7 +79,7 @@ rooms_gone r k slot size long least =
     let more : suc (size / 8 - 1) ≡ size / 8 = omega arith in
     set_at r size (replicate (size / 8 - 1) 0 ++ k) 0 slot long ∙ ap (λ (m : ℕ). r ++ (replicate m 0 ++ k)) more
 
--- and that of what is left is there
+-- and that of what remains is there
 rooms_left : (r k : List ℕ) (slot front left : ℕ) → length r ≡ slot → 8 ≤ left → left % 8 ≡ 0
     → set (r ++ (replicate (front + left / 8) 0 ++ k)) (slot + front) left ≡ r
     ++ (replicate front 0 ++ ((left ∷ replicate (left / 8 - 1) 0) ++ k))
@@ -98,7 +98,7 @@ rooms_left r k slot front left long least whole =
     ∙ set_at (r ++ replicate front 0) 0 (zeros ++ k) left (slot + front) all
     ∙ append_assoc r (replicate front 0) (left ∷ (zeros ++ k))
 
--- the head of what is left written behind the run
+-- the head of what remains written after the run
 put_second : (b x w d k r : List ℕ) (at n : ℕ) → length b ≡ at → length x ≡ n → length w ≡ 4 → 4 ≤ length d
     → drop 4 d ≡ r
     → take (at + n) (b ++ (x ++ (d ++ k))) ++ (w ++ drop (at + n + 4) (b ++ (x ++ (d ++ k)))) ≡ b
@@ -132,7 +132,7 @@ marks_front b m k slot n size long some inside =
     ∙ drop-append-le n cell k (omega (arith, whole)) ∙ ap (λ (t : List Bool). t ++ k) gone in
     rw (take_at b (cell ++ k) slot long, rest) refl
 
--- and what is left begins behind them
+-- and what remains begins after them
 marks_left : (b m k : List Bool) (slot n left : ℕ) → length b ≡ slot → length m ≡ n → 8 ≤ left
     → set (b ++ (m ++ (replicate (left / 8) false ++ k))) (slot + n) true ≡ b
     ++ (m ++ ((true ∷ replicate (left / 8 - 1) false) ++ k))
@@ -145,7 +145,7 @@ marks_left b m k slot n left long sized least =
     ∙ set_at (b ++ m) false (zeros ++ k) true (slot + n) all
     ∙ append_assoc b m (true ∷ (zeros ++ k))
 
--- a part of a list and what stands behind the whole
+-- a part of a list and what stands after the whole
 behind : {X : Type 0} (a x k s : List X) → (a ++ (x ++ k)) ++ s ≡ a ++ (x ++ (k ++ s))
 behind a x k s = append_assoc a (x ++ k) s ∙ ap (λ t. a ++ t) (append_assoc x k s)
 
@@ -206,7 +206,7 @@ module _ (text : List ℕ) (starts : List Bool) (rooms : List ℕ) (at : ℕ) (r
   abbrev cells_put : List Cell
   cells_put = run_cells run
 
-  -- what stands before the cell, and behind it
+  -- what stands before the cell, and after it
   abbrev front_bytes : List ℕ
   front_bytes = bytes_before f.spot.pre f.spot.ignored f.spot.front f.spot.size
 

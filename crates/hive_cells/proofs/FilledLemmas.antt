@@ -12,7 +12,7 @@ use Rattle.hive_cells.specs.Changes.{at_cell, rest_of, with_run}
 use Rattle.hive_cells.proofs.PlaceLemmas.{bin_with, bins_here}
 use Rattle.hive_cells.proofs.FillLemmas.{Filling}
 
--- ---- lookups behind a place, and before it
+-- ---- lookups after a place, and before it
 
 pub cells_over : (front tail : List Cell) (o p : ℕ) → p + cells_size front ≤ o
     → in_cells o p (front ++ tail) ≡ in_cells o (p + cells_size front) tail
@@ -80,13 +80,13 @@ none_held c back o p free ge lt =
           (ne_eqb p o other) ∙ ap allocated_payload (cells_before back o (p + cell_size c) lt)
     ]
 
--- behind it the others
+-- after it the others
 over_free : (c : Cell) (back : List Cell) (o p : ℕ) → 0 < cell_size c → p + cell_size c ≤ o
     → in_cells o p (c ∷ back) ≡ in_cells o (p + cell_size c) back
 over_free c back o p some ge =
     ap (λ (t : Bool). cond t (Some c) (in_cells o (p + cell_size c) back)) (ne_eqb p o (λ e. omega (arith, e, ge)))
 
--- behind the run: what is left of the free cell, and the others
+-- after the run: what remains of the free cell, and the others
 left_over : (n : ℕ) (c : Cell) (back : List Cell) (o p : ℕ) → c.allocated ≡ false → 8 ≤ n → n ≤ cell_size c → p + n ≤ o
     → (8 ≤ cell_size c - n) ⊎ (cell_size c ≡ n)
     → allocated_payload (in_cells o (p + n) (rest_of n c ++ back)) ≡ allocated_payload (in_cells o p (c ∷ back))

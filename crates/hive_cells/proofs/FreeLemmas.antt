@@ -22,7 +22,7 @@ use Rattle.free_index.specs.Sizes.{AreNone, IsLastBelow}
 use Rattle.hive_cells.proofs.FillLemmas.{put_front, payload_back}
 use Rattle.hive_cells.proofs.FilledLemmas.{lookup_over, lookup_under}
 
--- ---- the cell behind is the next one of the bin
+-- ---- the cell after is the next one of the bin
 
 some_is : (x y : Cell) → Some x ≡ Some y → x ≡ y
 some_is x y e = cc
@@ -96,7 +96,7 @@ free_bytes : (p : List ℕ) (n : ℕ) → 4 + length p ≡ n
 unfolding cell_bytes
 free_bytes p n is = ap (λ (m : ℕ). to_le_bytes w32 m ++ p) (sym is)
 
--- the head of a cell written anew
+-- the head of a cell rewritten
 head_written : (b : List ℕ) (c : Cell) (k : List ℕ) (at n : ℕ) → length b ≡ at
     → take at (b ++ (cell_bytes c ++ k)) ++ (to_le_bytes w32 n ++ drop (at + 4) (b ++ (cell_bytes c ++ k))) ≡ b
     ++ (to_le_bytes w32 n ++ (c.payload ++ k))

@@ -247,7 +247,7 @@ there text starts at c k e =
       sound = cells.1.0;
     }
 
--- ---- what the table tells
+-- ---- what the table reports
 
 some_from : {X : Type 0} (o : Option X) → is_some o ≡ true → (x : X) × (o ≡ Some x)
 some_from None e = absurd cc
@@ -342,7 +342,7 @@ free_head c h lt = by_flag c.allocated (cell_size c) h.fits lt
     by_flag true s fits lt = absurd (omega (arith, fits, lt))
     by_flag false s fits lt = (refl, refl)
 
--- ---- what the head of a cell tells
+-- ---- what the head of a cell reports
 
 pair_same : (x y : Bool × ℕ) → Some x ≡ Some y → x ≡ y
 pair_same x y e = cc

@@ -21,11 +21,11 @@ at_bins o f p (b ∷ bs) = record { ignored = b.ignored; cells = at_cells o f (p
 abbrev pub at_cell : ℕ → (List Cell → List Cell) → List Bin → List Bin
 at_cell o f bins = at_bins o f 0 bins
 
--- what a free cell leaves free behind its first n bytes
+-- what a free cell leaves free after its first n bytes
 abbrev pub rest_of : ℕ → Cell → List Cell
 rest_of n c = if nat_lt n (cell_size c) then record { allocated = false; payload = drop n c.payload } ∷ [] else []
 
--- the first cell gives place to a run, and what is left of it is free
+-- the first cell gives place to a run, and what remains of it is free
 abbrev pub with_run : List Cell → List Cell → List Cell
 with_run run [] = []
 with_run run (c ∷ cs) = run ++ (rest_of (cells_size run) c ++ cs)
@@ -48,17 +48,17 @@ with_next [] = []
 
 -- ---- a cell more
 
--- an allocated cell for so many bytes, all zero
+-- an allocated cell for that many bytes, all zero
 abbrev pub zero_cell : ℕ → Cell
 zero_cell n = record { allocated = true; payload = replicate (cell n - 4) 0 }
 
--- room was made for a cell of so many bytes, and the cell stands in it
+-- room was made for a cell of that many bytes, and the cell is in it
 pub record HasAllocated (n : ℕ) (old new : List Bin) (at : ℕ) : Type 0 where
   pub roomy : List Bin
   pub room : MakesRoom (cell n) old roomy (Some at)
   pub bins : new ≡ at_cell at (with_run (zero_cell n ∷ [])) roomy
 
--- a cell for so many bytes, or none exactly where there is no room
+-- a cell for that many bytes, or none exactly where there is no room
 abbrev pub Allocates : ℕ → List Bin → List Bin → Option ℕ → Type 0
 Allocates n old new r = MatchOption r (MakesRoom (cell n) old new None) (HasAllocated n old new)
 

@@ -5,7 +5,7 @@ use Rattle.hive_model.specs.Bins.{Cell, Bin, cell_size, cell_at}
 use Rattle.hive_cells.specs.Holes.{free_size}
 use Rattle.hive_cells.specs.Changes.{at_cell, with_free, with_next}
 
--- a cell of this size, and one behind it
+-- a cell of this size, and one after it
 pub record Neighbours (at size more : ℕ) (bins : List Bin) : Type 0 where
   pub first : Cell
   pub second : Cell
@@ -37,7 +37,7 @@ pub record IsFreedAlone (at : ℕ) (old new : List Bin) : Type 0 where
   pub last : free_size (cell_at old (at + size)) ≡ 0
   pub is : new ≡ at_cell at with_free old
 
--- the cell and the free one behind it became one
+-- the cell and the free one after it became one
 pub record IsFreedWithNext (at : ℕ) (old new : List Bin) : Type 0 where
   pub size : ℕ
   pub sized : IsSomeAnd (cell_at old at) (λ c. cell_size c ≡ size)
@@ -55,7 +55,7 @@ pub record IsFreedWithBefore (at : ℕ) (old new : List Bin) : Type 0 where
   pub last : free_size (cell_at old (at + size)) ≡ 0
   pub is : new ≡ at_cell from with_next old
 
--- the free cell before it, the cell and the free one behind it became one
+-- the free cell before it, the cell and the free one after it became one
 pub record IsFreedWithBoth (at : ℕ) (old new : List Bin) : Type 0 where
   pub size : ℕ
   pub sized : IsSomeAnd (cell_at old at) (λ c. cell_size c ≡ size)

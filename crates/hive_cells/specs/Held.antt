@@ -25,7 +25,7 @@ run_cells text = or_none (cells_in (length text) (length text) 0 text)
 abbrev pub IsAllocated : Cell → Type 0
 IsAllocated c = c.allocated ≡ true
 
--- the text is that of some allocated cells, one behind another
+-- the text is that of some allocated cells, in sequence
 pub record IsRun (text : List ℕ) : Type 0 where
   pub some : 0 < length text
   pub sound : AllByRecursion IsCell (run_cells text)

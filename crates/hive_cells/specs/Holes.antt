@@ -55,7 +55,7 @@ new_bin_size size = rounded (size + 32)
 abbrev pub free_bin : ℕ → Bin
 free_bin size = record { ignored = replicate 20 0; cells = record { allocated = false; payload = replicate (size - 36) 0 } ∷ [] }
 
--- a bin for a cell of this size stands behind the others, and its free cell begins here
+-- a bin for a cell of this size stands after the others, and its free cell begins here
 pub record HasGrown (size : ℕ) (old new : List Bin) (at : ℕ) : Type 0 where
   pub fits : bins_size old + new_bin_size size ≤ 16777216
   pub place : at ≡ bins_size old + 32

@@ -28,7 +28,7 @@ impl CellHeap {
         Ok(CellHeap { bytes, starts })
     }
 
-    /// Tells the caller that these bins can be spelled.
+    /// Reports the caller that these bins can be spelled.
     pub(crate) fn opens(&self)
         ensures { IsHeap self.now }
     {
@@ -46,7 +46,7 @@ impl CellHeap {
         Some(8 * slot as u32)
     }
 
-    /// Puts allocated cells into the free one that begins here. What is left of it stays free.
+    /// Puts allocated cells into the free one that begins here. What remains of it stays free.
     pub(crate) fn fill(&mut self, free: &mut FreeIndex, at: u32, run: &[u8])
         requires index { free.old ≡ free_sizes self.old }
         requires hole { IsHole (length run.now) self.old at }
@@ -72,7 +72,7 @@ impl CellHeap {
         free.set(rest / 8, left as u32);
     }
 
-    /// The allocated cell becomes free, and one with the free cells before and behind it in its bin.
+    /// The allocated cell becomes free, and one with the free cells before and after it in its bin.
     pub(crate) fn free(&mut self, free: &mut FreeIndex, at: u32)
         requires index { free.old ≡ free_sizes self.old }
         requires allocated { IsSome (held_at self.old at) }
@@ -161,7 +161,7 @@ impl CellHeap {
         (0x1_0000_0000 - u64::from(u32_at(self.bytes.as_slice(), at as usize))) as u32
     }
 
-    /// The size of the free cell behind a cell, or 0.
+    /// The size of the free cell after a cell, or 0.
     fn free_behind(&self, free: &FreeIndex, at: u32, size: u32) -> u32
         requires index { free.now ≡ free_sizes self.now }
         requires cell { IsSomeAnd (cell_at self.now at) (λ c. cell_size c ≡ size) }
@@ -208,7 +208,7 @@ impl CellHeap {
         free.set(at as usize / 8, size);
     }
 
-    /// The cell and the one behind it become one free cell.
+    /// The cell and the one after it become one free cell.
     fn merge(&mut self, free: &mut FreeIndex, at: u32, size: u32, more: u32)
         requires index { free.old ≡ free_sizes self.old }
         requires cells { Neighbours at size more self.old }

@@ -112,7 +112,7 @@ impl OpenHeap {
         self.cells.fit(&self.free, size)
     }
 
-    /// Puts a run of allocated cells, one behind another, into the free cell that begins here. What
+    /// Puts a run of allocated cells, in sequence, into the free cell that begins here. What
     /// is left of it is free.
     pub fn fill(&mut self, at: u32, run: &[u8])
         requires hole { IsHole (length run.now) self.old at }
@@ -179,7 +179,7 @@ impl OpenHeap {
     }
 
     /// Frees the allocated cell. It becomes one with the free cell right before it in its bin, and
-    /// with the one right behind it.
+    /// with the one right after it.
     pub fn free(&mut self, at: u32)
         requires { IsSome (held_at self.old at) }
         ensures exact { IsFreed at self.old self.new }

@@ -1,4 +1,4 @@
--- The calls of one step behind those of another, and a front of them.
+-- The calls of one step after those of another, and a prefix of them.
 use Rattle.std.proofs.Common.{◌≡◌, ◌++◌, List, [], Result, Ok, Err, refl, sym, ◌∙◌, ap, subst, append_assoc}
 use Rattle.std.specs.Result.{IsErr}
 use Rattle.std.proofs.lemmas.Bool.{false≢true}
@@ -18,7 +18,7 @@ module _ (a b : List Made → Type 0) where
   pub front_made : (first second : List Made) → Makes a b first → MakesFront a b (first ++ second)
   front_made first second made = record { front = first; rest = second; cut = refl; made = made }
 
-  -- a front of the first is one of both
+  -- a prefix of the first is one of both
   pub front_longer : (first second : List Made) → MakesFront a b first → MakesFront a b (first ++ second)
   front_longer first second f = record {
     front = f.front;

@@ -42,7 +42,7 @@ marked_at size bits i small on =
 pub unmarked_at : (size : ℕ) (bits : ℕ → Bool) (i : ℕ) → bits i ≡ false → is_marked size bits (bin_at i) ≡ false
 unmarked_at size bits i off = marked_is size bits i ∙ and_right (nat_lt (512 * i) size) (bits i) off
 
--- a sector behind the bins data is none of those that are marked
+-- a sector after the bins data is none of those that are marked
 pub unmarked_behind : (size : ℕ) (bits : ℕ → Bool) (i : ℕ) → size ≤ 512 * i → is_marked size bits (bin_at i) ≡ false
 unmarked_behind size bits i far =
     marked_is size bits i ∙ and_left (nat_lt (512 * i) size) (bits i) (le-ltb (512 * i) size far)

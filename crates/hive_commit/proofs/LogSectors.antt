@@ -1,4 +1,4 @@
--- The sectors of a log whose base block has any numbers: behind it they are those of every log with these bits.
+-- The sectors of a log whose base block has any numbers: after it they are those of every log with these bits.
 use Rattle.std.proofs.Common.{◌≡◌, ◌<◌, ◌+◌, ◌*◌, ◌/◌, ◌++◌, ℕ, zero, suc, Bool, true, List, length, get_or, replicate, refl, sym, ◌∙◌, ap, arith, append_assoc, length-append}
 use Rattle.hive_model.specs.Base.{Base, IsBase, base_text}
 use Rattle.hive_model.specs.Recovery.{sector, rank, bitmap_sectors, first_dirty}

@@ -38,7 +38,7 @@ module _ (image : Image) (view : Recovered) (exact : recovered_of image ≡ Ok v
       ∙ ap (λ b. closing_calls b (bit bitmap) view.bins) (sym closed_is)
       ∙ ap (λ l. closing_calls closed (bit bitmap) l) (sym bins_is))
 
--- a base block, whatever it is
+-- a base block, no matter what it is
 any_base : Base
 any_base = record {
   first = 0;
@@ -70,7 +70,7 @@ module _ (a b : List Made → Type 0) (which : List Made → Type 0) (sectors : 
         are = subst which same is;
       }
 
-  -- and then a front of what closes a recovery was written
+  -- and then a prefix of what closes a recovery was written
   pub read_then : (c : List Made → Type 0) (closed : Base) (bits : ℕ → Bool) (bins : List ℕ)
       (f : MakesFront b c (closing_calls closed bits bins)) → which (reads_of sectors ++ f.front)
       → MakesRecovery a c which

@@ -39,7 +39,7 @@ module _ (size : ℕ) (before after : Image) where
     behind = λ i _. ap (λ (m : Image). primary_in m (8 + i)) same;
   }
 
-  -- one change behind another
+  -- one change after another
   pub rest_then : (last : Image) → KeepsRest size before after → KeepsRest size after last → KeepsRest size before last
   rest_then last one two = record {
     head = λ n more small. two.head n more small ∙ one.head n more small;

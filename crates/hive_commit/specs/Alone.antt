@@ -11,7 +11,7 @@ use Rattle.hive_commit.specs.Untouched.{IsUntouched}
 abbrev pub KeepsLog : Image → Image → Type 0
 KeepsLog before after = (n : ℕ) → log_in after n ≡ log_in before n
 
--- sectors 1 to 7 of the primary, and those behind bins data of this size, are as they were
+-- sectors 1 to 7 of the primary, and those after bins data of this size, are as they were
 pub record KeepsRest (size : ℕ) (before after : Image) : Type 0 where
   pub head : (n : ℕ) → 0 < n → n < 8 → primary_in after n ≡ primary_in before n
   pub behind : (i : ℕ) → size ≤ 512 * i → primary_in after (8 + i) ≡ primary_in before (8 + i)

@@ -13,7 +13,7 @@ use Rattle.hive_log.specs.declared.stops.LoadStop.TheVariants as load
 use Rattle.hive_commit.specs.Growing.{log_part, marked_below}
 use Rattle.hive_commit.specs.Stages.{opened_of, closed_of}
 
--- a log of so many sectors, from the first one on
+-- a log of that many sectors, from the first one on
 abbrev pub log_writes : List ℕ → List Write
 log_writes log = log_part log 0 (length log / 512)
 
@@ -36,7 +36,7 @@ change_calls base old new root =
     let bits = dirty old new in
     writes_of (log_writes (log_of bits new closed)) ++ Synced ∷ block_calls (opened_of base) ++ closing_calls closed bits new
 
--- with the bits that the log has behind their signature
+-- with the bits that the log has after their signature
 abbrev pub restoring_by : Recovered → Result (List ℕ) HiveFault → List Made
 restoring_by found (Ok text) = closing_calls found.base (bit (drop 4 text)) found.bins
 restoring_by found (Err fault) = []
@@ -58,7 +58,7 @@ AreAll whole (Err load.PowerLost) calls = IsFront whole calls
 AreAll whole (Err load.Device) calls = IsFront whole calls
 AreAll whole (Err load.Memory) calls = IsFront whole calls
 
--- Sectors were read, then a front of what closes a recovery was written, and no other call was made; which
+-- Sectors were read, then a prefix of what closes a recovery was written, and no other call was made; which
 -- calls, the test says.
 pub record MakesRecovery (before after : List Made → Type 0) (which : List Made → Type 0) : Type 0 where
   pub sectors : List Address

@@ -6,11 +6,11 @@ use Rattle.hive_model.specs.Recovery.{primary_in, log_in, sector, rank, bitmap_s
 use Rattle.hive_model.specs.Log.{bitmap_text}
 use Rattle.hive_model.specs.Asked.{log_at, bin_at}
 
--- behind its base block the log has these bits, for bins data of this size
+-- after its base block the log has these bits, for bins data of this size
 abbrev pub HasBitmap : List ℕ → (ℕ → Bool) → ℕ → Type 0
 HasBitmap log bits size = (k : ℕ) → k < bitmap_sectors size → sector log (1 + k) ≡ sector (bitmap_text bits size) k
 
--- behind its bits the log has those of the bins sectors whose bit is on, in rising order
+-- after its bits the log has those of the bins sectors whose bit is on, in rising order
 abbrev pub HasRun : List ℕ → (ℕ → Bool) → List ℕ → Type 0
 HasRun log bits bins =
     (i : ℕ) → 512 * i < length bins → bits i ≡ true → sector log (first_dirty (length bins) + rank bits i) ≡ sector bins i

@@ -35,7 +35,7 @@ pub fn commit<D: Disk>(
     requires still { D.tells ≡ true → (D.state disk.old).flight ≡ [] }
     requires carries { D.tells ≡ true → Carries (D.state disk.old).held base.now old.now }
     requires sized { is_bins_size (length new.now) ≡ true }
-    // It makes these calls and no other; after a refusal a front of them.
+    // It makes these calls and no other; after a refusal a prefix of them.
     ensures made { MakesUntil (D.calls disk.old) (D.calls disk.new) (change_calls base.now old.now new.now root) result }
     // At Ok the answer is the base block from before with the next number twice, the new size and the new
     // root, and the disk carries it with the new bins data.
@@ -48,7 +48,7 @@ pub fn commit<D: Disk>(
     // The log begins with the file that `log_sectors` spells: it has the sectors that differ, and no other.
     ensures logged { D.tells ≡ true → OnOk result (HasLog (D.state disk.new).held
         (log_of (dirty old.now new.now) new.now (closed_of base.now new.now root))) }
-    // At every exit a cut leaves sectors 1 to 7 of the primary, and those behind the new data, as they were.
+    // At every exit a cut leaves sectors 1 to 7 of the primary, and those after the new data, as they were.
     ensures rest { D.tells ≡ true → EachCrash (D.state disk.new) (KeepsRest (length new.now) (D.state disk.old).held) }
     ensures goes { IsCommitOn (D.state disk.old) (D.state disk.new) result }
     // Whatever the answer, the bits of the sectors that differ are on in the marks, and the others are off.

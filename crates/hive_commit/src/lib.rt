@@ -1,4 +1,4 @@
-//! A change of a hive on a disk: whole or not at all, whatever the power does.
+//! A change of a hive on a disk: whole or not at all, regardless of power loss.
 //!
 //! `commit` has four stages, one function each, and each is ended by one sync: the log of the sectors that
 //! differ is written, the base block is opened, these sectors are written, the base block is closed. A cut may

@@ -45,7 +45,7 @@ pub fn recover<D: Disk>(alloc: Global, disk: &mut D) -> Result<Recovered, LoadSt
     requires on { (D.state disk.old).on ≡ true }
     requires still { D.tells ≡ true → (D.state disk.old).flight ≡ [] }
     // It reads as a look does, and then writes each sector that the log gave, a sync, the base block, a sync;
-    // which sectors, is said of a disk that tells what it holds.
+    // which sectors, is said of a disk that shows what it holds.
     ensures made { MakesRecovery (D.calls disk.old) (D.calls disk.new)
         (λ calls. D.tells ≡ true → AreAll (recovery_calls (D.state disk.old).held) result calls) }
     ensures exact { D.tells ≡ true → Reads result (recovered_of (D.state disk.old).held) }
@@ -57,7 +57,7 @@ pub fn recover<D: Disk>(alloc: Global, disk: &mut D) -> Result<Recovered, LoadSt
         → EachCrash (D.state disk.new) (λ (c : Image). IsRecoveredAs c base bins) }
     // At every exit a cut leaves the log as it was.
     ensures log { D.tells ≡ true → EachCrash (D.state disk.new) (KeepsLog (D.state disk.old).held) }
-    // And sectors 1 to 7 of the primary, and those behind what is recovered.
+    // And sectors 1 to 7 of the primary, and those after what is recovered.
     ensures rest { D.tells ≡ true → (base : Base) (bins : List ℕ) → IsRecoveredAs (D.state disk.old).held base bins
         → EachCrash (D.state disk.new) (KeepsRest (length bins) (D.state disk.old).held) }
     // Where the primary was clean, all is as it was, whatever the answer.

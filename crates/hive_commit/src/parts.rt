@@ -64,7 +64,7 @@ pub fn write_log_block<D: Disk>(disk: &mut D, base: &BaseBlock) -> Result<(), Di
     put_sector(disk, at, &sector)
 }
 
-/// The log's bitmap, behind its base block.
+/// The log's bitmap, after its base block.
 pub fn write_log_bitmap<D: Disk>(disk: &mut D, bitmap: &[u8], size: usize) -> Result<(), DiskStop>
     requires on { (D.state disk.old).on ≡ true }
     requires few { size ≤ 16777216 }
@@ -90,7 +90,7 @@ pub fn write_log_bitmap<D: Disk>(disk: &mut D, bitmap: &[u8], size: usize) -> Re
     Ok(())
 }
 
-/// The log's run of sectors whose bit is on, behind its bitmap.
+/// The log's run of sectors whose bit is on, after its bitmap.
 pub fn write_log_run<D: Disk>(disk: &mut D, bitmap: &[u8], new: &[u8]) -> Result<(), DiskStop>
     requires on { (D.state disk.old).on ≡ true }
     requires whole { 512 * (length new.now / 512) ≡ length new.now }

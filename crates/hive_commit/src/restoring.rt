@@ -36,7 +36,7 @@ pub fn restore<D: Disk>(
     ensures crash { D.tells ≡ true → EachCrash (D.state disk.new) (λ (c : Image). IsRecoveredAs c closed.now bins.now) }
     // Whatever a cut leaves has the log as it was.
     ensures log { D.tells ≡ true → EachCrash (D.state disk.new) (KeepsLog (D.state disk.old).held) }
-    // And sectors 1 to 7 of the primary, and those behind the bins data.
+    // And sectors 1 to 7 of the primary, and those after the bins data.
     ensures rest { D.tells ≡ true → EachCrash (D.state disk.new) (KeepsRest (length bins.now) (D.state disk.old).held) }
     ensures goes { Goes (D.state disk.old) (D.state disk.new) result }
 {

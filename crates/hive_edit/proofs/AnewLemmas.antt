@@ -1,4 +1,4 @@
--- A hive packed anew.
+-- A hive repacked.
 use Rattle.std.proofs.Common.{◌≡◌, ℕ, List, Result, Ok, Err, refl, sym, ap, subst, ◌∙◌}
 use Rattle.std.specs.Prelude.{IfOk, IfErr, MatchResult}
 use Rattle.nt_bytes.specs.declared.version.HiveVersion.{HiveVersion}
@@ -62,6 +62,6 @@ pub refusal_of_edit : (version seen : HiveVersion) (t u : Tree) (steps : List St
 refusal_of_edit version seen t u steps stop v e h =
     subst (λ (r : Result Tree Refusal). IsRefused r stop) (λ i. edited (v i) (e i) steps) h
 
--- want of memory tells of no edit
+-- lack of memory reports no edit
 pub memory_is_free : (edit : Result Tree Refusal) (stop : EditStop) → stop ≡ Memory → IsRefused edit stop
 memory_is_free edit stop e = subst (IsRefused edit) (sym e) tt

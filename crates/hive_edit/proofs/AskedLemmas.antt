@@ -206,7 +206,7 @@ open_here bins root version bulk h parent name at is view isopen =
       absent = o.absent;
     }
 
--- the key stands in the cells as they are lent
+-- the key is in the cells as they are lent
 pub open_stands : (bins heap : List Bin) (root : ℕ) (version : HiveVersion) (bulk : ℕ) (h : HiveCells)
     (parent : List (List ℕ)) (name : List ℕ) (at : ℕ)
     → IsHive bins root version bulk → heap ≡ bins → hive_of bins root version ≡ h → IsOpen h parent name at

@@ -80,7 +80,7 @@ lacks_strain h step lacks u e =
     (λ v. bins_size h.bins + room_of (needed_sizes h.version h.tree step v))) ok))
     (lacks u ok)
 
--- what was packed anew was so for want of room
+-- what was repacked was so for want of room
 pub anew_for_room : (h new : HiveCells) (step : Step) (r : Result (Unit {0}) EditStop) (P : Type 0)
     → Makes h.tree new.tree r (edited h.version h.tree (step ∷ []))
     → OnOk r (IsPackedAnew new) → LacksStepRoom h step → OnOk r (P ⊎ IsPackedForRoom h (step ∷ []) new)

@@ -340,7 +340,7 @@ pair_seen bins root version bulk h path p is view place =
     pair_here (look_up version bins) root (tree_of (look_up version bins) root) path p is.stands
     (place_seen bins root version h path p view place)
 
--- the root stands in the cells without the key
+-- the root is in the cells without the key
 pub root_seen : (bins heap new : List Bin) (root : ℕ) (version : HiveVersion) (bulk : ℕ) (h : HiveCells)
     (path : List (List ℕ)) (p : KeyPair)
     → IsHive bins root version bulk → hive_of bins root version ≡ h → heap ≡ bins
@@ -408,7 +408,7 @@ step_seen bins root version bulk h path (Some p) is view e =
     (pair_lessens version (look_up version bins) root (tree_of (look_up version bins) root) path p
     (pair_here (look_up version bins) root (tree_of (look_up version bins) root) path p is.stands (sym e))).step
 
--- the bulk is told by the child and the lists
+-- the bulk is known from the child and the lists
 pub bulk_seen : (bins heap : List Bin) (root : ℕ) (version : HiveVersion) (bulk : ℕ) (h : HiveCells)
     (path : List (List ℕ)) (p : KeyPair) (above : Above)
     (shared : List ℕ) (now fewer below : ℕ) → IsHive bins root version bulk → hive_of bins root version ≡ h

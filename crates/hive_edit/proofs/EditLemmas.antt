@@ -1,4 +1,4 @@
--- What an edit of one value comes to: the edit of the book, the bulk, the footprint; and what a packed tree leaves.
+-- What an edit of one value amounts to: the edit of the book, the bulk, the footprint; and what a packed tree leaves.
 use Rattle.std.proofs.Common.{◌≡◌, ◌≤◌, ℕ, ◌+◌, ◌*◌, Bool, true, false, eqb, cond, List, [], ◌∷◌, ◌++◌, length, Option, Some, Result, Ok, Err, refl, sym, ap, subst, ◌∙◌, inr, arith}
 use Rattle.std.specs.Prelude.{nat_lt, find, is_some, ◌&&◌}
 use Rattle.std.specs.Option.{is_none, option_map_or}
@@ -30,7 +30,7 @@ use Rattle.hive_model.specs.Forms.{◌>>=◌}
 
 -- ---- names
 
--- names that fold to one have as many units
+-- names that fold to one have the same number of units
 pub folds_length : (a b : List ℕ) → folds_same a b ≡ true → length a ≡ length b
 folds_length [] [] e = refl
 folds_length [] (y ∷ ys) e = absurd cc
@@ -196,7 +196,7 @@ kept_in_place old new step v foot others root long = record {
         absurd (outside (subst (IsInFootprint (cells_in old) old.root old.tree (step ∷ [])) (sym same) foot))
     go o p held outside false e = others o (eqb-false o v e) ∙ held
 
--- ---- packed anew
+-- ---- repacked
 
 abbrev pub the_tree : Tree → Result Tree Refusal
 the_tree t = Ok t

@@ -203,7 +203,7 @@ put_cells version place bytes run old mid r p =
     subst (λ (n : ℕ). IsRunPutAt n place (data_run version place bytes) old mid) r.long
     (subst (λ (cs : List Cell). IsRunPutAt (length run) place cs old mid) r.cells p)
 
--- what is asked of the cells that go, behind what was put
+-- what is asked of the cells that go, after what was put
 pub room_stays : (old mid : List Bin) (v : ℕ) → held_at mid v ≡ held_at old v
     → IsSomeAnd (held_at old v) (λ p. 16 ≤ length p) → IsSomeAnd (held_at mid v) (λ p. 16 ≤ length p)
 room_stays old mid v e h = subst (λ (o : Option (List ℕ)). IsSomeAnd o (λ p. 16 ≤ length p)) (sym e) h

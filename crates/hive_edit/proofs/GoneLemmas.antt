@@ -179,7 +179,7 @@ one_gone xs at old mid new g w = record {
     go o (inl s) false e = absurd (eqb-false o at e (sym s))
     go o (inr i) false e = w.others o (eqb-false o at e) ∙ g.freed o i
 
--- what can go behind others that went
+-- what can go after others that went
 pub can_rest : (x : ℕ) (xs : List ℕ) (bins : List Bin) → CanGo bins (x ∷ xs) → CanGo bins xs
 can_rest x xs bins c = record { held = λ o i. c.held o (inr i); apart = c.apart.1 }
 

@@ -1,4 +1,4 @@
--- What the changes of bins come to, where the run of a key is put into them and named by the root.
+-- What the changes of bins amount to, where the run of a key is put into them and named by the root.
 use Rattle.std.proofs.Common.{◌≡◌, ◌≤◌, ◌<◌, ◌^◌, ℕ, ◌+◌, Bool, true, false, eqb, cond, List, [], length, take, drop, Option, Result, Ok, refl, sym, ap, subst, ◌∙◌, inl, inr, arith}
 use Rattle.std.specs.Prelude.{◌⊎◌}
 use Rattle.std.specs.Option.{IsSome, IsSomeAnd}

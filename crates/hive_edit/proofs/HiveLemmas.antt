@@ -65,7 +65,7 @@ pub root_there : (bins heap : List Bin) (root : ℕ) (version : HiveVersion) (bu
 root_there bins heap root version bulk h e =
     subst (λ (b : List Bin). IsKeyAt (look_up version b) root) (sym e) (tree_of (look_up version bins) root, h.stands)
 
--- the tree of the hive stands in its cells
+-- the tree of the hive is in its cells
 pub stands_there : (bins heap : List Bin) (root : ℕ) (version : HiveVersion) (bulk : ℕ) (h : HiveCells)
     → IsHive bins root version bulk → heap ≡ bins → hive_of bins root version ≡ h
     → IsWellFormed (look_up version heap) root h.tree

@@ -33,7 +33,7 @@ use Rattle.hive_edit.proofs.ItemLemmas.{item_facts}
 use Rattle.hive_edit.proofs.HiveLemmas.{stands_there, subtree_nowhere}
 use Rattle.hive_edit.proofs.PlaceLemmas.{IsItemAt, KeyThere, key_there, place_of_item}
 
--- ---- so many bytes of a payload
+-- ---- that many bytes of a payload
 
 there : (n : ℕ) (p bytes : List ℕ) → bytes_in n p ≡ done bytes → (n ≤ length p) × (take n p ≡ bytes)
 unfolding bytes_in
@@ -51,7 +51,7 @@ other_side P a b bytes e h = (λ p. sym e ∙ h.0 p, λ f. h.1 (e ∙ f))
 
 -- ---- segments
 
--- what a segment and those behind it are
+-- what a segment and those after it are
 record Parts (cells : Cells) (n at : ℕ) (more bytes : List ℕ) : Type 0 where
   part : List ℕ
   others : List ℕ

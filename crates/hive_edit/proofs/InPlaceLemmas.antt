@@ -145,7 +145,7 @@ inside_data cells value bytes e =
 
 -- ---- the values of the key
 
--- what is found stands between those before it and those behind
+-- what is found stands between those before it and those after
 pub record FoundAmong (test : ℕ → Bool) (xs : List ℕ) (x : ℕ) : Type 0 where
   pub front : List ℕ
   pub back : List ℕ

@@ -1,4 +1,4 @@
--- What the payload of a key value says of the value that stands at it, and when its data are four bytes.
+-- What the payload of a key value says of the value that is at it, and when its data are four bytes.
 use Rattle.std.proofs.Common.{◌≡◌, ◌≤◌, ◌<◌, ℕ, ◌+◌, ◌-◌, ◌^◌, ◌&&◌, Bool, true, false, eqb, cond, List, [], ◌∷◌, ◌++◌, length, take, Option, Some, None, Result, Ok, Err, refl, sym, ap, subst, ◌∙◌, arith}
 use Rattle.std.specs.Prelude.{◌==◌, nat_lt, slice_range, option_and_then, min}
 use Rattle.std.specs.Result.{IsOk}
@@ -130,7 +130,7 @@ pub value_is_there : (cells : Cells) (at : ℕ) (p : List ℕ) → IsItemHere ce
 value_is_there cells at p h e = let f = item_facts cells at h in
     is_ok_of (key_value_at p) f.value (ap key_value_at e ∙ f.here)
 
--- the name in the payload tells whether the value at the offset has a name
+-- the name in the payload shows whether the value at the offset has a name
 pub named_here : (cells : Cells) (name : List ℕ) (at : ℕ) (p : List ℕ) → IsItemHere cells at → p ≡ payload_in cells at
     → is_value_named cells name at ≡ folds_same name (value_name_of p)
 unfolding value_name_of
@@ -196,7 +196,7 @@ big_many cells n at bytes e big =
     (in_payload (offsets_in form.0.segments) cells form.0.list list.0 list.1) in
     segments_many cells n list.0 bytes list.2 (omega (arith, count, long)) big
 
--- data in a cell, big or not, of so many bytes
+-- data in a cell, big or not, of that many bytes
 celled_four : (cells : Cells) (n at : ℕ) (bytes : List ℕ)
     → cond (is_big cells.version n) (big_bytes_at cells n at) (reading (bytes_in n) cells at) ≡ done bytes
     → length bytes ≡ 4 → n ≡ 4

@@ -128,7 +128,7 @@ new_size version hd ts name =
     ap (λ (v : Bool). cell (76 + name_bytes name) + 0 + (cond v (cell (20 + length hd.security)) 0) + 0 + 0 + 0)
     (shared hd.security) ∙ omega arith
 
--- how the sizes before and after belong together, where so many keys are siblings of the new one
+-- how the sizes before and after belong together, where that many keys are siblings of the new one
 pub record Grows (version : HiveVersion) (parent : List (List ℕ)) (name : List ℕ) (t : Tree) (n : ℕ) : Type 0 where
   pub sizes : size version [] (made_tree parent name t) + list_size n ≡ size version [] t
       + (cell (76 + name_bytes name) + list_size (n + 1))

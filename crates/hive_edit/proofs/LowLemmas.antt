@@ -37,7 +37,7 @@ use Rattle.hive_read.proofs.FormFacts.{then-so}
 
 -- ---- values
 
--- as many as their offsets
+-- the same number as their offsets
 pub items_length : (cells : Cells) (offsets : List ℕ) (vs : List Item) → items_at cells offsets ≡ done vs
     → length offsets ≡ length vs
 items_length cells [] vs e = ap length (ok_same [] vs e)

@@ -1,4 +1,4 @@
--- What the changes of bins come to, where a key's node is put into them and named by its parent.
+-- What the changes of bins amount to, where a key's node is put into them and named by its parent.
 use Rattle.std.proofs.Common.{◌≡◌, ◌≤◌, ◌<◌, ◌^◌, ℕ, suc, ◌+◌, ◌-◌, true, false, List, ◌++◌, length, take, drop, Some, Result, Ok, refl, sym, ap, subst, ◌∙◌, arith}
 use Rattle.std.specs.List.{position_or_len}
 use Rattle.std.specs.Ordering.{is_gt}
@@ -159,7 +159,7 @@ adds version old new root t p x k n above name h says may few a =
           ∙ ap (λ (l : List ℕ). length l) (sym (take-append-drop (place_in m a.child above) offs));
     }
 
--- the new key stands at its place
+-- the new key is at its place
 pub placed_there : (version : HiveVersion) (old mid : List Bin) (root : ℕ) (t : Tree) (p : List (List ℕ)) (x : ℕ)
     (k : Tree) (n : KeyNode) (above : Above) (name : List ℕ) (y : ℕ)
     → IsParent (look_up version old) root t p x k n → AboveIs above n → MayBeNode x n.stamp n.security name

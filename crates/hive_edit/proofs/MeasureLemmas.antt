@@ -64,7 +64,7 @@ big_long cells n at bytes e =
     (in_payload (offsets_in form.0.segments) cells form.0.list list.0 list.1) in
     joined_long cells n list.0 bytes list.2 (long ∙ count)
 
--- data that the value does not hold itself are as many as its size says
+-- data that the value does not hold itself are the same number as its size says
 data_long : (cells : Cells) (value : KeyValue) (bytes : List ℕ) → data_of cells value ≡ done bytes
     → value.size < 2147483648 → length bytes ≡ value.size
 unfolding data_of

@@ -44,14 +44,14 @@ use Rattle.hive_read.proofs.FormFacts.{then-so}
 
 -- ---- the value's cell, and those of its data
 
--- the cells that a value's data use, which stand behind its own
+-- the cells that a value's data use, which stand after its own
 record DataUsed (c : Cells) (at : ℕ) (v : Item) : Type 0 where
   cells : List ℕ
   used : used_in (data_checks c (item_form at v)) ≡ cells
   within : (o : ℕ) → In cells o → (data_place at v ≤ o) × (o < data_place at v + data_size c.version v.bytes)
   once : Pairwise (λ p q. p ≡ q → ⊥) cells
 
--- the fields of a value, by whether its data stand in other cells
+-- the fields of a value, by whether its data are in other cells
 abbrev form_by : ℕ → Item → Bool → KeyValue
 form_by at v apart = record {
   size = cond apart (length v.bytes) (2147483648 + length v.bytes);
@@ -95,7 +95,7 @@ data_used c at v few room has = go (nat_lt 4 (length v.bytes)) refl
           once = tt;
         }
 
--- what a value uses that stands in a run behind its list
+-- what a value uses that is in a run after its list
 record ValueUsed (c : Cells) (place w : ℕ) (v : Item) (high : ℕ) : Type 0 where
   within : (o : ℕ) → In (place ∷ used_in (value_checks c [] w)) o → (place ≤ o) × (o < high)
   once : Pairwise (λ p q. p ≡ q → ⊥) (place ∷ used_in (value_checks c [] w))
@@ -126,7 +126,7 @@ value_used c place w v high behind whole fits few has is numbers =
 
 -- ---- the list
 
--- the list names the value behind the others
+-- the list names the value after the others
 list_reads : (c : Cells) (place w : ℕ) (os : List ℕ)
     → c.payload place ≡ Ok (Rattle.hive_model.specs.Packed.filled (offsets_text (os ++ w ∷ []))) → AreOffsets os
     → w < 2 ^ 32
@@ -137,7 +137,7 @@ list_reads c place w os there fit small =
     (λ slack. subst (λ (k : ℕ). offsets_in k (offsets_text qs ++ slack) ≡ Ok qs) (more_long os w)
     (offsets_again qs slack (more_fit os w fit small)))
 
--- what stands in the run
+-- what is in the run
 record RunStands (c : Cells) (place w : ℕ) (os : List ℕ) (v : Item) : Type 0 where
   list : c.payload place ≡ Ok (Rattle.hive_model.specs.Packed.filled (offsets_text (os ++ w ∷ [])))
   value : Has c w (item_cells c.version w v)
@@ -289,7 +289,7 @@ node_held version old x n read =
     let long = (node_text p.0 n p.2).long in
     and_some (held_at old x) (λ p. 76 ≤ length p) p.0 (payload_held old x p.0 p.1) (omega (arith, long))
 
--- what was held is held behind a run that was put
+-- what was held is held after a run that was put
 pub kept_behind : (at : ℕ) (run : List ℕ) (old mid : List Bin) → IsRun run
     → IsRunPutAt (length run) at (run_cells run) old mid
     → (o : ℕ) → IsSome (held_at old o) → held_at mid o ≡ held_at old o
@@ -304,7 +304,7 @@ some_of_node : (o : Option (List ℕ)) → IsSomeAnd o (λ p. 76 ≤ length p) �
 some_of_node None h = absurd h
 some_of_node (Some p) h = refl
 
--- the key's node has room for two numbers, and its list is still held, behind the run
+-- the key's node has room for two numbers, and its list is still held, after the run
 pub node_room : (at x n : ℕ) (run : List ℕ) (old mid : List Bin) → IsRun run
     → IsRunPutAt (length run) at (run_cells run) old mid
     → IsSomeAnd (held_at old x) (λ p. 76 ≤ length p) → n ≡ 8 → IsSomeAnd (held_at mid x) (λ p. 36 + n ≤ length p)

@@ -51,7 +51,7 @@ numbers_spelled (suc n) (a ∷ b ∷ c ∷ d ∷ p) small long =
           ∙ ap (λ (xs : List ℕ). xs ++ offsets_text (numbers_in 4 n p)) (sym one.1),
     )
 
--- one more behind them
+-- one more after them
 pub more_spelled : (os : List ℕ) (o : ℕ) → offsets_text os ++ to_le_bytes w32 o ≡ offsets_text (os ++ o ∷ [])
 more_spelled [] o = sym (append-nil (to_le_bytes w32 o))
 more_spelled (x ∷ os) o =

@@ -108,7 +108,7 @@ list_owned b x n r some_values =
     let whole = ap (λ (q : Result KeyNode HiveFaultKind). of_read q listed) r ∙ is in
     subst (λ (l : List ℕ). In l n.value_list) (sym whole) (inl refl)
 
--- a value can be put behind those of a key that is there
+-- a value can be put after those of a key that is there
 pub can_add : (version : HiveVersion) (bins : List Bin) (root : ℕ) (t : Tree) (path : List (List ℕ)) (x : ℕ)
     → IsWellFormed (look_up version bins) root t
     → key_place (look_up version bins) path root ≡ some x → CanAdd (look_up version bins) bins x
@@ -168,7 +168,7 @@ edit_new t k path name kind bytes found none short few = record {
       (le-ltb 1048576 (length bytes) few);
 }
 
--- what an edit that is made tells of the key and the name
+-- what an edit that is made reports the key and the name
 record IsSetIn (t : Tree) (path : List (List ℕ)) (name : List ℕ) : Type 0 where
   found : is_none (find_key path t) ≡ false
   short : length name ≤ 16383
@@ -494,7 +494,7 @@ value_seen_in bins heap root version h name x e view =
     ap (λ (bs : List Bin). value_place (look_up version bs) name x) e
     ∙ ap (λ (g : HiveCells). value_place (cells_in g) name x) view
 
--- the key stands in the cells as they are lent
+-- the key is in the cells as they are lent
 pub stands_at : (bins heap : List Bin) (root : ℕ) (version : HiveVersion) (bulk : ℕ) (h : HiveCells)
     (path : List (List ℕ)) (x : ℕ) → IsHive bins root version bulk
     → heap ≡ bins → hive_of bins root version ≡ h → key_place (cells_in h) path h.root ≡ some x

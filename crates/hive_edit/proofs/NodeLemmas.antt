@@ -1,4 +1,4 @@
--- What the payload of a key node says of the key that stands at it.
+-- What the payload of a key node says of the key that is at it.
 use Rattle.std.proofs.Common.{◌≡◌, ◌≤◌, ℕ, ◌+◌, ◌*◌, Bool, false, eqb, cond, List, [], ◌∷◌, length, Result, Ok, Err, sym, ap, subst, ◌∙◌}
 use Rattle.std.specs.Prelude.{◌==◌, nat_lt, slice_range}
 use Rattle.std.specs.List.{All}

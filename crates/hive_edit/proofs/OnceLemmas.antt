@@ -1,4 +1,4 @@
--- Cells of a tree are used once by each part of it, however many levels and whatever names are told.
+-- Cells of a tree are used once by each part of it, however many levels and whatever names are given.
 use Rattle.std.proofs.Common.{◌≡◌, ◌≤◌, ◌<◌, ◌&&◌, ℕ, zero, suc, Bool, true, false, not, eqb, cond, List, [], ◌∷◌, ◌++◌, length, Option, Result, Ok, Err, refl, sym, ap, subst, ◌∙◌, arith}
 use Rattle.std.specs.Prelude.{MatchBool}
 use Rattle.std.specs.List.{All}
@@ -176,7 +176,7 @@ kids_used checks cells node at offsets l = go (eqb node.child_count 0) l
         ∷ keys_in_turn checks cells [] os))) e.0
 
 mutual
-  -- a key uses the same cells, however many levels may be below it, and whatever names it is told
+  -- a key uses the same cells, however many levels may be below it, and whatever names it is given
   pub same_used : (one two : ℕ) (cells : Cells) (root other : Bool) (names others : List (List ℕ)) (at : ℕ) (t : Tree)
       → Stands cells at t → HasApartNames t
       → levels t ≤ one → levels t ≤ two → (root ≡ false → 0 < length (head t).name)
@@ -279,7 +279,7 @@ turns_well cells names offsets (more t ts) s n named l once =
           (once_back (used first) (used rest) parts),
     )
 
--- the children of a key in well-formed cells stand in well-formed cells themselves
+-- the children of a key in well-formed cells are in well-formed cells themselves
 pub children_well_formed : (cells : Cells) (at : ℕ) (h : Head) (ts : Trees) (w : IsWellFormed cells at (key h ts))
     → AllWellFormed cells w.stands.0 ts
 unfolding all_checks

@@ -1,4 +1,4 @@
--- The keys and values that names lead to, in cells and in the tree that stands in them.
+-- The keys and values that names lead to, in cells and in the tree that is in them.
 use Rattle.std.proofs.Common.{◌≡◌, ◌<◌, ℕ, Bool, true, false, eqb, cond, List, [], ◌∷◌, length, map, Option, Some, None, Result, Ok, Err, refl, sym, ap, subst, ◌∙◌, arith}
 use Rattle.std.specs.Prelude.{find, option_and_then}
 use Rattle.std.specs.Option.{IfSome, is_some}
@@ -31,7 +31,7 @@ IsPlaceOf cells None (Some t) = ⊥
 IsPlaceOf cells (Some at) None = ⊥
 IsPlaceOf cells (Some at) (Some t) = IsWellFormed cells at t
 
--- a key node tells its name
+-- a key node gives its name
 node_named : (cells : Cells) (at : ℕ) (t : Tree) (name : List ℕ) → Stands cells at t
     → is_node_named cells name at ≡ is_named name t
 node_named cells at (key h ts) name s =
@@ -80,7 +80,7 @@ place_of_key cells (name ∷ path) at t w =
     go (Some b) None p deep = absurd p
     go (Some b) (Some v) p deep = deep b v p
 
--- a child that is found stands in well-formed cells
+-- a child that is found is in well-formed cells
 pub found_stands : (cells : Cells) (name : List ℕ) (at : ℕ) (r : Option ℕ) → IsKeyAt cells at
     → r ≡ find (is_node_named cells name) (child_places cells at)
     → IfSome r (IsKeyAt cells)
@@ -153,7 +153,7 @@ child_names_stand cells name_at at (key h ts) n w =
 
 -- ---- values
 
--- the values of a key stand at the places that its node names
+-- the values of a key are at the places that its node names
 values_stand : (cells : Cells) (at : ℕ) (h : Head) (offsets : List ℕ) → KeyStands cells at h offsets
     → items_at cells (value_places cells at) ≡ done h.values
 unfolding value_places values_of
@@ -189,7 +189,7 @@ IsItemAt cells (Some at) (Some v) = item_at cells at ≡ done v
 abbrev item_with : KeyValue → List ℕ → Item
 item_with value bytes = record { name = value.name; kind = value.kind; bytes = bytes }
 
--- a value tells its name
+-- a value gives its name
 value_named : (cells : Cells) (at : ℕ) (v : Item) (name : List ℕ) → item_at cells at ≡ done v
     → is_value_named cells name at ≡ is_item name v
 unfolding item_at

@@ -22,7 +22,7 @@ new_place size at bins none fits place =
     within : (size at bytes : ℕ) → bytes + new_bin_size size ≤ 16777216 → at ≡ bytes + 32 → at + size ≤ 16777216
     within size at bytes f e = omega (arith, f, e)
 
--- behind all bins the place is a new one, else it is a free cell's
+-- after all bins the place is a new one, else it is a free cell's
 pub is_new : (size at : ℕ) (bins : List Bin) → IsPlace size bins at → bins_size bins < at → IsNewPlace size bins at
 is_new size at bins p behind = go p.room
   where

@@ -44,6 +44,6 @@ pub scan_rest : (P : ℕ → Type 0) (left : ℕ) (rest : List ℕ) → 0 < left
 scan_rest P left rest lt h = let g = subst (All P) (numbers_more 4 left rest lt) h in
     λ k d within. g (suc k) d (omega arith)
 
--- the list is long enough for what is left
+-- the list is long enough for what remains
 pub scan_room : (left : ℕ) (rest : List ℕ) → 0 < left → 4 * left ≤ length rest → 4 * (left - 1) ≤ length (drop 4 rest)
 scan_room left rest lt h = omega (arith, length-drop 4 rest)

@@ -1,4 +1,4 @@
--- The tree that stands in cells is the one that the function of them gives.
+-- The tree that is in cells is the one that the function of them gives.
 use Rattle.std.proofs.Common.{◌≡◌, ◌≤◌, ℕ, zero, suc, List, map, sym, ap, ◌∙◌, arith}
 use Rattle.hive_model.specs.Bins.{Cells}
 use Rattle.hive_model.specs.KeyNode.{key_node_at}

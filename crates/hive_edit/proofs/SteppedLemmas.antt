@@ -1,4 +1,4 @@
--- A step that is made on the cells of a hive, whatever the bulk of the tree then: what it tells of the edit of one
+-- A step that is made on the cells of a hive, whatever the bulk of the tree then: what it reports the edit of one
 -- step, and of steps in order.
 use Rattle.std.proofs.Common.{◌≡◌, ◌≤◌, ◌<◌, ◌⊎◌, ℕ, zero, suc, ◌+◌, Bool, true, false, cond, List, [], ◌∷◌, ◌++◌, length, map, take, drop, get_or, Option, Some, None, Result, Ok, Err, inr, refl, sym, ap, subst, ◌∙◌, arith}
 use Rattle.std.specs.Prelude.{nat_lt, MatchBool, OnOk}
@@ -41,7 +41,7 @@ pub record IsStepMade (h : HiveCells) (new : List Bin) (root : ℕ) (version : H
   pub hive : IsHive new root version bulk
   pub stepped : IsStepped h step (hive_of new root version)
 
--- the bins data are longer by no more than the room for the cells that the step may need
+-- the bins data are longer by at most the room for the cells that the step may need
 abbrev pub IsWithinRoom : HiveVersion → List Bin → List Bin → ℕ → Step → Tree → Type 0
 IsWithinRoom version old new root step u =
     bins_size new ≤ bins_size old + room_of (needed_sizes version (tree_of (look_up version old) root) step u)
@@ -298,7 +298,7 @@ ordered_full steps h g n m e over =
     steps_full h.version h.tree g.tree steps (ordered_tree steps h g m)
     (subst (λ (b : ℕ). 16773120 < b) (bulk_seen steps h g n m e) over)
 
--- ---- a step behind others
+-- ---- a step after others
 
 after_both : (front back : List Step) (t u : Tree) → after_steps t front ≡ the_tree u
     → after_steps t (front ++ back) ≡ after_steps u back
@@ -345,7 +345,7 @@ stopped_strained front back step h mid made lacks = λ u e.
     let v = steps_made h.version h.tree u (front ++ step ∷ back) e in
     strained_behind front back step h mid v.0 made lacks v.1
 
--- an edit that packs the tree anew does so for want of room, where the strain of each edit that is made is over the
+-- an edit that repacks the tree does so for want of room, where the strain of each edit that is made is over the
 -- limit
 pub packed_for_room : (h new : HiveCells) (steps : List Step) (r : Result (Unit {0}) EditStop) (P : Type 0)
     → Makes h.tree new.tree r (edited h.version h.tree steps)

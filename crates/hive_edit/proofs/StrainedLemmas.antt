@@ -1,4 +1,4 @@
--- How much of the strain steps take at the least, by the lists that each writes anew.
+-- How much of the strain steps take at the least, by the lists that each writes again.
 use Rattle.std.proofs.Common.{◌≡◌, ◌≤◌, ◌<◌, ℕ, ◌+◌, ◌*◌, ◌/◌, ◌%◌, Bool, true, false, cond, List, [], ◌∷◌, ◌++◌, length, replicate, Option, Some, None, Ok, Err, inl, inr, refl, sym, ap, subst, ◌∙◌, arith}
 use Rattle.std.specs.Prelude.{◌==◌, nat_lt, min}
 use Rattle.std.specs.Option.{is_none, option_map_or}
@@ -232,7 +232,7 @@ made_least h g parent name before room s bulk none most = elim (cases_Bool (has_
 
 -- ---- the strain of all
 
--- one step more, which takes no more than its room
+-- one step more, which takes at most its room
 pub grown_more : (version : HiveVersion) (bytes now later : ℕ) (t u w : Tree) (steps : List Step) (step : Step)
     → AreGrown version bytes t steps now u
     → after_step step u ≡ the_tree w → later ≤ now + room_of (needed_sizes version u step w)
@@ -254,7 +254,7 @@ grown_more version bytes now later t u w [] step g ok most =
 grown_more version bytes now later t u w (first ∷ steps) step g ok most =
     (g.0, g.1, g.2, g.3, g.4, g.5, grown_more version g.1 now later g.0 u w steps step g.6 ok most)
 
--- steps that have taken more than the greatest size of bins data are strained, with all behind them
+-- steps that have taken more than the greatest size of bins data are strained, with all after them
 pub taken_strained : (version : HiveVersion) (bytes room : ℕ) (t u : Tree) (steps further : List Step)
     → AreGrown version bytes t steps (bytes + room) u → 16777216 < room
     → 16777216 < strain_of version bytes t (steps ++ further)

@@ -177,7 +177,7 @@ no_lists cells at p count k e c z =
 
 -- ---- keys
 
--- each child stands in well-formed cells
+-- each child is in well-formed cells
 pub kids_stand : (cells : Cells) (at : ℕ) → IsKeyAt cells at → All (IsKeyAt cells) (child_places cells at)
 kids_stand cells at k = go k.0 k.1
   where
@@ -191,7 +191,7 @@ kids_stand cells at k = go k.0 k.1
         subst (All (IsKeyAt cells)) (sym (places_are cells at h w.stands.0 w.stands.1))
         (each w.stands.0 ts (children_well_formed cells at h ts w))
 
--- ---- parts that come one behind another
+-- ---- parts that come in sequence
 
 pub joined_uses : (u0 u1 u2 a b : List (ℕ × Bool)) → u1 ≡ u0 ++ a → u2 ≡ u1 ++ b → u2 ≡ u0 ++ (a ++ b)
 joined_uses u0 u1 u2 a b e f = f ∙ ap (λ (l : List (ℕ × Bool)). l ++ b) e ∙ append_assoc u0 a b

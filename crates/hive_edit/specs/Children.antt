@@ -1,4 +1,4 @@
--- What is asked where the root gets a child, and what is left? (This project's own.)
+-- What is asked where the root gets a child, and what remains? (This project's own.)
 use Rattle.std.specs.Prelude.{◌≡◌, ◌≤◌, ◌<◌, ℕ, ◌+◌, ◌==◌, Bool, false, if◌then◌else◌, List, [], ◌∷◌, ◌++◌, length, Ok, Err}
 use Rattle.std.specs.Option.{IfSome}
 use Rattle.hive_model.specs.Bins.{bins_size}
@@ -27,7 +27,7 @@ pub record IsFreeName (h : HiveCells) (name : List ℕ) : Type 0 where
   pub short : length name ≤ longest_key_name
   pub absent : has_child name h.tree ≡ false
 
--- a child may not, whatever it is otherwise judged by
+-- a child may not, no matter what it is otherwise judged by
 abbrev pub RefusesName : HiveCells → List ℕ → EditStop → Type 0
 RefusesName h name stop = IfSome (refusal_of stop)
     (λ why. (further : List (Bool × Refusal)) (u : Tree) → unless (name_tests name ++ (has_child name h.tree, exists) ∷ further) u ≡ Err why)
@@ -56,8 +56,8 @@ pub record MayGraft (h : HiveCells) (above : Above) (shared : List ℕ) : Type 0
 abbrev pub security_listed : ℕ → List ℕ
 security_listed at = if at == nowhere then [] else at ∷ []
 
--- The key is the root's child: it stands in cells that were none, and the security at an offset, if there is one, counts it. The bins
--- data are longer by no more than a bin for its run and one for each list.
+-- The key is the root's child: it is in cells that were none, and the security at an offset, if there is one, counts it. The bins
+-- data are longer by at most a bin for its run and one for each list.
 pub record IsGraftedIn (old : HiveCells) (security : ℕ) (shared : List ℕ) (k : Tree) (new : HiveCells) : Type 0 where
   pub version : new.version ≡ old.version
   pub root : new.root ≡ old.root

@@ -1,4 +1,4 @@
--- What is shared where a child of the root is copied, and what is left? (This project's own.)
+-- What is shared where a child of the root is copied, and what remains? (This project's own.)
 use Rattle.std.specs.Prelude.{◌≡◌, ◌<◌, ◌^◌, ℕ, List, [], ◌∷◌, find, Some}
 use Rattle.hive_model.specs.Tree.{Tree, head, children, is_named}
 use Rattle.edit_laws.specs.Owned.{In, Extends, Owns, security}

@@ -32,7 +32,7 @@ abbrev pub times : ℕ → List (ℕ × Bool) → ℕ
 times o [] = 0
 times o (u ∷ us) = if is_secured o u then suc (times o us) else times o us
 
--- a payload is that of a cell of security as it was, but for its count, which is lower by so many, or 0
+-- a payload is that of a cell of security as it was, but for its count, which is lower by that many, or 0
 pub record IsRecounted (fewer : ℕ) (p q : List ℕ) : Type 0 where
   pub long : length q ≡ length p
   pub says : (s : SecurityCell) → security_at p ≡ Ok s → security_at q ≡ Ok (record s { uses = s.uses - fewer })
@@ -55,7 +55,7 @@ pub record AreDropped (uses first : List (ℕ × Bool)) (old new : List Bin) : T
 abbrev pub left_children : HiveVersion → Above → ℕ → List Bin → List ℕ
 left_children version above child bins = without_child child (children_at (look_up version bins) above.list above.count)
 
--- the lists of a parent are written anew without a child, and begin here; or none is left, and so no list
+-- the lists of a parent are rewritten without a child, and begin here; or none is left, and so no list
 abbrev pub AreShortened : HiveVersion → Above → ℕ → List Bin → List Bin → ℕ → Type 0
 AreShortened version above child old new list =
     ((0 < length (left_children version above child old))

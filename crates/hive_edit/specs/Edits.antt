@@ -22,12 +22,12 @@ pub record IsEditedInPlace (old : HiveCells) (steps : List Step) (new : HiveCell
   pub root : new.root ≡ old.root
   pub long : bins_size old.bins ≤ bins_size new.bins
 
--- packed anew: the cells are those of the packed form of the tree
+-- repacked: the cells are those of the packed form of the tree
 pub record IsPackedAnew (h : HiveCells) : Type 0 where
   pub bins : h.bins ≡ packed_bins h.version h.tree
   pub root : h.root ≡ 32
 
--- packed anew for want of room: the strain of the steps is over the greatest size of bins data
+-- repacked for want of room: the strain of the steps is over the greatest size of bins data
 pub record IsPackedForRoom (old : HiveCells) (steps : List Step) (new : HiveCells) : Type 0 where
   pub packed : IsPackedAnew new
   pub strained : 16777216 < strain_of old.version (bins_size old.bins) old.tree steps

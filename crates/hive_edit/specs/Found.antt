@@ -12,7 +12,7 @@ found_dword path name t = option_and_then (find_dword name) (find_key path t)
 abbrev pub found_names : List (List ℕ) → Tree → List (List ℕ)
 found_names path t = option_map_or (λ key. map (λ child. (head child).name) (children key)) (find_key path t) []
 
--- a key that stands below this path, which a hive can hold there
+-- a key that is below this path, which a hive can hold there
 pub record FitsBelow (path : List (List ℕ)) (t : Tree) : Type 0 where
   pub keys : HoldsKeys t
   pub levels : length path + levels t ≤ deepest_level

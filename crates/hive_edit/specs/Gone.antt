@@ -32,7 +32,7 @@ pub record AreGone (gone : List ℕ) (old new : List Bin) : Type 0 where
   pub others : (o : ℕ) → (In gone o → ⊥) → held_at new o ≡ held_at old o
   pub long : bins_size new ≡ bins_size old
 
--- the cell at an offset has so many offsets in a row
+-- the cell at an offset has that many offsets in a row
 pub record HasOffsets (bins : List Bin) (at count : ℕ) (offsets : List ℕ) : Type 0 where
   pub text : List ℕ
   pub there : held_at bins at ≡ Some text
@@ -47,7 +47,7 @@ pub record HasSegments (bins : List Bin) (at list : ℕ) (offsets : List ℕ) : 
   pub place : big.list ≡ list
   pub listed : HasOffsets bins list big.segments offsets
 
--- a value of so many data, which are here
+-- a value of that many data, which are here
 abbrev pub with_data : ℕ → ℕ → KeyValue
 with_data size place = record { size = size; offset = place; kind = 0; flags = 0; name = [] }
 
@@ -59,7 +59,7 @@ data_cells cells size place = used_in (data_checks cells (with_data size place))
 abbrev pub HasData : Cells → ℕ → ℕ → Type 0
 HasData cells size place = IsOk (data_of cells (with_data size place))
 
--- numbers from one place to another in a payload are each the one behind it of another payload, and all others are the same
+-- numbers from one place to another in a payload are each the one after it of another payload, and all others are the same
 pub record IsClosed (from to : ℕ) (p q : List ℕ) : Type 0 where
   pub long : length q ≡ length p
   pub before : (i : ℕ) → i < from → u32_in q (4 * i) ≡ u32_in p (4 * i)
@@ -82,7 +82,7 @@ pub record Unlists (old new : List Bin) (list now : ℕ) (offsets : List ℕ) (o
   pub others : (o : ℕ) → (o ≡ list → ⊥) → held_at new o ≡ held_at old o
   pub long : bins_size new ≡ bins_size old
 
--- a value of a key stands in cells that can be freed, and so can the key's value list; the key's node is none of them
+-- a value of a key is in cells that can be freed, and so can the key's value list; the key's node is none of them
 pub record CanTake (cells : Cells) (bins : List Bin) (x v : ℕ) : Type 0 where
   pub node : KeyNode
   pub offsets : List ℕ
@@ -107,7 +107,7 @@ pub record TakesOut (version : HiveVersion) (old new : List Bin) (x v : ℕ) : T
   pub takes : TakesValue (look_up version old) (look_up version new) x node front back v text list
   pub long : bins_size new ≡ bins_size old
 
--- the size of the list of so many values; 0 for none
+-- the size of the list of that many values; 0 for none
 abbrev pub list_room : ℕ → ℕ
 list_room n = if n == 0 then 0 else cell (4 * n)
 

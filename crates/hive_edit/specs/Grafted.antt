@@ -27,18 +27,18 @@ abbrev pub sharing : List ℕ → Tree → ℕ
 sharing [] k = 0
 sharing (b ∷ s) k = sharers (b ∷ s) k
 
--- a count of uses with so many more, at most the greatest of four bytes
+-- a count of uses with that many more, at most the greatest of four bytes
 abbrev pub counted_more : ℕ → ℕ → ℕ
 counted_more keys uses = min (uses + keys) 4294967295
 
--- the count in a cell of security was raised by so many, if there is one
+-- the count in a cell of security was raised by that many, if there is one
 pub record IsRaisedBy (at keys : ℕ) (old new : List Bin) : Type 0 where
   pub here : (p : List ℕ) → (at ≡ nowhere → ⊥) → held_at old at ≡ Some p
       → held_at new at ≡ Some (patched 12 (to_le_bytes w32 (counted_more keys (u32_in p 12))) p)
   pub others : (o : ℕ) → ((at ≡ nowhere → ⊥) → o ≡ at → ⊥) → held_at new o ≡ held_at old o
   pub long : bins_size new ≡ bins_size old
 
--- a key is named by new lists of its parent, whose node says so, and so many keys more use the security
+-- a key is named by new lists of its parent, whose node says so, and that many keys more use the security
 pub record IsLinkedBy (version : HiveVersion) (parent : ℕ) (above : Above) (child keys : ℕ) (old new : List Bin) : Type 0 where
   pub listed : List Bin
   pub noted : List Bin
@@ -65,7 +65,7 @@ pub record CanGraft (version : HiveVersion) (parent : ℕ) (above : Above) (shar
   pub place : IsPlace (size version shared k) bins at
   pub linkable : (mid : List Bin) → HasNumbers k → IsRunPut version parent above shared k at bins mid → IsLinkable version parent above at mid
 
--- the run is there, the key is named, and as many keys more use the security as share it
+-- the run is there, the key is named, and the same number of keys more use the security as share it
 pub record IsGrafted (version : HiveVersion) (parent : ℕ) (above : Above) (shared : List ℕ) (k : Tree) (at : ℕ) (old new : List Bin) : Type 0 where
   pub numbers : HasNumbers k
   pub mid : List Bin

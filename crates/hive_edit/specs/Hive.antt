@@ -14,7 +14,7 @@ use Rattle.hive_model.specs.Walk.{first_fault}
 use Rattle.hive_model.specs.Stands.{IsWellFormed}
 use Rattle.hive_edit.specs.Standing.{tree_of}
 
--- the bins, where the root's node is in them, the version that they are read in, and the tree that stands at the root
+-- the bins, where the root's node is in them, the version that they are read in, and the tree that is at the root
 pub record HiveCells : Type 0 where
   pub bins : List Bin
   pub root : ℕ
@@ -66,7 +66,7 @@ pub record IsTaken (bins : List Bin) (at : ℕ) (read_in : HiveVersion) (h : Hiv
   pub stands : IsWellFormed (look_up read_in bins) at h.tree
   pub passes : first_fault (look_up read_in bins) at ≡ None
 
--- what taking cells as a hive answers: the hive, or the first fault of the tree at the root; nothing is said of want of memory
+-- what taking cells as a hive answers: the hive, or the first fault of the tree at the root; nothing is said of lack of memory
 abbrev pub Takes : List Bin → ℕ → HiveVersion → Result HiveCells ReadStop → Type 0
 Takes bins at version (Ok h) = IsTaken bins at version h
 Takes bins at version (Err stops.Memory) = Unit {0}

@@ -124,7 +124,7 @@ pub record IsAlike (node : List ℕ) (old new : List Bin) : Type 0 where
   pub long : bins_size new ≤ bins_size old + new_bin_size (cell (length node))
   pub least : bins_size old ≤ bins_size new
 
--- there is no room for the node and for the lists of a key that has so many children before it
+-- there is no room for the node and for the lists of a key that has that many children before it
 abbrev pub LacksNodeRoom : List ℕ → ℕ → List Bin → Type 0
 LacksNodeRoom node count old =
     16777216 < bins_size old + (new_bin_size (cell (length node)) + room_of (list_sizes (count + 1)))

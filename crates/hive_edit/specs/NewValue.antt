@@ -22,20 +22,20 @@ use Rattle.hive_edit.specs.Hive.{HiveCells, cells_in}
 use Rattle.hive_edit.specs.Places.{value_place}
 use Rattle.hive_edit.specs.Runs.{IsRunPutAt}
 
--- where the value stands in a run at a place, behind the list of so many and itself
+-- where the value is in a run at a place, after the list of that many and itself
 abbrev pub behind_list : ℕ → ℕ → ℕ
 behind_list place count = place + cell (4 * suc count)
 
--- the cells of the run: the list of these offsets with the value behind them, the value's cell, and those of its data
+-- the cells of the run: the list of these offsets with the value after them, the value's cell, and those of its data
 unfoldable pub added_cells : HiveVersion → ℕ → List ℕ → Item → List (List ℕ)
 added_cells version place offsets v =
     offsets_text (offsets ++ behind_list place (length offsets) ∷ []) ∷ item_cells version (behind_list place (length offsets)) v
 
--- how many bytes it has, for a key that had so many values
+-- how many bytes it has, for a key that had that many values
 abbrev pub added_size : HiveVersion → ℕ → Item → ℕ
 added_size version count v = cell (4 * suc count) + item_size version v
 
--- a key of so many values has their offsets in this list; a key of none has no list
+-- a key of that many values has their offsets in this list; a key of none has no list
 pub record ListsThese (bins : List Bin) (list count : ℕ) (offsets : List ℕ) : Type 0 where
   pub number : length offsets ≡ count
   pub there : (count ≡ 0 → ⊥) → HasOffsets bins list count offsets
@@ -50,7 +50,7 @@ pub record CanAdd (cells : Cells) (bins : List Bin) (x : ℕ) : Type 0 where
   pub list : (node.value_count ≡ 0 → ⊥) → In (value_list_at cells x) node.value_list
   pub apart : (node.value_count ≡ 0 → ⊥) → node.value_list ≡ x → ⊥
 
--- A run was put at a place, the node at x counts one value more and has their list there, and the old list of so many, if there
+-- A run was put at a place, the node at x counts one value more and has their list there, and the old list of that many, if there
 -- was one, is freed.
 pub record IsRelistedAt (x list count place : ℕ) (run : List ℕ) (old new : List Bin) : Type 0 where
   pub mid : List Bin
@@ -60,7 +60,7 @@ pub record IsRelistedAt (x list count place : ℕ) (run : List ℕ) (old new : L
   pub others : (o : ℕ) → (o ≡ x → ⊥) → ((count ≡ 0 → ⊥) → o ≡ list → ⊥) → held_at new o ≡ held_at mid o
   pub long : bins_size new ≡ bins_size mid
 
--- a value of a new name was put behind the others of a key
+-- a value of a new name was put after the others of a key
 pub record PutsValue (version : HiveVersion) (old new : List Bin) (x : ℕ) (v : Item) : Type 0 where
   pub node : KeyNode
   pub offsets : List ℕ

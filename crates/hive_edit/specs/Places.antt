@@ -1,4 +1,4 @@
--- Where the keys and values of a tree stand in cells. (This project's own.)
+-- Where the keys and values of a tree are in cells. (This project's own.)
 use Rattle.std.specs.Prelude.{◌==◌, ℕ, if◌then◌else◌, List, [], ◌∷◌, find, Option, Some, None, Result, Ok, Err}
 use Rattle.std.specs.Option.{option_and_then}
 use Rattle.nt_bytes.specs.declared.fault.HiveFaultKind.{HiveFaultKind}
@@ -13,7 +13,7 @@ use Rattle.hive_model.specs.Tree.{Item, Tree, dword_in}
 use Rattle.hive_model.specs.Footprint.{of_node, of_read, used_in, is_value_named}
 use Rattle.hive_model.specs.Stands.{IsWellFormed, item_at}
 
--- a key stands at an offset, with all below it in well-formed cells
+-- a key is at an offset, with all below it in well-formed cells
 abbrev pub IsKeyAt : Cells → ℕ → Type 0
 IsKeyAt cells at = (t : Tree) × IsWellFormed cells at t
 
@@ -35,7 +35,7 @@ item_read (Err kind) = None
 abbrev pub dword_at : Cells → ℕ → Option ℕ
 dword_at cells at = option_and_then dword_in (item_read (item_at cells at))
 
--- a value stands at an offset
+-- a value is at an offset
 abbrev pub IsItemHere : Cells → ℕ → Type 0
 IsItemHere cells at = IsOk (item_at cells at)
 

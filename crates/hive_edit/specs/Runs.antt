@@ -4,13 +4,13 @@ use Rattle.hive_model.specs.Bins.{Cell, Bin, bins_size, or_else}
 use Rattle.hive_cells.specs.Held.{held_at, held_among}
 use Rattle.hive_cells.specs.Holes.{new_bin_size, IsLowestHole, NoneFits}
 
--- a new bin for a run of so many bytes would begin right before here, behind all others
+-- a new bin for a run of that many bytes would begin right before here, after all others
 pub record IsNewPlace (size : ℕ) (bins : List Bin) (at : ℕ) : Type 0 where
   pub none : NoneFits size bins
   pub fits : bins_size bins + new_bin_size size ≤ 16777216
   pub place : at ≡ bins_size bins + 32
 
--- a run of so many bytes is to be put here: into the lowest free cell that has room for it, else into a new bin
+-- a run of that many bytes is to be put here: into the lowest free cell that has room for it, else into a new bin
 pub record IsPlace (size : ℕ) (bins : List Bin) (at : ℕ) : Type 0 where
   pub inside : at + size ≤ 16777216
   pub room : IsLowestHole size bins at ⊎ IsNewPlace size bins at
@@ -19,7 +19,7 @@ pub record IsPlace (size : ℕ) (bins : List Bin) (at : ℕ) : Type 0 where
 abbrev pub LacksPlace : ℕ → List Bin → Type 0
 LacksPlace size bins = NoneFits size bins × (16777216 < bins_size bins + new_bin_size size)
 
--- A run of so many bytes was put here: its cells are held, where nothing was, and each other one as before. The bins data are as
+-- A run of that many bytes was put here: its cells are held, where nothing was, and each other one as before. The bins data are as
 -- long as before, or longer by a new bin for the run.
 pub record IsRunPutAt (size at : ℕ) (run : List Cell) (old new : List Bin) : Type 0 where
   pub held : (o : ℕ) → held_at new o ≡ or_else (held_among o at run) (held_at old o)

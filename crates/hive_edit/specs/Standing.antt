@@ -1,4 +1,4 @@
--- The tree that stands in cells, as a function of them. (Regf format 1.3 and 1.5, key node; that the function answers an empty key
+-- The tree that is in cells, as a function of them. (Regf format 1.3 and 1.5, key node; that the function answers an empty key
 -- where nothing stands is this project's own.)
 use Rattle.std.specs.Prelude.{ℕ, zero, suc, List, [], map, Result, Ok, Err}
 use Rattle.nt_bytes.specs.declared.fault.HiveFaultKind.{HiveFaultKind}
@@ -27,7 +27,7 @@ head_of cells (Ok node) = record {
 }
 head_of cells (Err kind) = record { name = []; flags = 0; stamp = 0; class = []; security = []; values = [] }
 
--- the tree at an offset, so many levels down
+-- the tree at an offset, that many levels down
 unfoldable pub tree_at : ℕ → Cells → ℕ → Tree
 tree_at zero cells at = key (record { name = []; flags = 0; stamp = 0; class = []; security = []; values = [] }) none
 tree_at (suc left) cells at = key (head_of cells (reading key_node_at cells at)) (trees (map (tree_at left cells) (child_places cells at)))

@@ -7,7 +7,7 @@ use Rattle.hive_model.specs.Footprint.{needed_sizes, room_of}
 use Rattle.edit_laws.specs.Done.{IsDone}
 use Rattle.hive_edit.specs.Hive.{HiveCells, cells_in}
 
--- One step was made: the root and the version stay, the step is done from cells to cells, and the bins data are longer by no more than the room
+-- One step was made: the root and the version stay, the step is done from cells to cells, and the bins data are longer by at most the room
 -- for the cells that it may need.
 pub record IsStepped (old : HiveCells) (step : Step) (new : HiveCells) : Type 0 where
   pub version : new.version ≡ old.version

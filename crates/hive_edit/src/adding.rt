@@ -32,7 +32,7 @@ pub(crate) struct NewPlace {
     pub(crate) bulk: u64,
 }
 
-/// The bulk of a tree in which a key of so many children gets one of this name.
+/// The bulk of a tree in which a key of that many children gets one of this name.
 fn grown_bulk(bulk: u64, count: u32, name: &[u16]) -> u64
     requires few { count ≤ 2097150 }
     requires short { length name.now ≤ longest_key_name }
@@ -164,7 +164,7 @@ impl HiveBytes {
 
     /// Gives the key that a path leads to a child of this name, unless it has one, whatever the bulk of the tree then: with
     /// its stamp and its security, and nothing else, in the order of folded names. Its node is put into a cell that was
-    /// none, the parent's lists are written anew, and the security counts one key more. `false` where there is no room for
+    /// none, the parent's lists are rewritten, and the security counts one key more. `false` where there is no room for
     /// the node or the lists. The hive is a draft, to be dropped then, and after an `Err`.
     pub(crate) fn make_key_step(
         &mut self,

@@ -83,7 +83,7 @@ pub(crate) fn descriptor(alloc: Global, cells: &Source, at: u32) -> Result<Bytes
     }
 }
 
-/// The bulk of a tree whose root, which had so many children, gets one that takes so many bytes.
+/// The bulk of a tree whose root, which had that many children, gets one that takes that many bytes.
 fn grafted_bulk(bulk: u64, count: u32, bytes: u32) -> u64
     requires few { count ≤ 2097150 }
     requires small { bytes ≤ 16777216 }
@@ -230,7 +230,7 @@ impl HiveBytes {
     }
 
     /// Gives the root a child of this name, which is this key with all below it, whatever the bulk of the tree then: one run of
-    /// cells, new lists of the root, and so many uses more of the root's security as keys share it. `false` where there is no
+    /// cells, new lists of the root, and that many uses more of the root's security as keys share it. `false` where there is no
     /// room for the run or for the lists. The hive is a draft, to be dropped then, and after an `Err`.
     pub(crate) fn add_child_step(
         &mut self,

@@ -33,7 +33,7 @@ fn bytes_small(bytes: &[u8])
     let _whole = bytes;
 }
 
-/// Where a run of so many bytes is to be put, if there is room: nothing changes.
+/// Where a run of that many bytes is to be put, if there is room: nothing changes.
 pub(crate) fn place_for(heap: &OpenHeap, size: u32) -> Option<u32>
     requires some { 0 < size }
     requires few { size ≤ 16777216 }

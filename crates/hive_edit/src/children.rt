@@ -50,7 +50,7 @@ fn joined(alloc: Global, cells: &Source, lists: &[u32]) -> Result<Offsets, Alloc
     Ok(Offsets::from_vec(all))
 }
 
-/// The offsets of so many children, in order, by their list. Where there is none, the list is not looked at.
+/// The offsets of that many children, in order, by their list. Where there is none, the list is not looked at.
 fn listed(alloc: Global, cells: &Source, list: u32, count: u32) -> Result<Offsets, AllocError>
     requires { ListsSiblings (cells_of cells.now) list count }
     ensures { IfOk result (λ v. v ≡ children_at (cells_of cells.now) list count) }

@@ -142,7 +142,7 @@ impl HiveBytes {
     }
 
     /// Gives the root a child of the name `to` that is as its child of the name `from`, with all below it, whatever the bulk of the
-    /// tree then: one run of cells, new lists of the root, and so many uses more of the security of `from` as keys share it.
+    /// tree then: one run of cells, new lists of the root, and that many uses more of the security of `from` as keys share it.
     /// `false` where there is no room for the run or for the lists. The hive is a draft, to be dropped then, and after an `Err`.
     pub(crate) fn copy_child_step(
         &mut self,

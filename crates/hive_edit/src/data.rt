@@ -1,4 +1,4 @@
-//! The cells that a value's data stand in.
+//! The cells that a value's data are in.
 
 ghost use Rattle.std.specs.Prelude.{◌≡◌, ◌<◌, ◌≤◌, [], ◌∷◌, true, Ok, IfOk};
 ghost use Rattle.std.specs.Result.{IsOk};
@@ -51,7 +51,7 @@ pub(crate) fn db_in(payload: &[u8]) -> Result<DbForm, AllocError>
     }
 }
 
-/// So many offsets of segments in a payload.
+/// That many offsets of segments in a payload.
 pub(crate) fn segments_in(alloc: Global, list: &[u8], count: u16) -> Result<Offsets, AllocError>
     requires { IsOk (offsets_in count list.now) }
     ensures { IfOk result (λ v. offsets_in count list.now ≡ Ok v) }

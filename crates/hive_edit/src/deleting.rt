@@ -143,7 +143,7 @@ impl HiveBytes {
         pair_at(&source, self.root, path)
     }
 
-    /// The bulk without a key. None where that is not told by its own cells and the lists of the key above.
+    /// The bulk without a key. None where that is not known from its own cells and the lists of the key above.
     fn bulk_without_key(
         &self,
         alloc: Global,
@@ -198,7 +198,7 @@ impl HiveBytes {
         Ok(true)
     }
 
-    /// Deletes the key in a copy of the cells, and counts the bulk of what is left by itself.
+    /// Deletes the key in a copy of the cells, and counts the bulk of what remains by itself.
     fn take_counted(
         &mut self,
         alloc: Global,
@@ -257,7 +257,7 @@ impl HiveBytes {
         }
     }
 
-    /// Deletes a key, and packs the tree anew.
+    /// Deletes a key, and repacks the tree.
     fn delete_anew(&mut self, alloc: Global, path: &Names) -> Result<(), EditStop>
         ensures made { Makes self.old.tree self.new.tree result (edited self.old.version self.old.tree (delete_key path.now ∷ [])) }
         ensures refused { OnErr result (self.new ≡ self.old) }
@@ -268,7 +268,7 @@ impl HiveBytes {
         self.apply_anew(alloc, steps)
     }
 
-    /// Deletes a key in a copy of the cells, so that a refusal leaves nothing behind. `false` where there is no room.
+    /// Deletes a key in a copy of the cells, so that a refusal leaves nothing at the end. `false` where there is no room.
     fn delete_drafted(&mut self, alloc: Global, path: &Names) -> Result<bool, EditStop>
         ensures made { MatchResult result
             (λ done. MatchBool done (IsDeletedInPlace self.old path.now self.new) (LacksStepRoom self.old (delete_key path.now)))
@@ -334,8 +334,8 @@ impl HiveBytes {
     }
 
     /// Deletes the key that a path leads to, with all below it, but never the root. The lists of the key above are
-    /// written anew without it, and the cells that it and the keys below it used are freed, but those of security, which
-    /// count these keys no more. What there is no room for packs the tree anew. After an `Err` the hive is as before.
+    /// rewritten without it, and the cells that it and the keys below it used are freed, but those of security, which
+    /// count these keys no more. What there is no room for repacks the tree. After an `Err` the hive is as before.
     pub fn delete_key(&mut self, alloc: Global, path: &Names) -> Result<(), EditStop>
         ensures made { Makes self.old.tree self.new.tree result (edited self.old.version self.old.tree (delete_key path.now ∷ [])) }
         ensures refused { OnErr result (self.new ≡ self.old) }

@@ -24,7 +24,7 @@ fn lower(heap: &mut OpenHeap, at: u32)
     heap.patch(at, 12, &uses.to_le_bytes());
 }
 
-/// Drops these cells: one that is used as security is counted anew, each other one is freed.
+/// Drops these cells: one that is used as security is counted again, each other one is freed.
 fn drop_uses(heap: &mut OpenHeap, uses: &[(u32, bool)])
     requires { CanDrop heap.old uses.now }
     ensures { AreDropped uses.now uses.now heap.old heap.new }

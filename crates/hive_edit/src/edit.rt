@@ -1,4 +1,4 @@
-//! A value set, where it stands or with all cells packed anew, and steps in order.
+//! A value set, where it stands or with all cells repacked, and steps in order.
 
 ghost use Rattle.std.specs.Prelude.{◌≡◌, ◌≤◌, ◌<◌, ℕ, ◌+◌, ◌⊎◌, [], ◌∷◌, length, map, is_some, true, false, Some, Ok, IfOk, IfErr, OnOk, OnErr, MatchResult};
 ghost use Rattle.std.specs.List.{All};
@@ -67,7 +67,7 @@ impl HiveBytes {
         })
     }
 
-    /// A tree stands in the cells.
+    /// A tree is in the cells.
     fn stands(&self)
         ensures { IsWellFormed (cells_in self.now) self.now.root self.now.tree }
     {
@@ -109,7 +109,7 @@ impl HiveBytes {
         of_packed(alloc, &tree, version)
     }
 
-    /// Makes the steps in order, all or none, and packs the tree anew.
+    /// Makes the steps in order, all or none, and repacks the tree.
     pub(crate) fn apply_anew(&mut self, alloc: Global, steps: Steps) -> Result<(), EditStop>
         requires fits { All Fits (map step_of steps) }
         ensures made { Makes self.old.tree self.new.tree result (edited self.old.version self.old.tree (map step_of steps)) }
@@ -123,7 +123,7 @@ impl HiveBytes {
     }
 
     /// Makes the steps in order, all or none, in a copy of the cells; where one of them is not made there, packs the tree
-    /// anew.
+    /// again.
     fn apply_in_order(&mut self, alloc: Global, steps: Steps) -> Result<(), EditStop>
         requires fits { All Fits (map step_of steps) }
         ensures made { Makes self.old.tree self.new.tree result (edited self.old.version self.old.tree (map step_of steps)) }
@@ -145,7 +145,7 @@ impl HiveBytes {
 
     /// Makes the steps in order, all or none. A hive can hold each key that a step brings along. One value that is set
     /// or deleted and one key that is deleted change few cells, as `set_value`, `delete_value` and `delete_key` say; other
-    /// steps do so in a copy of the cells, one behind another, where there is room, and else pack the tree anew. After an
+    /// steps do so in a copy of the cells, in sequence, where there is room, and else repack the tree. After an
     /// `Err` the hive is as before.
     pub fn apply(&mut self, alloc: Global, steps: Steps) -> Result<(), EditStop>
         requires fits { All Fits (map step_of steps) }
@@ -169,7 +169,7 @@ impl HiveBytes {
         }
     }
 
-    /// Sets one value, and packs the tree anew.
+    /// Sets one value, and repacks the tree.
     fn set_anew(
         &mut self,
         alloc: Global,
@@ -214,7 +214,7 @@ impl HiveBytes {
         self.set_new(alloc, path, name, kind, bytes)
     }
 
-    /// Sets one value in place where there is room for it, else packs the tree anew.
+    /// Sets one value in place where there is room for it, else repacks the tree.
     fn set_or_pack(
         &mut self,
         alloc: Global,
@@ -244,7 +244,7 @@ impl HiveBytes {
     /// written, new cells take data of over four bytes, and the cells of the old data are freed; where these were in the
     /// value itself, and so are the new, no memory is wanted. For a value of a new name one run of cells takes the list
     /// with it, its own cell and those of its data, eight bytes of the key's node say so, and the old list is freed.
-    /// What there is no room for packs the tree anew. After an `Err` the hive is as before.
+    /// What there is no room for repacks the tree. After an `Err` the hive is as before.
     pub fn set_value(
         &mut self,
         alloc: Global,

@@ -21,7 +21,7 @@ use key_index::free_all;
 use nt_bytes::{Bytes, HiveVersion, put_u32};
 use std::alloc::{AllocError, Global};
 
-/// The number of up to four bytes, which stand in the offset field of a value.
+/// The number of up to four bytes, which are in the offset field of a value.
 pub(crate) fn own_number(bytes: &[u8]) -> u32
     requires { length bytes.now ≤ 4 }
     ensures { result ≡ from_le_bytes w32 bytes.now }
@@ -54,7 +54,7 @@ pub(crate) fn inside_fields(kind: u32, bytes: &[u8]) -> [u8; 12]
     fields_of(size, offset, kind)
 }
 
-/// The cells of data, written to stand at a place.
+/// The cells of data, written to be at a place.
 fn data_run(
     alloc: Global,
     version: HiveVersion,

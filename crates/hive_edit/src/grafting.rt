@@ -18,7 +18,7 @@ use nt_bytes::HiveVersion;
 use reg_tree::Key;
 use std::alloc::{AllocError, Global};
 
-/// So many keys more use the security cell, if there is one.
+/// That many keys more use the security cell, if there is one.
 fn raise_by(heap: &mut OpenHeap, at: u32, keys: u32)
     requires { (at ≡ nowhere → ⊥) → IsSomeAnd (held_at heap.old at) (λ p. 20 ≤ length p) }
     ensures { IsRaisedBy at keys heap.old heap.new }
@@ -30,7 +30,7 @@ fn raise_by(heap: &mut OpenHeap, at: u32, keys: u32)
     heap.patch(at, 12, &uses.to_le_bytes());
 }
 
-/// Names a key in new lists of its parent, where so many keys more use the security. `false` where there is no room for the
+/// Names a key in new lists of its parent, where that many keys more use the security. `false` where there is no room for the
 /// lists; the cells are then as they were.
 fn link_by(
     alloc: Global,

@@ -19,7 +19,7 @@ use reg_tree::Key;
 use std::alloc::{AllocError, Global};
 use std::marker::Model;
 
-/// A hive as its cells, in which a tree stands at the root: well-formed, and one that a hive can hold.
+/// A hive as its cells, in which a tree is at the root: well-formed, and one that a hive can hold.
 #[derive(Drop)]
 pub struct HiveBytes {
     pub(crate) cells: OpenHeap,

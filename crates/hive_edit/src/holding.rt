@@ -22,7 +22,7 @@ use std::alloc::{AllocError, Global};
 /// How many bytes a full segment of big data holds.
 const SEGMENT: u32 = 16_344;
 
-/// Whether so many bytes of a payload, from its first on, are these.
+/// Whether that many bytes of a payload, from its first on, are these.
 fn begins(payload: &[u8], size: usize, bytes: &[u8]) -> bool
     requires { size ≤ length payload.now }
     ensures { (result ≡ true) ↔ (take size payload.now ≡ bytes.now) }
@@ -31,7 +31,7 @@ fn begins(payload: &[u8], size: usize, bytes: &[u8]) -> bool
     front == bytes
 }
 
-/// Whether so many bytes in the segments at these offsets are these.
+/// Whether that many bytes in the segments at these offsets are these.
 fn segments_are(cells: &Source, size: u32, offsets: &[u32], bytes: &[u8]) -> bool
     requires { IsOk (joined_segments (cells_of cells.now) size offsets.now) }
     ensures { (b : List ℕ) → joined_segments (cells_of cells.now) size offsets.now ≡ Ok b → ((result ≡ true) ↔ (b ≡ bytes.now)) }
@@ -72,7 +72,7 @@ fn big_are(
     Ok(segments_are(cells, size, segments.as_slice(), bytes))
 }
 
-/// Whether data of this size, which are at a place or stand in its number, are these bytes.
+/// Whether data of this size, which are at a place or are in its number, are these bytes.
 fn data_are(
     alloc: Global,
     cells: &Source,

@@ -1,4 +1,4 @@
-//! How many bytes a key and all below it take in packed form, by the cells that they stand in.
+//! How many bytes a key and all below it take in packed form, by the cells that they are in.
 
 ghost use Rattle.std.specs.Prelude.{◌≡◌, ◌≤◌, length, IfOk};
 ghost use Rattle.std.specs.Option.{IfSome};
@@ -17,10 +17,10 @@ use key_index::payload;
 use nt_bytes::{HiveVersion, ReadStop, u32_at};
 use std::alloc::{AllocError, Global};
 
-/// Beyond so many bytes a bulk is counted anew, as the sum of its parts may not be whole.
+/// Beyond that many bytes a bulk is counted again, as the sum of its parts may not be whole.
 pub(crate) const MANY: u64 = 1_099_511_627_776;
 
-/// The lists of so many children.
+/// The lists of that many children.
 pub(crate) fn list_len(n: u32) -> u64
     ensures exact { result ≡ list_size n }
     ensures few { result ≤ 100000000000 }
@@ -108,7 +108,7 @@ pub(crate) fn below_len(
     Ok(Some(bulk + more - less))
 }
 
-/// The bulk of the tree that stands at a root.
+/// The bulk of the tree that is at a root.
 pub(crate) fn bulk_in(
     alloc: Global,
     heap: &OpenHeap,

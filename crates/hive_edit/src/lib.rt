@@ -1,6 +1,6 @@
 //! A hive as its cells: looked into where it stands, without its tree in memory.
 //!
-//! `HiveBytes::from_cells` judges the whole tree once, and answers the hive or its first fault. From then on
+//! `HiveBytes::from_cells` judges the whole tree once, and answers the hive or its first fault. Afterwards
 //! the type keeps that its cells are well-formed, so a lookup goes from cell to cell and judges nothing.
 //! Rules: regf format 1.3 and 1.5, key node, key value and subkey lists; that names are compared folded is
 //! that of the registry.

@@ -1,4 +1,4 @@
-//! How many bytes a value takes in packed form, by the cells that it stands in.
+//! How many bytes a value takes in packed form, by the cells that it is in.
 
 ghost use Rattle.std.specs.Prelude.{◌≡◌, ◌<◌, ◌≤◌, ◌%◌, length, false, Ok};
 ghost use Rattle.std.specs.Result.{IsOk};
@@ -17,7 +17,7 @@ use hive_pack::is_big;
 use key_index::payload;
 use nt_bytes::{HiveVersion, u32_at};
 
-/// The cell of a payload of so many bytes.
+/// The cell of a payload of that many bytes.
 pub(crate) fn cell_len(payload: u64) -> u64
     requires { payload ≤ 1099511627776 }
     ensures { result ≡ cell payload }
@@ -67,7 +67,7 @@ fn name_len(value: &[u8]) -> u64
     stored_len(narrow, stored)
 }
 
-/// The cells of the segments of so many bytes.
+/// The cells of the segments of that many bytes.
 fn segments_len(n: u64) -> u64
     requires some { 0 < n }
     requires few { n < 4294967296 }
@@ -78,7 +78,7 @@ fn segments_len(n: u64) -> u64
     full * 16352 + cell_len(n - full * 16344)
 }
 
-/// The cells of data of so many bytes.
+/// The cells of data of that many bytes.
 pub(crate) fn data_len(version: HiveVersion, n: u32) -> u64
     ensures exact { result ≡ cells_sum (data_sizes version n) }
     ensures few { result ≤ 8589934592 }

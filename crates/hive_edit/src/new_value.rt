@@ -1,4 +1,4 @@
-//! A value of a new name, put behind the others of its key: one run of the list with it, its cell and those of its data.
+//! A value of a new name, put after the others of its key: one run of the list with it, its cell and those of its data.
 
 ghost use Rattle.std.specs.Prelude.{◌≡◌, ◌≤◌, ◌<◌, ◌+◌, ◌-◌, ◌*◌, ◌++◌, ◌∷◌, [], ℕ, List, suc, true, false, nat_lt, if◌then◌else◌, length, take, None, Some, Ok, IfOk, IfErr, OnErr, OnOk, MatchBool, MatchResult};
 ghost use Rattle.std.specs.Option.{IfSome, IsSome, IsSomeAnd};
@@ -45,7 +45,7 @@ use std::alloc::{AllocError, Global};
 
 // ---- the run
 
-/// The bytes of the value list of so many; none where there is none.
+/// The bytes of the value list of that many; none where there is none.
 fn list_bytes(heap: &OpenHeap, list: u32, count: u32) -> &[u8]
     requires { (offsets : List ℕ) × ListsThese heap.now list count offsets }
     ensures long { 4 * count ≤ length result.now }
@@ -66,7 +66,7 @@ fn offsets_fit(list: &[u8], count: u32)
     ensures { AreOffsets (numbers_in 4 count list.now) }
 {}
 
-/// The first so many bytes.
+/// The first that many bytes.
 fn first_bytes(bytes: &[u8], end: usize) -> &[u8]
     requires { end ≤ length bytes.now }
     ensures { result.now ≡ take end bytes.now }
@@ -74,7 +74,7 @@ fn first_bytes(bytes: &[u8], end: usize) -> &[u8]
     &bytes[..end]
 }
 
-/// The offsets of a list of so many, and one more behind them.
+/// The offsets of a list of that many, and one more after them.
 fn longer_list(alloc: Global, list: &[u8], count: u32, more: u32) -> Result<Bytes, AllocError>
     requires few { count ≤ 4194304 }
     requires long { 4 * count ≤ length list.now }
@@ -167,7 +167,7 @@ fn write_value(
     write_data(alloc, out, version, data, bytes)
 }
 
-/// The run of a value that is put behind so many others, to stand at a place.
+/// The run of a value that is put after that many others, to be at a place.
 fn added_run(
     alloc: Global,
     old: &[u8],
@@ -203,7 +203,7 @@ fn added_len(version: HiveVersion, count: u32, name: &[u16], size: u32) -> u64
 
 // ---- the cells
 
-/// Frees the value list of so many, if there is one.
+/// Frees the value list of that many, if there is one.
 fn free_list(heap: &mut OpenHeap, list: u32, count: u32)
     requires { (count ≡ 0 → ⊥) → IsSome (held_at heap.old list) }
     ensures freed { (count ≡ 0 → ⊥) → held_at heap.new list ≡ None }
@@ -240,7 +240,7 @@ fn relist(
     Ok(())
 }
 
-/// Puts a value behind the others of a key at a place that has room for its run.
+/// Puts a value after the others of a key at a place that has room for its run.
 fn add_at(
     alloc: Global,
     heap: &mut OpenHeap,
@@ -267,7 +267,7 @@ fn add_at(
     relist(heap, key, list, count, place, run.as_slice())
 }
 
-/// Puts a value behind the others of a key. `false` where there is no room for its run; the heap is as it was then, and
+/// Puts a value after the others of a key. `false` where there is no room for its run; the heap is as it was then, and
 /// where there is no memory.
 fn add_value(
     alloc: Global,
@@ -336,7 +336,7 @@ impl HiveBytes {
         self.bulk + more - list_len(count)
     }
 
-    /// Puts a value of a new name into a key, whatever the bulk then, which is told. `false` where there is no room for it;
+    /// Puts a value of a new name into a key, whatever the bulk then, which is reported. `false` where there is no room for it;
     /// the hive is as before then, and where there is no memory.
     fn put_new(
         &mut self,

@@ -41,7 +41,7 @@ impl HiveBytes {
     }
 
     /// Makes the steps in order, whatever the bulk of the tree then. `false` where one of them has no room, and where the lists
-    /// that were written anew say that the strain is over the greatest size of bins data: long lists that are written for
+    /// that were rewritten say that the strain is over the greatest size of bins data: long lists that are written for
     /// each of many steps take longer than the whole tree packed once. The hive is a draft, to be dropped then, and after
     /// an `Err`.
     pub(crate) fn make_steps(&mut self, alloc: Global, steps: &[TreeStep]) -> Result<bool, EditStop>

@@ -106,7 +106,7 @@ impl HiveBytes {
         self.list_room(parent.as_slice())
     }
 
-    /// The room that a step took which was made, at the least: of the list that it wrote anew. The bulk before it is given.
+    /// The room that a step took which was made, at the least: of the list that it wrote again. The bulk before it is given.
     pub(crate) fn least_room(&self, step: &TreeStep, before: u64) -> u64
         ensures { (old : HiveCells) → IsStepped old (step_of step.now) self.now → before ≡ bulk_of old.version old.tree
             → IsLeastRoom old (step_of step.now) self.now result }

@@ -34,7 +34,7 @@ use reg_tree::{EditStop, MOST_BULK};
 
 // ---- lists of offsets
 
-/// A number of four bytes in the payload of a cell, each number behind the one before.
+/// A number of four bytes in the payload of a cell, each number after the one before.
 fn number_in(heap: &OpenHeap, at: u32, place: u32) -> u32
     requires { IsSomeAnd (held_at heap.now at) (λ p. 4 * place + 4 ≤ length p) }
     ensures { (p : List ℕ) → held_at heap.now at ≡ Some p → result ≡ u32_in p (4 * place) }
@@ -45,7 +45,7 @@ fn number_in(heap: &OpenHeap, at: u32, place: u32) -> u32
     }
 }
 
-/// Frees the cells that a list of so many offsets names, then the list.
+/// Frees the cells that a list of that many offsets names, then the list.
 fn free_listed(heap: &mut OpenHeap, list: u32, count: u32)
     requires { (offsets : List ℕ) × HasOffsets heap.old list count offsets × CanGo heap.old (list ∷ offsets) }
     ensures { (offsets : List ℕ) → HasOffsets heap.old list count offsets → AreGone (list ∷ offsets) heap.old heap.new }
@@ -57,7 +57,7 @@ fn free_listed(heap: &mut OpenHeap, list: u32, count: u32)
     heap.free(list);
 }
 
-/// Fills these bytes with what stands in the payload of a cell from a byte of it on.
+/// Fills these bytes with what is in the payload of a cell from a byte of it on.
 fn copy_part(heap: &OpenHeap, at: u32, from: usize, into: &mut [u8])
     requires { IsSomeAnd (held_at heap.now at) (λ p. from + length into.old ≤ length p) }
     ensures long { length into.new ≡ length into.old }
@@ -72,7 +72,7 @@ fn copy_part(heap: &OpenHeap, at: u32, from: usize, into: &mut [u8])
     }
 }
 
-/// Moves so many numbers of a list, at most 1024, down by one, over the one at this place.
+/// Moves that many numbers of a list, at most 1024, down by one, over the one at this place.
 fn move_down(heap: &mut OpenHeap, list: u32, place: u32, numbers: u32)
     requires few { numbers ≤ 1024 }
     requires low { place ≤ 4194304 }
@@ -85,7 +85,7 @@ fn move_down(heap: &mut OpenHeap, list: u32, place: u32, numbers: u32)
     heap.patch(list, 4 * place, part);
 }
 
-/// Moves the numbers of a list behind a place down by one, over the one that is there.
+/// Moves the numbers of a list after a place down by one, over the one that is there.
 fn close_gap(heap: &mut OpenHeap, list: u32, from: u32, count: u32)
     requires some { from < count }
     requires few { count ≤ 4194304 }
@@ -100,7 +100,7 @@ fn close_gap(heap: &mut OpenHeap, list: u32, from: u32, count: u32)
     }
 }
 
-/// The place of an offset in a list of so many.
+/// The place of an offset in a list of that many.
 fn place_of(heap: &OpenHeap, list: u32, count: u32, offset: u32) -> u32
     requires { (offsets : List ℕ) × HasOffsets heap.now list count offsets × In offsets offset }
     ensures within { result < count }
@@ -141,7 +141,7 @@ fn free_big(heap: &mut OpenHeap, place: u32)
     heap.free(place);
 }
 
-/// Frees the cells of so many data, where they have any.
+/// Frees the cells of that many data, where they have any.
 fn free_data(heap: &mut OpenHeap, version: HiveVersion, size: u32, place: u32)
     requires data { HasData (look_up version heap.old) size place }
     requires can { CanGo heap.old (data_cells (look_up version heap.old) size place) }
@@ -189,7 +189,7 @@ pub(crate) fn free_value(heap: &mut OpenHeap, version: HiveVersion, at: u32)
 
 // ---- a value of a key
 
-/// Takes an offset out of a list of so many. The list goes where it names no other. Answers where it is then.
+/// Takes an offset out of a list of that many. The list goes where it names no other. Answers where it is then.
 fn unlist(heap: &mut OpenHeap, list: u32, count: u32, offset: u32) -> u32
     requires { (offsets : List ℕ) × HasOffsets heap.old list count offsets × In offsets offset }
     ensures { (offsets : List ℕ) → HasOffsets heap.old list count offsets → Unlists heap.old heap.new list result offsets offset }
@@ -241,7 +241,7 @@ fn take_out(heap: &mut OpenHeap, version: HiveVersion, key: u32, value: u32)
 
 // ---- the hive
 
-/// The cell of a value list of so many; none for none.
+/// The cell of a value list of that many; none for none.
 pub(crate) fn list_len(count: u32) -> u64
     ensures { result ≡ list_room count }
 {
@@ -291,7 +291,7 @@ impl HiveBytes {
         self.bulk - less
     }
 
-    /// Deletes the value that is there, whatever the bulk then, which is told.
+    /// Deletes the value that is there, whatever the bulk then, which is reported.
     fn take_named(&mut self, path: &Names, name: &[u16], key: u32, value: u32, bulk: u64)
         requires key { key_place (cells_in self.old) path.now self.old.root ≡ Some key }
         requires value { value_place (cells_in self.old) name.now key ≡ Some value }

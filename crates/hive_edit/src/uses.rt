@@ -84,7 +84,7 @@ fn push_value(
     Ok(())
 }
 
-/// Adds the cells of so many values in a value list.
+/// Adds the cells of that many values in a value list.
 fn push_listed(
     alloc: Global,
     cells: &Source,
@@ -173,7 +173,7 @@ fn push_own(
     Ok(())
 }
 
-/// Adds the cells that a key and the keys below it use, so many levels down.
+/// Adds the cells that a key and the keys below it use, that many levels down.
 #[cycle(uses)]
 pub(crate) fn push_key(
     alloc: Global,
@@ -194,7 +194,7 @@ pub(crate) fn push_key(
     Ok(())
 }
 
-/// Adds those of the keys at these offsets, one behind another.
+/// Adds those of the keys at these offsets, in sequence.
 #[cycle(uses)]
 fn push_keys(
     alloc: Global,

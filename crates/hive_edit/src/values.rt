@@ -104,7 +104,7 @@ fn is_named(value: &[u8], name: &[u16]) -> bool
 
 // ---- values by name
 
-/// The first of so many offsets in a value list at which the value has a name.
+/// The first of that many offsets in a value list at which the value has a name.
 fn find_value(cells: &Source, list: &[u8], count: u32, name: &[u16]) -> Option<u32>
     requires long { 4 * count ≤ length list.now }
     requires values { All (IsItemHere (cells_of cells.now)) (numbers_in 4 count list.now) }
@@ -143,7 +143,7 @@ pub(crate) fn value_at(cells: &Source, at: u32, name: &[u16]) -> Option<u32>
 
 // ---- numbers
 
-/// The number that the value at an offset is, where it is of type 4 and has four bytes. These stand in the
+/// The number that the value at an offset is, where it is of type 4 and has four bytes. These are in the
 /// value itself, or in a cell of their own.
 fn number_at(cells: &Source, at: u32) -> Option<u32>
     requires { IsItemHere (cells_of cells.now) at }

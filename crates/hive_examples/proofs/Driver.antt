@@ -1,4 +1,4 @@
--- The hive of one driver, as another program wrote it: its cells, and the tree that stands in them.
+-- The hive of one driver, as another program wrote it: its cells, and the tree that is in them.
 use Rattle.std.specs.Prelude.{◌==◌, ◌&&◌, nat_le, nat_lt, drop, slice_index, slice_range, codes, replicate}
 use Rattle.std.specs.List.{All, AllPairs, AllByRecursion, list_all, list_any}
 use Rattle.std.proofs.Common.{◌≡◌, ◌≤◌, ◌<◌, ◌+◌, ◌%◌, ℕ, Bool, true, false, List, [], ◌∷◌, ◌++◌, length, Option, Some, None, Result, Ok, Err, refl, sym, ap, subst, ◌∙◌, add-zero, lit≤, lit<, arith}
@@ -26,7 +26,7 @@ use Rattle.hive_laws.specs.Trees.{one_driver, set_key, services_key, disk_key, s
 
 -- ---- cells
 
--- the cells of these sizes, one behind another at the front of bytes
+-- the cells of these sizes, in sequence at the front of bytes
 abbrev pub cut : List ℕ → List ℕ → List Cell
 cut [] bytes = []
 cut (size ∷ sizes) bytes =
@@ -145,7 +145,7 @@ unfolding key_name_at key_node_at value_name_at key_value_at bytes_in offsets_in
     values_checks entries_checks children_checks
 no_fault = refl
 
--- each key of the hive stands at its offset, with those below it at theirs; so the tree stands, key by key
+-- each key of the hive is at its offset, with those below it at theirs; so the tree stands, key by key
 root_stands : KeyStands (look_up V3 (cells_in driver_bin)) 32 (head one_driver) (144 ∷ 528 ∷ [])
 unfolding key_name_at key_node_at value_name_at key_value_at bytes_in offsets_in list_of list_at entries_at node_at
     class_of security_of data_of item_at values_of driver_words driver_bin cells_in node_in payload_in

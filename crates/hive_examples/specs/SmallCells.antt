@@ -12,7 +12,7 @@ use Rattle.hive_model.specs.Lists.{offsets_text, li_text, lf_text}
 use Rattle.hive_model.specs.Packed.{allocated_cell}
 use Rattle.hive_model.specs.Walk.{nowhere, data_checks, first_among}
 
--- a key node with these flags and this name, with so many children in the list at an offset, and nothing else
+-- a key node with these flags and this name, with that many children in the list at an offset, and nothing else
 abbrev pub plain_node : ℕ → List ℕ → ℕ → ℕ → KeyNode
 plain_node flags name child_count child_list = record {
   flags = flags;
@@ -42,7 +42,7 @@ plain_value size name = record { size = size; offset = 0; kind = 4; flags = 1; n
 abbrev pub plain_security : List ℕ → SecurityCell
 plain_security descriptor = record { forward = 32; backward = 32; uses = 1; descriptor = descriptor }
 
--- One bin. At 32 a root `R` that says that it has so many children; at 120 its list, which names these two offsets; at 144
+-- One bin. At 32 a root `R` that says that it has that many children; at 120 its list, which names these two offsets; at 144
 -- a key `A`; at 232 a key of this name, of one unit; at 320 a free cell.
 unfoldable pub family : ℕ → ℕ → ℕ → List ℕ → List Bin
 family child_count first second name = record {

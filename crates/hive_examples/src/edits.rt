@@ -104,7 +104,7 @@ pub fn a_full_hive()
         → edited V3 (full_root (replicate 15 block)) (set_value [] (codes "P") 3 last ∷ []) ≡ Err full }
 {}
 
-/// The same root has room for one more value of 1,030,988 bytes in version 1.5, where each of its values stands in 65 segments.
+/// The same root has room for one more value of 1,030,988 bytes in version 1.5, where each of its values is in 65 segments.
 pub fn a_full_hive_of_segments()
     ensures bulk { (block : List ℕ) → length block ≡ 1048576 → bulk_of V5 (full_root (replicate 15 block)) ≡ 15741304 }
     ensures fits { (block last : List ℕ) → length block ≡ 1048576 → length last ≡ 1030988

@@ -10,7 +10,7 @@ ghost use Rattle.nt_edge.specs.Crash.{unreadable_at};
 
 /// What recovery asks for, in its order: of the clean hive of one driver, of no files, and of a hive with the
 /// numbers 6 and 5 without a log, and with one that has its sector 1. It asks for the same where the base block can't be
-/// read, and for no more behind a sector of the log that can't.
+/// read, and for no more after a sector of the log that can't.
 pub fn sectors_that_recovery_asks_for()
     ensures clean { asked_of (driver_with []) ≡ primary_at 0 ∷ primary_at 8 ∷ primary_at 9 ∷ primary_at 10 ∷ primary_at 11
         ∷ primary_at 12 ∷ primary_at 13 ∷ primary_at 14 ∷ primary_at 15 ∷ [] }

@@ -28,7 +28,7 @@ pub fn one_driver_is_packed()
 {}
 
 /// Three keys and two descriptors: a child with the root's descriptor shares its cell, which counts two, and each of
-/// the two cells is the next and the one before of the other. A class stands behind its key.
+/// the two cells is the next and the one before of the other. A class stands after its key.
 pub fn two_descriptors_are_packed()
     ensures bulk { (version : Version) → bulk_of version two_descriptors ≡ 392 }
     ensures bytes { packed V3 two_descriptors ≡ two_descriptors_bin }

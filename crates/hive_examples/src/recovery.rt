@@ -24,7 +24,7 @@ pub fn a_hive_with_its_log()
         ≡ Ok (record { base = block 6 6 0; bins = after; dirty = true }) }
 {}
 
-/// The same where the base block can't be read, and where the sector that stands in the log can't. Of a clean hive nobody reads sectors
+/// The same where the base block can't be read, and where the sector that is in the log can't. Of a clean hive nobody reads sectors
 /// 1 to 7.
 pub fn a_hive_with_unreadable_sectors()
     ensures block { recovered_of (unreadable_at (primary_at 0) (image_of (file_of 6 5 before) (log_of (dirty before after) after (block 6 6 0))))
@@ -36,7 +36,7 @@ pub fn a_hive_with_unreadable_sectors()
 {}
 
 /// Faults of sectors that can't be read: of a clean primary; of a log that is needed, its base block, its bits and a sector whose bit is
-/// on; and of a sector whose bit is off, behind all of the log's. A log alone needs numbers that are equal.
+/// on; and of a sector whose bit is off, after all of the log's. A log alone needs numbers that are equal.
 pub fn faults_of_unreadable_sectors()
     ensures bins { recovered_of (unreadable_at (primary_at 10) (image_of (file_of 5 5 before) [])) ≡ Err (fault_at Unreadable 5120) }
     ensures base { recovered_of (unreadable_at (log_at 0) (image_of (file_of 6 5 before) (log_of (dirty before after) after (block 6 6 0))))

@@ -20,7 +20,7 @@ pub fn a_family_stands()
         (folder (codes "R") (folder (codes "A") [] ∷ folder (codes "B") [] ∷ [])) }
 {}
 
-/// A list that names a cell twice, the root, the free cell behind the last key, a place in a cell, or
+/// A list that names a cell twice, the root, the free cell after the last key, a place in a cell, or
 /// itself; names that differ by case alone; and a count of three.
 pub fn faults_of_a_family()
     ensures twice { FaultIs (family 2 144 144 (codes "B")) 32 (Some (fault_at Shared 144)) }

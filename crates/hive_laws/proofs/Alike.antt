@@ -17,7 +17,7 @@ use Rattle.hive_model.specs.Forms.{◌>>=◌}
 
 -- ---- runs of sectors
 
--- a sector, and the run behind it where the sector is read
+-- a sector, and the run after it where the sector is read
 run : (a b : Sectors) (from n : ℕ) (r : Result (List ℕ) HiveFault) → a from ≡ r → a from ≡ b from
     → (IsOk r → gathered a (suc from) n ≡ gathered b (suc from) n) → gathered a from (suc n) ≡ gathered b from (suc n)
 run a b from n (Err f) e here more =
@@ -118,7 +118,7 @@ module _ (x y : Image) (same : (a : Address) → LooksAt x a → x a ≡ y a) wh
     further : Image → Result (List ℕ) HiveFault
     further image = gathered (read_log image) 2 (bitmap_sectors logged.size - 1)
 
-    -- behind the first sector of bits, which is read with its signature or not
+    -- after the first sector of bits, which is read with its signature or not
     behind_same : (r : Result (List ℕ) HiveFault) → front_in x ≡ r → bitmap_in x logged.size ≡ bitmap_in y logged.size
     unfolding further
     behind_same (Err f) e = ap (λ s. joined s (further x)) e ∙ sym (ap (λ s. joined s (further y)) (sym front_same ∙ e))

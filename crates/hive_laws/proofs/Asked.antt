@@ -18,9 +18,9 @@ use Rattle.hive_laws.proofs.Found.{readable, read_back}
 use Rattle.hive_laws.proofs.OneByOne.{contains_first, contains_later, all_those, those_contain, all_run, run_contains, behind_run}
 use Rattle.hive_log.proofs.Ranks.{rank_below}
 
--- ---- the parts of what is asked for: behind each step, if it found no fault
+-- ---- the parts of what is asked for: after each step, if it found no fault
 
--- behind the primary's base block
+-- after the primary's base block
 abbrev pub past_block : Image → List Address
 past_block x = asked_if_read (base_in x) (asked_behind_base x)
 
@@ -28,19 +28,19 @@ past_block x = asked_if_read (base_in x) (asked_behind_base x)
 abbrev pub clean_part : Image → ℕ → List Address
 clean_part x count = one_by_one x (run_at Primary 8 count) []
 
--- behind the log's base block
+-- after the log's base block
 abbrev pub past_log : Image → Option Base → List Address
 past_log x opened = asked_if_read (logged_in x) (asked_behind_log x opened)
 
--- behind the first sector of the bits
+-- after the first sector of the bits
 abbrev pub past_sign : Image → ℕ → List Address
 past_sign x size = asked_if_read (front_in x) (λ front. asked_behind_sign x size)
 
--- behind the bits
+-- after the bits
 abbrev pub past_bits : Image → ℕ → List Address
 past_bits x size = asked_if_read (bitmap_in x size) (asked_bins x size)
 
--- behind the log's sectors
+-- after the log's sectors
 abbrev pub unmarked_part : Image → ℕ → List ℕ → List Address
 unmarked_part x size text = one_by_one x (unmarked_at (bits_of text) (size / 512)) []
 
@@ -61,7 +61,7 @@ module _ (x : Image) where
   log_readable n e = readable (fault_at kinds.LogShort (512 * n)) (fault_at kinds.LogUnreadable (512 * n)) (log_in x n)
       e
 
--- the bits behind the first sector
+-- the bits after the first sector
 abbrev pub further_bits : Image → ℕ → Result (List ℕ) HiveFault
 further_bits x size = gathered (read_log x) 2 (bitmap_sectors size - 1)
 

@@ -36,7 +36,7 @@ later_ones from m sectors low r =
       rising = r.rising;
     }
 
--- and so does this one in front of those behind it
+-- and so does this one in front of those after it
 one_and_later : (from m : ℕ) (sectors : List Address) → from < m → AreRising m sectors
     → AreRising from (primary_at from ∷ sectors)
 one_and_later from m sectors low r =
@@ -100,7 +100,7 @@ from_there : (m n : ℕ) (sectors : List Address) → m ≡ n → AreInTurn m se
 from_there m n sectors e t = subst (λ k. AreInTurn k sectors) e t
 
 module _ (x : Image) (first : ℕ) (more : List Address) where
-  -- those of the log with these numbers behind the first one, and then more
+  -- those of the log with these numbers after the first one, and then more
   abbrev behind_first : List ℕ → List Address
   behind_first numbers = one_by_one x (map (λ k. log_at (first + k)) numbers) more
 

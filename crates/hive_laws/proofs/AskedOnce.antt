@@ -34,7 +34,7 @@ log_before : (f : File) (m n : ℕ) → of_file 8 (m + 1) f ≤ n → Differ (lo
 log_before Primary m n past = refl
 log_before Log m n past = ne_eqb m n (λ e. omega arith)
 
--- the log's dirty sectors stand from its sector 2 on, behind the base block and the bits
+-- the log's dirty sectors stand from its sector 2 on, after the base block and the bits
 two_first : (size : ℕ) → 2 ≤ first_dirty size
 two_first size = omega arith
 
@@ -106,7 +106,7 @@ module _ (x : Image) where
 
   -- ---- no two of them are one
 
-  -- behind sector m of the log no sector up to that one is asked for
+  -- after sector m of the log no sector up to that one is asked for
   behind_log : (m : ℕ) (rest : List Address) → All (IsPast (m + 1)) rest → All (Differ (log_at m)) rest
   behind_log m rest past =
       All-weaker (IsPast (m + 1)) (Differ (log_at m)) (λ a is. log_before a.file m a.sector is) rest past

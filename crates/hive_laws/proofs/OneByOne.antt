@@ -29,7 +29,7 @@ module _ (image : Image) (at : ℕ → Address) (test : ℕ → Bool) where
   abbrev listed : List ℕ → List Address → List Address
   listed numbers more = one_by_one image (map at numbers) more
 
-  -- those of the numbers behind this one that pass
+  -- those of the numbers after this one that pass
   abbrev passing : ℕ → ℕ → List ℕ
   passing from n = filter test (range_with_len (from + 1) n)
 
@@ -60,7 +60,7 @@ module _ (image : Image) (at : ℕ → Address) (test : ℕ → Bool) where
       let there = is_readable (image (at from)) in
       all_first Q (at from) (listed rest more) there refl (first on) (λ some. behind (λ _. some))
 
-  -- what holds of each of them, where those before it can be read, and behind them
+  -- what holds of each of them, where those before it can be read, and after them
   pub all_those : (Q : Address → Type 0) (from n : ℕ) (more : List Address)
       → ((j : ℕ) → from ≤ j → j < from + n → test j ≡ true → Before from j → Q (at j))
       → (Before from (from + n) → All Q more) → All Q (those from n more)
@@ -99,7 +99,7 @@ module _ (image : Image) (at : ℕ → Address) (test : ℕ → Bool) where
       (λ k below above passes. before k (omega arith) above passes)))
       (first_or_later from j low)
 
-  -- and what is behind them, where all can be read
+  -- and what is after them, where all can be read
   pub behind_contains : (from n : ℕ) (more : List Address) (a : Address) → Before from (from + n)
       → Contains more a → Contains (those from n more) a
   behind_contains from zero more a all c = c
@@ -120,7 +120,7 @@ module _ (image : Image) (at : ℕ → Address) (test : ℕ → Bool) where
   once_next R from rest more true first behind =
       once_first R (at from) (listed rest more) (is_readable (image (at from))) first behind
 
-  -- what holds of any two of them, of each of them with those behind, and of any two behind
+  -- what holds of any two of them, of each of them with those after, and of any two after
   pub pairs_of_those : (R : Address → Address → Type 0) (from n : ℕ) (more : List Address)
       → ((j k : ℕ) → from ≤ j → j < k → k < from + n → R (at j) (at k))
       → ((j : ℕ) → from ≤ j → j < from + n → All (R (at j)) more)

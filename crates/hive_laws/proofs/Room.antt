@@ -201,7 +201,7 @@ strain_goes_on version bytes t u (step ∷ steps) further e =
     (λ v. strain_of version (bytes + room_of (needed_sizes version t step v)) v (steps ++ further))
     e (λ v rest. strain_goes_on version (bytes + room_of (needed_sizes version t step v)) v u steps further rest)
 
--- behind a refused step nothing strains
+-- after a refused step nothing strains
 pub strain_ends : (version : HiveVersion) (bytes : ℕ) (t : Tree) (why : Refusal) (steps further : List Step)
     → after_steps t steps ≡ Err why
     → strain_of version bytes t (steps ++ further) ≡ strain_of version bytes t steps
@@ -224,7 +224,7 @@ strain_stays version bytes t u why steps further step e refused =
 
 -- ---- the footprint
 
--- further steps add their own cells, and behind a refusal none
+-- further steps add their own cells, and after a refusal none
 pub footprint_goes_on : (cells : Cells) (root : ℕ) (t u : Tree) (steps further : List Step) → after_steps t steps ≡ Ok u
     → footprint_of cells root t (steps ++ further) ≡ footprint_of cells root t steps
     ++ footprint_of cells root u further
@@ -248,7 +248,7 @@ footprint_ends cells root t why (step ∷ steps) further e =
     (λ v. footprint_of cells root v (steps ++ further)) (λ v. footprint_of cells root v steps)
     e (λ v rest. footprint_ends cells root v why steps further rest))
 
--- more cells behind those of the steps
+-- more cells after those of the steps
 more_behind : (cells : Cells) (root : ℕ) (t : Tree) (steps further : List Step) (r : Result Tree Refusal)
     → after_steps t steps ≡ r
     → (rest : List ℕ) × (footprint_of cells root t (steps ++ further) ≡ footprint_of cells root t steps ++ rest)

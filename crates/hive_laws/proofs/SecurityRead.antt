@@ -164,7 +164,7 @@ of_entries cells at =
     choice cells (is_list_of_lists list.kind) (leaves_checks cells list.offsets) [] (of_leaves cells list.offsets)
     (λ _. tt)))
 
--- the checks of one key, behind siblings of these names
+-- the checks of one key, after siblings of these names
 abbrev KeyChecks : Type 0
 KeyChecks = List (List ℕ) → ℕ → List Check
 

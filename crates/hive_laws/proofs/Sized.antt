@@ -22,7 +22,7 @@ done bytes = Ok bytes
 bytes_same : (x y : List ℕ) → done x ≡ done y → x ≡ y
 bytes_same x y e = cc
 
--- a run of at least one sector is that sector and those behind it
+-- a run of at least one sector is that sector and those after it
 record IsRunOf (s r : Result (List ℕ) HiveFault) (bytes : List ℕ) : Type 0 where
   pub one : List ℕ
   pub more : List ℕ
@@ -77,7 +77,7 @@ found r = Ok r
 found_same : (x y : Recovered) → found x ≡ found y → x ≡ y
 found_same x y e = cc
 
--- its bins data are a run of sectors of the image, as many as the size says, which is one of bins data
+-- its bins data are a run of sectors of the image, the same number as the size says, which is one of bins data
 record IsGathered (image : Image) (r : Recovered) : Type 0 where
   pub at : Sectors
   pub of_image : (i : ℕ) (b : List ℕ) → at i ≡ Ok b → (a : Address) × (image a ≡ Some (Bytes b))

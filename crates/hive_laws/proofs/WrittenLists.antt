@@ -1,4 +1,4 @@
--- The lists of a key's children that stand one behind another are a list as it is written.
+-- The lists of a key's children that are in sequence are a list as it is written.
 use Rattle.std.specs.Prelude.{nat_lt, if◌then◌else◌}
 use Rattle.std.proofs.Common.{◌≡◌, ◌<◌, ◌+◌, ◌*◌, ◌==◌, ℕ, zero, suc, Bool, true, false, List, [], ◌∷◌, length, take, drop, refl, ap, subst, ◌∙◌, inl, inr, arith, length-drop, length-take}
 use Rattle.std.proofs.lemmas.Bool.{eqb-true, ltb-true, ltb-false}
@@ -58,7 +58,7 @@ in_parts cells (suc (suc n)) at places hints full same four row =
           (omega (arith, same, length-drop 500 places, length-drop 500 hints)) (hints_drop 500 hints four) next,
     )
 
--- a list of lists and its parts, one behind another, are a parted list
+-- a list of lists and its parts, in sequence, are a parted list
 parted : (cells : Cells) (at n : ℕ) (places : List ℕ) (hints : List (List ℕ)) → 500 < length places
     → n ≡ part_count (length places)
     → length places ≡ length hints → AreHints hints

@@ -24,13 +24,13 @@ pub record HasLogBase (image : Image) (opened : Option Base) (logged : Base) : T
   pub block : logged_in image ≡ Ok logged
   pub goes : goes_with opened logged ≡ true
 
--- Behind it stands the signature of the bits.
+-- After it stands the signature of the bits.
 pub record HasDirt (image : Image) (opened : Option Base) (logged : Base) : Type 0 where
   pub base : HasLogBase image opened logged
   pub front : List ℕ
   pub there : front_in image ≡ Ok front
 
--- All bits are there, behind the signature in this text.
+-- All bits are there, after the signature in this text.
 pub record HasBits (image : Image) (opened : Option Base) (logged : Base) (text : List ℕ) : Type 0 where
   pub base : HasLogBase image opened logged
   pub read : bitmap_in image logged.size ≡ Ok text
@@ -43,7 +43,7 @@ bits_of text = bit (drop 4 text)
 abbrev pub bins_sectors : Base → ℕ
 bins_sectors base = base.size / 512
 
--- how many of them stand in the log
+-- how many of them are in the log
 abbrev pub marks : Base → List ℕ → ℕ
 marks logged text = rank (bits_of text) (bins_sectors logged)
 
@@ -70,8 +70,8 @@ pub data LooksAt (image : Image) : Address → Type 0 where
       → AreRead (marked_in image logged) (marks logged text) → i < bins_sectors logged → bits_of text i ≡ false
       → AreRead (bins_by image logged text) i → LooksAt image (bin_at i)
 
--- The sectors are in recovery's order: the primary's sector 0, then so many of the log from 0 on with none left
--- out, and then some of the primary behind sector 7, by rising number.
+-- The sectors are in recovery's order: the primary's sector 0, then that many of the log from 0 on with none left
+-- out, and then some of the primary after sector 7, by rising number.
 pub record IsInOrder (sectors : List Address) : Type 0 where
   pub logged : ℕ
   pub others : List ℕ

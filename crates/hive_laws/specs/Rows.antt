@@ -1,4 +1,4 @@
--- Cells one behind another.
+-- Cells in sequence.
 use Rattle.std.specs.Prelude.{ℕ, ◌+◌, List, [], ◌∷◌, length}
 use Rattle.hive_model.specs.Bins.{Cells}
 use Rattle.hive_model.specs.Size.{cell}

@@ -42,12 +42,12 @@ home = tagged (a_key ∷ d_key ∷ [])
 abbrev pub new_in_home : List ℕ → Tree
 new_in_home name = key (record { name = name; flags = 0; stamp = 7; class = []; security = 1 ∷ 2 ∷ []; values = [] }) none
 
--- so many keys `K`, each in the one above, and one more at the end
+-- that many keys `K`, each in the one above, and one more at the end
 abbrev pub chain : ℕ → Tree
 chain zero = folder (codes "K") []
 chain (suc n) = folder (codes "K") (chain n ∷ [])
 
--- the path of so many names `K`
+-- the path of that many names `K`
 abbrev pub steps_down : ℕ → List (List ℕ)
 steps_down zero = []
 steps_down (suc n) = codes "K" ∷ steps_down n

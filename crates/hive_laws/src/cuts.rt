@@ -19,7 +19,7 @@ pub fn a_cut_leaves_one_of_two_readings()
         → EachCrash disk (ReadsAsEither reading base old (closed_of base new root) new) }
 {}
 
-/// Where a tree stood in the bins data from before and one stands in those from after, a cut within a commit leaves a
+/// Where a tree stood in the bins data from before and one is in those from after, a cut within a commit leaves a
 /// hive that loads as the one state or the other, and as no third.
 pub fn a_cut_leaves_one_of_two_trees()
     ensures loads { (disk : DiskState) (base : Base) (old new : List ℕ) (root : ℕ) (before after : HiveState)

@@ -12,8 +12,8 @@ pub fn a_footprint_only_grows()
         → IsInFootprint cells root t steps offset → IsInFootprint cells root t (steps ++ more) offset }
 {}
 
-/// Steps behind others add the cells that they would have alone, on the tree that those before them lead to.
-/// Behind a refused step none adds a cell.
+/// Steps after others add the cells that they would have alone, on the tree that those before them lead to.
+/// After a refused step none adds a cell.
 pub fn a_footprint_goes_on()
     ensures further { (cells : Cells) (root : ℕ) (t u : Tree) (steps more : List Step) → after_steps t steps ≡ Ok u
         → footprint_of cells root t (steps ++ more) ≡ footprint_of cells root t steps ++ footprint_of cells root u more }

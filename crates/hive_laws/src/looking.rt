@@ -22,7 +22,7 @@ pub fn what_recovery_looks_at_is_there()
         → (a ≡ primary_at 0 → ⊥) → is_readable (image a) ≡ true }
 {}
 
-/// Of the primary, recovery looks at sector 0 and at the bins data behind sector 7.
+/// Of the primary, recovery looks at sector 0 and at the bins data after sector 7.
 pub fn seven_sectors_are_left_alone()
     ensures { (image : Image) (n : ℕ) → 0 < n → n < 8 → LooksAt image (primary_at n) → ⊥ }
 {}
@@ -46,7 +46,7 @@ pub fn recovery_asks_for_each_sector_once()
 {}
 
 /// and in this order: the primary's sector 0, the log's from 0 on with none left out, and some of the primary's
-/// behind sector 7 by rising number.
+/// after sector 7 by rising number.
 pub fn recovery_asks_in_order()
     ensures { (image : Image) → IsInOrder (asked_of image) }
 {}

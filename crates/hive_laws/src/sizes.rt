@@ -6,7 +6,7 @@ ghost use Rattle.hive_model.specs.Tree.{Tree, Trees};
 ghost use Rattle.hive_model.specs.Size.{size, size_of_all, list_size};
 ghost use Rattle.hive_model.specs.Footprint.{sizes, sizes_of_all, list_sizes};
 
-/// One by one, the cells of a tree, of trees one behind another, and of a list of children have together the
+/// One by one, the cells of a tree, of trees in sequence, and of a list of children have together the
 /// size that counts in the bulk.
 pub fn sizes_add_up()
     ensures tree { (version : Version) (shared : List ℕ) (t : Tree) → sum (sizes version shared t) ≡ size version shared t }

@@ -15,7 +15,7 @@ pub fn a_base_block_is_read_back()
     ensures { (base : Base) → IsBase base → base_of (base_text base) base.kind ≡ Ok base }
 {}
 
-/// A form whose numbers fit their fields, whatever fills the cell behind it.
+/// A form whose numbers fit their fields, whatever fills the cell after it.
 pub fn forms_are_read_back()
     ensures node { (n : KeyNode) (slack : List ℕ) → IsKeyNode n → key_node_at (key_node_text n ++ slack) ≡ Ok n }
     ensures value { (v : KeyValue) (slack : List ℕ) → IsKeyValue v → key_value_at (key_value_text v ++ slack) ≡ Ok v }
@@ -25,7 +25,7 @@ pub fn forms_are_read_back()
     ensures bytes { (bytes slack : List ℕ) → bytes_in (length bytes) (bytes ++ slack) ≡ Ok bytes }
 {}
 
-/// A list of subkeys of each kind, whatever fills the cell behind it.
+/// A list of subkeys of each kind, whatever fills the cell after it.
 pub fn lists_are_read_back()
     ensures li { (offsets slack : List ℕ) → length offsets < 2 ^ 16 → AreOffsets offsets
         → list_at (li_text offsets ++ slack) ≡ Ok (record { kind = Li; offsets = offsets }) }

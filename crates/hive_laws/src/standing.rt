@@ -1,4 +1,4 @@
-//! The tree that stands in cells, or their first fault.
+//! The tree that is in cells, or their first fault.
 
 ghost use Rattle.std.specs.Prelude.{◌≡◌, ◌<◌, ◌↔◌, ◌⊎◌, ℕ, Bool, List, None, slice_index};
 ghost use Rattle.nt_bytes.specs.declared.fault.HiveFault.{HiveFault as HiveFaultModel};
@@ -11,7 +11,7 @@ ghost use Rattle.hive_model.specs.Stands.{Stands, IsWellFormed};
 ghost use Rattle.hive_model.specs.Load.{Loads, LoadFault};
 ghost use Rattle.hive_laws.specs.Whole.{HasWholeSectors, HasBytes};
 
-/// At most one tree stands at an offset.
+/// At most one tree is at an offset.
 pub fn one_tree_stands()
     ensures { (cells : Cells) (at : ℕ) (t u : Tree) → Stands cells at t → Stands cells at u → t ≡ u }
 {}

@@ -22,13 +22,13 @@ pub fn strain_never_falls()
         → strain_of version bytes t steps ≤ strain_of version bytes t (steps ++ more) }
 {}
 
-/// Steps behind others strain as they would alone, from the length and the tree that those before them lead to.
+/// Steps after others strain as they would alone, from the length and the tree that those before them lead to.
 pub fn strain_goes_on()
     ensures { (version : Version) (bytes : ℕ) (t u : Tree) (steps more : List Step) → after_steps t steps ≡ Ok u
         → strain_of version bytes t (steps ++ more) ≡ strain_of version (strain_of version bytes t steps) u more }
 {}
 
-/// A refused step needs no room, nor does what stands behind it.
+/// A refused step needs no room, nor does what stands after it.
 pub fn a_refused_step_needs_no_room()
     ensures step { (version : Version) (bytes : ℕ) (t u : Tree) (why : Refusal) (steps more : List Step) (step : Step) → after_steps t steps ≡ Ok u
         → after_step step u ≡ Err why

@@ -1,4 +1,4 @@
--- The parts of what recovery asks for, each with what stands behind it, and how they join.
+-- The parts of what recovery asks for, each with what stands after it, and how they join.
 use Rattle.std.proofs.Common.{◌≡◌, ◌++◌, ◌∷◌, Bool, true, List, [], Result, Ok, Err, refl, sym, ◌∙◌, ap, subst, append_assoc, append-nil}
 use Rattle.nt_bytes.specs.declared.fault.HiveFault.{HiveFault}
 use Rattle.nt_edge.specs.Calls.{Made, ReadAt, Makes}
@@ -34,7 +34,7 @@ stop_reads A disk.PowerLost read = tt
 stop_reads A disk.Failed read = tt
 stop_reads A disk.Memory read = tt
 
--- a part behind another
+-- a part after another
 module _ (first second : List Address → List Address) (front asked : List Address)
     (whole : (more : List Address) → first more ≡ front ++ more) where
   front_behind : (more : List Address) → IsFront (second more) asked → IsFront (first (second more)) (front ++ asked)
@@ -87,7 +87,7 @@ pub asks_unkept : {U : Type 0} {before after : List Made → Type 0} {tells : Bo
 asks_unkept asks T = record
     { sectors = asks.sectors; made = asks.made; are = λ told more. record { rest = more; cut = asks.are told more } }
 
--- a part that was refused, with what would have stood behind
+-- a part that was refused, with what would have stood after
 cut_first : (T U : Type 0) (first second : List Address → List Address) (e : LoadStop) (asked : List Address)
     → IsAskedFirst {T = T} first (Err e) asked → IsAskedFirst {T = U} (λ more. first (second more)) (Err e) asked
 cut_first T U first second (load.Fault f) asked is = λ more. is (second more)
@@ -106,7 +106,7 @@ asks_cut {T = T} {first = first} {e = e} asks U second =
       are = λ told. cut_first T U first second e asks.sectors (asks.are told);
     }
 
--- what was read ends the part, whatever would have stood behind
+-- what was read ends the part, whatever would have stood after
 pub asks_end : {U : Type 0} {before after : List Made → Type 0} {tells : Bool} {first : List Address → List Address}
     {x : U} → AsksFirst before after tells first (Ok x)
     → (T : Type 0) (f : HiveFault) (part : List Address → List Address)
@@ -129,7 +129,7 @@ asks_in_whole asks whole all =
       are = λ told. sym (append-nil asks.sectors) ∙ sym (asks.are told []) ∙ all told;
     }
 
--- a refusal ends what was to be asked for, whatever would have stood behind
+-- a refusal ends what was to be asked for, whatever would have stood after
 asked_no_more : (T U : Type 0) (part : List Address → List Address) (more whole : List Address) (e : LoadStop)
     (asked : List Address) → part more ≡ whole → IsAskedFirst {T = T} part (Err e) asked
     → IsAsked {T = U} whole (Err e) asked
@@ -150,7 +150,7 @@ asks_no_more {T = T} {part = part} {e = e} asks U more whole all =
       are = λ told. asked_no_more T U part more whole e asks.sectors (all told) (asks.are told);
     }
 
--- what stands behind a part was asked for, and nothing more
+-- what stands after a part was asked for, and nothing more
 asked_behind : {T : Type 0} (front asked rest whole : List Address) (result : Result T LoadStop) → front ++ rest ≡ whole
     → IsAsked rest result asked → IsAsked whole result (front ++ asked)
 asked_behind front asked rest whole (Ok x) all is = ap (λ l. front ++ l) is ∙ all

@@ -1,4 +1,4 @@
--- What recovery asks for in all, step by step as it is read.
+-- What recovery asks for in total, step by step as it is read.
 use Rattle.std.proofs.Common.{◌≡◌, ◌∷◌, ℕ, Bool, true, false, cond, List, [], Option, Result, Ok, Err, refl, sym, ◌∙◌, ap}
 use Rattle.std.specs.Prelude.{map, filter, not}
 use Rattle.std.specs.List.{range_with_len}
@@ -11,7 +11,7 @@ use Rattle.hive_log.specs.Asked.{asked_sector, asked_bitmap, asked_log_bits, ask
 use Rattle.hive_log.specs.Found.{HasLogBits}
 use Rattle.hive_log.proofs.Looked.{none_on}
 
--- a sector with what stands behind it
+-- a sector with what stands after it
 sector_and_more : {A : Type 0} (at : Address) (read : Result A HiveFault) (behind : A → List Address)
     → asked_sector at read (asked_if_read read behind) ≡ at ∷ asked_if_read read behind
 sector_and_more at (Ok x) behind = refl
@@ -49,7 +49,7 @@ module _ (image : Image) where
     abbrev pub log_part : List Address → List Address
     log_part = asked_sector (log_at 0) (logged_in image)
 
-    -- what the log's base block leads to, and more behind the bits
+    -- what the log's base block leads to, and more after the bits
     abbrev pub behind_block : List Address → Base → List Address
     behind_block more logged = cond (goes_with opened logged) (asked_bitmap image logged.size more) []
 

@@ -1,4 +1,4 @@
--- The sectors that were read so far of those that are asked for one after the other.
+-- The sectors that were read so far of those that are asked for in sequence.
 use Rattle.std.proofs.Common.{◌≡◌, ◌<◌, ◌+◌, ◌-◌, ◌++◌, ◌∷◌, ℕ, zero, suc, Bool, true, false, cond, List, [], Option, Some, None, Ok, Err, refl, sym, ◌∙◌, ap, subst, arith, append_assoc, append-nil}
 use Rattle.std.specs.Prelude.{map, filter, not}
 use Rattle.std.specs.List.{range_with_len}
@@ -75,7 +75,7 @@ asks_all {image = image} {sectors = sectors} so_far x = record {
   are = λ told more. whole_there image sectors more (so_far.there told);
 }
 
--- there was no memory for what is behind the sectors so far
+-- there was no memory for what is after the sectors so far
 pub asks_held : {T : Type 0} {before after : List Made → Type 0} {tells : Bool} {image : Image} {front : List Address}
     → AsksSoFar before after tells image front → (all rest : List Address) → all ≡ front ++ rest
     → AsksFirst {T = T} before after tells (one_by_one image all) (Err load.Memory)

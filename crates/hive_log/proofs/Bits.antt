@@ -74,7 +74,7 @@ is_on : (b : Bool) → (one_if b == 1) ≡ b
 is_on true = refl
 is_on false = refl
 
--- of n bytes of bits with anything behind them
+-- of n bytes of bits with anything after them
 pub bit_back : (bits : ℕ → Bool) (n i : ℕ) (rest : List ℕ) → i < 8 * n → bit (bytes_of_bits bits 0 n ++ rest) i ≡ bits i
 unfolding bit
 bit_back bits n i rest below =

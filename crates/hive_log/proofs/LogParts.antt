@@ -28,7 +28,7 @@ which : (from i : ℕ) → from ≤ i → (from < i) ⊎ (i ≡ from)
 which from i low = grind arith
 
 module _ (bits : ℕ → Bool) (new : List ℕ) where
-  -- the marked sectors take as many as there are bits
+  -- the marked sectors take the same number as there are bits
   marked_long : (from n : ℕ) → 512 * (from + n) ≤ length new
       → length (marked_sectors bits new from n) + 512 * rank bits from ≡ 512 * rank bits (from + n)
   marked_long from zero inside = let same : from ≡ from + 0 = omega arith in omega (arith, ap (rank bits) same)
@@ -53,7 +53,7 @@ module _ (bits : ℕ → Bool) (new : List ℕ) where
       ] in
       here (bits from) refl
 
-  -- sector i stands behind as many as are marked below it
+  -- sector i stands after as many as are marked below it
   marked_at : (from n i j : ℕ) → 512 * (from + n) ≤ length new → from ≤ i → i < from + n → bits i ≡ true
       → j + rank bits from ≡ rank bits i → sector (marked_sectors bits new from n) j ≡ sector new i
   marked_at from zero i j inside low high on place = absurd (omega arith)

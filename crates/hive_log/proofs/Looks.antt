@@ -1,4 +1,4 @@
--- Looks at a disk, one after the other.
+-- Looks at a disk, in sequence.
 use Rattle.std.proofs.Common.{◌≡◌, Bool, true, Result, Ok}
 use Rattle.std.specs.Prelude.{IsErrOf}
 use Rattle.nt_edge.specs.Disk.{DiskState}

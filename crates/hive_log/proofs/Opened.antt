@@ -36,7 +36,7 @@ pub record IsCommitOf (opened closed : Base) (bins : List ℕ) : Type 0 where
   pub fits : IsBase (record closed { kind = 1 })
   pub pages : 4096 * (length bins / 4096) ≡ length bins
 
--- sector i behind the first
+-- sector i after the first
 sector_drop : (v : List ℕ) (i : ℕ) → sector (drop 512 v) i ≡ sector v (1 + i)
 unfolding sector
 sector_drop v i =

@@ -4,7 +4,7 @@ use Rattle.std.proofs.Math.Seq.{take-add, take-length, drop-append-add}
 use Rattle.std.proofs.lemmas.List.{drop-drop, take-append-le, drop-append-le}
 use Rattle.hive_model.specs.Recovery.{Sectors, sector, joined, gathered}
 
--- the sector, and those behind it
+-- the sector, and those after it
 run_more : (v : List ℕ) (from n : ℕ)
     → sector v from ++ take (512 * n) (drop (512 * suc from) v) ≡ take (512 * suc n) (drop (512 * from) v)
 unfolding sector

@@ -10,7 +10,7 @@ use Rattle.hive_log.specs.Stops.{IsFaultOf}
 use Rattle.hive_log.proofs.Ranks.{split}
 use Rattle.hive_log.proofs.Runs.{sector_front, sector_back, sector_whole}
 
--- what was read so far, and behind it what is still to be read, is all
+-- what was read so far, and after it what is still to be read, is all
 pub record ReadSoFar (at : Sectors) (count : ℕ) (bytes : List ℕ) (i : ℕ) : Type 0 where
   pub all : joined (Ok bytes) (gathered at i (count - i)) ≡ gathered at 0 count
   pub sectors : (j : ℕ) → j < i → at j ≡ Ok (sector bytes j)

@@ -11,7 +11,7 @@ use Rattle.nt_edge.specs.Calls.{Made, reads_of, Makes}
 use Rattle.hive_log.specs.declared.stops.LoadStop.{LoadStop}
 use Rattle.hive_log.specs.declared.stops.LoadStop.TheVariants as load
 
--- sectors were read, one after the other, and no other call was made; which ones, the test says
+-- sectors were read, in sequence, and no other call was made; which ones, the test says
 pub record MakesReads (before after : List Made → Type 0) (which : List Address → Type 0) : Type 0 where
   pub sectors : List Address
   pub made : Makes before after (reads_of sectors)
@@ -25,8 +25,8 @@ IsAsked whole (Err load.PowerLost) asked = IsFront whole asked
 IsAsked whole (Err load.Device) asked = IsFront whole asked
 IsAsked whole (Err load.Memory) asked = IsFront whole asked
 
--- A part of what recovery asks for: with anything behind it, what was asked for comes first, and then what
--- stands behind. A fault ends the whole there; where the disk or the memory stopped it, it is a front.
+-- A part of what recovery asks for: with anything after it, what was asked for comes first, and then what
+-- is at the end. A fault ends the whole there; where the disk or the memory stopped it, it is a front.
 abbrev pub IsAskedFirst : {T : Type 0} → (List Address → List Address) → Result T LoadStop → List Address → Type 0
 IsAskedFirst part (Ok x) asked = (more : List Address) → part more ≡ asked ++ more
 IsAskedFirst part (Err (load.Fault f)) asked = (more : List Address) → asked ≡ part more
@@ -34,7 +34,7 @@ IsAskedFirst part (Err load.PowerLost) asked = (more : List Address) → IsFront
 IsAskedFirst part (Err load.Device) asked = (more : List Address) → IsFront (part more) asked
 IsAskedFirst part (Err load.Memory) asked = (more : List Address) → IsFront (part more) asked
 
--- The sectors of a part were read, one after the other, and no other call was made. A disk that does not tell
+-- The sectors of a part were read, in sequence, and no other call was made. A disk that does not tell
 -- what it holds leaves open which ones.
 pub record AsksFirst {T : Type 0} (before after : List Made → Type 0) (tells : Bool) (part : List Address → List Address)
     (result : Result T LoadStop) : Type 0 where

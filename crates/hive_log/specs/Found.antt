@@ -11,7 +11,7 @@ abbrev pub IsUnfinished : Option Base → Type 0
 IsUnfinished None = Unit {0}
 IsUnfinished (Some base) = base.first ≡ base.second → ⊥
 
--- the log goes with the primary's base block, and has these bits behind their signature
+-- the log goes with the primary's base block, and has these bits after their signature
 pub record HasLogBits (image : Image) (opened : Option Base) (logged : Base) (bits : List ℕ) : Type 0 where
   pub text : List ℕ
   pub log_block : logged_in image ≡ Ok logged
@@ -26,7 +26,7 @@ bins_by image size bits =
     let count = size / 512 in
     (gathered (read_log image) first (rank bits count) >>= λ _. gathered (picked image first bits) 0 count)
 
--- The base block that closes the recovery, the bitmap behind `DIRT`, and the bins data. Each step of recovery has gone
+-- The base block that closes the recovery, the bitmap after `DIRT`, and the bins data. Each step of recovery has gone
 -- well: the primary's base block is that of an unfinished commit, the log's goes with it, its bitmap and its sectors can
 -- be read, and so can the sectors of the primary whose bit is off.
 pub record Found (image : Image) (closed : Base) (bitmap bins : List ℕ) : Type 0 where

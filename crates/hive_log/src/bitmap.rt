@@ -46,7 +46,7 @@ pub fn bitmap_sector(bitmap: &[u8], size: usize, k: usize, into: &mut [u8; 512])
     }
 }
 
-/// Byte `at` of `DIRT` and n bytes of bits, with zeros behind them.
+/// Byte `at` of `DIRT` and n bytes of bits, with zeros after them.
 fn bitmap_byte(bitmap: &[u8], n: usize, at: usize) -> u8
     requires { n ≤ length bitmap.now }
     ensures { result ≡ slice_index (codes "DIRT" ++ take n bitmap.now) at }

@@ -138,7 +138,7 @@ pub(crate) fn count_bits(bitmap: &[u8], count: u32) -> u32
     on
 }
 
-/// The bits of a bitmap, behind its signature.
+/// The bits of a bitmap, after its signature.
 pub(crate) fn bits_behind(alloc: Global, text: &[u8]) -> Result<Bytes, AllocError>
     requires { 4 ≤ length text.now }
     ensures { IfOk result (λ b. b ≡ drop 4 text.now) }

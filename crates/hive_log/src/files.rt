@@ -11,7 +11,7 @@ use nt_bytes::ReadStop;
 use nt_edge::{Address, Disk, DiskStop, HiveFile, Presence};
 use std::alloc::Global;
 
-/// Two files as a disk that is on and tells what it holds: the first 65,536 sectors of each, 512 bytes a sector, the last one
+/// Two files as a disk that is on and shows what it holds: the first 65,536 sectors of each, 512 bytes a sector, the last one
 /// filled up with zeros. An empty file is an absent one. Every write and every sync lacks memory.
 #[derive(Drop)]
 pub struct TwoFiles<'a> {

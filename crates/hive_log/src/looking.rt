@@ -50,7 +50,7 @@ pub fn read_recovered<D: Disk>(alloc: Global, disk: &mut D) -> Result<Reading, L
     }
 }
 
-/// Behind the primary's base block.
+/// After the primary's base block.
 fn read_behind<D: Disk>(alloc: Global, disk: &mut D, base: BaseBlock) -> Result<Reading, LoadStop>
     requires on { (D.state disk.old).on ≡ true }
     requires still { D.tells ≡ true → (D.state disk.old).flight ≡ [] }
@@ -130,7 +130,7 @@ fn read_dirty<D: Disk>(
     })
 }
 
-/// The log's base block, and its bits behind their signature.
+/// The log's base block, and its bits after their signature.
 #[derive(Drop)]
 struct LogBits {
     logged: BaseBlock,

@@ -1,4 +1,4 @@
--- What a mending leaves: with nothing committed, and after new bins data were committed or a stop came.
+-- What a repair leaves: with nothing committed, and after new bins data were committed or a stop came.
 use Rattle.std.proofs.Common.{◌≡◌, inl, ℕ, Bool, false, List, [], Option, Some, None, Err, refl, sym, subst}
 use Rattle.std.proofs.lemmas.List.{append-nil}
 use Rattle.hive_model.specs.Base.{version_of}
@@ -52,7 +52,7 @@ pub kept_crash : (state : DiskState) → state.flight ≡ [] → (s : HiveState)
     → EachCrash state (LoadsAsOrNext s)
 kept_crash state none s dirty loads c crash = inl (kept_loads state state refl none s dirty loads c crash)
 
--- no call is a front of those of any mending
+-- no call is a prefix of those of any repair
 pub no_calls : (T E : Type 0) (at : List Made → Type 0) (h : Loaded) (new : Option (List ℕ)) (stop : E)
     → CallsBy {T = T} {E = E} at at h new (Err stop)
 no_calls T E at h None stop = λ earlier said. said

@@ -15,7 +15,7 @@ pub record Loaded : Type 0 where
   pub bins : List ℕ
   pub tree : Tree
 
--- a hive can hold the tree, and it stands in the bins data at the root that the base block names
+-- a hive can hold the tree, and it is in the bins data at the root that the base block names
 pub record IsLoaded (base : Base) (bins : List ℕ) (tree : Tree) : Type 0 where
   pub valid : IsValid tree
   pub has : HasTree (version_of base.minor) bins base.root tree

@@ -1,4 +1,4 @@
--- What does a mending make of a loaded hive? (This project's own.)
+-- What does a repair make of a loaded hive? (This project's own.)
 use Rattle.std.specs.Prelude.{◌&&◌, nat_le, nat_lt, Bool, ℕ, List, length, Option, Some, None, Result, if◌then◌else◌}
 use Rattle.hive_model.specs.Base.{version_of}
 use Rattle.hive_model.specs.Image.{Image}
@@ -18,7 +18,7 @@ packed_of h = packed (version_of h.base.minor) h.tree
 abbrev pub is_worth : Loaded → Bool
 is_worth h = nat_le (bulk_of (version_of h.base.minor) h.tree) 16773120 && nat_lt (length (packed_of h)) (length h.bins)
 
--- what a mending writes: the packed form where that is worth while, and else nothing
+-- what a repair writes: the packed form where that is worth while, and else nothing
 abbrev pub shorter : Loaded → Option (List ℕ)
 shorter h = if is_worth h then Some (packed_of h) else None
 
@@ -32,7 +32,7 @@ abbrev pub number_by : Loaded → Option (List ℕ) → Option ℕ
 number_by h None = None
 number_by h (Some new) = Some (next_number h.base.first)
 
--- the calls of the disk: those of one change, or after a refusal a front of them, where new bins data are committed, and else none
+-- the calls of the disk: those of one change, or after a refusal a prefix of them, where new bins data are committed, and else none
 abbrev pub CallsBy : {T E : Type 0} → (List Made → Type 0) → (List Made → Type 0) → Loaded → Option (List ℕ) → Result T E → Type 0
 CallsBy before after h None result = MakesNone before after
 CallsBy before after h (Some new) result = MakesUntil before after (change_calls h.base h.bins new 32) result

@@ -44,7 +44,7 @@ impl LoadedHive {
         self.bins.len()
     }
 
-    /// The version of the hive, which a mending keeps.
+    /// The version of the hive, which a repair keeps.
     pub fn version(&self) -> HiveVersion
         ensures { result ≡ version_of self.now.base.minor }
     {

@@ -2,7 +2,7 @@
 //!
 //! `LoadedHive::load` checks the whole hive before it writes, and recovers a dirty one by its log. `mend`
 //! packs the tree and commits what it packed, where that is shorter than what the disk carries; else it
-//! makes no call of the disk. Whatever the power does, a start finds the same tree.
+//! makes no call of the disk. Regardless of power loss, a start finds the same tree.
 //! Rules: docs/format.md, "Commit and recovery".
 #![tactic(auto)]
 

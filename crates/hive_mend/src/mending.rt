@@ -42,7 +42,7 @@ impl LoadedHive {
         }
     }
 
-    /// Commits new bins data in which the tree stands at 32.
+    /// Commits new bins data in which the tree is at 32.
     fn replace<D: Disk>(self, disk: &mut D, new: Bytes) -> Result<(LoadedHive, u32), CommitStop>
         requires on { (D.state disk.old).on ≡ true }
         requires still { D.tells ≡ true → (D.state disk.old).flight ≡ [] }
@@ -81,7 +81,7 @@ impl LoadedHive {
         requires still { D.tells ≡ true → (D.state disk.old).flight ≡ [] }
         requires carries { D.tells ≡ true → Carries (D.state disk.old).held self.base self.bins }
         // Where packing makes it shorter it makes the calls of one change to the packed form and no other, after a
-        // refusal a front of them, and else none.
+        // refusal a prefix of them, and else none.
         ensures made { CallsBy (D.calls disk.old) (D.calls disk.new) self (shorter self) result }
         ensures answered { IfOk result (λ x. x.0 ≡ mended_by self (shorter self)) }
         ensures number { IfOk result (λ x. x.1 ≡ number_by self (shorter self)) }

@@ -1,4 +1,4 @@
--- What is spelled in a cell is read, whatever fills the cell behind it.
+-- What is spelled in a cell is read, whatever fills the cell after it.
 use Rattle.std.proofs.Common.{◌≡◌, ◌≤◌, ◌<◌, ℕ, suc, ◌+◌, ◌*◌, ◌-◌, ◌^◌, ◌%◌, Bool, true, false, ltb, eqb, List, [], ◌∷◌, ◌++◌, length, get_or, drop, Ok, refl, sym, ◌∙◌, subst, arith}
 use Rattle.std.specs.Prelude.{slice_range, slice_index}
 use Rattle.std.specs.List.{list_any}

@@ -45,7 +45,7 @@ pairs_from_once before (tests at kind ∷ cs) apart once =
 pub used_once : (cs : List Check) → OnceBehind [] cs → AreUsedOnce cs
 used_once cs once = pairs_from_once [] cs (λ i j d less below. absurd (omega (arith, below))) once
 
--- the check behind some is apart from each of them
+-- the check after some is apart from each of them
 apart_from : (before cs : List Check) (c : Check) → AllPairs Apart (before ++ c ∷ cs) → (k : ℕ) (d : Check)
     → k < length before → Apart (get_or before k d) c
 apart_from before cs c apart k d lt =

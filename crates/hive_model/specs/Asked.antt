@@ -3,7 +3,7 @@
 --
 -- The primary's base block; of a clean primary the bins data; and else, as where the base block can't be
 -- read, the log's base block, its bitmap, the sectors of the log whose bit is on, and those of the primary
--- whose bit is off. It asks for no more behind a sector that is absent or can't be read, nor behind one
+-- whose bit is off. It asks for no more after a sector that is absent or can't be read, nor after one
 -- whose content is a fault. So what it asks for is what the answer stands on: sectors that are not among
 -- these are free to be anything.
 use Rattle.std.specs.Prelude.{◌+◌, ◌-◌, ◌/◌, ◌==◌, not, Bool, true, false, ℕ, List, [], ◌∷◌, drop, map, filter, if◌then◌else◌, Option, Some, None, Result, Ok, Err}
@@ -39,24 +39,24 @@ is_readable None = false
 is_readable (Some Unreadable) = false
 is_readable (Some (Bytes bytes)) = true
 
--- these sectors one after the other, and then more; but nothing behind the first that can't be read
+-- these sectors in sequence, and then more; but nothing after the first that can't be read
 abbrev pub one_by_one : Image → List Address → List Address → List Address
 one_by_one image [] more = more
 one_by_one image (at ∷ sectors) more = at ∷ (if is_readable (image at) then one_by_one image sectors more else [])
 
--- nothing more behind a fault
+-- nothing more after a fault
 abbrev pub asked_if_read : {A : Type 0} → Result A HiveFault → (A → List Address) → List Address
 asked_if_read (Ok x) more = more x
 asked_if_read (Err fault) more = []
 
--- for bins data of this size and these bits behind their signature: the log's sectors, and then the primary's
+-- for bins data of this size and these bits after their signature: the log's sectors, and then the primary's
 abbrev pub asked_bins : Image → ℕ → List ℕ → List Address
 asked_bins image size text =
     let bits = bit (drop 4 text) in
     let count = size / 512 in
     one_by_one image (run_at Log (first_dirty size) (rank bits count)) (one_by_one image (unmarked_at bits count) [])
 
--- behind the first sector of the bits: the others, and what they tell of
+-- after the first sector of the bits: the others, and what they tell of
 abbrev pub asked_behind_sign : Image → ℕ → List Address
 asked_behind_sign image size =
     one_by_one image (run_at Log 2 (bitmap_sectors size - 1)) (asked_if_read (bitmap_in image size) (asked_bins image size))
@@ -65,7 +65,7 @@ asked_behind_sign image size =
 abbrev pub asked_bits : Image → ℕ → List Address
 asked_bits image size = log_at 1 ∷ asked_if_read (front_in image) (λ front. asked_behind_sign image size)
 
--- behind the log's base block, which has to go with the primary's
+-- after the log's base block, which has to go with the primary's
 abbrev pub asked_behind_log : Image → Option Base → Base → List Address
 asked_behind_log image opened logged = if goes_with opened logged then asked_bits image logged.size else []
 
@@ -73,7 +73,7 @@ asked_behind_log image opened logged = if goes_with opened logged then asked_bit
 abbrev pub asked_log : Image → Option Base → List Address
 asked_log image opened = log_at 0 ∷ asked_if_read (logged_in image) (asked_behind_log image opened)
 
--- behind the primary's base block; of one that can't be read the log is asked
+-- after the primary's base block; of one that can't be read the log is asked
 abbrev pub asked_behind_base : Image → Option Base → List Address
 asked_behind_base image None = asked_log image None
 asked_behind_base image (Some base) =

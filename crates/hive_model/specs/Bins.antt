@@ -9,7 +9,7 @@ use Rattle.nt_bytes.specs.declared.fault.HiveFaultKind.{HiveFaultKind}
 use Rattle.nt_bytes.specs.declared.fault.HiveFaultKind.TheVariants.{BinSign, BinOffset, BinSize, CellSize, CellPastBin, OutOfRange, FreeCell}
 use Rattle.nt_bytes.specs.declared.fault.HiveFault.{HiveFault}
 
--- a cell: is it allocated, and its bytes behind the size
+-- a cell: is it allocated, and its bytes after the size
 pub record Cell : Type 0 where
   pub allocated : Bool
   pub payload : List ℕ
@@ -140,7 +140,7 @@ pub record HeaderFails (at : ℕ) (bytes : List ℕ) (fault : HiveFault) : Type 
 abbrev pub BinFails : ℕ → List ℕ → HiveFault → Type 0
 BinFails at bytes fault = HeaderFails at bytes fault ⊎ CellFails at bytes fault
 
--- The first check of the text that fails: sound bins fill a front of it, and the next one fails.
+-- The first check of the text that fails: sound bins fill a prefix of it, and the next one fails.
 pub record BinsFault (text : List ℕ) (fault : HiveFault) : Type 0 where
   pub front : List Bin
   pub rest : List ℕ
@@ -174,7 +174,7 @@ abbrev pub payload_of : Option Cell → Result (List ℕ) HiveFaultKind
 payload_of None = Err OutOfRange
 payload_of (Some c) = if c.allocated then Ok c.payload else Err FreeCell
 
--- cells that a tree of this version may stand in: at an offset a payload, or why there is none
+-- cells that a tree of this version may be in: at an offset a payload, or why there is none
 pub record Cells : Type 0 where
   pub version : HiveVersion
   pub payload : ℕ → Result (List ℕ) HiveFaultKind

@@ -1,4 +1,4 @@
--- What the logic asks of a type that a model has as its value: a code that tells values apart, and a weight that is less for
+-- What the logic asks of a type that a model has as its value: a code that distinguishes values, and a weight that is less for
 -- each part. A reader of the book needs none of it.
 use Rattle.std.specs.Prelude.{◌≡◌, ℕ, ◌+◌, ◌≤◌, Bool, List, [], ◌∷◌, refl}
 use Rattle.std.proofs.Common.{ap, arith}
@@ -97,12 +97,12 @@ most_le-weights (t ∷ ts) = omega (arith, most_le-weights ts)
 
 -- ---- cells and bins
 
--- a cell as the pair of its flag and its payload, by which the logic tells cells apart
+-- a cell as the pair of its flag and its payload, by which the logic distinguishes cells
 abbrev pub coded_cell : Coded Cell
 coded_cell = code_by (Bool × List ℕ) (coded× coded_bool (coded_list coded_ℕ)) (λ c. (c.allocated, c.payload))
     (λ p. record { allocated = p.0; payload = p.1 }) (λ _. refl)
 
--- a bin as the pair of its ignored bytes and its cells, by which the logic tells bins apart
+-- a bin as the pair of its ignored bytes and its cells, by which the logic distinguishes bins
 abbrev pub coded_bin : Coded Bin
 coded_bin = code_by (List ℕ × List Cell) (coded× (coded_list coded_ℕ) (coded_list coded_cell)) (λ b. (b.ignored, b.cells))
     (λ p. record { ignored = p.0; cells = p.1 }) (λ _. refl)

@@ -160,7 +160,7 @@ child_copied from to t = unless
     ∷ [])
     (option_map_or (λ k. with_child to k t) (find (is_named from) (children t)) t)
 
--- the root has this key as a child under a name, at most 512 levels in all
+-- the root has this key as a child under a name, at most 512 levels in total
 abbrev pub child_added : List ℕ → Tree → Tree → Result Tree Refusal
 child_added name k t = unless
     (name_tests name

@@ -146,7 +146,7 @@ footprint_of cells root t [] = []
 footprint_of cells root t (step ∷ steps) =
     step_cells cells root t step ++ unless_refused [] (after_step step t) (λ u. footprint_of cells root u steps)
 
--- some step has the offset among its cells, where this tree stands at the root of these cells before the edit
+-- some step has the offset among its cells, where this tree is at the root of these cells before the edit
 abbrev pub IsInFootprint : Cells → ℕ → Tree → List Step → ℕ → Type 0
 IsInFootprint cells root t steps offset = Contains (footprint_of cells root t steps) offset
 
@@ -160,7 +160,7 @@ some_cell size = if size == 0 then [] else size ∷ []
 abbrev pub item_sizes : HiveVersion → Item → List ℕ
 item_sizes version v = cell (20 + name_bytes v.name) ∷ map cell (data_sizes version (length v.bytes))
 
--- the size of the value list of so many values; none for no values
+-- the size of the value list of that many values; none for no values
 abbrev pub value_list_sizes : ℕ → List ℕ
 value_list_sizes n = if n == 0 then [] else cell (4 * n) ∷ []
 
@@ -184,7 +184,7 @@ abbrev mutual
   pub sizes : HiveVersion → List ℕ → Tree → List ℕ
   sizes version shared (key h ts) = head_sizes version shared h ++ (list_sizes (count ts) ++ sizes_of_all version h.security ts)
 
-  -- the sizes of all cells of keys one behind another and below them, under a key with this descriptor
+  -- the sizes of all cells of keys in sequence and below them, under a key with this descriptor
   pub sizes_of_all : HiveVersion → List ℕ → Trees → List ℕ
   sizes_of_all version shared none = []
   sizes_of_all version shared (more t ts) = sizes version shared t ++ sizes_of_all version shared ts
@@ -227,13 +227,13 @@ needed_sizes version old (delete_key path) new = list_sizes_in (parent_of path) 
 needed_sizes version old (copy_child from to) new = added_sizes_in version [] to new
 needed_sizes version old (add_child name k) new = added_sizes_in version [] name new
 
--- how long so many bytes of bins data may become by steps in order, the first on this tree: longer by the room for each cell
+-- how long that many bytes of bins data may become by steps in order, the first on this tree: longer by the room for each cell
 -- of each step; a refused step ends it
 abbrev pub strain_of : HiveVersion → ℕ → Tree → List Step → ℕ
 strain_of version bytes t [] = bytes
 strain_of version bytes t (step ∷ steps) =
     unless_refused bytes (after_step step t) (λ u. strain_of version (bytes + room_of (needed_sizes version t step u)) u steps)
 
--- how long so many bytes of bins data may become by writing the lists of so many children: longer by the room for each list
+-- how long that many bytes of bins data may become by writing the lists of that many children: longer by the room for each list
 abbrev pub list_strain_of : ℕ → ℕ → ℕ
 list_strain_of bytes n = bytes + room_of (list_sizes n)

@@ -19,7 +19,7 @@ pub data Content : Type 0 where
   Unreadable : Content
 
 -- the content of each sector that is there. A function, since proofs on crashes go address by address;
--- that only so many sectors are there is said where it matters, in `IsFileOf`.
+-- that only that many sectors are there is said where it matters, in `IsFileOf`.
 abbrev pub Image : Type 0
 Image = Address → Option Content
 
@@ -42,7 +42,7 @@ Write = Address × List ℕ
 abbrev pub put : Image → Write → Image
 put image w = λ a. if same_address w.0 a then Some (Bytes w.1) else image a
 
--- the image after these writes, one after the other
+-- the image after these writes, in sequence
 abbrev pub overlaid : Image → List Write → Image
 overlaid image [] = image
 overlaid image (w ∷ ws) = overlaid (put image w) ws
@@ -95,7 +95,7 @@ sector_in image file n = bytes_of (image (record { file = file; sector = n }))
 
 -- The bytes are a file of the image: its sectors from 0 up to the last one that is there, and zeros for one
 -- in between that is not. No sector is there from `count` on, and the last one before it is. A sector that
--- can't be read is there all the same, and has zeros: where it is the last one, the file ends behind it.
+-- can't be read is there all the same, and has zeros: where it is the last one, the file ends after it.
 pub record IsFileOf (image : Image) (file : File) (bytes : List ℕ) : Type 0 where
   pub count : ℕ
   pub long : length bytes ≡ 512 * count
@@ -117,7 +117,7 @@ pub data Keep : Type 0 where
   OddOnes : Keep
   Torn : Keep
 
--- an order for a stop at the n-th call of a kind from then on
+-- an order for a stop at the n-th call of a kind afterwards
 pub data Arming : Type 0 where
   ArmedCut : Call → ℕ → Keep → Arming
   ArmedFault : Call → ℕ → Arming

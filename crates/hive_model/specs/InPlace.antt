@@ -39,7 +39,7 @@ abbrev pub KeepsSecurity : ℕ → (ℕ → List Bool) → Cells → Cells → T
 KeepsSecurity root changes before after =
     (at : ℕ) → Contains (security_used_in (all_checks before root)) at → IsKeptSecurity before after (changes at) at
 
--- a new security cell for a descriptor, which so many keys use, names itself in both links
+-- a new security cell for a descriptor, which that many keys use, names itself in both links
 abbrev pub new_security : ℕ → ℕ → List ℕ → SecurityCell
 new_security at uses descriptor = record { forward = at; backward = at; uses = uses; descriptor = descriptor }
 
@@ -56,7 +56,7 @@ PartsAt cells [] places hints = Unit {0}
 PartsAt cells (at ∷ lists) places hints =
     BeginsWith cells at (list_text cells.version (take 500 places) (take 500 hints)) × PartsAt cells lists (drop 500 places) (drop 500 hints)
 
--- the cell at an offset is a list of as many lists as these children fill
+-- the cell at an offset is a list of the same number of lists as these children fill
 pub record PartedAt (cells : Cells) (at : ℕ) (places : List ℕ) (hints : List (List ℕ)) : Type 0 where
   pub many : 500 < length places
   pub lists : List ℕ

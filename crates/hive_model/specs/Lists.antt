@@ -26,7 +26,7 @@ pub record SubkeyList : Type 0 where
   pub kind : ListKind
   pub offsets : List ℕ
 
--- n numbers of four bytes, the first at the front and each a step behind the one before
+-- n numbers of four bytes, the first at the front and each a step after the one before
 abbrev pub numbers_in : ℕ → ℕ → List ℕ → List ℕ
 numbers_in step zero p = []
 numbers_in step (suc n) p = u32_in p 0 ∷ numbers_in step n (drop step p)
@@ -53,7 +53,7 @@ abbrev pub offsets_text : List ℕ → List ℕ
 offsets_text [] = []
 offsets_text (o ∷ os) = to_le_bytes w32 o ++ offsets_text os
 
--- offsets, each with its hint behind it: the entries of `lf` and `lh`
+-- offsets, each with its hint after it: the entries of `lf` and `lh`
 abbrev pub entries_text : List ℕ → List (List ℕ) → List ℕ
 entries_text [] hints = []
 entries_text (o ∷ os) [] = []
@@ -83,11 +83,11 @@ lh_text offsets hints = 0x6c ∷ 0x68 ∷ (to_le_bytes w16 (length offsets) ++ e
 unfoldable pub ri_text : List ℕ → List ℕ
 ri_text lists = 0x72 ∷ 0x69 ∷ (to_le_bytes w16 (length lists) ++ offsets_text lists)
 
--- the four bytes that an entry of `lf` has for a name: its first four, zeros behind a short name; zeros for a wide name
+-- the four bytes that an entry of `lf` has for a name: its first four, zeros after a short name; zeros for a wide name
 abbrev pub hint_of : Bool → List ℕ → List ℕ
 hint_of narrow name = if narrow then take 4 (name ++ 0 ∷ 0 ∷ 0 ∷ 0 ∷ []) else 0 ∷ 0 ∷ 0 ∷ 0 ∷ []
 
--- the hash of units behind others of this hash
+-- the hash of units after others of this hash
 abbrev pub hash_from : ℕ → List ℕ → ℕ
 hash_from h [] = h
 hash_from h (u ∷ us) = hash_from ((37 * h + folded_unit u) % 4294967296) us

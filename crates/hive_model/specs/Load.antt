@@ -13,7 +13,7 @@ use Rattle.hive_model.specs.Walk.{first_fault}
 use Rattle.hive_model.specs.Stands.{IsWellFormed}
 use Rattle.hive_model.specs.State.{HiveState}
 
--- What was recovered holds this state: its bins data are bins and cells in which the tree stands at the root.
+-- What was recovered holds this state: its bins data are bins and cells in which the tree is at the root.
 pub record Holds (recovered : Recovered) (state : HiveState) : Type 0 where
   pub bins : List Bin
   pub cells : IsBins recovered.bins bins

@@ -1,4 +1,4 @@
--- The packed form of a tree in a version: one bin, in which each key stands with its cells one behind another, and behind them
+-- The packed form of a tree in a version: one bin, in which each key stands with its cells in sequence, and after them
 -- its children in order (the forms: regf format 1.3 and 1.5; the order of the cells, what is shared and the length of the lists:
 -- this project's own).
 --
@@ -52,7 +52,7 @@ text ps = flat_map cell_text ps
 abbrev pub data_place : ℕ → Item → ℕ
 data_place at v = at + cell (20 + name_bytes v.name)
 
--- what a value's cell says that stands here; data of at most four bytes stand in it
+-- what a value's cell says that stands here; data of at most four bytes are in it
 abbrev pub item_form : ℕ → Item → KeyValue
 item_form at v = record {
   size = if nat_lt 4 (length v.bytes) then length v.bytes else 2147483648 + length v.bytes;
@@ -62,17 +62,17 @@ item_form at v = record {
   name = v.name;
 }
 
--- where full segments begin that stand one behind another, so many of them
+-- where full segments begin that are in sequence, that many of them
 abbrev pub segment_places : ℕ → ℕ → List ℕ
 segment_places zero at = []
 segment_places (suc n) at = at ∷ segment_places n (at + cell segment_bytes)
 
--- so many segments with these bytes, each but the last full
+-- that many segments with these bytes, each but the last full
 abbrev pub segments : ℕ → List ℕ → List (List ℕ)
 segments zero bytes = []
 segments (suc n) bytes = take segment_bytes bytes ∷ segments n (drop segment_bytes bytes)
 
--- big data in so many segments from here on: their cell `db`, the list of the segments, and the segments
+-- big data in that many segments from here on: their cell `db`, the list of the segments, and the segments
 unfoldable pub big_cells : ℕ → ℕ → List ℕ → List (List ℕ)
 big_cells at n bytes =
     big_data_text (record { segments = n; list = at + cell 8 })
@@ -90,7 +90,7 @@ data_cells version at bytes =
 unfoldable pub item_cells : HiveVersion → ℕ → Item → List (List ℕ)
 item_cells version at v = key_value_text (item_form at v) ∷ data_cells version (data_place at v) v.bytes
 
--- values one behind another from here on
+-- values in sequence from here on
 abbrev pub cells_of_items : HiveVersion → ℕ → List Item → List (List ℕ)
 cells_of_items version at [] = []
 cells_of_items version at (v ∷ vs) = item_cells version at v ++ cells_of_items version (at + item_size version v) vs
@@ -130,14 +130,14 @@ children_place version shared at h n = list_place version shared at h + list_siz
 abbrev pub own_place : List ℕ → ℕ → List ℕ → List ℕ
 own_place shared at s = if has_own shared s then at ∷ [] else []
 
--- where security cells stand in a tree, in order
+-- where security cells are in a tree, in order
 abbrev mutual
   pub ring : HiveVersion → List ℕ → ℕ → Tree → List ℕ
   ring version shared at (key h ts) =
       own_place shared (descriptor_place at h) h.security
       ++ ring_of_all version h.security (children_place version shared at h (count ts)) ts
 
-  -- where security cells stand in trees one behind another from here on, under a key with this descriptor, in order
+  -- where security cells are in trees in sequence from here on, under a key with this descriptor, in order
   pub ring_of_all : HiveVersion → List ℕ → ℕ → Trees → List ℕ
   ring_of_all version shared at none = []
   ring_of_all version shared at (more t ts) = ring version shared at t ++ ring_of_all version shared (at + size version shared t) ts
@@ -152,7 +152,7 @@ abbrev pub last_or : ℕ → List ℕ → ℕ
 last_or d [] = d
 last_or d (x ∷ xs) = last_or x xs
 
--- what stands behind a place, or else this
+-- what stands after a place, or else this
 abbrev pub behind : ℕ → List ℕ → ℕ → ℕ
 behind otherwise [] at = otherwise
 behind otherwise (x ∷ xs) at = if x == at then first_or otherwise xs else behind otherwise xs at
@@ -162,7 +162,7 @@ abbrev pub ahead : ℕ → List ℕ → ℕ → ℕ
 ahead otherwise [] at = otherwise
 ahead otherwise (x ∷ xs) at = if x == at then otherwise else ahead x xs at
 
--- the place of the security cell behind the one at a place; behind the last stands the first (regf format, Key security)
+-- the place of the security cell after the one at a place; after the last stands the first (regf format, Key security)
 abbrev pub forward : List ℕ → ℕ → ℕ
 forward places at = behind (first_or 0 places) places at
 
@@ -182,14 +182,14 @@ abbrev mutual
 
 -- ---- a key
 
--- what is told to the children of a key: where it stands, its descriptor, where that stands, and the ring
+-- what is passed to the children of a key: where it stands, its descriptor, where that stands, and the ring
 pub record Above : Type 0 where
   pub place : ℕ
   pub security : List ℕ
   pub security_place : ℕ
   pub ring : List ℕ
 
--- what is told to the root
+-- what is passed to the root
 abbrev pub top : List ℕ → Above
 top ring = record { place = nowhere; security = []; security_place = nowhere; ring = ring }
 
@@ -198,7 +198,7 @@ abbrev pub security_place_of : Above → ℕ → List ℕ → ℕ
 security_place_of up at [] = nowhere
 security_place_of up at (b ∷ s) = if has_own up.security (b ∷ s) then at else up.security_place
 
--- what a key that stands here tells its children
+-- what a key that stands here passes to its children
 abbrev pub below : Above → ℕ → Head → Above
 below up at h = record { place = at; security = h.security; security_place = security_place_of up (descriptor_place at h) h.security; ring = up.ring }
 
@@ -242,7 +242,7 @@ unfoldable pub class_cells : List ℕ → List (List ℕ)
 class_cells [] = []
 class_cells (b ∷ c) = (b ∷ c) ∷ []
 
--- the cell of a descriptor, which so many keys below use too
+-- the cell of a descriptor, which that many keys below use too
 unfoldable pub security_cells : Above → ℕ → List ℕ → ℕ → List (List ℕ)
 security_cells up at s others =
     if has_own up.security s
@@ -259,7 +259,7 @@ head_cells version up at h ts =
 
 -- ---- the subkey lists
 
--- where full lists begin that stand one behind another, so many of them
+-- where full lists begin that are in sequence, that many of them
 abbrev pub part_places : ℕ → ℕ → List ℕ
 part_places zero at = []
 part_places (suc n) at = at ∷ part_places n (at + cell 4004)
@@ -269,7 +269,7 @@ abbrev pub list_text : HiveVersion → List ℕ → List (List ℕ) → List ℕ
 list_text V3 places hints = lf_text places hints
 list_text V5 places hints = lh_text places hints
 
--- lists of 500 entries and then of the rest, so many of them
+-- lists of 500 entries and then of the rest, that many of them
 abbrev pub parts : HiveVersion → ℕ → List ℕ → List (List ℕ) → List (List ℕ)
 parts version zero places hints = []
 parts version (suc n) places hints = list_text version (take 500 places) (take 500 hints) ∷ parts version n (drop 500 places) (drop 500 hints)
@@ -282,7 +282,7 @@ list_cells version at places hints =
     else ri_text (part_places (part_count (length places)) (at + cell (4 + 4 * part_count (length places))))
     ∷ parts version (part_count (length places)) places hints
 
--- where trees begin that stand one behind another
+-- where trees begin that are in sequence
 abbrev pub places : HiveVersion → List ℕ → ℕ → Trees → List ℕ
 places version shared at none = []
 places version shared at (more t ts) = at ∷ places version shared (at + size version shared t) ts
@@ -307,12 +307,12 @@ abbrev mutual
       ++ (list_cells version (list_place version up.security at h) (places version h.security first ts) (map (hint version) (listed ts))
       ++ cells_of_all version (below up at h) first ts)
 
-  -- the cells of keys one behind another, each with all below it, from here on
+  -- the cells of keys in sequence, each with all below it, from here on
   pub cells_of_all : HiveVersion → Above → ℕ → Trees → List (List ℕ)
   cells_of_all version up at none = []
   cells_of_all version up at (more t ts) = cells_of version up at t ++ cells_of_all version up (at + size version up.security t) ts
 
--- the cells of a packed tree, from the place of the root on, which is behind the bin's header
+-- the cells of a packed tree, from the place of the root on, which is after the bin's header
 abbrev pub packed_cells : HiveVersion → Tree → List (List ℕ)
 packed_cells version t = cells_of version (top (ring version [] 32 t)) 32 t
 
@@ -326,7 +326,7 @@ whole version t = 32 + size version [] t
 abbrev pub rounded : ℕ → ℕ
 rounded n = (n + 4095) / 4096 * 4096
 
--- a free cell of so many bytes, if there are any
+-- a free cell of that many bytes, if there are any
 abbrev pub free_cells : ℕ → List Cell
 free_cells n = if n == 0 then [] else record { allocated = false; payload = replicate (n - 4) 0 } ∷ []
 

@@ -52,7 +52,7 @@ read_bin image i = bytes_or (fault_at kinds.Size 40) (fault_at kinds.Unreadable 
 abbrev pub read_log : Image → Sectors
 read_log image n = bytes_or (fault_at kinds.LogShort (512 * n)) (fault_at kinds.LogUnreadable (512 * n)) (log_in image n)
 
--- one text behind another, or the first fault of the two
+-- one text after another, or the first fault of the two
 abbrev pub joined : Result (List ℕ) HiveFault → Result (List ℕ) HiveFault → Result (List ℕ) HiveFault
 joined (Err fault) rest = Err fault
 joined (Ok bytes) (Err fault) = Err fault
@@ -93,7 +93,7 @@ bitmap_sectors size = (size / 4096 + 515) / 512
 abbrev pub first_dirty : ℕ → ℕ
 first_dirty size = 1 + bitmap_sectors size
 
--- sector i of the bins data: the log's where its bit is on, behind as many as are on below it, and else the primary's
+-- sector i of the bins data: the log's where its bit is on, after as many as are on below it, and else the primary's
 abbrev pub picked : Image → ℕ → (ℕ → Bool) → Sectors
 picked image first bits i = if bits i then read_log image (first + rank bits i) else read_bin image i
 

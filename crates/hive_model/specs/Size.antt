@@ -1,4 +1,4 @@
--- How many bytes the cells of a tree take in a version where each key stands in cells of its own (regf format 1.3 and 1.5;
+-- How many bytes the cells of a tree take in a version where each key is in cells of its own (regf format 1.3 and 1.5;
 -- which cells share and how long the lists are is this project's own).
 use Rattle.std.specs.Prelude.{ℕ, zero, suc, ◌+◌, ◌-◌, ◌*◌, ◌/◌, ◌%◌, min, Bool, false, not, ◌==◌, nat_eq, nat_lt, if◌then◌else◌, List, [], ◌∷◌, length}
 use Rattle.std.specs.List.{list_all}
@@ -8,7 +8,7 @@ use Rattle.nt_bytes.specs.declared.version.HiveVersion.TheVariants.{V3, V5}
 use Rattle.hive_model.specs.Tree.{Item, Head, Tree, Trees, key, none, more, listed}
 use Rattle.nt_bytes.specs.Counts.{capped}
 
--- a cell's size: the payload behind four bytes for the size, up to a multiple of eight (regf format, Hive bin cell)
+-- a cell's size: the payload after four bytes for the size, up to a multiple of eight (regf format, Hive bin cell)
 abbrev pub cell : ℕ → ℕ
 cell payload = 8 * ((payload + 11) / 8)
 
@@ -44,12 +44,12 @@ segment_count n = (n + 16343) / segment_bytes
 abbrev pub segment_part : ℕ → ℕ
 segment_part n = min segment_bytes n
 
--- how many bytes each of so many segments holds: each but the last is full
+-- how many bytes each of that many segments holds: each but the last is full
 abbrev pub segment_sizes : ℕ → ℕ → List ℕ
 segment_sizes zero n = []
 segment_sizes (suc k) n = segment_part n ∷ segment_sizes k (n - segment_bytes)
 
--- The lengths of the payloads that n bytes of data are written in, in order. Up to four bytes stand in the value itself. Big
+-- The lengths of the payloads that n bytes of data are written in, in order. Up to four bytes are in the value itself. Big
 -- data have a cell `db`, the list of their segments, and the segments; other data have one cell (regf format 1.3 and 1.5,
 -- Key value and Big data).
 abbrev pub data_sizes : HiveVersion → ℕ → List ℕ
@@ -68,7 +68,7 @@ data_size version bytes = cells_sum (data_sizes version (length bytes))
 abbrev pub item_size : HiveVersion → Item → ℕ
 item_size version v = cell (20 + name_bytes v.name) + data_size version v.bytes
 
--- the cells of values one behind another
+-- the cells of values in sequence
 abbrev pub items_sum : HiveVersion → List Item → ℕ
 items_sum version [] = 0
 items_sum version (v ∷ vs) = item_size version v + items_sum version vs
@@ -121,7 +121,7 @@ abbrev mutual
   pub size : HiveVersion → List ℕ → Tree → ℕ
   size version shared (key h ts) = head_size version shared h + list_size (count ts) + size_of_all version h.security ts
 
-  -- the cells of keys one behind another and of all below them, under a key with this descriptor
+  -- the cells of keys in sequence and of all below them, under a key with this descriptor
   pub size_of_all : HiveVersion → List ℕ → Trees → ℕ
   size_of_all version shared none = 0
   size_of_all version shared (more t ts) = size version shared t + size_of_all version shared ts

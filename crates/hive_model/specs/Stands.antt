@@ -1,4 +1,4 @@
--- Which tree stands in cells (regf format 1.3 and 1.5, key node and what it names).
+-- Which tree is in cells (regf format 1.3 and 1.5, key node and what it names).
 use Rattle.std.specs.Prelude.{◌≡◌, ◌≤◌, ◌<◌, ℕ, ◌-◌, ◌==◌, if◌then◌else◌, MatchBool, List, [], ◌∷◌, ◌++◌, length, Option, Some, None, Result, Ok}
 use Rattle.std.specs.List.{All}
 use Rattle.nt_bytes.specs.declared.fault.HiveFaultKind.{HiveFaultKind}
@@ -51,13 +51,13 @@ data_of cells value =
     (if is_big cells.version value.size then big_bytes_at cells value.size value.offset
     else reading (bytes_in value.size) cells value.offset)
 
--- the value that stands at an offset
+-- the value that is at an offset
 unfoldable pub item_at : Cells → ℕ → Result Item HiveFaultKind
 item_at cells at =
     reading key_value_at cells at >>= λ value. data_of cells value >>= λ bytes.
     Ok (record { name = value.name; kind = value.kind; bytes = bytes })
 
--- the values that stand at these offsets, in order
+-- the values that are at these offsets, in order
 abbrev pub items_at : Cells → List ℕ → Result (List Item) HiveFaultKind
 items_at cells [] = Ok []
 items_at cells (at ∷ rest) = item_at cells at >>= λ item. items_at cells rest >>= λ items. Ok (item ∷ items)
@@ -73,7 +73,7 @@ values_of cells node =
 abbrev pub ListsAt : Cells → ℕ → List ℕ → Type 0
 ListsAt cells at offsets = entries_at cells at ≡ Ok offsets
 
--- a key's children are at these offsets: as many as its node counts; where that is none, its list is not looked at
+-- a key's children are at these offsets: the same number as its node counts; where that is none, its list is not looked at
 abbrev pub ListsChildren : Cells → KeyNode → List ℕ → Type 0
 ListsChildren cells node offsets =
     MatchBool (node.child_count == 0) (offsets ≡ []) (ListsAt cells node.child_list offsets × (length offsets ≡ node.child_count))
@@ -91,11 +91,11 @@ pub record KeyStands (cells : Cells) (at : ℕ) (h : Head) (offsets : List ℕ) 
   pub children : ListsChildren cells node offsets
 
 abbrev mutual
-  -- the tree stands at the offset
+  -- the tree is at the offset
   pub Stands : Cells → ℕ → Tree → Type 0
   Stands cells at (key h ts) = (offsets : List ℕ) × KeyStands cells at h offsets × AllStand cells offsets ts
 
-  -- the trees stand at the offsets, in order
+  -- the trees are at the offsets, in order
   pub AllStand : Cells → List ℕ → Trees → Type 0
   AllStand cells offsets none = offsets ≡ []
   AllStand cells offsets (more t ts) = (at : ℕ) × (rest : List ℕ) × (offsets ≡ at ∷ rest) × Stands cells at t × AllStand cells rest ts

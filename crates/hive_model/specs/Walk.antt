@@ -9,7 +9,7 @@
 --     its value list, where the count is not 0, then for each value its cell, its name among the key's values, and its data:
 --     one cell, or for big data their cell `db`, the list of their segments, and each segment in order
 --     its subkey list, where the count is not 0: a list of lists comes before its lists
---     that the lists have as many entries as the node says
+--     that the lists have the same number of entries as the node says
 --     each child in order, with all below it
 use Rattle.std.specs.Prelude.{◌≡◌, ℕ, zero, suc, ◌-◌, Bool, true, false, ◌&&◌, not, ◌==◌, is_some, if◌then◌else◌, List, [], ◌∷◌, ◌++◌, length, Option, Some, None, Result, Ok, Err}
 use Rattle.std.specs.List.{AllPairs, list_any}
@@ -27,9 +27,9 @@ use Rattle.hive_model.specs.Valid.{deepest_level}
 use Rattle.hive_model.specs.Size.{segment_bytes, is_big, segment_count, segment_part}
 use Rattle.hive_model.specs.Bins.{Cells, or_else}
 
--- ---- cells, and what stands in them
+-- ---- cells, and what is in them
 
--- the form that stands in the cell at an offset, or why none does
+-- the form that is in the cell at an offset, or why none does
 abbrev pub reading : {F : Type 0} → (List ℕ → Result F HiveFaultKind) → Cells → ℕ → Result F HiveFaultKind
 reading form cells at = cells.payload at >>= form
 
@@ -41,7 +41,7 @@ nowhere = 4294967295
 unfoldable pub node_at : Bool → List ℕ → Result KeyNode HiveFaultKind
 node_at root p = key_node_at p >>= λ node. if (length node.name == 0) && not root then Err FormName else Ok node
 
--- a cell of big data for n bytes: it has as many segments as these fill
+-- a cell of big data for n bytes: it has the same number of segments as these fill
 unfoldable pub big_data_of : ℕ → List ℕ → Result BigData HiveFaultKind
 big_data_of n p = big_data_at p >>= λ big. if big.segments == segment_count n then Ok big else Err FormLength
 
@@ -131,13 +131,13 @@ data_checks cells value =
     else if is_big cells.version value.size then big_checks cells value.size value.offset
     else use_as false (bytes_in value.size) cells value.offset
 
--- a value, behind those of these names
+-- a value, after those of these names
 unfoldable pub value_checks : Cells → List (List ℕ) → ℕ → List Check
 value_checks cells names at =
     use_as false key_value_at cells at
     ++ below_of (reading key_value_at cells at) (λ value. name_check names at value.name ∷ data_checks cells value)
 
--- values one behind another, each told the names of those before it
+-- values in sequence, each given the names of those before it
 abbrev pub values_in_turn : Cells → List (List ℕ) → List ℕ → List Check
 values_in_turn cells names [] = []
 values_in_turn cells names (at ∷ more) =
@@ -161,7 +161,7 @@ entries_checks cells at =
     use_as false list_at cells at
     ++ below_of (reading list_at cells at) (λ list. if is_list_of_lists list.kind then leaves_checks cells list.offsets else [])
 
--- keys one behind another, by the checks of one, each told the names of those before it
+-- keys in sequence, by the checks of one, each given the names of those before it
 abbrev pub keys_in_turn : (List (List ℕ) → ℕ → List Check) → Cells → List (List ℕ) → List ℕ → List Check
 keys_in_turn checks cells names [] = []
 keys_in_turn checks cells names (at ∷ more) =
@@ -179,7 +179,7 @@ abbrev pub below_node : (List (List ℕ) → ℕ → List Check) → Cells → K
 below_node checks cells node at =
     class_checks cells node ++ (security_checks cells node ++ (values_checks cells node ++ children_checks checks cells node at))
 
--- A key and all below it, so many levels down, behind siblings of these names. It may be the root.
+-- A key and all below it, that many levels down, after siblings of these names. It may be the root.
 unfoldable pub key_checks : ℕ → Cells → Bool → List (List ℕ) → ℕ → List Check
 key_checks zero cells root names at = tests at (Some TooDeep) ∷ []
 key_checks (suc left) cells root names at =
@@ -203,13 +203,13 @@ abbrev pub at_place : ℕ → Option HiveFaultKind → Option HiveFault
 at_place at None = None
 at_place at (Some kind) = Some (record { kind = kind; at = at })
 
--- a check's fault, behind these checks: of a use, that there is no cell, that it is free, or that it is shared
+-- a check's fault, after these checks: of a use, that there is no cell, that it is free, or that it is shared
 abbrev pub fault_of : Cells → List Check → Check → Option HiveFault
 fault_of cells before (tests at kind) = at_place at kind
 fault_of cells before (uses at security) =
     or_else (at_place at (found (cells.payload at))) (at_place at (failing (list_any (clash at security) before) Shared))
 
--- the first fault among checks, behind these
+-- the first fault among checks, after these
 abbrev pub first_among : Cells → List Check → List Check → Option HiveFault
 first_among cells before [] = None
 first_among cells before (c ∷ cs) = or_else (fault_of cells before c) (first_among cells (before ++ c ∷ []) cs)

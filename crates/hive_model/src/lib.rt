@@ -1,3 +1,3 @@
 //! The book of hives: every definition of the format, the tree and the log. No code: the definitions
-//! stand in `specs/`, and the crates above cite them in their contracts.
+//! are in `specs/`, and the crates above cite them in their contracts.
 #![tactic(auto)]

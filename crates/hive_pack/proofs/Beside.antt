@@ -1,5 +1,5 @@
 -- In packed cells each cell is used once: uses come in rising order, but for the descriptor of the key above, which
--- stands beside.
+-- is beside.
 use Rattle.std.proofs.Common.{◌≡◌, ◌≤◌, ◌<◌, ◌⊎◌, inl, inr, ℕ, Bool, true, false, eqb, List, [], ◌∷◌, ◌++◌, Result, Ok, refl, sym, subst, append_assoc, arith}
 use Rattle.std.specs.Prelude.{not, ◌&&◌}
 use Rattle.std.specs.List.{list_any, AllByRecursion}
@@ -12,7 +12,7 @@ use Rattle.hive_model.specs.Walk.{reading, found, below_of, use_as, Check, uses,
 use Rattle.hive_model.proofs.UsedOnce.{OnceBehind}
 use Rattle.std.proofs.lemmas.Map.Views.{exact_unsigned_eq}
 
--- a place before a range, or behind it
+-- a place before a range, or after it
 abbrev pub Outside : ℕ → ℕ → ℕ → Type 0
 Outside s lo hi = (s < lo) ⊎ (hi ≤ s)
 
@@ -99,7 +99,7 @@ clean_none most lo hi s d (tests at k ∷ cs) l c = (tt, clean_none most lo hi s
 clean_none most lo hi s d (uses at b ∷ cs) l c =
     ((c.0.0, λ e lt. absurd (omega arith)), clean_none most lo hi s d cs l c.1)
 
--- what is used in a range is clean for the one behind it
+-- what is used in a range is clean for the one after it
 clean_within : (most lo mid hi s : ℕ) (cs : List Check) → Outside s lo hi → lo ≤ mid → mid ≤ hi
     → Within most lo mid s cs
     → Clean most mid hi s cs

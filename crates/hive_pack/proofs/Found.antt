@@ -12,7 +12,7 @@ use Rattle.hive_model.specs.Walk.{reading}
 use Rattle.hive_model.specs.Packed.{filled, allocated_cell, packed_cells, whole, rounded, free_cells, packed_bins}
 use Rattle.hive_pack.proofs.Rows.{space, length_filled}
 
--- these payloads stand in a row from here on
+-- these payloads are in a row from here on
 abbrev pub Has : Cells → ℕ → List (List ℕ) → Type 0
 Has cells at [] = Unit {0}
 Has cells at (p ∷ ps) = (cells.payload at ≡ Ok (filled p)) × Has cells (at + cell (length p)) ps
@@ -26,14 +26,14 @@ has_back cells at [] b h = let e : at + 0 ≡ at = omega arith in rw e h
 has_back cells at (p ∷ ps) b h = let e : at + (cell (length p) + space ps) ≡ at + cell (length p) + space ps =
     omega arith in rw e (has_back cells (at + cell (length p)) ps b h.1)
 
--- behind cells that take so many bytes
+-- after cells that take that many bytes
 pub has_behind : (cells : Cells) (at n place : ℕ) (a b : List (List ℕ)) → space a ≡ n → at + n ≡ place
     → Has cells at (a ++ b)
     → Has cells place b
 has_behind cells at n place a b s p h =
     subst (λ (k : ℕ). Has cells k b) (ap (λ k. at + k) s ∙ p) (has_back cells at a b h)
 
--- behind a payload of k bytes
+-- after a payload of k bytes
 pub has_next : (cells : Cells) (at k : ℕ) (p : List ℕ) (ps : List (List ℕ)) → length p ≡ k → Has cells at (p ∷ ps)
     → Has cells (at + cell k) ps
 has_next cells at k p ps e h = subst (λ (n : ℕ). Has cells (at + cell n) ps) e h.1
@@ -70,7 +70,7 @@ unfolding packed_bins
 has_all version t = has_seen version 32 (packed_cells version t)
     (free_cells (rounded (whole version t) - whole version t))
 
--- a form that is read, whatever fills the cell behind it, is read in its cell
+-- a form that is read, whatever fills the cell after it, is read in its cell
 pub reads_in : {F : Type 0} (form : List ℕ → Result F HiveFaultKind) (cells : Cells) (at : ℕ) (p : List ℕ) (x : F)
     → cells.payload at ≡ Ok (filled p) → ((slack : List ℕ) → form (p ++ slack) ≡ Ok x) → reading form cells at ≡ Ok x
 unfolding filled

@@ -1,4 +1,4 @@
--- Values stand in their packed cells.
+-- Values are in their packed cells.
 use Rattle.std.proofs.Common.{◌≡◌, ◌≤◌, ◌<◌, ◌⊎◌, inl, inr, ℕ, zero, suc, ◌+◌, ◌*◌, ◌-◌, ◌^◌, Bool, true, false, eqb, List, [], ◌∷◌, ◌++◌, length, get_or, take, drop, min, Ok, eq-eqb, refl, sym, ap, subst, ◌∙◌, arith}
 use Rattle.std.specs.Prelude.{nat_lt, nat_le, slice_index, if◌then◌else◌}
 use Rattle.std.specs.Int.{w32, from_le_bytes, to_le_bytes}
@@ -136,14 +136,14 @@ pub segment_places_fit : (k at : ℕ) → at + 16352 * k < 2 ^ 32 → AreOffsets
 segment_places_fit zero at h = tt
 segment_places_fit (suc k) at h = (omega arith, segment_places_fit k (at + cell 16344) (omega arith))
 
--- a cell with so many bytes is read
+-- a cell with that many bytes is read
 segment_read : (cells : Cells) (at n : ℕ) (p : List ℕ) → cells.payload at ≡ Ok (filled p) → length p ≡ n
     → reading (bytes_in n) cells at ≡ Ok p
 segment_read cells at n p h e =
     reads_in (bytes_in n) cells at p p h
     (λ slack. subst (λ (k : ℕ). bytes_in k (p ++ slack) ≡ Ok p) e (bytes_again p slack))
 
--- segments one behind another are read as the bytes that they hold
+-- segments in sequence are read as the bytes that they hold
 segments_read : (cells : Cells) (k n at : ℕ) (bytes : List ℕ) → length bytes ≡ n → segment_count n ≡ k
     → Has cells at (segments k bytes) → joined_segments cells n (segment_places k at) ≡ Ok bytes
 segments_read cells zero n at bytes l e has = ap (λ (x : List ℕ). Ok x) (sym (no_bytes n bytes l (omega arith)))
@@ -186,7 +186,7 @@ pub record BigStands (cells : Cells) (at k : ℕ) (bytes : List ℕ) : Type 0 wh
   pub list : reading (offsets_in k) cells (at + cell 8) ≡ Ok (segment_places k (at + cell 8 + cell (4 * k)))
   pub segments : joined_segments cells (length bytes) (segment_places k (at + cell 8 + cell (4 * k))) ≡ Ok bytes
 
--- the cell of big data is read, and has as many segments as the bytes fill
+-- the cell of big data is read, and has the same number of segments as the bytes fill
 big_again : (n k at : ℕ) (slack : List ℕ) → segment_count n ≡ k → k < 2 ^ 16 → at < 2 ^ 32
     → big_data_of n (big_data_text (record { segments = k; list = at }) ++ slack)
     ≡ Ok (record { segments = k; list = at })
@@ -282,7 +282,7 @@ data_stands cells at v has g le few = go (nat_lt 4 (length v.bytes)) refl
         (filled_fits v.bytes (4 - length v.bytes) g.bytes) refl in
         rw (e, large, n, again, take_at v.bytes (replicate (4 - length v.bytes) 0) (length v.bytes) refl) refl
 
--- the cells of a value's data stand behind its own
+-- the cells of a value's data stand after its own
 pub data_has : (cells : Cells) (at : ℕ) (v : Item) → Has cells at (item_cells cells.version at v)
     → Has cells (data_place at v) (data_cells cells.version (data_place at v) v.bytes)
 unfolding item_cells

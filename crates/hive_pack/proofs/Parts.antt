@@ -8,7 +8,7 @@ use Rattle.hive_model.specs.Lists.{entries_text, lf_text, lh_text}
 use Rattle.hive_model.specs.Packed.{segment_places, segments, part_places, list_text, parts}
 use Rattle.hive_pack.specs.Writes.{second_of}
 
--- the first four bytes of a name, zeros behind a short one
+-- the first four bytes of a name, zeros after a short one
 pub first_four : (name : List ℕ)
     → slice_index name 0 ∷ slice_index name 1 ∷ slice_index name 2 ∷ slice_index name 3 ∷ []
     ≡ take 4 (name ++ 0 ∷ 0 ∷ 0 ∷ 0 ∷ [])
@@ -18,7 +18,7 @@ first_four (a ∷ b ∷ []) = refl
 first_four (a ∷ b ∷ c ∷ []) = refl
 first_four (a ∷ b ∷ c ∷ d ∷ name) = refl
 
--- a front of at most n, where there are no more
+-- a prefix of at most n, where there are no more
 take_least : {X : Type 0} (k n : ℕ) (xs : List X) → k ≡ min (length xs) n → take k xs ≡ take n xs
 take_least zero zero xs e = refl
 take_least zero (suc n) [] e = refl
@@ -37,7 +37,7 @@ drop_least (suc k) zero (x ∷ xs) e = absurd (omega arith)
 drop_least (suc k) (suc n) [] e = refl
 drop_least (suc k) (suc n) (x ∷ xs) e = drop_least k n xs (omega arith)
 
--- the next list, and those behind it
+-- the next list, and those after it
 pub parts_next : (version : HiveVersion) (left k : ℕ) (places : List ℕ) (hints : List (List ℕ)) → 0 < left
     → length places ≡ length hints → k ≡ min (length places) 500
     → parts version left places hints
@@ -62,7 +62,7 @@ unfolding lf_text lh_text
 list_is V3 places hints = refl
 list_is V5 places hints = refl
 
--- the next segment, and those behind it
+-- the next segment, and those after it
 pub segments_next : (left k : ℕ) (bytes : List ℕ) → 0 < left → k ≡ min (length bytes) 16344
     → segments left bytes ≡ take k bytes ∷ segments (left - 1) (drop k bytes)
 segments_next zero k bytes h e = absurd (omega arith)
@@ -70,7 +70,7 @@ segments_next (suc left) k bytes h e =
     let n : suc left - 1 ≡ left = omega arith in
     rw (n, take_least k 16344 bytes e, drop_least k 16344 bytes e) refl
 
--- the next place of a full segment, and those behind it
+-- the next place of a full segment, and those after it
 pub segment_starts_next : (left place : ℕ) → 0 < left
     → segment_places left place ≡ place ∷ segment_places (left - 1) (place + 16352)
 segment_starts_next zero place h = absurd (omega arith)
@@ -78,7 +78,7 @@ segment_starts_next (suc left) place h =
     let n : suc left - 1 ≡ left = omega arith in
     rw n refl
 
--- the next place of a full list, and those behind it
+-- the next place of a full list, and those after it
 pub starts_next : (left place : ℕ) → 0 < left → part_places left place ≡ place ∷ part_places (left - 1) (place + 4008)
 starts_next zero place h = absurd (omega arith)
 starts_next (suc left) place h =

@@ -112,12 +112,12 @@ space_segments (suc k) bytes =
     ∙ ap (λ n. cell (min 16344 (length bytes)) + n)
     (space_segments k (drop 16344 bytes) ∙ ap (λ n. cells_sum (segment_sizes k n)) (length-drop 16344 bytes))
 
--- as many places as segments
+-- the same number of places as segments
 pub length_segment_places : (k at : ℕ) → length (segment_places k at) ≡ k
 length_segment_places zero at = refl
 length_segment_places (suc k) at = omega (arith, length_segment_places k (at + cell 16344))
 
--- the list of so many segments
+-- the list of that many segments
 pub length_segment_list : (k at : ℕ) → length (offsets_text (segment_places k at)) ≡ 4 * k
 length_segment_list k at = length_offsets (segment_places k at) ∙ ap (λ n. 4 * n) (length_segment_places k at)
 
@@ -149,7 +149,7 @@ space_data version at bytes = go (is_big version n) (nat_lt 4 n)
     go false true = refl
     go false false = refl
 
--- segments of so many bytes: all but the last take 16,352
+-- segments of that many bytes: all but the last take 16,352
 pub segments_room : (k n : ℕ) → segment_count n ≡ k → 16352 * k ≤ cells_sum (segment_sizes k n) + 16344
 segments_room zero n e = omega arith
 segments_room (suc k) n e = go (cases_lt 16344 n) (segments_room k (n - 16344))
@@ -189,7 +189,7 @@ segments_exact (suc k) n e =
     let rest : n - 16344 - k * 16344 ≡ n - suc k * 16344 = omega arith in
     rw m (omega (arith, segments_exact k (n - 16344) (omega arith), ap cell rest))
 
--- the same, with as many segments as the bytes fill
+-- the same, with the same number of segments as the bytes fill
 pub segments_size : (n : ℕ) → 0 < n
     → cells_sum (segment_sizes (segment_count n) n) ≡ (segment_count n - 1) * 16352
     + cell (n - (segment_count n - 1) * 16344)
@@ -197,7 +197,7 @@ segments_size n h =
     let k : segment_count n ≡ suc (segment_count n - 1) = omega arith in
     ap (λ (m : ℕ). cells_sum (segment_sizes m n)) k ∙ segments_exact (segment_count n - 1) n k
 
--- data have at most as many bytes as their cells, unless they are up to four
+-- data have at most the same number of bytes as their cells, unless they are up to four
 pub data_few : (version : HiveVersion) (bytes : List ℕ) → data_size version bytes ≤ 16777216 → length bytes ≤ 16777216
 data_few version bytes = go (is_big version n) (nat_lt 4 n) refl refl
   where

@@ -39,7 +39,7 @@ outside s lo hi lo' hi' l h (inr p) = inr (omega arith)
 
 -- ---- values
 
--- segments one behind another
+-- segments in sequence
 segments_good : (cells : Cells) (k n at hi d : ℕ) → at + 16352 * k ≤ hi + 16344 → Outside d at hi
     → Good at hi d (segments_checks cells n (segment_places k at))
 segments_good cells zero n at hi d e o = good_none at hi d
@@ -234,7 +234,7 @@ above_below up at p (b ∷ s) i l = go (has_own up.security (b ∷ s)) i
     go false (inl q) = inl (omega arith)
     go false (inr q) = inr q
 
--- what a key tells its children stands beside what is behind its descriptor
+-- what a key passes to its children is beside what is after its descriptor
 beside_below : (up : Above) (at p hi : ℕ) (s : List ℕ) → IsBeside up at hi → at < p → hi ≤ 16777216
     → Outside (security_place_of up p s) (p + security_size up.security s) hi
 beside_below up at p hi [] i l h = inr (omega arith)

@@ -1,4 +1,4 @@
--- What stands behind and before a place in a ring whose places rise.
+-- What stands after and before a place in a ring whose places rise.
 use Rattle.std.proofs.Common.{◌≡◌, ◌≤◌, ◌<◌, ◌-◌, ◌+◌, ◌⊎◌, inl, inr, ℕ, zero, suc, true, false, eqb, eq-eqb, List, [], ◌∷◌, length, get_or, drop, refl, sym, ap, ◌∙◌, arith}
 use Rattle.std.proofs.lemmas.Bool.{ne_eqb, cases_lt}
 use Rattle.hive_model.specs.Packed.{first_or, last_or, behind, ahead, forward, backward}

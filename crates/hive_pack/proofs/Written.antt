@@ -45,7 +45,7 @@ numbers_whole (key h ts) f g = (f, subst AllHaveNumbers (trees_listed ts) g)
 
 -- ---- values
 
--- big data that were written cell by cell, to stand at a place
+-- big data that were written cell by cell, to be at a place
 pub big_written : (bytes old one two new : List ℕ) (at k count list first : ℕ) → k ≡ count → list ≡ at + 16
     → first ≡ list + cell (4 * k)
     → one ≡ old ++ cell_text (big_data_text (record { segments = k; list = list }))
@@ -64,7 +64,7 @@ big_written bytes old one two new at k count list first e l f a b d =
     ++ (cell_text (offsets_text (segment_places k (first-is j))) ++ all)))
     ∙ ap (λ (n : ℕ). old ++ text (big_cells at n bytes)) e
 
--- behind a value's cell its data begin
+-- after a value's cell its data begin
 pub data_at : (old one : List ℕ) (v : Item) → one ≡ old ++ cell_text (key_value_text (item_form (length old) v))
     → length one ≡ data_place (length old) v
 data_at old one v a =
@@ -327,7 +327,7 @@ child_next_place version up t out next e = let here = cells_of version up (lengt
     ap (λ (n : List ℕ). length n) e ∙ length-append out (text here)
     ∙ ap (λ k. length out + k) (length_text here ∙ space_tree version up (length out) t)
 
--- children: those that are written, and what is left to write
+-- children: those that are written, and what remains to write
 pub child_next : (version : HiveVersion) (up : Above) (t : Tree) (ts : Trees) (out next : List ℕ)
     → next ≡ out ++ text (cells_of version up (length out) t)
     → next ++ text (cells_of_all version up (length next) ts) ≡ out

@@ -1,4 +1,4 @@
--- What is told to a key that is to stand below another one, in cells that are there. (This project's own.)
+-- What is passed to a key that is to be below another one, in cells that are there. (This project's own.)
 use Rattle.std.specs.Prelude.{ℕ, List}
 use Rattle.nt_bytes.specs.declared.version.HiveVersion.{HiveVersion}
 use Rattle.hive_model.specs.Tree.{Tree}

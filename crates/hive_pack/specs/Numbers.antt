@@ -32,7 +32,7 @@ abbrev mutual
   AllHaveNumbers none = Unit {0}
   AllHaveNumbers (more t ts) = HasNumbers t × AllHaveNumbers ts
 
--- In the bins of a packed tree the tree stands at 32.
+-- In the bins of a packed tree the tree is at 32.
 abbrev pub PackedStands : Type 0
 PackedStands =
     (version : HiveVersion) (t : Tree) → IsValid t → HasNumbers t → bulk_of version t ≤ 16773120 → Stands (look_up version (packed_bins version t)) 32 t

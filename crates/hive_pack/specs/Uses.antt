@@ -11,7 +11,7 @@ abbrev mutual
   named version up at (key h ts) =
       (node_of version up at h (listed ts)).security ∷ named_of_all version (below up at h) (children_place version up.security at h (count ts)) ts
 
-  -- the same of keys one behind another from here on
+  -- the same of keys in sequence from here on
   pub named_of_all : HiveVersion → Above → ℕ → Trees → List ℕ
   named_of_all version up at none = []
   named_of_all version up at (more t ts) = named version up at t ++ named_of_all version up (at + size version up.security t) ts
@@ -21,7 +21,7 @@ abbrev pub times : ℕ → List ℕ → ℕ
 times at [] = 0
 times at (x ∷ xs) = (if x == at then 1 else 0) + times at xs
 
--- each security cell of a tree that stands here counts as many uses, one for its own key and one for each below that shares
+-- each security cell of a tree that stands here counts the same number of uses, one for its own key and one for each below that shares
 -- it (`head_cells`), as its place is among these
 abbrev mutual
   pub AreCounted : HiveVersion → List ℕ → Above → ℕ → Tree → Type 0
@@ -29,7 +29,7 @@ abbrev mutual
       (has_own up.security h.security ≡ true → 1 + sharers_of_all h.security ts ≡ times (descriptor_place at h) names)
       × AllAreCounted version names (below up at h) (children_place version up.security at h (count ts)) ts
 
-  -- the same of trees one behind another from here on
+  -- the same of trees in sequence from here on
   pub AllAreCounted : HiveVersion → List ℕ → Above → ℕ → Trees → Type 0
   AllAreCounted version names up at none = Unit {0}
   AllAreCounted version names up at (more t ts) =

@@ -6,7 +6,7 @@ use Rattle.hive_model.specs.Size.{segment_count, segment_sizes, cells_sum}
 use Rattle.hive_model.specs.Packed.{Above}
 use Rattle.hive_pack.specs.declared.security.Up.{Up}
 
--- what a key tells its children, as the book has it
+-- what a key passes to its children, as the book has it
 abbrev pub above : Up → Above
 above up = record { place = up.place; security = up.security.now; security_place = up.security_place; ring = up.ring.now }
 
@@ -14,7 +14,7 @@ above up = record { place = up.place; security = up.security.now; security_place
 abbrev pub IsRising : List ℕ → Type 0
 IsRising xs = (i j : ℕ) → i < j → j < length xs → slice_index_or xs i 0 < slice_index_or xs j 0
 
--- the cells of so many bytes of big data: `db`, the list of the segments, and the segments
+-- the cells of that many bytes of big data: `db`, the list of the segments, and the segments
 abbrev pub big_size : ℕ → ℕ
 big_size n = cells_sum (8 ∷ 4 * segment_count n ∷ segment_sizes (segment_count n) n)
 

@@ -1,4 +1,4 @@
-//! The cells of a key that is to stand below another one, in bins data that are there.
+//! The cells of a key that is to be below another one, in bins data that are there.
 
 ghost use Rattle.std.specs.Prelude.{◌≡◌, ◌≤◌, ◌+◌, IfOk};
 ghost use Rattle.hive_model.specs.Valid.{HoldsKeys};
@@ -30,8 +30,8 @@ pub fn sharing_keys(security: &[u8], key: &Key) -> u32
     sharers(security, key)
 }
 
-/// The cells of a key and of all below it, one behind another, which are to stand at a place in bins data. The key is a child of
-/// the one at `parent`, and shares a descriptor whose cell stands at `shared_at` with it. The new cells of security are a ring of
+/// The cells of a key and of all below it, in sequence, which are to be at a place in bins data. The key is a child of
+/// the one at `parent`, and shares a descriptor whose cell is at `shared_at` with it. The new cells of security are a ring of
 /// their own.
 pub fn cells_below(
     alloc: Global,

@@ -21,7 +21,7 @@ use std::alloc::{AllocError, Global};
 /// An offset that names nothing.
 pub const NOWHERE: u32 = 0xffff_ffff;
 
-/// At most four bytes as a number, with zeros behind them.
+/// At most four bytes as a number, with zeros after them.
 fn own_number(alloc: Global, bytes: &[u8]) -> Result<u32, AllocError>
     requires { length bytes.now ≤ 4 }
     ensures { IfOk result (λ n. n ≡ from_le_bytes w32 (bytes.now ++ replicate (4 - length bytes.now) 0)) }

@@ -8,7 +8,7 @@ ghost use Rattle.hive_pack.specs.Numbers.{PackedStands, PackedIsWellFormed, Pack
 ghost use Rattle.hive_pack.specs.Uses.{PackedCountsUses};
 ghost use Rattle.hive_pack.specs.Writes.{IsRising};
 
-/// In the bins of a packed tree the tree stands at 32.
+/// In the bins of a packed tree the tree is at 32.
 pub fn packed_tree_stands()
     ensures { PackedStands }
 {}

@@ -1,5 +1,5 @@
 //! The packed form of a tree in a version of the format: the bins data in which each key stands with
-//! its cells one behind another.
+//! its cells in sequence.
 //!
 //! `pack` appends cell after cell, and fills each list of offsets in once they are known, so its
 //! work is linear in the tree. Rules: regf format 1.3 and 1.5 for the cells, this project's own for

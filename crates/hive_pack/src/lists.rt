@@ -16,7 +16,7 @@ use std::alloc::{AllocError, Global};
 
 // ---- hints
 
-/// A unit as a byte, or 0 behind the name.
+/// A unit as a byte, or 0 after the name.
 fn byte_or_zero(name: &[u16], at: usize) -> u8
     requires { is_narrow name.now ≡ true }
     ensures { result ≡ slice_index name.now at }
@@ -113,7 +113,7 @@ fn write_part(
     put_cell(out, list.as_slice())
 }
 
-/// Writes lists of 500 entries and of the rest, so many of them.
+/// Writes lists of 500 entries and of the rest, that many of them.
 fn write_parts(
     alloc: Global,
     out: &mut Bytes,
@@ -141,7 +141,7 @@ fn write_parts(
     Ok(())
 }
 
-/// Where full lists begin that stand one behind another, so many of them.
+/// Where full lists begin that are in sequence, that many of them.
 fn part_starts(alloc: Global, count: usize, at: usize) -> Result<Vec<u32>, AllocError>
     requires { at + 4008 * count < 4294967296 }
     ensures { IfOk result (λ v. v.items ≡ part_places count at) }
@@ -157,7 +157,7 @@ fn part_starts(alloc: Global, count: usize, at: usize) -> Result<Vec<u32>, Alloc
     Ok(starts)
 }
 
-/// Where the first list of a list of lists begins that stands at this offset in bytes, with so many children.
+/// Where the first list of a list of lists begins that is at this offset in bytes, with that many children.
 pub fn first_part(n: usize, at: usize) -> usize
     requires few { n ≤ 16777216 }
     requires room { at ≤ 16777216 }
@@ -189,7 +189,7 @@ fn write_list_of_lists(
     write_parts(alloc, out, version, count, places, hints)
 }
 
-/// Writes the subkey lists of children at these places and with these hints, to stand at an offset in bytes:
+/// Writes the subkey lists of children at these places and with these hints, to be at an offset in bytes:
 /// one list of at most 500 entries, or a list of such.
 #[tactic(auto, unfolding(hive_model::specs::Packed::list_cells))]
 pub fn write_lists(

@@ -14,7 +14,7 @@ use nt_bytes::Bytes;
 use reg_tree::Key;
 use std::alloc::{AllocError, Global};
 
-/// What is told to the children of a key: where it stands, its descriptor, where that stands, and
+/// What is passed to the children of a key: where it stands, its descriptor, where that stands, and
 /// the places of all security cells in rising order.
 #[derive(Clone, Copy)]
 pub(crate) struct Up<'a> {
@@ -38,7 +38,7 @@ pub(crate) fn security_place(up: Up<'_>, place: u32, security: &[u8]) -> u32
     }
 }
 
-/// What a key tells its children whose cells begin here.
+/// What a key passes to its children whose cells begin here.
 pub(crate) fn below_up<'a>(up: Up<'a>, at: usize, key: &'a Key) -> Up<'a>
     requires { at + node_size (head key.now) + class_size (head key.now).class ≤ 16777216 }
     ensures { above result ≡ below (above up.entry) at (head key.entry.now) }
@@ -81,7 +81,7 @@ fn sharers_of_all(security: &[u8], keys: &[Key]) -> u32
     }
 }
 
-/// The security cell behind the one at this place, in the ring.
+/// The security cell after the one at this place, in the ring.
 fn forward(ring: &[u32], at: u32) -> u32
     requires { IsRising ring.now }
     ensures { result ≡ forward ring.now at }

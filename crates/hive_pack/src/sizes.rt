@@ -80,7 +80,7 @@ pub(crate) fn security_len(shared: &[u8], security: &[u8]) -> usize
     }
 }
 
-/// Whether data of so many bytes stand in segments.
+/// Whether data of that many bytes are in segments.
 pub fn is_big(version: HiveVersion, n: usize) -> bool
     ensures { result ≡ is_big version n }
 {
@@ -90,7 +90,7 @@ pub fn is_big(version: HiveVersion, n: usize) -> bool
     }
 }
 
-/// How many segments so many bytes fill.
+/// How many segments that many bytes fill.
 pub(crate) fn segment_count(n: usize) -> usize
     requires { n < 2147483648 }
     ensures { result ≡ segment_count n }
@@ -98,7 +98,7 @@ pub(crate) fn segment_count(n: usize) -> usize
     (n + 16343) / SEGMENT
 }
 
-/// How many bytes the cells of so many bytes in segments take: of `db`, of the list, and of segments
+/// How many bytes the cells of that many bytes in segments take: of `db`, of the list, and of segments
 /// that are full but for the last.
 #[tactic(auto, using(crate::proofs::Rows::segments_size))]
 fn big_len(n: usize) -> usize
@@ -111,7 +111,7 @@ fn big_len(n: usize) -> usize
     16 + cell_size(4 * count) + full * SEGMENT_CELL + cell_size(n - full * SEGMENT)
 }
 
-/// How many bytes the cells of so many bytes of data take: none where these stand in the value.
+/// How many bytes the cells of that many bytes of data take: none where these are in the value.
 pub fn data_len(version: HiveVersion, n: usize) -> usize
     requires { n < 2147483648 }
     ensures len { result ≡ cells_sum (data_sizes version n) }
@@ -151,7 +151,7 @@ pub(crate) fn values_len(version: HiveVersion, values: &[Value]) -> usize
     }
 }
 
-/// How many lists so many children fill.
+/// How many lists that many children fill.
 pub fn part_count(n: usize) -> usize
     requires { n ≤ 16777216 }
     ensures { result ≡ part_count n }
@@ -159,7 +159,7 @@ pub fn part_count(n: usize) -> usize
     (n + 499) / 500
 }
 
-/// How many bytes the lists of so many children take.
+/// How many bytes the lists of that many children take.
 pub fn list_len(n: usize) -> usize
     requires { n ≤ 16777216 }
     ensures { result ≡ list_size n }

@@ -39,7 +39,7 @@ pub(crate) fn write_class(out: &mut Bytes, class: &[u8]) -> Result<(), AllocErro
     put_cell(out, class)
 }
 
-/// The list of so many full segments that stand one behind another from here on.
+/// The list of that many full segments that are in sequence from here on.
 fn segment_list(alloc: Global, count: usize, at: usize) -> Result<Bytes, AllocError>
     requires { at + 16352 * count < 4294967296 }
     ensures { IfOk result (λ b. b ≡ offsets_text (segment_places count at)) }
@@ -55,7 +55,7 @@ fn segment_list(alloc: Global, count: usize, at: usize) -> Result<Bytes, AllocEr
     Ok(list)
 }
 
-/// Writes segments of 16,344 bytes and of the rest, so many of them.
+/// Writes segments of 16,344 bytes and of the rest, that many of them.
 fn write_segments(out: &mut Bytes, count: usize, bytes: &[u8]) -> Result<(), AllocError>
     ensures { OnOk result (out.new ≡ out.old ++ text (segments count bytes.now)) }
 {
@@ -71,7 +71,7 @@ fn write_segments(out: &mut Bytes, count: usize, bytes: &[u8]) -> Result<(), All
     Ok(())
 }
 
-/// Writes data in segments, to stand at a place: `db`, the list of the segments, and the segments.
+/// Writes data in segments, to be at a place: `db`, the list of the segments, and the segments.
 fn write_big(alloc: Global, out: &mut Bytes, at: usize, bytes: &[u8]) -> Result<(), AllocError>
     requires room { at + big_size (length bytes.now) ≤ 16777216 }
     requires few { length bytes.now ≤ 16777216 }
@@ -90,7 +90,7 @@ fn write_big(alloc: Global, out: &mut Bytes, at: usize, bytes: &[u8]) -> Result<
     write_segments(out, count, bytes)
 }
 
-/// Writes the cells of a value's data, to stand at this offset in bytes, where they are over four bytes:
+/// Writes the cells of a value's data, to be at this offset in bytes, where they are over four bytes:
 /// one, or in version 1.5 for over 16,344 bytes those of segments.
 pub fn write_data(
     alloc: Global,

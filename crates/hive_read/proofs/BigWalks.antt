@@ -13,7 +13,7 @@ use Rattle.hive_read.proofs.Walks.{walk-on, walk-off, walk-below}
 
 -- ---- segments
 
--- the walk over segments ends where the first one has a fault, and goes on behind it where it has none
+-- the walk over segments ends where the first one has a fault, and goes on after it where it has none
 pub segments-off : (cells : Cells) (seen : Seen) (n : ℕ) (offsets : List ℕ) (at : ℕ) (rest : List ℕ) (f : HiveFault)
     → offsets ≡ at ∷ rest
     → walk cells seen (use_as false (bytes_in (segment_part n)) cells at) ≡ Err f

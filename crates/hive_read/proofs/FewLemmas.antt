@@ -1,4 +1,4 @@
--- Names left where they stand: which are known, and that none comes behind the greatest.
+-- Names left where they stand: which are known, and that none comes after the greatest.
 use Rattle.std.proofs.Common.{◌≡◌, ◌≤◌, ◌-◌, ℕ, Bool, true, false, ◌||◌, List, [], ◌∷◌, ◌++◌, map, length, take, drop, get_or, refl, sym, ap, ◌∙◌, arith}
 use Rattle.std.specs.List.{list_any}
 use Rattle.std.specs.Ordering.{is_eq, is_lt, is_gt, nat_cmp, ordering_reverse}
@@ -26,7 +26,7 @@ greater Less e = absurd cc
 greater Equal e = absurd cc
 greater Greater e = refl
 
--- a name that folds greater than the greatest stands behind it in the order of the keys
+-- a name that folds greater than the greatest stands after it in the order of the keys
 above : (top name : List ℕ) → is_gt (folded_order name top) ≡ true → slice_cmp nat_cmp (folded top) (folded name) ≡ Less
 above top name g = nat_list_cmp_total.antisymm (folded top) (folded name)
     ∙ ap ordering_reverse (greater (folded_order name top) g)
@@ -34,7 +34,7 @@ above top name g = nat_list_cmp_total.antisymm (folded top) (folded name)
 key-same : (name k : List ℕ) → slice_cmp nat_cmp (folded name) k ≡ Equal → folded name ≡ k
 key-same name k e = same-bytes (folded name) k (sym (is_eq-slice_cmp (folded name) k) ∙ ap is_eq e)
 
--- what comes behind the greatest is unlike each
+-- what comes after the greatest is unlike each
 above-unlike : (top name : List ℕ) (keys : List (List ℕ)) → NoneBehind top keys → is_gt (folded_order name top) ≡ true
     → list_any (folds_to name) keys ≡ false
 above-unlike top name [] none g = refl
@@ -57,7 +57,7 @@ pub above-unknown : (top name : List ℕ) (keys : List (List ℕ)) → NoneBehin
 unfolding has_name
 above-unknown top name keys none g = above-unlike top name keys none g
 
--- and none comes behind it
+-- and none comes after it
 pub above-none : (top name : List ℕ) (keys : List (List ℕ)) → NoneBehind top keys → is_gt (folded_order name top) ≡ true
     → NoneBehind name keys
 above-none top name [] none g = refl
@@ -91,7 +91,7 @@ has-pushed names n m =
     ∙ ap (λ b. list_any (folds_to m) (map folded_name names) || b)
     (folds_to-folded m (name_of n) (folded_name n) refl)
 
--- none comes behind the greatest with a name that does not
+-- none comes after the greatest with a name that does not
 pub none-pushed : (top : List ℕ) (names : List StoredName) (n : StoredName) → NoneBehind top (map folded_name names)
     → is_behind top (folded_name n) ≡ false → NoneBehind top (map folded_name (names ++ n ∷ []))
 none-pushed top names n none b =
@@ -102,7 +102,7 @@ not-less Less e = absurd cc
 not-less Equal e = refl
 not-less Greater e = refl
 
--- no name is behind itself, nor is one that folds no greater behind the greatest
+-- no name is after itself, nor is one that folds no greater after the greatest
 pub not-behind-itself : (n : StoredName) → is_behind (name_of n) (folded_name n) ≡ false
 not-behind-itself n = not-less (slice_cmp nat_cmp (folded_name n) (folded_name n))
     (nat_list_cmp_total.antisymm (folded_name n) (folded_name n))

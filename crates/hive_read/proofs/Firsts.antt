@@ -64,7 +64,7 @@ abbrev pub Agrees : Result Seen HiveFault → Option HiveFault → Type 0
 Agrees (Ok after) first = first ≡ None
 Agrees (Err f) first = first ≡ Some f
 
--- the walk over checks behind others, by what the cells before it used
+-- the walk over checks after others, by what the cells before it used
 pub walk-first : (cells : Cells) (seen : Seen) (before cs : List Check) → Remembers seen before
     → Agrees (walk cells seen cs) (first_among cells before cs)
 walk-first cells seen before [] h = refl

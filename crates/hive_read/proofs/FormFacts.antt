@@ -241,7 +241,7 @@ offsets-length n p offsets e =
 
 -- ---- flags
 
--- the flag that tells how the name is stored is no flag of the tree
+-- the flag that shows how the name is stored is no flag of the tree
 pub own-flags : (flags : ℕ) → tree_flags flags / 32 % 2 ≡ 0
 own-flags flags = go (flags / 32 % 2 == 1) refl
   where

@@ -37,7 +37,7 @@ regrouped a b c = omega arith
 turned : (a b : ℕ) → a + b ≡ b + a
 turned a b = omega arith
 
--- ---- keys one behind another
+-- ---- keys in sequence
 
 -- a key is there whose name is added
 abbrev pub KeyHere : Cells → Bool → ℕ → List (List ℕ) → List (List ℕ) → Tree → Type 0
@@ -53,7 +53,7 @@ pub record KeysSoFar (cells : Cells) (left : ℕ) (shared offsets rest : List �
   pub knows : Knows taken (map key_name children)
   pub counted : total ≡ capped (sum_by (size cells.version shared) children)
 
--- at first no key is before these; each that is there is one more; behind the last all were walked
+-- at first no key is before these; each that is there is one more; after the last all were walked
 pub keys-first : (cells : Cells) (left : ℕ) (shared offsets : List ℕ) (taken : List (List ℕ)) (seen : Seen) → taken ≡ []
     → KeysSoFar cells left shared offsets offsets taken 0 seen seen
 keys-first cells left shared offsets taken seen e =
@@ -224,13 +224,13 @@ key-counts cells root at node shared old new n r a c =
 
 -- ---- the whole tree
 
--- a walk that stopped is what `judge` answers: the first fault of the hive, or want of memory
+-- a walk that stopped is what `judge` answers: the first fault of the hive, or lack of memory
 pub judged-err : (cells : Cells) (root : ℕ) (old new : Seen) (e : ReadStop) → old ≡ map.empty
     → Stops (walk cells old (key_checks 512 cells true [] root)) e → Judges cells root (Err e)
 judged-err cells root old new stops.Memory o s = tt
 judged-err cells root old new (stops.Fault f) o s = reads-root cells root old new (Err (stops.Fault f)) o s
 
--- and what its end is: the bulk of the tree that stands at the root
+-- and what its end is: the bulk of the tree that is at the root
 pub judged-ok : (cells : Cells) (root : ℕ) (old new : Seen) (known now : List (List ℕ)) (n total : ℕ) → AreBytes cells
     → old ≡ map.empty
     → walk cells old (key_checks 512 cells true [] root) ≡ Ok new

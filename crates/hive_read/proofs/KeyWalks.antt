@@ -175,7 +175,7 @@ children-on checks cells seen after node at offsets n e r d =
 abbrev pub key_name : Tree → List ℕ
 key_name t = (head t).name
 
--- the walk over keys ends at the first fault of one, and goes on behind one that stands
+-- the walk over keys ends at the first fault of one, and goes on after one that stands
 pub keys-off : (left : ℕ) (cells : Cells) (seen : Seen) (names : List (List ℕ)) (offsets : List ℕ) (at : ℕ)
     (rest : List ℕ) (f : HiveFault) → offsets ≡ at ∷ rest
     → walk cells seen (key_checks left cells false names at) ≡ Err f

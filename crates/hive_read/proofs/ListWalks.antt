@@ -9,7 +9,7 @@ use Rattle.hive_model.specs.Walk.{Check, reading, below_of, use_as, is_list_of_l
 use Rattle.hive_read.specs.Walked.{Seen, walk}
 use Rattle.hive_read.proofs.Walks.{walk-on, walk-off, walk-below}
 
--- the walk over leaves ends where one can't be read, and goes on behind one that can
+-- the walk over leaves ends where one can't be read, and goes on after one that can
 pub leaves-off : (cells : Cells) (seen : Seen) (lists : List ℕ) (at : ℕ) (rest : List ℕ) (f : HiveFault)
     → lists ≡ at ∷ rest
     → walk cells seen (use_as false leaf_at cells at) ≡ Err f → walk cells seen (leaves_checks cells lists) ≡ Err f

@@ -53,7 +53,7 @@ one-load one image s u d e h g =
 abbrev some : HiveFault → Option HiveFault
 some f = Some f
 
--- a recovery that holds a state has no fault behind it
+-- a recovery that holds a state has no fault after it
 held-sound : OneList → ListOrFault → (r : Recovered) (s : HiveState) (fault : HiveFault) → Holds r s → HeldFault r fault
     → ⊥
 held-sound one either r s fault h (inl b) =

@@ -43,7 +43,7 @@ security-made cells node p = go (node.security == nowhere) p
     go false p = let r = use-made true security_at cells node.security p in
         (r.0.descriptor, ap (λ q. q >>= λ s. Ok s.descriptor) r.1)
 
--- a segment and those behind it are read together
+-- a segment and those after it are read together
 segments-both : (cells : Cells) (n at : ℕ) (more part others : List ℕ)
     → reading (bytes_in (segment_part n)) cells at ≡ Ok part
     → joined_segments cells (n - segment_bytes) more ≡ Ok others
@@ -206,7 +206,7 @@ pub record Made (left : ℕ) (cells : Cells) (root : Bool) (names : List (List �
   pub new : list_any (folds_same (key_name tree)) names ≡ false
   pub named : root ≡ false → 0 < length (key_name tree)
 
--- keys stand at these offsets behind siblings of these names
+-- keys are at these offsets after siblings of these names
 pub record AllMade (left : ℕ) (cells : Cells) (names : List (List ℕ)) (offsets : List ℕ) : Type 0 where
   pub siblings : List Tree
   pub stand : AllStand cells offsets (trees siblings)
@@ -215,7 +215,7 @@ pub record AllMade (left : ℕ) (cells : Cells) (names : List (List ℕ)) (offse
   pub differ : Apart key_name names siblings
   pub named : All (λ t. 0 < length (key_name t)) siblings
 
--- keys that pass in turn stand in turn, if each that passes stands
+-- keys that pass in turn are in turn, if each that passes stands
 keys-made : (left : ℕ) (cells : Cells)
     → ((names : List (List ℕ)) (at : ℕ) → AllPass cells (key_checks left cells false names at)
     → Made left cells false names at)

@@ -19,7 +19,7 @@ none = None
 pub no-bit : (place : ℕ) → eqb (bit_at 0 place) 1 ≡ false
 no-bit place = rw (bit_at-zero place) refl
 
--- behind the last word no bit is on
+-- after the last word no bit is on
 pub bit-past : (words : List ℕ) (slot : ℕ) → length words ≤ slot / 64 → has_bit words slot ≡ false
 unfolding has_bit
 bit-past words slot h = ap (λ word. eqb (bit_at word (slot % 64)) 1) (get_or_past words (slot / 64) 0 h)
@@ -128,7 +128,7 @@ get-below plain security (suc n) at =
         let within : nat_lt (at / 8) (suc n) ≡ true = lt-ltb (at / 8) (suc n) (omega arith) in
         rw (e, there, past, within, near) (here (slot_mark plain security n))
 
--- behind all words no slot has a mark
+-- after all words no slot has a mark
 slot-past : (plain security : List ℕ) (slot : ℕ) → 64 * (length plain + length security) ≤ slot
     → slot_mark plain security slot ≡ none
 slot-past plain security slot h =

@@ -1,4 +1,4 @@
--- At most one tree stands at an offset.
+-- At most one tree is at an offset.
 use Rattle.std.proofs.Common.{◌≡◌, ℕ, Bool, true, false, List, [], ◌∷◌, length, Result, Ok, refl, sym, ap, subst, ◌∙◌}
 use Rattle.std.specs.Prelude.{MatchBool, ◌==◌}
 use Rattle.nt_bytes.specs.declared.fault.HiveFaultKind.{HiveFaultKind}
@@ -21,7 +21,7 @@ lists-one : (cells : Cells) (node : KeyNode) (xs ys : List ℕ) (b : Bool)
 lists-one cells node xs ys true p q = p ∙ sym q
 lists-one cells node xs ys false p q = ok_one (entries_at cells node.child_list) xs ys p.0 q.0
 
--- a key stands at an offset by one node
+-- a key is at an offset by one node
 nodes-one : (cells : Cells) (at : ℕ) (h g : Head) (xs ys : List ℕ)
     → (s : KeyStands cells at h xs) (r : KeyStands cells at g ys) → s.node ≡ r.node
 nodes-one cells at h g xs ys s r = ok_one (reading key_node_at cells at) s.node r.node s.read r.read

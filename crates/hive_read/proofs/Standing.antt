@@ -18,7 +18,7 @@ use Rattle.hive_read.proofs.Making.{key-made}
 use Rattle.hive_read.proofs.One.{one_stands}
 use Rattle.hive_read.proofs.ValidTrees.{AreBytes, well-formed-valid}
 
--- where no check fails, a tree stands in well-formed cells
+-- where no check fails, a tree is in well-formed cells
 pub stands-where-none-fails : (cells : Cells) (root : ℕ) → first_fault cells root ≡ None
     → (t : Tree) × IsWellFormed cells root t
 unfolding all_checks
@@ -34,7 +34,7 @@ stands-where-none-fails cells root e =
       },
     )
 
--- a tree that stands where no check fails is the one that stands in well-formed cells
+-- a tree that stands where no check fails is the one that is in well-formed cells
 pub well_formed : (cells : Cells) (root : ℕ) (t : Tree) → Stands cells root t → first_fault cells root ≡ None
     → IsWellFormed cells root t
 well_formed cells root t s e =

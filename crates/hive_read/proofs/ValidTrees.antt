@@ -1,4 +1,4 @@
--- A tree that stands in well-formed cells of bytes is one that a hive can hold.
+-- A tree that is in well-formed cells of bytes is one that a hive can hold.
 use Rattle.std.proofs.Common.{◌≡◌, ℕ, ◌+◌, ◌-◌, ◌/◌, ◌%◌, ◌<◌, ◌≤◌, Bool, true, false, cond, List, [], ◌∷◌, ◌++◌, length, length-append, Option, Some, None, Result, Ok, Err, refl, sym, subst, arith}
 use Rattle.std.specs.Prelude.{MatchBool, ◌==◌}
 use Rattle.std.specs.List.{All, list_any, flat_map}
@@ -122,7 +122,7 @@ item-fits cells at item h r =
     let small : length d.0 < 2147483648 = data-small cells v.0 d.0 h d.1 in
     subst IsItem (ok_same (item_of v.0 d.0) item d.2) (record { name = value-facts p.0 v.0 p.2; bytes = small })
 
--- and so are values in a row, as many as they were counted
+-- and so are values in a row, the same number as they were counted
 items-fit : (cells : Cells) (offsets : List ℕ) (items : List Item) → AreBytes cells
     → items_at cells offsets ≡ done items → (length items ≡ length offsets) × All IsItem items
 items-fit cells [] items h r = let same : [] ≡ items = ok_same [] items r in
@@ -161,7 +161,7 @@ children-count cells node offsets l = go (node.child_count == 0) l
     go true l = rw l (omega arith)
     go false l = omega (arith, l.1)
 
--- keys in a row are as many as their offsets
+-- keys in a row are the same number as their offsets
 pub stand-as-many : (cells : Cells) (offsets : List ℕ) (ts : Trees) → AllStand cells offsets ts
     → length (listed ts) ≡ length offsets
 stand-as-many cells offsets none s = rw s refl

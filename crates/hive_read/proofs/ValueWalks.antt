@@ -64,7 +64,7 @@ item-named cells at item e = go (reading key_value_at cells at) e
     go (Ok v) e = ap (λ n. n ∷ []) (named v (data_of cells v) e)
     go (Err k) e = absurd cc
 
--- the walk over values ends at the first fault of one, and goes on behind one that stands
+-- the walk over values ends at the first fault of one, and goes on after one that stands
 pub values-off : (cells : Cells) (seen : Seen) (names : List (List ℕ)) (offsets : List ℕ) (at : ℕ) (rest : List ℕ)
     (f : HiveFault) → offsets ≡ at ∷ rest
     → walk cells seen (value_checks cells names at) ≡ Err f

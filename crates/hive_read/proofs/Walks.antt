@@ -32,7 +32,7 @@ walk-append cells seen (c ∷ cs) b = go (check cells seen c) (λ after. walk-ap
     go (Ok after) h = h after
     go (Err f) h = refl
 
--- the walk goes on behind checks that pass
+-- the walk goes on after checks that pass
 pub walk-on : (cells : Cells) (seen after : Seen) (a b : List Check) → walk cells seen a ≡ Ok after
     → walk cells seen (a ++ b) ≡ walk cells after b
 walk-on cells seen after a b e = walk-append cells seen a b ∙ ap (λ r. r >>= λ next. walk cells next b) e
@@ -55,7 +55,7 @@ pub stops-on : (e : ReadStop) (a b : Result Seen HiveFault) → ((f : HiveFault)
 stops-on stops.Memory a b h s = tt
 stops-on (stops.Fault f) a b h s = h f s
 
--- what a step says of checks that come to the same
+-- what a step says of checks that reach the same
 pub steps-same : {X : Type 0} (P Q : X → Type 0) (a b : Result Seen HiveFault) (new : Seen) (r : Result X ReadStop)
     → b ≡ a → ((x : X) → P x → Q x)
     → Steps P a new r → Steps Q b new r
@@ -75,7 +75,7 @@ first-and-rest (x ∷ xs) h =
     let n : length (x ∷ xs) - 1 ≡ length xs = omega arith in
     rw (n, take-length xs) refl
 
--- what a step says of checks that come to the same, with what else is known of its answer
+-- what a step says of checks that reach the same, with what else is known of its answer
 pub steps-with : {X : Type 0} (P Q R : X → Type 0) (a b : Result Seen HiveFault) (new : Seen) (r : Result X ReadStop)
     → b ≡ a → ((x : X) → P x → R x → Q x)
     → IfOk r R → Steps P a new r → Steps Q b new r

@@ -28,7 +28,7 @@ use Rattle.hive_read.proofs.FormFacts.{done, ok_same, unless, then-so, not-above
 
 -- ---- segments
 
--- the segments before these hold so many bytes that so many are left
+-- the segments before these hold that many bytes that that many are left
 pub record SegmentsSoFar (cells : Cells) (size : ℕ) (offsets : List ℕ) (left : ℕ) (rest : List ℕ)
     (seen start : Seen) : Type 0 where
   pub bytes : List ℕ
@@ -42,7 +42,7 @@ take-long zero xs h = refl
 take-long (suc n) [] h = absurd (omega (arith, h))
 take-long (suc n) (x ∷ xs) h = ap suc (take-long n xs (omega (arith, h)))
 
--- as many bytes as were asked for
+-- the same number of bytes as were asked for
 pub bytes-long : (cells : Cells) (n at : ℕ) (b : List ℕ) → reading (bytes_in n) cells at ≡ done b → length b ≡ n
 unfolding bytes_in
 bytes-long cells n at b r =
@@ -129,7 +129,7 @@ pub record ValuesSoFar (cells : Cells) (offsets rest : List ℕ) (taken : List (
   pub knows : Knows taken (map item_name items)
   pub counted : total ≡ capped (sum_by (item_size cells.version) items)
 
--- the same of values: none before the first, one more with each, all walked behind the last
+-- the same of values: none before the first, one more with each, all walked after the last
 pub values-first : (cells : Cells) (offsets : List ℕ) (taken : List (List ℕ)) (seen : Seen) → taken ≡ []
     → ValuesSoFar cells offsets offsets taken 0 seen seen
 values-first cells offsets taken seen e =
@@ -183,7 +183,7 @@ values-last cells offsets rest taken total seen start s z = (
   },
 )
 
--- as many values as offsets
+-- the same number of values as offsets
 items-long : (cells : Cells) (offsets : List ℕ) (items : List Item) → items_at cells offsets ≡ done items
     → length items ≡ length offsets
 items-long cells [] items r = ap length (sym (ok_same [] items r))

@@ -1,4 +1,4 @@
--- What does judging cells answer, that builds no tree of what stands in them?
+-- What does judging cells answer, that builds no tree of what is in them?
 use Rattle.std.specs.Prelude.{◌≡◌, ◌||◌, ◌*◌, ℕ, zero, suc, List, length, None, Some, Result, Ok, Err}
 use Rattle.nt_bytes.specs.declared.fault.HiveFaultKind.{HiveFaultKind}
 use Rattle.nt_bytes.specs.declared.fault.ReadStop.{ReadStop}
@@ -18,7 +18,7 @@ use Rattle.hive_model.specs.Stands.{IsWellFormed}
 use Rattle.hive_read.specs.Taken.{has_name}
 use Rattle.hive_read.specs.declared.uses.SkSlice.{SkSlice}
 
--- A tree that a hive can hold stands at the root in well-formed cells, no check fails, and the number is the tree's bulk.
+-- A tree that a hive can hold is at the root in well-formed cells, no check fails, and the number is the tree's bulk.
 pub record HasBulk (cells : Cells) (root n : ℕ) : Type 0 where
   pub tree : Tree
   pub stands : IsWellFormed cells root tree
@@ -34,13 +34,13 @@ Judges cells root (Err (stops.Fault f)) = first_fault cells root ≡ Some f
 
 -- ---- on the way
 
--- Something of this meaning is there, and its cells take so many bytes.
+-- Something of this meaning is there, and its cells take that many bytes.
 pub record Counts {X : Type 0} (Means : X → Type 0) (bytes : X → ℕ) (n : ℕ) : Type 0 where
   pub it : X
   pub means : Means it
   pub counted : n ≡ capped (bytes it)
 
--- so many bytes were read
+-- that many bytes were read
 abbrev pub HasLength : Result (List ℕ) HiveFaultKind → ℕ → Type 0
 HasLength read n = (bytes : List ℕ) × (read ≡ Ok bytes) × (length bytes ≡ n)
 
@@ -56,7 +56,7 @@ node_of n = key_node_of n.form
 abbrev pub security_seen : SkSlice → SecurityCell
 security_seen s = record { forward = s.forward; backward = s.backward; uses = s.uses; descriptor = s.descriptor.now }
 
--- the cell of a list of so many values; where there is none, no list is written
+-- the cell of a list of that many values; where there is none, no list is written
 abbrev pub value_list_size : ℕ → ℕ
 value_list_size zero = 0
 value_list_size (suc n) = cell (4 * suc n)

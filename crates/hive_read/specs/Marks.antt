@@ -8,7 +8,7 @@ use Rattle.std.specs.FinMap as map
 unfoldable pub has_bit : List ℕ → ℕ → Bool
 has_bit words slot = bit_at (slice_index_or words (slot / 64) 0) (slot % 64) == 1
 
--- the words are the same, but for zeros behind
+-- the words are the same, but for zeros after
 abbrev pub HaveSame : List ℕ → List ℕ → Type 0
 HaveSame words others = (i : ℕ) → slice_index_or others i 0 ≡ slice_index_or words i 0
 

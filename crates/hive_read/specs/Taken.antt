@@ -21,14 +21,14 @@ Knows keys names = (name : List ℕ) → has_name keys name ≡ list_any (folds_
 
 -- ---- names that are left where they stand
 
--- the key of a name that stands in a cell
+-- the key of a name that is in a cell
 abbrev pub folded_name : StoredName → List ℕ
 folded_name n = folded (name_of n)
 
--- the key comes behind the name
+-- the key comes after the name
 abbrev pub is_behind : List ℕ → List ℕ → Bool
 is_behind name key = is_lt (slice_cmp nat_cmp (folded name) key)
 
--- no key comes behind the name
+-- no key comes after the name
 abbrev pub NoneBehind : List ℕ → List (List ℕ) → Type 0
 NoneBehind name keys = list_any (is_behind name) keys ≡ false

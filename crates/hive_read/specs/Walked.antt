@@ -41,7 +41,7 @@ abbrev pub walk : Cells → Seen → List Check → Result Seen HiveFault
 walk cells seen [] = Ok seen
 walk cells seen (c ∷ cs) = check cells seen c >>= λ after. walk cells after cs
 
--- it stopped at the fault of this outcome, or for want of memory
+-- it stopped at the fault of this outcome, or for lack of memory
 abbrev pub Stops : Result Seen HiveFault → ReadStop → Type 0
 Stops outcome stops.Memory = Unit {0}
 Stops outcome (stops.Fault f) = outcome ≡ Err f

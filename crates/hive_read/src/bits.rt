@@ -34,7 +34,7 @@ pub(crate) fn is_set(words: &[u64], slot: usize) -> bool
     }
 }
 
-// Zeros behind the words until one stands at this place.
+// Zeros after the words until one is at this place.
 fn widen(words: &mut Vec<u64>, place: usize) -> Result<(), AllocError>
     ensures same { HaveSame words.old.items words.new.items }
     ensures there { OnOk result (place < length words.new.items) }

@@ -1,4 +1,4 @@
-//! Names that stand in their cells, looked for one after another.
+//! Names that are in their cells, looked for in sequence.
 
 ghost use Rattle.std.specs.Prelude.{◌≡◌, ℕ, List, [], map, not, ◌||◌, IfOk, OnOk};
 ghost use Rattle.std.specs.List.{list_any};
@@ -10,10 +10,10 @@ use cell_forms::{StoredName, compare_stored};
 use std::alloc::{AllocError, Global};
 use std::marker::Model;
 
-/// How many names are looked through one after another.
+/// How many names are looked through in sequence.
 const MOST: usize = 16;
 
-/// Names as they came, and one that none of them comes behind. Contracts see them folded.
+/// Names as they came, and one that none of them comes at the end. Contracts see them folded.
 #[derive(Drop)]
 pub struct Few<'a> {
     names: Vec<StoredName<'a>>,
@@ -61,7 +61,7 @@ impl<'a> Few<'a> {
         }
     }
 
-    /// Is it cheap to add the name? It is behind them all, or they are few.
+    /// Is it cheap to add the name? It is after them all, or they are few.
     pub(crate) fn takes(&self, name: StoredName<'a>) -> bool {
         self.names.len() < MOST || compare_stored(name, self.greatest).is_gt()
     }

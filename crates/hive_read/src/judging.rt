@@ -110,7 +110,7 @@ fn judge_children(
     Ok(lists.saturating_add(children))
 }
 
-// The cells of the keys at these offsets, one behind another.
+// The cells of the keys at these offsets, in sequence.
 #[cycle(judged)]
 fn judge_in_turn(
     alloc: Global,
@@ -136,7 +136,7 @@ fn judge_in_turn(
     }
 }
 
-/// The bulk in this version of the tree that stands at a root, or the first fault: what `read_tree` and
+/// The bulk in this version of the tree that is at a root, or the first fault: what `read_tree` and
 /// `Key::bulk` answer, but no tree is made, so that it takes memory for its checks alone.
 pub fn judge(
     alloc: Global,

@@ -147,7 +147,7 @@ fn read_children(
     read_in_turn(alloc, cells, used, left, found)
 }
 
-// The keys at these offsets, one behind another.
+// The keys at these offsets, in sequence.
 #[cycle(walk)]
 fn read_in_turn(
     alloc: Global,
@@ -179,7 +179,7 @@ pub(crate) fn are_bytes(bytes: &[u8])
     let _whole = bytes;
 }
 
-/// The tree that stands at a root in a hive of this version, or the first fault. At most 512 levels are
+/// The tree that is at a root in a hive of this version, or the first fault. At most 512 levels are
 /// taken, `TooDeep` beyond. Each kind of fault comes where its check is the first that fails, with the
 /// place that is judged.
 pub fn read_tree(

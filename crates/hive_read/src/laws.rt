@@ -1,4 +1,4 @@
-//! Laws of the trees that stand in cells.
+//! Laws of the trees that are in cells.
 
 ghost use Rattle.std.specs.Prelude.{◌≡◌, ℕ, Bool, None};
 ghost use Rattle.nt_bytes.specs.declared.fault.HiveFault.{HiveFault as HiveFaultModel};
@@ -12,7 +12,7 @@ ghost use Rattle.hive_model.specs.Stands.{Stands, IsWellFormed};
 
 use hive_cells::{list_or_fault, one_list};
 
-/// At most one tree stands at an offset.
+/// At most one tree is at an offset.
 pub fn one_stands()
     ensures { (cells : Cells) (at : ℕ) (t u : Tree) → Stands cells at t → Stands cells at u → t ≡ u }
 {}
@@ -22,7 +22,7 @@ pub fn well_formed_passes()
     ensures { (cells : Cells) (root : ℕ) (t : Tree) → IsWellFormed cells root t → first_fault cells root ≡ None }
 {}
 
-/// Where there is no first fault, the cells are well-formed and a tree stands in them.
+/// Where there is no first fault, the cells are well-formed and a tree is in them.
 pub fn stands_where_none_fails()
     ensures { (cells : Cells) (root : ℕ) → first_fault cells root ≡ None → (t : Tree) × IsWellFormed cells root t }
 {}

@@ -2,7 +2,7 @@
 //!
 //! `read_tree` walks from a root cell, and answers the tree that stands there, or the first check that
 //! fails with the place at which it does; `judge` answers how many bytes that tree takes packed, or the
-//! same, and makes no tree. They ask nothing of the cells. The order of the checks stands in
+//! same, and makes no tree. They ask nothing of the cells. The order of the checks is in
 //! docs/format.md and in the book of hives, `Walk`; this project's own.
 #![tactic(auto)]
 

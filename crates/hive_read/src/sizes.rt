@@ -19,7 +19,7 @@ fn stored_len(name: StoredName<'_>) -> u64
     }
 }
 
-/// The cell of a form of so many bytes and a name behind them, which stands in a cell.
+/// The cell of a form of that many bytes and a name after them, which is in a cell.
 #[tactic(auto, using(reg_tree::proofs::Sums::sums))]
 pub(crate) fn stored_size(form: u64, name: StoredName<'_>) -> u64
     ensures { result ≡ capped (cell (form + name_bytes (name_of name.entry))) }

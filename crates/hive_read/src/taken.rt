@@ -13,7 +13,7 @@ use std::alloc::{AllocError, Global};
 use std::collections::BTreeSet;
 use std::marker::Model;
 
-/// Names, folded. While they rise, or are few, they are left where they stand in their cells.
+/// Names, folded. While they rise, or are few, they are left where they are in their cells.
 #[derive(Drop)]
 pub struct Taken<'a> {
     many: BTreeSet<Vec<u16>>,

@@ -51,7 +51,7 @@ fn use_cell<'a>(
     Ok(payload)
 }
 
-/// Adds the name of what stands at this offset to those before it. `DoubleName` where one folds alike.
+/// Adds the name of what is at this offset to those before it. `DoubleName` where one folds alike.
 #[tactic(auto, using(crate::proofs::TakenLemmas::names))]
 pub(crate) fn take_name<'a>(
     alloc: Global,
@@ -69,7 +69,7 @@ pub(crate) fn take_name<'a>(
     Ok(())
 }
 
-// How many segments so many bytes of big data fill.
+// How many segments that many bytes of big data fill.
 fn segment_count(size: u32) -> u64
     ensures { result ≡ segments_of size }
 {
@@ -102,7 +102,7 @@ fn leaf_form(alloc: Global, payload: &[u8], at: u32) -> Result<Offsets, ReadStop
     }
 }
 
-// A cell of big data for so many bytes: it has as many segments as these fill.
+// A cell of big data for that many bytes: it has the same number of segments as these fill.
 #[tactic(auto, unfolding(hive_model::specs::Walk::big_data_of))]
 fn big_data_form(payload: &[u8], size: u32, at: u32) -> Result<DbForm, ReadStop>
     ensures { Gives form_of at result (big_data_of size payload.now) }
@@ -276,7 +276,7 @@ pub(crate) fn use_front<'a>(
     front(payload, count, at)
 }
 
-/// The cell of big data of so many bytes.
+/// The cell of big data of that many bytes.
 pub(crate) fn use_big_data(
     cells: &Source,
     used: &mut Used,

@@ -1,4 +1,4 @@
-//! What a key has but its children, judged: how many bytes its cells take, and no copy of what stands in them.
+//! What a key has but its children, judged: how many bytes its cells take, and no copy of what is in them.
 
 ghost use Rattle.std.specs.Prelude.{◌≡◌, ℕ, List, [], Ok, is_some, sum_by};
 ghost use Rattle.hive_model.specs.KeyValue.{data_inside};
@@ -160,7 +160,7 @@ fn judge_value<'a>(
     Ok(own.saturating_add(data))
 }
 
-// The cells of the values at these offsets, one behind another.
+// The cells of the values at these offsets, in sequence.
 fn judge_in_turn(
     alloc: Global,
     cells: &Source,
@@ -183,7 +183,7 @@ fn judge_in_turn(
     }
 }
 
-// The cell of a list of so many values.
+// The cell of a list of that many values.
 fn value_list_len(count: u64) -> u64
     ensures { result ≡ capped (value_list_size count) }
 {

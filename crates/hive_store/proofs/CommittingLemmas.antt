@@ -59,7 +59,7 @@ commit_crash s has size held state carries each before dirty loads c crash =
 
 -- ---- the session after the commit
 
--- the cells are what the next session's disk carries, and the tree stands in them
+-- the cells are what the next session's disk carries, and the tree is in them
 pub next_session : (s : Session) → IsReady s → s.cells.version ≡ version_of s.base.minor
     → (closed : Base) (bins new : List ℕ) (root : ℕ) → closed ≡ closed_of s.base new root
     → bins ≡ new → new ≡ next_bins s → root ≡ next_root s → IsSession closed bins s.cells false

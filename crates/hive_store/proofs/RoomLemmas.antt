@@ -56,7 +56,7 @@ module _ (old new room : List ℕ) (k : ℕ) (inside : 4096 * k ≤ length new)
   front_long : length (take (4096 * k) new) ≡ 4096 * k
   front_long = omega (arith, length-take (4096 * k) new)
 
-  -- a sector behind them is the old one
+  -- a sector after them is the old one
   rest_sector : (j : ℕ) → sector room (8 * k + j) ≡ sector old (8 * k + j)
   unfolding sector
   rest_sector j =

@@ -17,7 +17,7 @@ whole_bins : (bins : List Bin) → AllByRecursion IsBin bins → bins_size bins 
 whole_bins [] all = refl
 whole_bins (b ∷ bs) all = omega (arith, all.0.whole, whole_bins bs all.1)
 
--- and where a tree stands in them, there is one
+-- and where a tree is in them, there is one
 some_bins : (version : HiveVersion) (bins : List Bin) (root : ℕ) (t : Tree) → AllByRecursion IsBin bins
     → Stands (look_up version bins) root t → 4096 ≤ bins_size bins
 some_bins version [] root (key h ts) all stands = absurd (none stands.1.node stands.1.read)

@@ -29,7 +29,7 @@ abbrev pub LoadsFrom : Image → Result (Session × Bool) LoadStop → Type 0
 LoadsFrom image (Ok x) = Loads image (loaded_state x.0) x.1
 LoadsFrom image (Err stop) = StopsFrom image stop
 
--- a front of the calls of one recovery; where the hive has a fault, a front of its reads
+-- a prefix of the calls of one recovery; where the hive has a fault, a prefix of its reads
 pub record AreFrontOfLoad (image : Image) (calls : List Made) : Type 0 where
   pub recovery : IsFront (recovery_calls image) calls
   pub faulty : (fault : HiveFault) → LoadFault image fault → IsFront (reads_of (asked_of image)) calls

@@ -18,7 +18,7 @@ pub record Session : Type 0 where
   pub tree : Tree
   pub changed : Bool
 
--- bins data of a size that a commit takes, in whose cells the tree stands at the root in this version
+-- bins data of a size that a commit takes, in whose cells the tree is at the root in this version
 pub record HasTree (version : HiveVersion) (bins : List ℕ) (root : ℕ) (tree : Tree) : Type 0 where
   pub sized : is_bins_size (length bins) ≡ true
   pub heap : List Bin

@@ -25,7 +25,7 @@ impl Hive {
         requires on { (D.state disk.old).on ≡ true }
         requires still { D.tells ≡ true → (D.state disk.old).flight ≡ [] }
         requires carries { D.tells ≡ true → Carries (D.state disk.old).held self.base self.bins }
-        // It makes the calls of one change and no other, after a refusal a front of them: to the bytes of the cells.
+        // It makes the calls of one change and no other, after a refusal a prefix of them: to the bytes of the cells.
         ensures made { MakesUntil (D.calls disk.old) (D.calls disk.new)
             (change_calls self.base self.bins (next_bins self) (next_root self)) result }
         // At Ok the cells, their tree and the version stay, the number is one more modulo 2^32, and nothing is changed any more.

@@ -25,7 +25,7 @@ impl Hive {
         ensures refused { OnErr result (self.new ≡ self.old) }
         ensures base { self.new.base ≡ self.old.base }
         ensures bins { self.new.bins ≡ self.old.bins }
-        // The cells are edited in place, or packed anew where the strain of the steps is over the greatest size of bins data.
+        // The cells are edited in place, or repacked where the strain of the steps is over the greatest size of bins data.
         ensures cells { OnOk result (IsEditedInPlace self.old.cells (map step_of steps) self.new.cells
             ⊎ IsPackedForRoom self.old.cells (map step_of steps) self.new.cells) }
         // It is changed where it was before, or where the tree is another.

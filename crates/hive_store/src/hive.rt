@@ -15,7 +15,7 @@ use std::alloc::{AllocError, Global};
 use std::marker::Model;
 
 /// A hive in memory: its base block, its bins data as the disk carries them, and its cells with the edits since.
-/// A tree that a hive can hold stands in them.
+/// A tree that a hive can hold is in them.
 #[derive(Drop)]
 pub struct Hive {
     pub(crate) base: BaseBlock,

@@ -1,7 +1,7 @@
 //! A session on a hive: loaded from a disk, looked into, edited, committed.
 //!
 //! `Hive::load` checks the whole hive before it writes and makes room for what the disk carries, `apply` edits
-//! the cells, and `commit` takes no memory. Whatever the power does, a start finds a state from before or after.
+//! the cells, and `commit` takes no memory. Regardless of power loss, a start finds a state from before or after.
 //! Rules: docs/format.md, "Commit and recovery".
 #![tactic(auto)]
 

@@ -41,7 +41,7 @@ impl Kept {
     }
 
     /// Takes these bytes in the place of its own, of which the marked sectors differ: the pages of these are copied,
-    /// and what is behind its own end. No memory is taken.
+    /// and what is after its own end. No memory is taken.
     pub(crate) fn keep(&mut self, bytes: &[u8], marks: &[u8; 4096])
         requires sized { is_bins_size (length bytes.now) ≡ true }
         requires marked { (i : ℕ) → i < length bytes.now / 512 → bit marks.now i ≡ dirty self.old bytes.now i }
@@ -106,7 +106,7 @@ fn page_of(bytes: &[u8], k: usize) -> &[u8]
     &bytes[4096 * k..4096 * k + 4096]
 }
 
-/// Copies these bytes over as many from a place on.
+/// Copies these bytes over the same number of from a place on.
 fn put(room: &mut [u8], at: usize, part: &[u8])
     requires { at + length part.now ≤ length room.old }
     ensures { room.new ≡ take at room.old ++ (part.now ++ drop (at + length part.now) room.old) }

@@ -68,7 +68,7 @@ fn data_length(
     }
 }
 
-/// One value gets data of these lengths in turn, and the bins data are as long as is said behind each.
+/// One value gets data of these lengths in turn, and the bins data are as long as is said after each.
 fn lengths(
     rt: &impl Abort,
     alloc: Global,
@@ -122,7 +122,7 @@ const ADDITIONS: [(usize, usize); 5] = [
     (2900, 24_576),
 ];
 
-/// The free cell of the small hive takes what fits it; what was written is free for what comes behind.
+/// The free cell of the small hive takes what fits it; what was written is free for what comes at the end.
 const TURNS: [(usize, usize); 8] = [
     (100, 4096),
     (90, 4096),

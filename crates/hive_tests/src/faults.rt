@@ -188,7 +188,7 @@ fn lists_nest_once_and_a_root_is_a_cell(rt: HostRuntime) -> Result<(), Fail> {
     structure(&rt, rt.alloc())
 }
 
-/// A key named `K` and a list with one entry, the key behind them.
+/// A key named `K` and a list with one entry, the key after them.
 fn append_level(bins: &mut Bytes, at: u32, children: u32) -> Result<(), AllocError> {
     let list = at.saturating_add(88);
     let node = [
@@ -224,7 +224,7 @@ fn append_level(bins: &mut Bytes, at: u32, children: u32) -> Result<(), AllocErr
     Ok(())
 }
 
-/// One key below another, so many levels, from offset 32 on.
+/// One key below another, that many levels, from offset 32 on.
 fn chain(alloc: Global, levels: u32, size: u32) -> Result<Bytes, AllocError> {
     let mut bins = Bytes::new(alloc);
     for word in [0x6e69_6268, 0, size, 0, 0, 0, 0, 0] {

@@ -67,7 +67,7 @@ fn append_segment(bins: &mut Bytes) -> Result<(), AllocError> {
     bins.push(2)
 }
 
-/// A free cell of so many bytes.
+/// A free cell of that many bytes.
 fn append_free(bins: &mut Bytes, size: u32) -> Result<(), AllocError> {
     bins.put_u32(size)?;
     bins.append_zeros(size.saturating_sub(4) as usize)

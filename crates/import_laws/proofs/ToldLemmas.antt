@@ -1,4 +1,4 @@
--- What was saved behind `import` loads as its line tells.
+-- What was saved after `import` loads as its line reports.
 use Rattle.std.specs.Prelude.{IfSome}
 use Rattle.std.proofs.Common.{◌≡◌, inl, inr, ℕ, true, false, List, Option, Some, None, Result, Ok, Err, refl, sym, ◌∙◌, ap, subst}
 use Rattle.hive_model.specs.Edit.{Step}

@@ -12,7 +12,7 @@ use Rattle.command_parts.specs.Inputs.{hive_in}
 use Rattle.command_parts.specs.Placed.{image_in}
 use Rattle.text_commands.specs.Imported.{change_of}
 
--- Hive, log and text were there, and the text has no fault; the line tells the change that its edits make of the hive, and the image
+-- Hive, log and text were there, and the text has no fault; the line reports the change that its edits make of the hive, and the image
 -- loads, clean, as the state after that.
 pub record LoadsAsTold (words : ImportAsked) (old new : HostState) (image : Image) : Type 0 where
   pub files : HiveFiles

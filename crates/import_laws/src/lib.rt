@@ -1,4 +1,4 @@
-//! A hive that a registry text was imported into, saved and read again: it loads as the line tells.
+//! A hive that a registry text was imported into, saved and read again: it loads as the line reports.
 #![tactic(auto)]
 
 mod saved;

@@ -10,7 +10,7 @@ ghost use Rattle.command_parts.specs.declared.status.Status.{Status};
 ghost use Rattle.text_commands.specs.Imported.{DecidesImport};
 ghost use Rattle.import_laws.specs.AsTold.{LoadsAsTold};
 
-/// Behind an `import` that is done, the two files of what the disk holds load as the line tells (`held`): as the hive with the
+/// After an `import` that is done, the two files of what the disk holds load as the line reports (`held`): as the hive with the
 /// text's edits made and the next number where one was committed, else as the hive was. So do the files that were saved under two
 /// names (`saved`). The primary's sector 0 has to be one that can be read.
 pub fn what_was_saved_loads_as_told()

@@ -17,7 +17,7 @@ use Rattle.key_index.proofs.Meeting.{siblings_stand, lists_apart}
 use Rattle.key_index.proofs.Tests.{is_ok_of}
 use Rattle.hive_read.proofs.Wellformed.{first-part}
 
--- ---- of checks that use each cell once, those in front and those behind do
+-- ---- of checks that use each cell once, those in front and those after do
 
 front_once : (xs ys : List Check) → AreUsedOnce (xs ++ ys) → AreUsedOnce xs
 front_once xs ys once i j d less lt =
@@ -48,7 +48,7 @@ root_named cells root node r =
 
 -- ---- its lists
 
--- the checks of a child, behind siblings of these names
+-- the checks of a child, after siblings of these names
 abbrev Checks : Type 0
 Checks = List (List ℕ) → ℕ → List Check
 

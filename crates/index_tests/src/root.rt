@@ -25,7 +25,7 @@ pub fn a_root_lists_siblings()
         → ListsSiblings cells node.child_list node.child_count × AreApart (lists_at cells node.child_list node.child_count) }
 {}
 
-/// The cells that a tree is packed to, whose root stands at 32.
+/// The cells that a tree is packed to, whose root is at 32.
 pub fn packed_cells(alloc: Global, tree: &Key, version: HiveVersion) -> Result<CellHeap, AllocError>
     requires valid { IsValid tree.now }
     requires room { bulk_of version tree.now ≤ 16773120 }

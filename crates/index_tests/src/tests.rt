@@ -14,7 +14,7 @@ const LH: u16 = 0x686c;
 
 const RI: u16 = 0x6972;
 
-/// The lengths of the lists of so many children.
+/// The lengths of the lists of that many children.
 const LENGTHS: [(u32, &[u16]); 7] = [
     (1, &[1]),
     (2, &[2]),
@@ -56,7 +56,7 @@ fn entry(rt: &impl Abort, cells: &OpenHeap, at: u32, place: usize, long: usize) 
     u32_at(list, 4 + place * long)
 }
 
-/// The list at an offset is one of so many key nodes.
+/// The list at an offset is one of that many key nodes.
 fn is_leaf(rt: &impl Abort, cells: &OpenHeap, at: u32, version: HiveVersion, length: u16) {
     assert_eq!(rt; head(rt, cells, at), (signature(version), length));
 }
@@ -91,7 +91,7 @@ fn child(rt: &impl Abort, cells: &OpenHeap, at: u32, lists: &[u16], place: usize
     )
 }
 
-/// One child more makes these lists, with the root behind the children `K00000` to `K00499` that there are.
+/// One child more makes these lists, with the root after the children `K00000` to `K00499` that there are.
 fn grows(
     rt: &impl Abort,
     alloc: Global,
@@ -116,7 +116,7 @@ fn grows(
     Ok(())
 }
 
-/// One child less leaves these lists, and the child behind it in its place.
+/// One child less leaves these lists, and the child after it in its place.
 fn shrinks(
     rt: &impl Abort,
     alloc: Global,

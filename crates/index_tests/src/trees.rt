@@ -1,4 +1,4 @@
-//! The tree of a root with so many children.
+//! The tree of a root with that many children.
 
 use nt_bytes::{Bytes, narrow};
 use reg_tree::{Key, Keys, Values};
@@ -17,7 +17,7 @@ fn key(alloc: Global, name: &[u8], flags: u16, children: Keys) -> Result<Key, Al
     })
 }
 
-/// A root named `K00499a` with so many children `K00000`, `K00001` and so on, in rising order.
+/// A root named `K00499a` with that many children `K00000`, `K00001` and so on, in rising order.
 pub fn family(alloc: Global, count: u32) -> Result<Key, AllocError> {
     let mut children = Keys::new(alloc);
     for i in 0..count {

@@ -15,7 +15,7 @@ use Rattle.key_text.specs.Found.{lines_of}
 use Rattle.key_text.specs.Lines.{printed_lines}
 use Rattle.key_text.specs.Words.{path_in}
 
--- the lines of the key that a path means in the tree that was loaded, and of so many levels below it
+-- the lines of the key that a path means in the tree that was loaded, and of that many levels below it
 abbrev pub answer_at : ReportForm → List (List ℕ) → ℕ → Bool → Woken → Answer
 answer_at form path depth security placed = record {
   status = statuses.Done;
@@ -26,7 +26,7 @@ answer_at form path depth security placed = record {
 abbrev pub question_at : ReportForm → List (List ℕ) → ℕ → Bool → HiveFiles → Question
 question_at form path depth security files = record { image = image_in files; answer = answer_at form path depth security }
 
--- the same with the path, the depth and the flag that the words have
+-- the same with the path, the depth and the flag that the command line has
 abbrev pub question_on : ReportForm → KeyAsked → HiveFiles → Question
 question_on form asked files = question_at form (path_in asked.key) asked.depth asked.security files
 

@@ -35,7 +35,7 @@ fn report_at(
     }
 }
 
-/// The lines of the key that the words name, or the hive's first fault.
+/// The lines of the key that the command line names, or the hive's first fault.
 fn report_on(
     alloc: Global,
     files: &HiveFiles,
@@ -50,7 +50,7 @@ fn report_on(
     }
 }
 
-/// Gets the hive that the words name, and makes the lines of its key. Nothing is printed.
+/// Gets the hive that the command line names, and makes the lines of its key. Nothing is printed.
 fn seek<H: Host>(
     alloc: Global,
     words: KeyWords<'_>,
@@ -67,7 +67,7 @@ fn seek<H: Host>(
     }
 }
 
-/// Gets the hive that the words name, and prints the key that they name in one of the two forms; or prints the first obstacle.
+/// Gets the hive that the command line names, and prints the key that they name in one of the two forms; or prints the first obstacle.
 /// Nothing is written.
 pub fn key<H: Host>(alloc: Global, words: KeyWords<'_>, form: ReportForm, host: &mut H) -> Status
     ensures decides { DecidesOnHive (question_in form (key_seen words.entry) (H.state host.old).files) result (H.state host.old) (H.state host.new) }

@@ -102,7 +102,7 @@ found_is cells name offsets at nodes apart f = found_at cells name offsets at f.
 pub contains_at : (xs : List ℕ) (i x : ℕ) → i < length xs → x ≡ get_or xs i 0 → Contains xs x
 contains_at xs i x lt e = subst (Contains xs) (sym e) (Contains-get_or xs i 0 lt)
 
--- the order that was found tells whether the entry has the name
+-- the order that was found shows whether the entry has the name
 pub tested : (cells : Cells) (name offsets : List ℕ) (i x : ℕ) (order : Ordering) → All (IsNode cells) offsets
     → i < length offsets
     → x ≡ get_or offsets i 0 → order ≡ folded_order (name_in cells x) name → is_node_named cells name x ≡ is_eq order

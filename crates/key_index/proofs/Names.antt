@@ -74,7 +74,7 @@ named_is cells name at h =
     ∙ ap (λ (r : Result KeyNode HiveFaultKind). folds_same name
     (Rattle.hive_model.specs.Footprint.of_read r (λ node. node.name))) (sym v.1)
 
--- the order of the names tells whether the key node has the name
+-- the order of the names shows whether the key node has the name
 pub order_tells : (cells : Cells) (name : List ℕ) (at : ℕ) → IsNode cells at
     → is_node_named cells name at ≡ is_eq (folded_order (name_in cells at) name)
 order_tells cells name at h =

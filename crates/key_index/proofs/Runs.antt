@@ -232,7 +232,7 @@ drop_front (x ∷ a) b (suc n) e = drop_front a b n (omega arith)
 abbrev head_of : ℕ → List ℕ
 head_of k = to_le_bytes w32 (4294967296 - cell (4 + 4 * k)) ++ (0x72 ∷ 0x69 ∷ to_le_bytes w16 k)
 
--- and behind them
+-- and after them
 abbrev tail_of : HiveVersion → ℕ → List ℕ → List (List ℕ) → List ℕ
 tail_of version k os hs = replicate (cell (4 + 4 * k) - 4 - (4 + 4 * k)) 0 ++ text (parts version k os hs)
 

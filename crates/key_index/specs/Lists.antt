@@ -48,7 +48,7 @@ offsets_in_lists cells lists = flat_map (offsets_in_list cells) lists
 
 -- ---- children
 
--- the offsets of a key's children, in order, where its node has this list and counts so many; where that is none, the list is
+-- the offsets of a key's children, in order, where its node has this list and counts that many; where that is none, the list is
 -- not looked at
 abbrev pub children_at : Cells → ℕ → ℕ → List ℕ
 children_at cells list count = if count == 0 then [] else of_read (entries_at cells list) (λ offsets. offsets)
@@ -73,7 +73,7 @@ AreLists cells lists = All (λ at. IsOk (list_at (payload_in cells at)) × All (
 abbrev pub Finds : Cells → List ℕ → List ℕ → ℕ → Type 0
 Finds cells name offsets at = Contains offsets at × (is_node_named cells name at ≡ true)
 
--- the lists at an offset stand for so many children: key nodes, whose names differ by fold
+-- the lists at an offset stand for that many children: key nodes, whose names differ by fold
 pub record ListsSiblings (cells : Cells) (list count : ℕ) : Type 0 where
   pub read : 0 < count → IsOk (entries_at cells list)
   pub number : length (children_at cells list count) ≡ count
@@ -82,7 +82,7 @@ pub record ListsSiblings (cells : Cells) (list count : ℕ) : Type 0 where
 
 -- ---- a child more, a child less
 
--- the offsets of the cells of the lists of so many children: of the list, and of the lists in it if it lists lists
+-- the offsets of the cells of the lists of that many children: of the list, and of the lists in it if it lists lists
 unfoldable pub lists_at : Cells → ℕ → ℕ → List ℕ
 lists_at cells list count = if count == 0 then [] else used_in (entries_checks cells list)
 

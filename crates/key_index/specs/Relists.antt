@@ -1,4 +1,4 @@
--- What is left of the cells where the lists of a key were written anew?
+-- What remains of the cells where the lists of a key were rewritten?
 use Rattle.std.specs.Prelude.{◌≡◌, ◌≤◌, ◌<◌, ℕ, List, [], length, map, Contains, Option, Some, None, MatchOption}
 use Rattle.std.specs.List.{AllPairs}
 use Rattle.nt_bytes.specs.declared.version.HiveVersion.{HiveVersion}
@@ -19,9 +19,9 @@ AreApart offsets = AllPairs (λ a b. a ≡ b → ⊥) offsets
 abbrev pub list_run : HiveVersion → ℕ → List ℕ → List (List ℕ) → List Cell
 list_run version at offsets hints = map allocated_cell (list_cells version at offsets hints)
 
--- The lists of these children begin here, in packed form, cell behind cell. The old cells of lists are gone, each other cell that
+-- The lists of these children begin here, in packed form, cell after cell. The old cells of lists are gone, each other cell that
 -- was held is as it was, and nothing else is held. The lists use each cell once, and none of these was held. The bins data are
--- longer by no more than the room for each list.
+-- longer by at most the room for each list.
 pub record AreRelisted (version : HiveVersion) (gone offsets : List ℕ) (hints : List (List ℕ)) (old new : List Bin) (at : ℕ) : Type 0 where
   pub lists : ListsAt (look_up version new) at offsets
   pub freed : (o : ℕ) → Contains gone o → held_at new o ≡ None
@@ -42,11 +42,11 @@ pub record IsPut (version : HiveVersion) (gone offsets : List ℕ) (hints : List
   pub once : AreUsedOnce (entries_checks (look_up version new) at)
   pub long : bins_size new ≡ bins_size old
 
--- the room for lists of so many children is over 16 MiB, and the cells are as they were
+-- the room for lists of that many children is over 16 MiB, and the cells are as they were
 abbrev pub LacksRoom : ℕ → List Bin → List Bin → Type 0
 LacksRoom n old new = (16777216 < list_strain_of (bins_size old) n) × (new ≡ old)
 
--- the lists of these children are written anew, or there is no room for them
+-- the lists of these children are rewritten, or there is no room for them
 abbrev pub Relists : HiveVersion → List ℕ → List ℕ → List (List ℕ) → List Bin → List Bin → Option ℕ → Type 0
 Relists version gone offsets hints old new r = MatchOption r (LacksRoom (length offsets) old new) (AreRelisted version gone offsets hints old new)
 
@@ -56,7 +56,7 @@ pub record AreFreed (gone : List ℕ) (old new : List Bin) : Type 0 where
   pub others : (o : ℕ) → (Contains gone o → ⊥) → held_at new o ≡ held_at old o
   pub long : bins_size new ≡ bins_size old
 
--- the lists of these children are written anew, or there is no room for them, or, exactly where there is no child, no list is left
+-- the lists of these children are rewritten, or there is no room for them, or, exactly where there is no child, no list is left
 abbrev pub Shortens : HiveVersion → List ℕ → List ℕ → List (List ℕ) → List Bin → List Bin → Removal → Type 0
 Shortens version gone offsets hints old new (kinds.List at) = (0 < length offsets) × AreRelisted version gone offsets hints old new at
 Shortens version gone offsets hints old new kinds.Empty = (offsets ≡ []) × AreFreed gone old new

@@ -1,4 +1,4 @@
-//! A key's lists, written anew.
+//! A key's lists, rewritten.
 
 ghost use Rattle.std.specs.Prelude.{◌≡◌, ◌≤◌, ◌<◌, ◌+◌, ◌*◌, ◌++◌, ◌^◌, ℕ, List, length, take, drop, Contains, None, IfOk, OnErr, slice_index};
 ghost use Rattle.std.specs.Option.{IsSome};
@@ -46,7 +46,7 @@ pub fn free_all(heap: &mut OpenHeap, cells: &[u32])
     }
 }
 
-/// Writes where so many full lists begin that stand one behind another, behind the first eight bytes of
+/// Writes where that many full lists begin that are in sequence, after the first eight bytes of
 /// a run: in the list of lists that begins it.
 fn set_starts(run: &mut Bytes, count: usize, place: usize)
     requires inside { 8 + 4 * count ≤ length run.old }
@@ -59,7 +59,7 @@ fn set_starts(run: &mut Bytes, count: usize, place: usize)
     }
 }
 
-/// A run of lists that was written to stand at 0, changed to stand here.
+/// A run of lists that was written to be at 0, changed to stand here.
 fn moved(run: Bytes, n: usize, place: usize) -> Bytes
     requires long { length run ≡ list_size n }
     requires room { place + list_size n ≤ 16777216 }
@@ -74,7 +74,7 @@ fn moved(run: Bytes, n: usize, place: usize) -> Bytes
     run
 }
 
-/// Lists of these children in packed form, written to stand at 0.
+/// Lists of these children in packed form, written to be at 0.
 fn new_run(
     alloc: Global,
     version: HiveVersion,
@@ -116,7 +116,7 @@ fn put(
     free_all(heap, gone);
 }
 
-/// Writes the lists of these children anew, in packed form as one run of cells, and frees the old ones.
+/// Writes the lists of these children again, in packed form as one run of cells, and frees the old ones.
 /// `None` only where the room for each list would make the bins data longer than 16,777,216 bytes. The
 /// heap is as it was at `None` and where there is no memory.
 fn relist(
@@ -190,7 +190,7 @@ fn with_one_more(
 
 /// Inserts a child into the lists of a key, before the first whose name folds greater, else last, and
 /// answers where the new list begins. `list` and `count` are those of the parent's node: where the count
-/// is 0 the list is not looked at. The lists are written anew in packed form, as one run of cells, and
+/// is 0 the list is not looked at. The lists are rewritten in packed form, as one run of cells, and
 /// the old ones are freed. `None` only where the room for each new list would make the bins data longer
 /// than 16,777,216 bytes. The heap is as it was at `None` and where there is no memory.
 pub fn insert_child(
@@ -223,7 +223,7 @@ pub fn insert_child(
     )
 }
 
-/// Writes the lists of these children anew, where there are any, and frees the old ones.
+/// Writes the lists of these children again, where there are any, and frees the old ones.
 fn shorten(
     alloc: Global,
     heap: &mut OpenHeap,

@@ -18,9 +18,9 @@ use hive_cells::{CellHeap, Source};
 use nt_bytes::HiveVersion;
 use std::cmp::Ordering;
 
-// ---- by halves
+// ---- by binary search
 
-/// A child with the name among the entries of a list, looked for by halves.
+/// A child with the name among the entries of a list, looked for by binary search.
 fn search_list(cells: &Source, list: &[u8], name: &[u16]) -> Option<u32>
     requires read { IsOk (list_at list.now) }
     requires nodes { All (IsNode (cells_of cells.now)) (offsets_of list.now) }
@@ -51,7 +51,7 @@ fn begins_behind(cells: &Source, list: &[u8], name: &[u16]) -> bool
     compare_name(cells, entry(list, 0), name).is_gt()
 }
 
-/// How many of the lists of a list of lists begin with a name that is not greater, looked for by halves.
+/// How many of the lists of a list of lists begin with a name that is not greater, looked for by binary search.
 fn lists_before(cells: &Source, list: &[u8], name: &[u16]) -> usize
     requires read { IsOk (list_at list.now) }
     requires lists { AreLists (cells_of cells.now) (offsets_of list.now) }
@@ -71,7 +71,7 @@ fn lists_before(cells: &Source, list: &[u8], name: &[u16]) -> usize
     low
 }
 
-/// A child with the name below a list of lists, looked for by halves.
+/// A child with the name below a list of lists, looked for by binary search.
 fn search_lists(cells: &Source, list: &[u8], name: &[u16]) -> Option<u32>
     requires read { IsOk (list_at list.now) }
     requires lists { AreLists (cells_of cells.now) (offsets_of list.now) }
@@ -119,7 +119,7 @@ fn scan_lists(cells: &Source, list: &[u8], name: &[u16]) -> Option<u32>
 
 // ---- both
 
-/// The child with the name among the entries of a list: by halves, and behind a miss one by one.
+/// The child with the name among the entries of a list: by binary search, and after a miss one by one.
 fn find_in_list(cells: &Source, list: &[u8], name: &[u16]) -> Option<u32>
     requires read { IsOk (list_at list.now) }
     requires nodes { All (IsNode (cells_of cells.now)) (offsets_of list.now) }
@@ -132,7 +132,7 @@ fn find_in_list(cells: &Source, list: &[u8], name: &[u16]) -> Option<u32>
     }
 }
 
-/// The child with the name below a list of lists: by halves, and behind a miss one by one.
+/// The child with the name below a list of lists: by binary search, and after a miss one by one.
 fn find_in_lists(cells: &Source, list: &[u8], name: &[u16]) -> Option<u32>
     requires read { IsOk (list_at list.now) }
     requires lists { AreLists (cells_of cells.now) (offsets_of list.now) }
@@ -147,7 +147,7 @@ fn find_in_lists(cells: &Source, list: &[u8], name: &[u16]) -> Option<u32>
 
 /// The offset of the child that has this name, letters of either case taken for one, or `None` exactly
 /// where none has. `list` and `count` are those of the parent's node: where the count is 0 the list is
-/// not looked at. Where the children are in the order of their folded names, a hit takes as many steps
+/// not looked at. Where the children are in the order of their folded names, a hit takes the same number of steps
 /// as halving their number does; a miss looks at each of them.
 pub fn find_child(
     cells: &CellHeap,

@@ -9,7 +9,7 @@ ghost use Rattle.hive_model.specs.Stands.{Stands, HasApartNames};
 ghost use Rattle.key_index.specs.Lists.{ListsSiblings, lists_at};
 ghost use Rattle.key_index.specs.Relists.{AreApart};
 
-/// The lists of a key that stands in cells, its own or one below, stand for its children.
+/// The lists of a key that is in cells, its own or one below, stand for its children.
 pub fn keys_list_siblings()
     ensures { (cells : Cells) (at : ℕ) (t : Tree) (node : KeyNode) → Stands cells at t → HasApartNames t → reading key_node_at cells at ≡ Ok node
         → ListsSiblings cells node.child_list node.child_count }

@@ -1,8 +1,8 @@
-//! The subkey lists of a key, searched and changed in the cells that they stand in.
+//! The subkey lists of a key, searched and changed in the cells that they are in.
 //!
-//! `find_child` answers the child that has a name: by halves, which takes few steps where the children
-//! are in the order of their folded names, and behind a miss by a look at each of them. `insert_child`
-//! and `remove_child` write the lists anew, in packed form as one run of cells, and free the old ones.
+//! `find_child` answers the child that has a name: by binary search, which takes few steps where the children
+//! are in the order of their folded names, and after a miss by a look at each of them. `insert_child`
+//! and `remove_child` write the lists again, in packed form as one run of cells, and free the old ones.
 //! Rules: regf format 1.3 and 1.5 for the lists; that names are compared folded is that of the registry;
 //! the length of the lists is this project's own.
 #![tactic(auto)]

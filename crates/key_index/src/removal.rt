@@ -1,4 +1,4 @@
-//! What is left of a key's lists.
+//! What remains of a key's lists.
 
 /// The lists of a key without one of its children.
 #[derive(Clone, Copy, Debug, PartialEq, Eq)]

@@ -37,13 +37,13 @@ subkey_line t = SubkeyLine (head t).name
 abbrev pub block_lines : Bool → List (List ℕ) → Head → List Tree → List KeyLine
 block_lines security path h keys = title_line path h.name ∷ head_lines security h ++ map subkey_line keys
 
--- the lines of a key, and of so many levels below it
+-- the lines of a key, and of that many levels below it
 abbrev mutual
   pub key_lines : Bool → ℕ → List (List ℕ) → Tree → List KeyLine
   key_lines security depth path (key h ts) =
       block_lines security path h (listed ts) ++ (if depth == 0 then [] else keys_lines security (depth - 1) path ts)
 
-  -- the lines of the children of a key at this path, one after another
+  -- the lines of the children of a key at this path, in sequence
   pub keys_lines : Bool → ℕ → List (List ℕ) → Trees → List KeyLine
   keys_lines security depth path none = []
   keys_lines security depth path (more t ts) = key_lines security depth (path ++ (head t).name ∷ []) t ++ keys_lines security depth path ts

@@ -11,7 +11,7 @@ use Rattle.line_text.specs.Quoted.{quoted}
 use Rattle.key_text.specs.declared.data.DataForm.{DataForm}
 use Rattle.key_text.specs.declared.data.DataForm.TheVariants.{Dword, Qword, Strings, Ended, Unended, Raw}
 
--- the unit so many before the end is zero
+-- the unit that many before the end is zero
 abbrev pub is_zero_before_end : ℕ → List ℕ → Bool
 is_zero_before_end n units = nat_le n (length units) && (slice_index units (length units - n) == 0)
 

@@ -93,6 +93,6 @@ abbrev pub printed : ReportForm → KeyLine → List ℕ
 printed forms.Text line = line_text line
 printed forms.Json line = line_json line
 
--- lines, one after another
+-- lines, in sequence
 abbrev pub printed_lines : ReportForm → List KeyLine → List ℕ
 printed_lines form lines = flat_map (printed form) lines

@@ -1,4 +1,4 @@
-//! What the definitions come to.
+//! What the definitions amount to.
 
 ghost use Rattle.std.specs.Prelude.{◌≡◌, ◌↔◌, ◌<◌, ◌^◌, ℕ, Bool, true, false, List, ◌∷◌, None, slice_index};
 ghost use Rattle.std.specs.List.{All};
@@ -64,7 +64,7 @@ pub fn a_stamp_has_a_text_of_its_own()
     ensures { (a b : ℕ) → a < 2 ^ 64 → b < 2 ^ 64 → stamp_text a ≡ stamp_text b → a ≡ b }
 {}
 
-/// The lines of a key with its descriptor determine the key, but for what stands below its children.
+/// The lines of a key with its descriptor determine the key, but for what is below its children.
 pub fn the_lines_of_a_key_determine_it()
     ensures { (path way : List (List ℕ)) (h k : Head) (ts us : List Tree)
         → ((i : ℕ) → slice_index h.class i < 256) → ((i : ℕ) → slice_index k.class i < 256)

@@ -1,7 +1,7 @@
 //! One key of a registry tree, readable: what the command `key` prints.
 //!
 //! `key_report` finds the key that a path means, and prints its lines and those of the levels below it, as texts or as objects
-//! of JSON. `data_form` tells in which form data of a type are printed, `push_kind` and `push_form` print types and forms.
+//! of JSON. `data_form` reports in which form data of a type are printed, `push_kind` and `push_form` print types and forms.
 //! Definitions: `specs/Found.antt`, `specs/Blocks.antt`, `specs/Lines.antt`, `specs/Data.antt`, `specs/Stamps.antt`.
 #![tactic(auto)]
 

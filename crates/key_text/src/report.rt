@@ -62,7 +62,7 @@ fn push_path_lines(
     }
 }
 
-/// The lines of the key that a path means, and of so many levels below it, or that there is no such key. Each key of the tree
+/// The lines of the key that a path means, and of that many levels below it, or that there is no such key. Each key of the tree
 /// must be one that a hive can hold.
 pub fn key_report(
     alloc: Global,

@@ -120,7 +120,7 @@ fn push_block(
     push_subkeys(out, form, key.subkeys())
 }
 
-/// Appends the lines of a key and of so many levels below it. The path grows on the way down, so that each name is copied once.
+/// Appends the lines of a key and of that many levels below it. The path grows on the way down, so that each name is copied once.
 #[cycle(push_key)]
 pub(crate) fn push_key(
     alloc: Global,
@@ -149,7 +149,7 @@ pub(crate) fn push_key(
     )
 }
 
-/// Appends the lines of children, one after another.
+/// Appends the lines of children, in sequence.
 #[cycle(push_key)]
 fn push_keys(
     alloc: Global,

@@ -34,7 +34,7 @@ field_text name value = key_text name ++ value_text value
 abbrev pub fields_text : List (List ℕ × Value) → List ℕ
 fields_text fields = flat_map (λ (f : List ℕ × Value). field_text f.0 f.1) fields
 
--- the beginning of each object: its first field tells the line
+-- the beginning of each object: its first field reports the line
 abbrev pub opening_text : List ℕ → List ℕ
 opening_text word = codes "{\"line\":\"" ++ word ++ codes "\""
 

@@ -74,7 +74,7 @@ abbrev pub going : Step → (HiveNow → Replayed) → Replayed
 going step next =
     if step.goes then after step.lines (next step.hive) else record { hive = step.hive; lines = step.lines }
 
--- the fold of at most so many entries
+-- the fold of at most that many entries
 unfoldable pub replay_by : ℕ → List GivenLog → HiveNow → Replayed
 replay_by zero logs hive = record { hive = hive; lines = [] }
 replay_by (suc n) logs hive = going (step_of logs hive) (replay_by n logs)

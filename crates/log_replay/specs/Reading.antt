@@ -24,7 +24,7 @@ abbrev pub based : Result Base HiveFault → List ℕ → Base → ℕ → LogRe
 based (Err fault) log hive have = Broken (record { kind = LogBase; at = fault.at })
 based (Ok base) log hive have = if base.kind == 6 then New (run_of log) else Old base (old_reading_of log base hive have)
 
--- a log of whole sectors, to a hive with this base block whose file has so many bytes
+-- a log of whole sectors, to a hive with this base block whose file has that many bytes
 unfoldable pub reading_of : List ℕ → Base → ℕ → LogReading
 reading_of log hive have =
     if length log == 0 then Empty else based (wide_base_of (take 512 log) roles.Log) log hive have

@@ -22,7 +22,7 @@ use Rattle.log_replay.specs.Old.{ChosenOld, chosen_old, with_old}
 
 -- ---- the hive
 
--- a base block with as many bins sectors as its size says
+-- a base block with the same number of bins sectors as its size says
 abbrev pub with_bins : Result Base HiveFault → ℕ → Result Base HiveFault
 with_bins (Err fault) have = Err fault
 with_bins (Ok base) have = if nat_le (4096 + base.size) have then Ok base else Err (fault_at Size 40)

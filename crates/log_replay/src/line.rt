@@ -29,11 +29,11 @@ pub enum ReplayLine {
     OtherNumber(LogName, u32),
     /// A fault of a log, at a byte.
     Fault(LogFaultKind, LogName, usize),
-    /// An entry or an old log of this number is applied: so many bytes of pages.
+    /// An entry or an old log of this number is applied: that many bytes of pages.
     Apply(LogName, u32, u64),
     /// How many were applied, and the result's numbers.
     Replayed(usize, u32, u32),
-    /// The hive is saved with this number: so many bytes.
+    /// The hive is saved with this number: that many bytes.
     Saved(u32, usize),
     /// The hive isn't saved, since it is dirty.
     SaveRefused,

@@ -69,7 +69,7 @@ fn based(
     }
 }
 
-/// Reads a log of whole sectors, beside a hive with this base block whose file has so many bytes.
+/// Reads a log of whole sectors, beside a hive with this base block whose file has that many bytes.
 #[tactic(auto, unfolding(crate::specs::Reading::reading_of))]
 pub(crate) fn read_log(
     alloc: Global,

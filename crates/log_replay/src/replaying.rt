@@ -123,7 +123,7 @@ fn write_base(file: &mut Bytes, base: &BaseBlock)
     file.overwrite(0, &sector);
 }
 
-/// The first bytes of a file, so many.
+/// The first bytes of a file, that many.
 fn cut(file: Bytes, length: usize) -> Bytes
     ensures { result ≡ take length file }
 {
@@ -197,7 +197,7 @@ fn after_old(
     })
 }
 
-/// By an old log; without one, the first bytes of the file, so many.
+/// By an old log; without one, the first bytes of the file, that many.
 fn by_old(
     file: Bytes,
     count: usize,
@@ -215,7 +215,7 @@ fn by_old(
     }
 }
 
-/// A dirty hive, whose file has so many bytes and is filled up to whole sectors.
+/// A dirty hive, whose file has that many bytes and is filled up to whole sectors.
 fn dirty(
     alloc: Global,
     file: Bytes,
@@ -282,7 +282,7 @@ fn answered(
     }
 }
 
-/// What the logs make of a hive's file of so many bytes that is filled up to whole sectors, or the hive's fault.
+/// What the logs make of a hive's file of that many bytes that is filled up to whole sectors, or the hive's fault.
 fn of_filled(
     alloc: Global,
     file: Bytes,

@@ -7,7 +7,7 @@ use Rattle.mem_edge.specs.declared.writes.Sector.{Sector}
 use Rattle.mem_edge.specs.declared.writes.Sector.TheVariants.{Absent, Whole}
 use Rattle.mem_edge.specs.Views.{content_of, held_in}
 
--- what is behind the next sector is behind one more
+-- what is after the next sector is after one more
 pub cut_behind : (bytes rest : List ℕ) (s t : List Sector) (x : Sector) → rest ≡ drop (512 * length s) bytes
     → t ≡ s ++ x ∷ [] → drop 512 rest ≡ drop (512 * length t) bytes
 cut_behind bytes rest s t x is pushed =

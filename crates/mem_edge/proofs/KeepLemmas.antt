@@ -12,7 +12,7 @@ odd_in_flight (w ∷ []) a x h = h
 odd_in_flight (w ∷ v ∷ ws) a x (inl here) = inl here
 odd_in_flight (w ∷ v ∷ ws) a x (inr rest) = inr (inr (odd_in_flight ws a x rest))
 
--- what is left of what is held and of the writes in flight may be left
+-- what remains of what is held and of the writes in flight may be left
 pub left_crash : (held : Image) (ws : List Write) (keep : Keep) → IsCrashImage held ws (left keep held ws)
 left_crash held ws Nothing a = inl refl
 left_crash held ws Everything a = overlaid_crash held ws a

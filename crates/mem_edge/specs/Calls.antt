@@ -19,7 +19,7 @@ is_of call made = false
 abbrev pub counted : DiskCall → List Made → ℕ
 counted call made = min (count_by (is_of call) made) 18446744073709551615
 
--- the list has as many calls of each kind as the disk counted
+-- the list has the same number of calls of each kind as the disk counted
 abbrev pub counts_calls : MemDisk → List Made → Type 0
 counts_calls disk made = (call : DiskCall) → calls_of disk call ≡ counted call made
 

@@ -12,7 +12,7 @@ use Rattle.mem_edge.specs.declared.quiet_host.QuietHost.{QuietHost}
 abbrev pub files_of : MemHost → Files
 files_of h = λ q. option_map (λ v. v.items) (get_by_text h.files q)
 
--- a host in memory tells all; it is quiet where no call is to fail
+-- a host in memory reports all; it is quiet where no call is to fail
 abbrev pub host_of : MemHost → HostState
 host_of h = record {
   tells = true;
@@ -45,7 +45,7 @@ ends_law h = h.ends
 abbrev pub quiet_files_of : QuietHost → Files
 quiet_files_of h = λ q. option_map (λ v. v.items) (get_by_text h.files q)
 
--- a host without failures tells all, and has counts of zero
+-- a host without failures reports all, and has counts of zero
 abbrev pub quiet_host_of : QuietHost → HostState
 quiet_host_of h = record {
   tells = true;

@@ -30,7 +30,7 @@ bounded_law d = record {
 pub ordered_law : (d : MemDisk) → KeepsOrders (state_of d)
 ordered_law d = record { cuts = d.orders.cuts_kept; faults = d.orders.faults_kept }
 
--- so many calls of three kinds, of which f counts each
+-- that many calls of three kinds, of which f counts each
 sum_like : (f : Made → ℕ) (reads writes syncs : ℕ) (x y z : Made)
     → sum_by f (replicate reads x ++ (replicate writes y ++ replicate syncs z)) ≡ reads * f x + (writes * f y + syncs * f z)
 sum_like f reads writes syncs x y z =
@@ -56,7 +56,7 @@ module _ (d : MemDisk) (x y z : Made) where
       ≡ d.reads * (if is_of call x then 1 else 0) + (d.writes * (if is_of call y then 1 else 0) + d.syncs * (if is_of call z then 1 else 0))
   sum_of call = sum_like (λ m. if is_of call m then 1 else 0) d.reads d.writes d.syncs x y z
 
--- some list has as many calls of each kind as were counted
+-- some list has the same number of calls of each kind as were counted
 pub some_law : (d : MemDisk) → (made : List Made) × counts_calls d made
 some_law d =
     let at : Address = record { file = Primary; sector = 0 } in

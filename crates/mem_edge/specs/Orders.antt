@@ -38,7 +38,7 @@ counted_down None call = None
 counted_down (Some a) call =
     if same_call a.call call then (if nat_le a.left 1 then None else Some (record a { left = a.left - 1 })) else Some a
 
--- what is left of the writes in flight: where a cut comes in this call, what it was ordered with
+-- what remains of the writes in flight: where a cut comes in this call, what it was ordered with
 abbrev pub keep_at : Option Armed → DiskCall → Keep → Keep
 keep_at None call keep = keep
 keep_at (Some a) call keep = if is_due (Some a) call then a.keep else keep

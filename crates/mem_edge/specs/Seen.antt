@@ -1,7 +1,7 @@
 -- What is a disk in memory seen as, and what do its calls make of that? (This project's own.)
 --
 -- It is a disk of which two more things are known: the stops that are still to come, and what it leaves of the
--- writes in flight when it next settles. So what each call does to it is said whole.
+-- writes in flight when it next settles. So what each call does to it is printed whole.
 use Rattle.std.specs.Prelude.{◌≡◌, ◌++◌, ◌&&◌, not, if◌then◌else◌, [], ◌∷◌, ℕ, Option, Some, None, Result, Ok, Err}
 use Rattle.hive_model.specs.Image.{Image, Write}
 use Rattle.nt_edge.specs.Disk.{DiskState, now_of, next}

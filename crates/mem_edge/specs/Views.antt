@@ -60,7 +60,7 @@ left Everything held flight = overlaid held flight
 left OddOnes held flight = overlaid held (odd_ones flight)
 left Torn held flight = torn held flight
 
--- files of so many sectors have a place for each of the writes
+-- files of that many sectors have a place for each of the writes
 abbrev pub HasRoom : ℕ → ℕ → List InFlight → Type 0
 HasRoom primary log [] = Unit {0}
 HasRoom primary log (w ∷ ws) = (w.at.sector < of_file primary log w.at.file) × HasRoom primary log ws

@@ -23,7 +23,7 @@ pub fn cut_up(alloc: Global, bytes: &[u8]) -> Result<Vec<Sector>, AllocError>
     Ok(sectors)
 }
 
-/// The first sector of some bytes, and what is behind it.
+/// The first sector of some bytes, and what is after it.
 fn first_of(bytes: &[u8]) -> ([u8; 512], &[u8])
     ensures sector { result.0 ≡ padded (take 512 bytes.now) }
     ensures more { result.1.now ≡ drop 512 bytes.now }

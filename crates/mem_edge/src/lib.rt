@@ -1,4 +1,4 @@
-//! The outside in memory: an honest disk with its bench, and hosts whose files are kept in a map.
+//! The environment in memory: an honest disk with its bench, and hosts whose files are kept in a map.
 #![tactic(auto)]
 
 mod bench;

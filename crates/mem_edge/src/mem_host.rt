@@ -1,4 +1,4 @@
-//! A host in memory that can be told to fail.
+//! A host in memory that can be reported to fail.
 
 ghost use Rattle.std.specs.Prelude.{◌≡◌, ◌-◌, ◌↔◌, IsTrue};
 ghost use Rattle.nt_edge.specs.Host.{IsWithinEnds};
@@ -8,8 +8,8 @@ use nt_edge::{Host, HostStop};
 use std::alloc::{AllocError, Global};
 use std::collections::BTreeMap;
 
-/// Files and what was said, in memory. It fails where it was told to, and nowhere else but for
-/// want of memory.
+/// Files and what was printed, in memory. It fails where it was reported to, and nowhere else but for
+/// lack of memory.
 #[derive(Drop)]
 pub struct MemHost {
     alloc: Global,
@@ -30,7 +30,7 @@ impl MemHost {
     ghost use Rattle.nt_edge.specs.Host.{Puts};
     ghost use Rattle.mem_edge.specs.Hosts.{files_of};
 
-    /// A host with no file, to which nothing was said, and whose counts are zero. Takes no memory.
+    /// A host with no file, to which nothing was printed, and whose counts are zero. Takes no memory.
     pub fn new(alloc: Global) -> MemHost
         ensures files { (q : List ℕ) → files_of result q ≡ None }
         ensures said { result.said.items ≡ [] }
@@ -103,14 +103,14 @@ impl MemHost {
         self.fail_write = n;
     }
 
-    /// What was said so far.
+    /// What was printed so far.
     pub fn said(&self) -> &[u8]
         ensures { result.now ≡ self.now.said.items }
     {
         self.said.as_slice()
     }
 
-    /// What was said on standard error so far.
+    /// What was printed on standard error so far.
     pub fn errors(&self) -> &[u8]
         ensures { result.now ≡ self.now.errors.items }
     {
@@ -142,7 +142,7 @@ impl MemHost {
     }
 }
 
-/// Counts a call, and tells whether it is the one that fails.
+/// Counts a call, and shows whether it is the one that fails.
 fn is_due(left: &mut u64) -> bool
     ensures due { IsTrue result ↔ (left.old ≡ 1) }
     ensures counted { left.new ≡ left.old - 1 }

@@ -33,7 +33,7 @@ fn same(a: DiskCall, b: DiskCall) -> bool
     }
 }
 
-/// What is left of the writes in flight after this call: where a cut comes in it, what that was ordered with.
+/// What remains of the writes in flight after this call: where a cut comes in it, what that was ordered with.
 pub fn keep_at(cut: &Option<Armed>, call: DiskCall, keep: Keep) -> Keep
     ensures { result ≡ keep_after cut.now call keep }
 {
@@ -43,7 +43,7 @@ pub fn keep_at(cut: &Option<Armed>, call: DiskCall, keep: Keep) -> Keep
     }
 }
 
-/// Counts a call, and tells whether the stop is due at it, which is then no longer armed.
+/// Counts a call, and shows whether the stop is due at it, which is then no longer armed.
 pub fn comes(armed: &mut Option<Armed>, call: DiskCall) -> bool
     ensures due { result ≡ is_due armed.old call }
     ensures counted { armed.new ≡ counted_down armed.old call }

@@ -1,4 +1,4 @@
-//! A host in memory that never fails but for want of memory.
+//! A host in memory that never fails but for lack of memory.
 
 ghost use Rattle.std.specs.Prelude.{◌≡◌, ℕ, List, [], None, true, option_map, OnOk, OnErr};
 ghost use Rattle.nt_edge.specs.Host.{Puts};
@@ -9,7 +9,7 @@ use nt_edge::{Host, HostStop};
 use std::alloc::{AllocError, Global};
 use std::collections::BTreeMap;
 
-/// Files and what was said, in memory. Its counts of faults are the constant 0.
+/// Files and what was printed, in memory. Its counts of faults are the constant 0.
 #[derive(Drop)]
 pub struct QuietHost {
     alloc: Global,
@@ -20,7 +20,7 @@ pub struct QuietHost {
 }
 
 impl QuietHost {
-    /// A host with no file, to which nothing was said. Takes no memory.
+    /// A host with no file, to which nothing was printed. Takes no memory.
     pub fn new(alloc: Global) -> QuietHost
         ensures files { (q : List ℕ) → quiet_files_of result q ≡ None }
         ensures said { result.said.items ≡ [] }
@@ -49,14 +49,14 @@ impl QuietHost {
         Ok(())
     }
 
-    /// What was said so far.
+    /// What was printed so far.
     pub fn said(&self) -> &[u8]
         ensures { result.now ≡ self.now.said.items }
     {
         self.said.as_slice()
     }
 
-    /// What was said on standard error so far.
+    /// What was printed on standard error so far.
     pub fn errors(&self) -> &[u8]
         ensures { result.now ≡ self.now.errors.items }
     {

@@ -19,7 +19,7 @@ pub struct Woke {
 }
 
 /// An honest disk in memory, with its bench. It stops only where it was ordered to, and a refusal for
-/// want of memory leaves it as it was.
+/// lack of memory leaves it as it was.
 #[derive(Drop)]
 pub struct MemDisk {
     pub(crate) alloc: Global,

@@ -1,4 +1,4 @@
--- What was said, one part behind another, and a disk to which nothing was done.
+-- What was printed, one part after another, and a disk to which nothing was done.
 use Rattle.std.proofs.Common.{arith, ◌≡◌, inl, inr, ⊎_elim, ◌++◌, ℕ, true, List, [], refl, sym, ap, ◌∙◌, append_assoc}
 use Rattle.std.proofs.lemmas.List.{append-nil}
 use Rattle.nt_edge.specs.Disk.{DiskState, IsBounded}
@@ -7,13 +7,13 @@ use Rattle.mend_command.specs.declared.status.MendStatus.{MendStatus}
 use Rattle.mend_command.specs.declared.status.MendStatus.TheVariants.{Done, WriteFault, Memory, Device, Cut}
 use Rattle.mend_command.specs.Ends.{Told, DiskGoes}
 
--- ---- what was said
+-- ---- what was printed
 
--- nothing is a front of every text
+-- nothing is a prefix of every text
 front_none : (said text : List ℕ) → SaysFront said said text
 front_none said text = record { front = []; rest = text; cut = refl; said = sym (append-nil said) }
 
--- a front of a text is one of a longer text
+-- a prefix of a text is one of a longer text
 front_more : (old new first rest : List ℕ) → SaysFront old new first → SaysFront old new (first ++ rest)
 front_more old new first rest f = record {
   front = f.front;
@@ -22,7 +22,7 @@ front_more old new first rest f = record {
   said = f.said;
 }
 
--- what was said behind a first text is the longer text
+-- what was printed after a first text is the longer text
 front_behind : (old mid new first rest : List ℕ) → mid ≡ old ++ first → SaysFront mid new rest
     → SaysFront old new (first ++ rest)
 front_behind old mid new first rest is f = record {
@@ -63,7 +63,7 @@ told_cut other first rest status old new not t =
     (λ cut. inr (cut.0, λ tells. front_more old.said new.said first rest (cut.1 tells)))
     t
 
--- where the first text was said, it was said whole
+-- where the first text was printed, it was printed whole
 pub told_whole : (first : List ℕ) (status : MendStatus) (old new : HostState) → status ≡ Done
     → Told Done first status old new
     → old.tells ≡ true → new.said ≡ old.said ++ first
@@ -79,7 +79,7 @@ told_whole first status old new is t tells =
     memory_done : (s : MendStatus) → s ≡ Done → s ≡ Memory → ⊥
     memory_done s d m = cc
 
--- memory was lacking before anything was said
+-- memory was lacking before anything was printed
 pub told_nothing : (told : MendStatus) (text : List ℕ) (s : HostState) → Told told text Memory s s
 told_nothing told text s = inr (inr refl, λ tells. front_none s.said text)
 

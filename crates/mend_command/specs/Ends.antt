@@ -1,4 +1,4 @@
--- How does a mending end: what was said, what the disk then has, and which cause each status had? This project's own.
+-- How does a repair end: what was printed, what the disk then has, and which cause each status had? This project's own.
 use Rattle.std.specs.Prelude.{◌≡◌, ◌⊎◌, ◌++◌, Bool, true, false, ℕ, List, []}
 use Rattle.nt_bytes.specs.declared.fault.HiveFault.{HiveFault as Fault}
 use Rattle.hive_model.specs.Image.{Image}
@@ -14,9 +14,9 @@ use Rattle.mend_command.specs.declared.status.MendStatus.{MendStatus}
 use Rattle.mend_command.specs.declared.status.MendStatus.TheVariants.{Done, HiveFault, WriteFault, Memory, Device, Cut}
 use Rattle.mend_command.specs.Lines.{begun_text, packed_text, mend_text, fault_text, device_text, cut_text}
 
--- ---- what is said
+-- ---- what is printed
 
--- the lines of the hive of this image, mended
+-- the lines of the hive of this image, repaired
 pub record IsMendReport (image : Image) (text : List ℕ) : Type 0 where
   pub hive : Loaded
   pub dirty : Bool
@@ -36,13 +36,13 @@ pub record IsBegunReport (image : Image) (text : List ℕ) : Type 0 where
   pub load : IsLoadOf image hive dirty
   pub text_is : text ≡ begun_text hive dirty
 
--- the line of a stop of the disk, behind nothing or the first line
+-- the line of a stop of the disk, after nothing or the first line
 pub record IsStopReport (line : List ℕ) (image : Image) (text : List ℕ) : Type 0 where
   pub before : List ℕ
   pub begun : (before ≡ []) ⊎ IsBegunReport image before
   pub text_is : text ≡ before ++ line
 
--- all that is said with a status, of a mending of this image
+-- all that is printed with a status, of a repair of this image
 abbrev pub ReportOf : Image → MendStatus → List ℕ → Type 0
 ReportOf image Done text = IsMendReport image text
 ReportOf image HiveFault text = IsFaultReport image text
@@ -55,20 +55,20 @@ ReportOf image Cut text = IsStopReport cut_text image text
 abbrev pub IsStopped : MendStatus → Type 0
 IsStopped status = (status ≡ WriteFault) ⊎ (status ≡ Memory)
 
--- This text was said, and the status is the one that goes with it; or the host or the memory stopped it, and a front was said.
+-- This text was printed, and the status is the one that goes with it; or the host or the memory stopped it, and a front was printed.
 abbrev pub Told : MendStatus → List ℕ → MendStatus → HostState → HostState → Type 0
 Told told text status old new =
     ((status ≡ told) × (old.tells ≡ true → new.said ≡ old.said ++ text))
     ⊎ (IsStopped status × (old.tells ≡ true → SaysFront old.said new.said text))
 
--- the report of a mending of this image was said, or a front of it
+-- the report of a repair of this image was printed, or a prefix of it
 pub record SaysAs (image : Image) (status : MendStatus) (old new : HostState) : Type 0 where
   pub told : MendStatus
   pub text : List ℕ
   pub report : ReportOf image told text
   pub said : Told told text status old new
 
--- all that is said with a status behind the first line
+-- all that is printed with a status after the first line
 abbrev pub RestOf : Loaded → MendStatus → List ℕ → Type 0
 RestOf h Done text = text ≡ packed_text h (shorter h)
 RestOf h HiveFault text = ⊥
@@ -77,14 +77,14 @@ RestOf h Memory text = ⊥
 RestOf h Device text = text ≡ device_text
 RestOf h Cut text = text ≡ cut_text
 
--- the rest of a report was said behind the first line, or a front of it
+-- the rest of a report was printed after the first line, or a prefix of it
 pub record SaysRest (h : Loaded) (status : MendStatus) (old new : HostState) : Type 0 where
   pub told : MendStatus
   pub text : List ℕ
   pub rest : RestOf h told text
   pub said : Told told text status old new
 
--- the first line of a hive that was loaded was said, and then the rest of its report, or a front of them
+-- the first line of a hive that was loaded was printed, and then the rest of its report, or a prefix of them
 pub record SaysFound (h : Loaded) (dirty : Bool) (status : MendStatus) (old new : HostState) : Type 0 where
   pub told : MendStatus
   pub text : List ℕ
@@ -102,7 +102,7 @@ pub record HostGoes (status : MendStatus) (old new : HostState) : Type 0 where
 
 -- ---- what the disk has
 
--- the hive after its mending
+-- the hive after its repair
 abbrev pub mended : Loaded → Loaded
 mended h = mended_by h (shorter h)
 
@@ -112,7 +112,7 @@ pub record HasMended (h : Loaded) (disk : DiskState) : Type 0 where
   pub carries : Carries disk.held (mended h).base (mended h).bins
   pub loads : Loads disk.held (loaded_state (mended h)) false
 
--- the hive of the image is mended on the disk
+-- the hive of the image is repaired on the disk
 pub record IsMended (image : Image) (disk : DiskState) : Type 0 where
   pub hive : Loaded
   pub dirty : Bool

@@ -1,4 +1,4 @@
--- What is said of a mending? This project's own.
+-- What is said of a repair? This project's own.
 use Rattle.std.specs.Prelude.{ℕ, ◌++◌, Bool, if◌then◌else◌, List, [], length, Option, Some, None, codes}
 use Rattle.std.specs.Fmt.{decimal}
 use Rattle.nt_bytes.specs.declared.fault.HiveFault.{HiveFault}
@@ -8,7 +8,7 @@ use Rattle.hive_commit.specs.Stages.{next_number}
 use Rattle.hive_mend.specs.Loaded.{Loaded}
 use Rattle.hive_mend.specs.Mending.{shorter}
 
--- the sequence number and the size of the bins data, behind the word for how the hive was found
+-- the sequence number and the size of the bins data, after the word for how the hive was found
 abbrev pub begun_line : List ℕ → ℕ → ℕ → List ℕ
 begun_line word number size = word ++ codes " " ++ decimal number ++ codes " " ++ decimal size ++ codes "\n"
 
@@ -29,7 +29,7 @@ abbrev pub packed_text : Loaded → Option (List ℕ) → List ℕ
 packed_text h None = []
 packed_text h (Some new) = packed_line (next_number h.base.first) (length h.bins) (length new)
 
--- the lines of a mending that is done
+-- the lines of a repair that is done
 abbrev pub mend_text : Loaded → Bool → List ℕ
 mend_text h dirty = begun_text h dirty ++ packed_text h (shorter h)
 

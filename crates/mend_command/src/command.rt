@@ -1,4 +1,4 @@
-//! A hive mended on its disk.
+//! A hive repaired on its disk.
 
 ghost use Rattle.std.specs.Prelude.{◌≡◌, Bool, true, []};
 ghost use Rattle.nt_bytes.specs.declared.fault.HiveFault.{HiveFault as HiveFaultModel};
@@ -61,7 +61,7 @@ fn pack_loaded<H: Host, D: Disk>(
     }
 }
 
-/// Says how a hive was found, and mends it.
+/// Says how a hive was found, and repairs it.
 fn mend_loaded<H: Host, D: Disk>(
     alloc: Global,
     host: &mut H,
@@ -86,14 +86,14 @@ fn mend_loaded<H: Host, D: Disk>(
     }
 }
 
-/// Mends the hive of a disk: recovers it by its log where it is dirty, and packs it where its tree's bulk is at most
+/// Repairs the hive of a disk: recovers it by its log where it is dirty, and packs it where its tree's bulk is at most
 /// 16,773,120 bytes and its packed form is shorter. Says `recovered SEQ SIZE` or `clean SEQ SIZE` with the size of
 /// the bins data, and `packed SEQ OLD NEW` where it packed. The disk is on and has nothing in flight.
 pub fn mend_hive<H: Host, D: Disk>(alloc: Global, host: &mut H, disk: &mut D) -> MendStatus
     requires on { (D.state disk.old).on ≡ true }
     requires still { D.tells ≡ true → (D.state disk.old).flight ≡ [] }
-    // What was said is the report of the status, of the hive that the disk held at entry; or at a stop of the host or of
-    // the memory a front of such a report. So `HiveFault` comes only where this hive has a fault, and `Done` only where
+    // What was printed is the report of the status, of the hive that the disk held at entry; or at a stop of the host or of
+    // the memory a prefix of such a report. So `HiveFault` comes only where this hive has a fault, and `Done` only where
     // it has none, and each line has the numbers of this hive and of its packed form.
     ensures said { D.tells ≡ true → SaysAs (D.state disk.old).held result (H.state host.old) (H.state host.new) }
     // At Done the disk is clean and carries this hive, packed where that made it shorter.

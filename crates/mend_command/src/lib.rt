@@ -1,4 +1,4 @@
-//! What a mending of a hive says, and how it ends.
+//! What a repair of a hive says, and how it ends.
 //!
 //! `mend_hive` loads the hive of a disk, recovers it where it is dirty, packs it where that makes it shorter, and
 //! says what it found and what it did. Rules: docs/texts.md.

@@ -1,4 +1,4 @@
-//! The lines of a mending, said to a host.
+//! The lines of a repair, said to a host.
 
 ghost use Rattle.std.specs.Prelude.{◌≡◌, ℕ, List, Option, length, IfOk};
 ghost use Rattle.hive_mend.specs.Loaded.{Loaded};

@@ -1,4 +1,4 @@
-//! How a mending ends.
+//! How a repair ends.
 
 ghost use Rattle.std.specs.Prelude.{◌≡◌};
 ghost use Rattle.mend_command.specs.Exits.{exit_of};
@@ -10,9 +10,9 @@ pub enum MendStatus {
     Done,
     /// The hive has a fault. Said: `hive fault KIND at OFFSET`. Nothing was written.
     HiveFault,
-    /// Something could not be said: the host's count of write faults rose. Nothing more is said.
+    /// Something could not be said: the host's count of write faults rose. Nothing more is printed.
     WriteFault,
-    /// There was no memory. Nothing more is said.
+    /// There was no memory. Nothing more is printed.
     Memory,
     /// A read, a write or a sync failed: the disk's count of faults rose. Said: `device fault`.
     Device,

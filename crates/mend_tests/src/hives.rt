@@ -21,7 +21,7 @@ fn block(size: u32) -> BaseBlock {
     }
 }
 
-/// The second bin: its signature, its place, its size, and behind its header one free cell of 4064 bytes.
+/// The second bin: its signature, its place, its size, and after its header one free cell of 4064 bytes.
 fn append_free_bin(bytes: &mut Bytes) -> Result<(), AllocError> {
     bytes.append(b"hbin")?;
     bytes.put_u32(4096)?;

@@ -1,4 +1,4 @@
-//! A hive mended on a disk in memory, with a stop ordered at one of the disk's calls.
+//! A hive repaired on a disk in memory, with a stop ordered at one of the disk's calls.
 //!
 //! No crate of the program stands on this one: it is for its tests.
 #![tactic(auto)]

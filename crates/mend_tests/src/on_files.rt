@@ -28,7 +28,7 @@ fn open(rt: &HostRuntime, name: &str) -> Result<File, Fail> {
     Ok(OpenOptions::new().read(true).write(true).open(rt, name)?)
 }
 
-/// Mends the hive on the files, and compares what was said, and the size of the hive's file.
+/// Repairs the hive on the files, and compares what was printed, and the size of the hive's file.
 fn says(abort: &impl Abort, rt: &HostRuntime, text: &[u8], size: u64) -> Result<(), Fail> {
     let mut disk = FileDisk::new(open(rt, HIVE)?, open(rt, LOG)?);
     let (status, said) = mended(rt.alloc(), &mut disk)?;

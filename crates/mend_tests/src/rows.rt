@@ -18,7 +18,7 @@ fn started(rt: &impl Abort, alloc: Global, file: &Bytes) -> Result<MemDisk, Fail
     Ok(disk)
 }
 
-/// Mends the hive that the disk holds after a restart, and compares what was said, and how many writes there were.
+/// Repairs the hive that the disk holds after a restart, and compares what was printed, and how many writes there were.
 fn says(
     rt: &impl Abort,
     alloc: Global,

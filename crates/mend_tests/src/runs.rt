@@ -1,4 +1,4 @@
-//! A mending on a disk, with what it says, and the mending after it.
+//! A repair on a disk, with what it prints, and the repair after it.
 
 ghost use Rattle.std.specs.Prelude.{◌≡◌, ◌≤◌, true, false, [], length};
 
@@ -9,10 +9,10 @@ use nt_bytes::Bytes;
 use nt_edge::{Bench, Disk, DiskStop};
 use std::alloc::{AllocError, Global};
 
-/// The status of a mending, and what was said.
+/// The status of a repair, and what was printed.
 pub type Ends = (MendStatus, Bytes);
 
-/// Mends the hive of the disk, which is on.
+/// Repairs the hive of the disk, which is on.
 pub fn mended<D: Disk>(alloc: Global, disk: &mut D) -> Result<Ends, AllocError>
     requires on { (D.state disk.old).on ≡ true }
     requires still { D.tells ≡ true → (D.state disk.old).flight ≡ [] }
@@ -22,7 +22,7 @@ pub fn mended<D: Disk>(alloc: Global, disk: &mut D) -> Result<Ends, AllocError>
     Ok((status, Bytes::from_slice(alloc, host.said())?))
 }
 
-/// Turns the disk off, if it is on, and on again, and mends its hive.
+/// Turns the disk off, if it is on, and on again, and repairs its hive.
 pub fn again<B: Bench>(alloc: Global, bench: &mut B) -> Result<Ends, DiskStop> {
     bench.power_off();
     bench.power_on()?;
@@ -32,7 +32,7 @@ pub fn again<B: Bench>(alloc: Global, bench: &mut B) -> Result<Ends, DiskStop> {
     }
 }
 
-/// Mends the hive of this file with a stop ordered.
+/// Repairs the hive of this file with a stop ordered.
 pub fn stopped<B: Bench>(
     alloc: Global,
     bench: &mut B,

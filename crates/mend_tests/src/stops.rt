@@ -1,4 +1,4 @@
-//! A mending that is stopped at each call of the disk, and the one after it.
+//! A repair that is stopped at each call of the disk, and the one after it.
 
 use super::*;
 use commit_tests::Order;
@@ -19,7 +19,7 @@ const KEEPS: [Option<Keep>; 5] = [
     None,
 ];
 
-/// The status of a stop, and what is said last.
+/// The status of a stop, and what is printed last.
 fn ends(keep: Option<Keep>) -> (MendStatus, &'static [u8]) {
     match keep {
         Some(_) => (MendStatus::Cut, b"power lost\n"),
@@ -27,14 +27,14 @@ fn ends(keep: Option<Keep>) -> (MendStatus, &'static [u8]) {
     }
 }
 
-/// What the mending after a stop may say: all again, or what a stop in the middle left to do, or nothing more.
+/// What the repair after a stop may say: all again, or what a stop in the middle left to do, or nothing more.
 fn goes_on(said: &[u8]) -> bool {
     said == b"clean 5 8192\npacked 6 8192 4096\n".as_slice()
         || said == b"recovered 6 4096\n".as_slice()
         || said == b"clean 6 4096\n".as_slice()
 }
 
-/// Mends a hive that has grown with a stop at this call. Answers whether it came. The mending after it ends its work.
+/// Repairs a hive that has grown with a stop at this call. Answers whether it came. The repair after it ends its work.
 fn stop_at(rt: &impl Abort, alloc: Global, file: &Bytes, order: Order) -> Result<bool, Fail> {
     let mut disk = MemDisk::new(alloc);
     assert!(rt; file.len() <= 33_554_432 && 1 <= order.n);

@@ -32,7 +32,7 @@ same_from_ties q y = same_from_order q y
 pub is_order : (names : List (List ℕ)) → IsStrictWeakOrder (comes_before names)
 is_order names = ranks_by nat_list_cmp_total (λ (k : ℕ). folded (get_or names k []))
 
--- the places of a name stand in the order that they have in the list
+-- the places of a name are in the order that they have in the list
 pub kept : (names : List (List ℕ)) (order : List ℕ) (name : List ℕ) → IsOrderOf names order
     → filter (λ k. folds_same name (get_or names k [])) order ≡ places_named name names
 kept names order name o =

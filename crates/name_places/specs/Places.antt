@@ -1,4 +1,4 @@
--- Where does a name stand in a list?
+-- Where is a name in a list?
 use Rattle.std.specs.Prelude.{ℕ, List, [], length, filter, slice_index_or}
 use Rattle.std.specs.List.{range_with_len}
 use Rattle.nt_bytes.specs.Folding.{folds_same}

@@ -1,6 +1,6 @@
-//! Where names stand in a list, found without a scan.
+//! Where names are in a list, found without a scan.
 //!
-//! `NamePlaces` keeps the names as they stand in the list, and beside them their places by the folded
+//! `NamePlaces` keeps the names as they are in the list, and beside them their places by the folded
 //! order of the names. A lookup halves those, so it takes the logarithm of the number of names and no memory.
 #![tactic(auto)]
 

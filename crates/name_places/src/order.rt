@@ -17,7 +17,7 @@ pub(crate) fn in_order(alloc: Global, names: &[Units]) -> Result<Vec<usize>, All
     Ok(order)
 }
 
-/// The places of so many items, as they stand.
+/// The places of that many items, as they stand.
 fn all_places(alloc: Global, count: usize) -> Result<Vec<usize>, AllocError>
     ensures { IfOk result (λ places. places.items ≡ range_with_len 0 count) }
 {

@@ -36,7 +36,7 @@ impl NamePlaces {
         Ok(NamePlaces { names, order })
     }
 
-    /// The names, as they stand in the list.
+    /// The names, as they are in the list.
     pub fn as_slice(&self) -> &[Units]
         ensures { result.now ≡ self.now }
     {

@@ -10,7 +10,7 @@ use Rattle.std.proofs.lemmas.Bool.Decides.{nat_tests}
 use Rattle.std.proofs.lemmas.List.{append-nil}
 use Rattle.nt_bytes.specs.Text.{is_zero, is_filled, items_of}
 
--- the first part, and what the parts behind it give
+-- the first part, and what the parts after it give
 record Parts (units : List ℕ) : Type 0 where
   more : List (List ℕ)
   whole : slice_split is_zero units ≡ before_first is_zero units ∷ more
@@ -57,7 +57,7 @@ no_items units none =
     let p = parts_at units in
     ap (take_while is_filled) p.whole ∙ first_ends (before_first is_zero units) p.more none
 
--- the first string, and those behind it
+-- the first string, and those after it
 more_items : (units : List ℕ) → 0 < length (before_first is_zero units)
     → items_of units ≡ before_first is_zero units ∷ items_of (after_first is_zero units)
 more_items units some =

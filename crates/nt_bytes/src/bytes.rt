@@ -52,7 +52,7 @@ impl Bytes {
         })
     }
 
-    /// Puts one more behind. Without memory for it the list stays as it was.
+    /// Puts one more at the end. Without memory for it the list stays as it was.
     pub fn push(&mut self, byte: u8) -> Result<(), AllocError>
         ensures ok { OnOk result (self.new ≡ self.old ++ byte ∷ []) }
         ensures err { OnErr result (self.new ≡ self.old) }
@@ -90,7 +90,7 @@ impl Bytes {
         Bytes::from_slice(alloc, self.as_slice())
     }
 
-    /// Puts the bytes behind. Without memory for them the list stays as it was.
+    /// Puts the bytes at the end. Without memory for them the list stays as it was.
     pub fn append(&mut self, bytes: &[u8]) -> Result<(), AllocError>
         ensures ok { OnOk result (self.new ≡ self.old ++ bytes.now) }
         ensures err { OnErr result (self.new ≡ self.old) }
@@ -98,7 +98,7 @@ impl Bytes {
         self.bytes.extend_from_slice(bytes)
     }
 
-    /// Puts a number of two bytes behind, the low byte first.
+    /// Puts a number of two bytes after, the low byte first.
     pub fn put_u16(&mut self, v: u16) -> Result<(), AllocError>
         ensures ok { OnOk result (self.new ≡ self.old ++ to_le_bytes w16 v) }
         ensures err { OnErr result (self.new ≡ self.old) }
@@ -106,7 +106,7 @@ impl Bytes {
         self.bytes.extend_from_slice(&v.to_le_bytes())
     }
 
-    /// Puts a number of four bytes behind, the low byte first.
+    /// Puts a number of four bytes after, the low byte first.
     pub fn put_u32(&mut self, v: u32) -> Result<(), AllocError>
         ensures ok { OnOk result (self.new ≡ self.old ++ to_le_bytes w32 v) }
         ensures err { OnErr result (self.new ≡ self.old) }
@@ -114,7 +114,7 @@ impl Bytes {
         self.bytes.extend_from_slice(&v.to_le_bytes())
     }
 
-    /// Puts n zero bytes behind. Without memory for them the list stays as it was.
+    /// Puts n zero bytes at the end. Without memory for them the list stays as it was.
     pub fn append_zeros(&mut self, n: usize) -> Result<(), AllocError>
         ensures ok { OnOk result (self.new ≡ self.old ++ replicate n 0) }
         ensures err { OnErr result (self.new ≡ self.old) }
@@ -137,7 +137,7 @@ impl Bytes {
         Ok(())
     }
 
-    /// Puts these bytes in the place of as many that are there.
+    /// Puts these bytes in the place of the same number of that are there.
     pub fn overwrite(&mut self, at: usize, bytes: &[u8])
         requires { at + length bytes.now ≤ length self.old }
         ensures { self.new ≡ take at self.old ++ bytes.now ++ drop (at + length bytes.now) self.old }

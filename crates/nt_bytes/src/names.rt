@@ -28,7 +28,7 @@ impl Names {
         }
     }
 
-    /// Puts one more behind. Without memory for it the list stays as it was.
+    /// Puts one more at the end. Without memory for it the list stays as it was.
     pub fn push(&mut self, name: Units) -> Result<(), AllocError>
         ensures ok { OnOk result (self.new ≡ self.old ++ name ∷ []) }
         ensures err { OnErr result (self.new ≡ self.old) }

@@ -45,7 +45,7 @@ impl<T: Drop> Row<T> {
         self.items
     }
 
-    /// Puts one more behind. Without memory for it the list stays as it was.
+    /// Puts one more at the end. Without memory for it the list stays as it was.
     pub fn push(&mut self, item: T) -> Result<(), AllocError>
         ensures ok { OnOk result (self.new ≡ self.old ++ item ∷ []) }
         ensures err { OnErr result (self.new ≡ self.old) }

@@ -50,7 +50,7 @@ impl Units {
         self.units
     }
 
-    /// Puts one more behind. Without memory for it the list stays as it was.
+    /// Puts one more at the end. Without memory for it the list stays as it was.
     pub fn push(&mut self, unit: u16) -> Result<(), AllocError>
         ensures ok { OnOk result (self.new ≡ self.old ++ unit ∷ []) }
         ensures err { OnErr result (self.new ≡ self.old) }

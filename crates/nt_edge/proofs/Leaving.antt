@@ -1,4 +1,4 @@
--- Calls of a disk, one after the other.
+-- Calls of a disk, in sequence.
 use Rattle.std.proofs.Common.{◌≡◌, ◌∙◌, ℕ, Bool, true, Ok, subst, arith}
 use Rattle.std.specs.Prelude.{IsErrOf}
 use Rattle.nt_edge.specs.Disk.{DiskState}

@@ -21,7 +21,7 @@ pub record History : Type 0 where
   pub armings : List Arming
 
 -- A disk at a moment: what it holds, the writes since the last sync that succeeded with the oldest first,
--- whether it is on, how many cuts and faults came, and how many calls it refused for want of memory.
+-- whether it is on, how many cuts and faults came, and how many calls it refused for lack of memory.
 pub record DiskState : Type 0 where
   pub held : Image
   pub flight : List Write

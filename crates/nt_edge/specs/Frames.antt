@@ -1,7 +1,7 @@
 -- What some calls of a disk leave, whatever they answered: of a caller that only reads, and of one that writes.
 -- (This project's own.)
 --
--- A caller names what its answer tells: that the power was lost, that the device failed, that memory was lacking. Where
+-- A caller names what its answer reports: that the power was lost, that the device failed, that memory was lacking. Where
 -- its answer is the disk's own, these are `IsErrOf result PowerLost` and so on.
 use Rattle.std.specs.Prelude.{◌≡◌, Bool, true, false, Result, IsErrOf}
 use Rattle.nt_bytes.specs.Counts.{Rises}
@@ -33,7 +33,7 @@ pub record GoesFor (old new : DiskState) (lost failed lacked : Type 0) : Type 0 
 abbrev pub Goes : {T : Type 0} → DiskState → DiskState → Result T DiskStop → Type 0
 Goes old new result = GoesFor old new (IsErrOf result PowerLost) (IsErrOf result Failed) (IsErrOf result Memory)
 
--- What is held and what is in flight are as they were, where the disk tells them, and it went on. Its memory is not asked for.
+-- What is held and what is in flight are as they were, where the disk reports them, and it went on. Its memory is not asked for.
 pub record LeavesAsRead (tells : Bool) (old new : DiskState) (lost failed : Type 0) : Type 0 where
   pub held : tells ≡ true → new.held ≡ old.held
   pub flight : tells ≡ true → new.flight ≡ old.flight

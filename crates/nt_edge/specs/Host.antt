@@ -1,4 +1,4 @@
--- What a host is at a moment: its files, and what was said to it; and what its calls leave. (This project's own.)
+-- What a host is at a moment: its files, and what was printed to it; and what its calls leave. (This project's own.)
 use Rattle.std.specs.Prelude.{◌≡◌, ◌⊎◌, ◌≤◌, ◌+◌, ◌++◌, min, ℕ, Bool, true, List, Option, Some, if◌then◌else◌}
 use Rattle.std.specs.Prelude.{bytes_eq, Result, Ok, Err}
 use Rattle.nt_edge.specs.declared.host.HostStop.{HostStop}
@@ -9,8 +9,8 @@ use Rattle.nt_bytes.specs.Counts.{Rises}
 abbrev pub Files : Type 0
 Files = List ℕ → Option (List ℕ)
 
--- A host at a moment: whether it tells its files and what was said to it; whether it refuses no call from now on
--- but for want of memory; the files; what was said so far; what was said on standard error so far; how often a file was
+-- A host at a moment: whether it reports its files and what was printed to it; whether it refuses no call from now on
+-- but for lack of memory; the files; what was printed so far; what was printed on standard error so far; how often a file was
 -- asked for; how many faults there were in reading, and in writing a file or saying something.
 pub record HostState : Type 0 where
   pub tells : Bool
@@ -30,7 +30,7 @@ Puts old new name bytes = (q : List ℕ) → new q ≡ (if bytes_eq q name then 
 abbrev pub KeepsOthers : Files → Files → List ℕ → Type 0
 KeepsOthers old new name = (q : List ℕ) → (q ≡ name → ⊥) → new q ≡ old q
 
--- what was said grew by a front of the text
+-- what was printed grew by a prefix of the text
 pub record SaysFront (old new text : List ℕ) : Type 0 where
   pub front : List ℕ
   pub rest : List ℕ
@@ -45,22 +45,22 @@ Asks old new = new.gets ≡ min (old.gets + 1) 18446744073709551615
 abbrev pub AsksNone : HostState → HostState → Type 0
 AsksNone old new = new.gets ≡ old.gets
 
--- whether the host tells stays, one that is quiet stays quiet, and nothing was said on standard error
+-- whether the host reports stays, one that is quiet stays quiet, and nothing was printed on standard error
 pub record KeepsHost (old new : HostState) : Type 0 where
   pub tells : new.tells ≡ old.tells
   pub quiet : old.quiet ≡ true → new.quiet ≡ true
   pub errors : new.errors ≡ old.errors
 
--- where the host tells, its files are as they were
+-- where the host reports, its files are as they were
 abbrev pub KeepsFiles : HostState → HostState → Type 0
 KeepsFiles old new = old.tells ≡ true → new.files ≡ old.files
 
--- a text was said on standard error, or could not be said there, and nothing else changed
+-- a text was printed on standard error, or could not be said there, and nothing else changed
 pub record SaysError (old new : HostState) (text : List ℕ) : Type 0 where
   pub errors : (new.errors ≡ old.errors ++ text) ⊎ (new.errors ≡ old.errors)
   pub same : new ≡ record old { errors = new.errors }
 
--- where the host tells, nothing was said
+-- where the host reports, nothing was printed
 abbrev pub IsUnsaid : HostState → HostState → Type 0
 IsUnsaid old new = old.tells ≡ true → new.said ≡ old.said
 

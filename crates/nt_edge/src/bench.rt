@@ -10,9 +10,9 @@ ghost use Rattle.nt_edge.specs.declared.disk.DiskStop.TheVariants.{Memory};
 use crate::{Disk, DiskCall, DiskStop, HiveFile, Keep};
 use nt_bytes::Bytes;
 
-/// A disk that tells its contents, with what happens to it from outside.
+/// A disk that reports its contents, with what happens to it from outside.
 ///
-/// Its calls refuse nothing but for want of memory, and are then without effect. It stops at most as
+/// Its calls refuse nothing but for lack of memory, and are then without effect. It stops at most as
 /// often as it was ordered to, and one that got no order never stops. None of its calls is a call of the
 /// disk.
 pub trait Bench: Disk {
@@ -81,7 +81,7 @@ pub trait Bench: Disk {
         ensures quiet { MakesNone (Self.calls self.old) (Self.calls self.new) }
         ensures memory { IfErr result (λ stop. stop ≡ Memory) };
 
-    /// Every bench tells its contents.
+    /// Every bench reports its contents.
     ghost told: { Self.tells ≡ true };
 
     /// It stops at most as often as it was ordered to.

@@ -98,11 +98,11 @@ pub enum Keep {
 /// the writes in flight what it pleases, each sector by itself: what it was, what was written to it, or
 /// none that can be read.
 ///
-/// Its counts of cuts, of faults and of refusals for want of memory never fall; they end at
+/// Its counts of cuts, of faults and of refusals for lack of memory never fall; they end at
 /// 18,446,744,073,709,551,615 and stay there. Each refusal raises the count of its cause, and no other
 /// answer does. Each call wants the disk on.
 pub trait Disk {
-    /// Whether the disk tells its contents: what it holds, the writes in flight and its wakes. No
+    /// Whether the disk reports its contents: what it holds, the writes in flight and its wakes. No
     /// call changes that. What is said of power and counts is said of every disk.
     ghost tells: { Bool };
 
@@ -110,7 +110,7 @@ pub trait Disk {
     ghost state: { Self → DiskState };
 
     /// What the disk says of the calls that were made: lists, the first call first, among which is the true
-    /// one. A disk may keep its calls, count them or forget them; each call puts itself behind, whatever it
+    /// one. A disk may keep its calls, count them or forget them; each call puts itself after, whatever it
     /// answers.
     ghost calls: { Self → List Made → Type 0 };
 
@@ -168,6 +168,6 @@ pub trait Disk {
     /// No count is ever past its end.
     ghost bounded: { (disk : Self) → IsBounded (state disk) };
 
-    /// Of the calls that were made it says some list.
+    /// Of the calls that were made it prints some list.
     ghost some: { (disk : Self) → (made : List Made) × calls disk made };
 }

@@ -1,4 +1,4 @@
-//! A host of files, to which a report is said.
+//! A host of files, to which a report is printed.
 
 ghost use Rattle.std.specs.Prelude.{◌≡◌, ◌++◌, true, IfOk, OnOk, OnErr, IsErrOf};
 ghost use Rattle.nt_edge.specs.Host.{HostState, Puts, KeepsOthers, KeepsHost, KeepsFiles, IsUnsaid, Asks, AsksNone, SaysFront, SaysError, CountsFault, IsWithinEnds};
@@ -17,10 +17,10 @@ pub enum HostStop {
     Memory,
 }
 
-/// Files by name, and a place where bytes are said. A count of faults rises with its own fault and stays with every
+/// Files by name, and a place where bytes are printed. A count of faults rises with its own fault and stays with every
 /// other answer; it ends at 18,446,744,073,709,551,615 and stays there.
 pub trait Host {
-    /// What the host is at a moment. No call changes whether it tells its files and what was said to it, and one
+    /// What the host is at a moment. No call changes whether it reports its files and what was printed to it, and one
     /// that is quiet stays quiet; only `say_error` says anything on standard error.
     ghost state: { Self → HostState };
 
@@ -46,7 +46,7 @@ pub trait Host {
         ensures counts { CountsFault result (state self.old) (state self.new) }
         ensures never_read { IsErrOf result Read → ⊥ };
 
-    /// Appends the bytes to what was said. After a refusal a front of them was said.
+    /// Appends the bytes to what was printed. After a refusal a prefix of them was printed.
     fn say(&mut self, bytes: &[u8]) -> Result<(), HostStop>
         ensures said { (state self.old).tells ≡ true → OnOk result
             ((state self.new).said ≡ (state self.old).said ++ bytes.now) }
@@ -58,7 +58,7 @@ pub trait Host {
         ensures counts { CountsFault result (state self.old) (state self.new) }
         ensures never_read { IsErrOf result Read → ⊥ };
 
-    /// Says a text on standard error, where that can be done. It leaves what was said, the files and all counts as they were.
+    /// Says a text on standard error, where that can be done. It leaves what was printed, the files and all counts as they were.
     fn say_error(&mut self, bytes: &[u8])
         ensures said { (state self.old).tells ≡ true → SaysError (state self.old) (state self.new) bytes.now }
         ensures same { state self.new ≡ record (state self.old) { errors = (state self.new).errors } };

@@ -24,7 +24,7 @@ pub fn a_longer_flight_allows_more()
         → IsCrashImage held flight left → IsCrashImage held (flight ++ more) left }
 {}
 
-/// Where no write is in flight, what is left is what is held, and so is what a read finds.
+/// Where no write is in flight, what remains is what is held, and so is what a read finds.
 pub fn only_what_is_in_flight_changes()
     ensures left { (p : Address → Bool) (held left : Image) (flight : List Write) → EachWrite p flight
         → IsCrashImage held flight left → AgreeOutside p held left }

@@ -1,9 +1,9 @@
-//! The traits of the outside: a disk of sectors that may lose power or fail at any call, a test bench
-//! round it, and a host of files to which a report is said.
+//! The traits of the environment: a disk of sectors that may lose power or fail at any call, a test bench
+//! round it, and a host of files to which a report is printed.
 //!
-//! A disk or host tells its contents or it doesn't; its counts are known for every one. Each refusal of a
+//! A disk or host reports its contents or it doesn't; its counts are known for every one. Each refusal of a
 //! disk's `read`, `write` and `sync` comes with a count that rose in that call, and so does each `Read` and
-//! `Write` of a host. Want of memory is free where a bench or a host refuses for it.
+//! `Write` of a host. Lack of memory is free where a bench or a host refuses for it.
 #![tactic(auto)]
 
 mod bench;

@@ -85,7 +85,7 @@ fn main(rt: HostRuntime) -> ExitCode {
     let mut disk = MemDisk::new(alloc);
     let status = match words(&rt) {
         Ok(words) => ntboot(alloc, &words, &mut host, &mut disk),
-        // They have no reading, as no words have none.
+        // They cannot be parsed, as no words have none.
         Err(NoWords::Unread) => ntboot(alloc, &[], &mut host, &mut disk),
         Err(NoWords::Memory) => Status::Memory,
     };

@@ -1,4 +1,4 @@
--- LastKnownGood in a run that was said whole, and in one that was given up.
+-- LastKnownGood in a run that was printed whole, and in one that was given up.
 use Rattle.std.proofs.Common.{ℕ, List, Option, map, subst}
 use Rattle.hive_model.specs.Image.{IsCrashImage}
 use Rattle.nt_edge.specs.Disk.{DiskState}

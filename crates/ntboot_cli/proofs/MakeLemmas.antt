@@ -98,7 +98,7 @@ module _ (usual : Usual) (words : MakeAsked) where
   pub made_part : (disk : DiskState) → IsMade usual words.count 0 disk → IsPartMade 0 disk
   made_part disk m = part_made usual words.count 0 0 disk (omega arith) m
 
-  -- there was no memory before anything was said
+  -- there was no memory before anything was printed
   pub unmade : (host : HostState) (disk : DiskState) → disk.on ≡ false → IsPartMade 0 disk
       → MakesAlone (Ok usual) words statuses.Memory host host disk
   unmade host disk off part =
@@ -134,7 +134,7 @@ module _ (usual : Usual) (words : MakeAsked) where
   untouched_told status disk (inr (inr is)) =
       (let P : Status → Type 0 = λ s. IsUntouchedBy s disk in subst P (sym is) tt)
 
-  -- the line was said and the disk saved, or that was stopped
+  -- the line was printed and the disk saved, or that was stopped
   pub finished_makes : (summary : Summary) (line : List ℕ) (status : Status) (old new : HostState)
       (mid after : DiskState) → mid.on ≡ false
       → summary ≡ summary_of (made_run usual words.count).lines → line ≡ summary_text words.count summary

@@ -79,7 +79,7 @@ Says inputs script old r mid before left =
     → ReportsOr (run_of (choices inputs.ini inputs.system) (map event_in script) placed) (untold old) (answered mid r)
     before left r
 
--- ---- the whole report was said
+-- ---- the whole report was printed
 
 module _ (inputs : Inputs) (saves : Saves) (w : Woken) (before : DiskState) where
   whole : (summary : Summary) (taken : ℕ) (old mid new : List ℕ) (left after : DiskState)
@@ -243,7 +243,7 @@ module _ (inputs : Inputs) (saves : Saves) (script : List Event) (old new : Host
 
 -- ---- before the run
 
--- the outside stopped the search for the inputs
+-- the environment stopped the search for the inputs
 pub unsaid_run : (wanted : Result Inputs Refusal) (saves : Saves) (disk : DiskState) (stop : HostStop)
     (old new : List ℕ) → disk ≡ new_state
     → new ≡ old → (stop ≡ Write → ⊥) → EndsInputs wanted saves disk (stopped_as stop) old new

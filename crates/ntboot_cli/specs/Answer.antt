@@ -74,8 +74,8 @@ run_in inputs placed = run_of (choices inputs.ini inputs.system) (map event_in i
 abbrev pub quiet_in : Inputs → Woken → Quiet
 quiet_in inputs placed = quiet_run_of (choices inputs.ini inputs.system) (map event_in inputs.script) placed
 
--- The whole report was said. The disk as the run left it then settled, and so many files were taken from it. Where it had no
--- cut and no fault, the report is the text of the quiet run; and where the report tells no stop, it counted none. LastKnownGood
+-- The whole report was printed. The disk as the run left it then settled, and that many files were taken from it. Where it had no
+-- cut and no fault, the report is the text of the quiet run; and where the report says no stop, it counted none. LastKnownGood
 -- names a good set in each tree that was held, and in each that the disk may load as.
 pub record RunsWhole (inputs : Inputs) (placed : Woken) (taken : ℕ) (before after : DiskState) (old new : List ℕ) : Type 0 where
   pub summary : Summary
@@ -86,12 +86,12 @@ pub record RunsWhole (inputs : Inputs) (placed : Woken) (taken : ℕ) (before af
   pub counted : AllFinished (outcomes_of reports.text) → (after.cuts ≡ before.cuts) × (after.faults ≡ before.faults)
   pub good : let r = run_in inputs placed reports.report.woken (outcomes_of reports.text) in KeepsGood r.notes r.disk
 
--- A front of the report was said, and LastKnownGood names a good set up to where nothing more happened.
+-- A prefix of the report was printed, and LastKnownGood names a good set up to where nothing more happened.
 pub record RunsFront (inputs : Inputs) (placed : Woken) (before after : DiskState) (old new : List ℕ) : Type 0 where
   pub reports : ReportsFront (run_in inputs placed) old new before after
   pub good : let r = run_in inputs placed reports.report.woken (outcomes_of reports.text) in KeepsGood r.notes r.disk
 
--- the run was given up, and a front of its report was said; or the whole report was, and then the saving was given up
+-- the run was given up, and a prefix of its report was printed; or the whole report was, and then the saving was given up
 abbrev pub RunsPart : Inputs → Woken → Saves → DiskState → DiskState → List ℕ → List ℕ → Type 0
 RunsPart inputs placed saves before after old new =
     RunsFront inputs placed before after old new
@@ -104,8 +104,8 @@ EndsRun inputs placed saves before after statuses.WriteFault old new = RunsPart 
 EndsRun inputs placed saves before after statuses.Memory old new = RunsPart inputs placed saves before after old new
 EndsRun inputs placed saves before after other old new = ⊥
 
--- The hive has a first fault, and that is said; or it loads as a state, and the script is run on the disk that holds it; or there
--- was no memory before anything was said. The disk is this afterwards.
+-- The hive has a first fault, and that is printed; or it loads as a state, and the script is run on the disk that holds it; or there
+-- was no memory before anything was printed. The disk is this afterwards.
 abbrev pub EndsHive : Inputs → Saves → DiskState → Status → List ℕ → List ℕ → Type 0
 EndsHive inputs saves disk status old new =
     ((fault : HiveFault) × (LoadFault (image_in inputs.hive) fault)
@@ -114,7 +114,7 @@ EndsHive inputs saves disk status old new =
     × EndsRun inputs placed saves (placed_disk inputs.hive) disk status old new)
     ⊎ ((status ≡ statuses.Memory) × (new ≡ old) × IsUnrun disk))
 
--- the first obstacle is said, and nothing was done to the disk; or there is none, and the hive decides
+-- the first obstacle is printed, and nothing was done to the disk; or there is none, and the hive decides
 abbrev pub EndsInputs : Result Inputs Refusal → Saves → DiskState → Status → List ℕ → List ℕ → Type 0
 EndsInputs (Err r) saves disk status old new = Ends (refusal r) status old new × (disk ≡ new_state)
 EndsInputs (Ok inputs) saves disk status old new =
@@ -129,8 +129,8 @@ shown placed = record {
   text = shown_text placed.state.sequence (bulk_of placed.state.version placed.state.tree) placed.state.tree;
 }
 
--- The hive has a first fault, and that is said; or it loads as a state, and the text of its tree is said; or there was no memory
--- or a read fault before anything was said.
+-- The hive has a first fault, and that is printed; or it loads as a state, and the text of its tree is printed; or there was no memory
+-- or a read fault before anything was printed.
 abbrev pub EndsShown : Result HiveFiles Refusal → Status → List ℕ → List ℕ → Type 0
 EndsShown (Err r) status old new = Ends (refusal r) status old new
 EndsShown (Ok files) status old new =
@@ -144,11 +144,11 @@ EndsShown (Ok files) status old new =
 abbrev pub made : Usual → ℕ → Answer
 made usual count = record { status = statuses.Done; text = made_text usual count }
 
--- a front of the line was said, and the disk is left as it may be then
+-- a prefix of the line was printed, and the disk is left as it may be then
 abbrev pub EndsPart : Usual → ℕ → Saves → DiskState → Status → List ℕ → List ℕ → Type 0
 EndsPart usual count saves disk status old new = Ends (made usual count) status old new × IsPartMade (saved_count saves) disk
 
--- the line was said whole at the end, or of it a front up to a fault in saying it or to want of memory; the disk is this afterwards
+-- the line was printed whole at the end, or of it a front up to a fault in saying it or to lack of memory; the disk is this afterwards
 abbrev pub EndsMade : Result Usual Refusal → ℕ → Saves → DiskState → Status → List ℕ → List ℕ → Type 0
 EndsMade (Err r) count saves disk status old new = Ends (refusal r) status old new × (disk ≡ new_state)
 EndsMade (Ok usual) count saves disk statuses.Done old new = (new ≡ old ++ made_text usual count) × IsMade usual count (saved_count saves) disk
@@ -164,7 +164,7 @@ ShowsAs image (Err (Stopped stop)) = stop ≡ NoMemory
 
 -- ---- a command
 
--- the files that the words want to be saved
+-- the files that the command line wants to be saved
 abbrev pub saves_of : Reading → Saves
 saves_of (refused why) = no_saves
 saves_of (help page) = no_saves
@@ -212,7 +212,7 @@ EndsWords (asks (key words) json) files after disk status old new =
 EndsWords (asks (replay words) json) files after disk status old new =
     EndsReplay (report_in (form_of json) words files) words.save_hive files after status old new × (disk ≡ new_state)
 
--- as many files are asked for as stand in the written order, up to the first obstacle; for `import` one more, where the hive has no fault
+-- the same number of files are asked for as are in the written order, up to the first obstacle; for `import` one more, where the hive has no fault
 abbrev pub AsksAs : Reading → Status → HostState → HostState → Type 0
 AsksAs (asks (import words) json) status old new = AsksImport words status old new
 AsksAs asked status old new = AsksSoMany (asks_in asked) status old new

@@ -38,7 +38,7 @@ inputs_in words files = do
   hive ← hive_in files words.hive words.log
   Ok (record { system = system; ini = ini; script = events; hive = hive })
 
--- whether the words have a reading, and the system's path, where they have one
+-- whether the command line has a reading, and the system's path, where they have one
 abbrev pub arguments_in : Reading → Result (Unit {0}) Refusal
 arguments_in (refused why) = Err Usage
 arguments_in (help page) = Ok tt
@@ -72,7 +72,7 @@ asks_run words files =
 abbrev pub asks_show : ShowAsked → Files → ℕ
 asks_show words files = asks_hive files words.hive words.log
 
--- for what the words ask for; of `import` its hive alone, whose text is asked for where the hive has no fault
+-- for what the command line asks for; of `import` its hive alone, whose text is asked for where the hive has no fault
 abbrev pub asks_in : Reading → Files → ℕ
 asks_in (refused why) files = 0
 asks_in (help page) files = 0

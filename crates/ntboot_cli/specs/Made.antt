@@ -63,7 +63,7 @@ summary_text count s =
 abbrev pub made_text : Usual → ℕ → List ℕ
 made_text usual count = summary_text count (summary_of (made_run usual count).lines)
 
--- The disk after `make`: one file was placed and so many taken, no stop was ordered and none came, and it loads as the run's
+-- The disk after `make`: one file was placed and that many taken, no stop was ordered and none came, and it loads as the run's
 -- last state.
 pub record IsMade (usual : Usual) (count saved : ℕ) (disk : DiskState) : Type 0 where
   pub loads : (c : Image) → LeftOf disk c → MayLoad (made_run usual count).state.disk c
@@ -74,14 +74,14 @@ pub record IsMade (usual : Usual) (count saved : ℕ) (disk : DiskState) : Type 
   pub no_cuts : disk.cuts ≡ 0
   pub no_faults : disk.faults ≡ 0
 
--- the disk where `make` was stopped: at most one file was placed and so many taken, and no stop was ordered
+-- the disk where `make` was stopped: at most one file was placed and that many taken, and no stop was ordered
 pub record IsPartMade (most : ℕ) (disk : DiskState) : Type 0 where
   pub placed : disk.history.placings ≤ 1
   pub taken : disk.history.takings ≤ most
   pub unordered : disk.history.armings ≡ []
   pub uncut : disk.history.cut_calls ≡ 0
 
--- this was said, and its lines come to the summary
+-- this was printed, and its lines amount to the summary
 abbrev pub told : List ℕ → Summary → Told
 told said summary = record { said = said; summary = summary }
 

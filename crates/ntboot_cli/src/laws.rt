@@ -1,4 +1,4 @@
-//! What follows for a run that was said whole, or given up.
+//! What follows for a run that was printed whole, or given up.
 
 ghost use Rattle.std.specs.Prelude.{◌≡◌, ◌⊎◌, ◌+◌, false, ℕ, List, Option, Ok};
 ghost use Rattle.std.specs.Option.{IsSome};
@@ -25,7 +25,7 @@ ghost use Rattle.command_parts.specs.Placed.{image_in, placed_disk};
 ghost use Rattle.command_parts.specs.Saves.{Saves};
 
 /// Over every script and whatever came of its disk operations, LastKnownGood names a good set in each tree that was loaded or
-/// committed, and in each that the disk may load as afterwards: where the report was said whole, and where the run was given up.
+/// committed, and in each that the disk may load as afterwards: where the report was printed whole, and where the run was given up.
 pub fn a_run_keeps_last_known_good()
     ensures whole { (choice : Option ℕ → Choice) (script : List BookEvent) (placed : Woken) (summary : Summary) (old new : List ℕ)
         (before after : DiskState) (r : Reports (run_of choice script placed) (told old no_summary) (told new summary) before after)
@@ -35,7 +35,7 @@ pub fn a_run_keeps_last_known_good()
         → let run = run_of choice script placed r.report.woken (outcomes_of r.text) in KeepsGood run.notes run.disk }
 {}
 
-/// Each file of the hive that the words name was placed for a run, and each that they want saved was taken: where all was done. Where
+/// Each file of the hive that the command line names was placed for a run, and each that they want saved was taken: where all was done. Where
 /// the run was given up, no file was taken.
 pub fn a_run_places_and_takes_the_named_files()
     ensures placed { (inputs : Inputs) (woken : Woken) (taken : ℕ) (after : DiskState) (old new : List ℕ)
@@ -48,7 +48,7 @@ pub fn a_run_places_and_takes_the_named_files()
         → ReportsFront run old new (placed_disk files) after → after.history.takings ≡ 0 }
 {}
 
-/// Where the words and files have no obstacle and the hive is well-formed, a run ends as done, unless the outside stopped it or there
+/// Where the words and files have no obstacle and the hive is well-formed, a run ends as done, unless the environment stopped it or there
 /// was no memory.
 pub fn a_well_formed_hive_is_run()
     ensures { (inputs : Inputs) (saves : Saves) (placed : Woken) (disk : DiskState) (status : Status) (old new : List ℕ)
@@ -56,7 +56,7 @@ pub fn a_well_formed_hive_is_run()
         → (status ≡ Status.Done) ⊎ IsSome (stop_in status) }
 {}
 
-/// The two files of the disk behind a run, or behind the run of a generated hive, load as its last state says: as the settled state,
+/// The two files of the disk after a run, or after the run of a generated hive, load as its last state says: as the settled state,
 /// or as the other one of an open change. The hive's first sector has to be one that can be read.
 pub fn what_was_saved_loads_as_the_run_says()
     ensures run { (inputs : Inputs) (placed : Woken) (count : ℕ) (before : DiskState) (after : DiskState) (old new hive log : List ℕ)
@@ -68,7 +68,7 @@ pub fn what_was_saved_loads_as_the_run_says()
         → MayLoad (made_run usual count).state.disk (image_of hive log) }
 {}
 
-/// Behind a run whose disk counts no cut and no fault the hive's file alone, with its log's or any other, loads as the last state
+/// After a run whose disk counts no cut and no fault the hive's file alone, with its log's or any other, loads as the last state
 /// that was settled, without the log; unless no start woke the disk, which is as it was placed then.
 pub fn what_a_quiet_run_saved_loads_as_its_last_tree()
     ensures { (inputs : Inputs) (placed : Woken) (count : ℕ) (before : DiskState) (after : DiskState) (old new hive log : List ℕ)

@@ -30,7 +30,7 @@ use mem_edge::QuietHost;
 use nt_edge::{Bench, Host};
 use std::alloc::{AllocError, Global};
 
-/// The system and the boot.ini of a machine where nothing else is said.
+/// The system and the boot.ini of a machine where nothing else is printed.
 #[derive(Drop)]
 pub struct Usual {
     pub system: Arc,
@@ -145,7 +145,7 @@ fn make_with<H: Host, B: Bench>(
     finish(line.as_slice(), saves, host, bench)
 }
 
-/// Makes a hive of so many services, and says what one start of it comes to.
+/// Makes a hive of that many services, and says what one start of it amounts to.
 pub(crate) fn make<H: Host, B: Bench>(
     alloc: Global,
     words: MakeWords<'_>,

@@ -91,7 +91,7 @@ fn begin<H: Host, B: Bench>(
     }
 }
 
-/// Gets what the words name, runs, and saves; or says the first obstacle.
+/// Gets what the command line names, runs, and saves; or says the first obstacle.
 pub(crate) fn run<H: Host, B: Bench>(
     alloc: Global,
     words: RunWords<'_>,

@@ -41,7 +41,7 @@ fn show_tree<H: Host>(alloc: Global, files: &HiveFiles, host: &mut H) -> Status
     }
 }
 
-/// Gets the hive that the words name, and says its tree; or says the first obstacle.
+/// Gets the hive that the command line names, and says its tree; or says the first obstacle.
 pub(crate) fn show<H: Host>(alloc: Global, words: ShowWords<'_>, host: &mut H) -> Status
     ensures decides { DecidesShow (show_seen words.entry) result (H.state host.old) (H.state host.new) }
     ensures asked { AsksSoMany (asks_show (show_seen words.entry)) result (H.state host.old) (H.state host.new) }

@@ -59,7 +59,7 @@ fn obey<H: Host, B: Bench>(alloc: Global, words: &[&str], host: &mut H, bench: &
 }
 
 /// Reads the words, then the files that they name, and says the report, the tree or the line that the command has, or the one line
-/// of the first obstacle; then it saves the files that the words name. A run is on the disk, to which nothing was done yet, and
+/// of the first obstacle; then it saves the files that the command line names. A run is on the disk, to which nothing was done yet, and
 /// which is off afterwards.
 pub fn ntboot<H: Host, B: Bench>(
     alloc: Global,

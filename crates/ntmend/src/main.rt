@@ -1,4 +1,4 @@
-//! A hive mended where it lies: `ntmend HIVE LOG`.
+//! A hive repaired where it lies: `ntmend HIVE LOG`.
 //!
 //! The program opens both files, holds a lock on each, and makes the top call of `mend_command` over them.
 #![tactic(auto)]
@@ -35,7 +35,7 @@ enum Unopened {
     Memory,
 }
 
-/// The two words of the command line, behind the program's name.
+/// The two words of the command line, after the program's name.
 fn words(rt: &HostRuntime) -> Result<(String, String), NoWords> {
     let mut args = match env::args(rt) {
         Ok(args) => args,
@@ -92,7 +92,7 @@ fn end_without(rt: &HostRuntime, output: &mut Output<'_>, name: &str, why: Unope
     }
 }
 
-/// Mends the hive of these names.
+/// Repairs the hive of these names.
 fn mend(rt: &HostRuntime, output: &mut Output<'_>, hive: &str, log: &str) -> u8 {
     let primary = match open(rt, hive) {
         Ok(file) => file,

@@ -52,7 +52,7 @@ all_finished (Cuts ∷ notes) wakes base since now later cuts faults c =
 
 -- ---- a report
 
--- each operation that the report tells of was done
+-- each operation that the report says of was done
 pub reports-finished : (choice : Option ℕ → Choice) (script : List Event) (placed : Woken) (told told' : Told)
     (before after : DiskState)
     (r : Reports (run_of choice script placed) told told' before after) → after.cuts ≡ 0 → after.faults ≡ 0

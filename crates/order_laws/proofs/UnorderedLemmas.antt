@@ -67,7 +67,7 @@ notes-front : (a b : List Note) → AreNoOrders (a ++ b) → AreNoOrders a
 notes-front [] b x = tt
 notes-front (n ∷ a) b x = (x.0, notes-front a b x.1)
 
--- a front of such notes
+-- a prefix of such notes
 pub front_notes : (whole front : List Note) → IsFront whole front → AreNoOrders whole → AreNoOrders front
 front_notes whole front f a = notes-front front f.rest (subst AreNoOrders f.cut a)
 

@@ -1,4 +1,4 @@
-//! What a disk counts behind a script without orders.
+//! What a disk counts after a script without orders.
 
 ghost use Rattle.std.specs.Prelude.{◌≡◌, ℕ, List, [], Option};
 ghost use Rattle.nt_bytes.specs.Front.{IsFront};
@@ -13,7 +13,7 @@ ghost use Rattle.run_parts.specs.Parts.{Grew};
 ghost use Rattle.order_laws.specs.Unordered.{AreUnordered};
 
 /// Where nothing was ordered before either, and no more stops come than were ordered, the disk counts no cut and no fault
-/// behind the run or any front of it.
+/// after the run or any front of it.
 pub fn without_orders_no_stop_is_counted()
     ensures cuts { (choice : Option ℕ → Choice) (script : List events.Event) (placed : Woken) (wakes : List Woken) (outcomes : List Outcome)
         (notes : List Note) (added : List Wake) (before : DiskState) (after : DiskState)

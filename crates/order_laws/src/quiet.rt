@@ -14,8 +14,8 @@ ghost use Rattle.start_model.specs.Fits.{MayLoad};
 ghost use Rattle.run_parts.specs.Parts.{Told};
 ghost use Rattle.run_parts.specs.Reports.{Reports, LeftOf};
 
-/// Behind a run after which the disk counts no cut and no fault, what was said is the text of the quiet run, the summary is
-/// that of its lines, and each image that the disk may be left as loads as the state that it comes to.
+/// After a run after which the disk counts no cut and no fault, what was printed is the text of the quiet run, the summary is
+/// that of its lines, and each image that the disk may be left as loads as the state that it amounts to.
 pub fn without_counts_the_report_is_the_quiet_one()
     ensures said { (choice : Option ℕ → Choice) (script : List events.Event) (placed : Woken)
         (told : Told) (told' : Told) (before : DiskState) (after : DiskState)

@@ -1,4 +1,4 @@
-//! What the disk counts where a report tells no stop.
+//! What the disk counts where a report says no stop.
 
 ghost use Rattle.std.specs.Prelude.{◌≡◌, ℕ, List, Option};
 ghost use Rattle.nt_edge.specs.Disk.{DiskState};
@@ -11,7 +11,7 @@ ghost use Rattle.run_laws.specs.Quiet.{AllFinished};
 ghost use Rattle.run_parts.specs.Parts.{Told, tally_now};
 ghost use Rattle.run_parts.specs.Reports.{Reports};
 
-/// A stop that came is told: where the text of the whole report tells none, the disk counted no cut and no fault since.
+/// A stop that came is reported: where the text of the whole report says none, the disk counted no cut and no fault since.
 pub fn a_report_that_tells_no_stop_counts_none()
     ensures { (choice : Option ℕ → Choice) (script : List events.Event) (placed : Woken)
         (told : Told) (told' : Told) (before : DiskState) (after : DiskState)

@@ -1,4 +1,4 @@
--- The heap that is read from a text is the one whose bytes the text is, so what stands in the one stands in the other.
+-- The heap that is read from a text is the one whose bytes the text is, so what is in the one is in the other.
 use Rattle.std.proofs.Common.{◌≡◌, List, ℕ, Option, Some, None, sym, subst, ◌∙◌}
 use Rattle.nt_bytes.specs.declared.fault.HiveFault.{HiveFault}
 use Rattle.nt_bytes.specs.declared.version.HiveVersion.{HiveVersion}

@@ -82,7 +82,7 @@ fn select(alloc: Global) -> Result<Key, AllocError> {
     key(alloc, b"Select", 0, values, Keys::new(alloc))
 }
 
-/// The tree of a system with one control set of so many services, named in rising order. Each key is
+/// The tree of a system with one control set of that many services, named in rising order. Each key is
 /// made once and moved to its place, so the work is linear in the tree.
 pub fn system_tree(alloc: Global, count: u32) -> Result<Key, AllocError> {
     let mut children = Keys::new(alloc);

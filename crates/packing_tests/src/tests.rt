@@ -37,7 +37,7 @@ const FIRST_LH: [u8; 16] = [
 ];
 
 /// A thousand services in a version. The cells by hand: 264 bytes for each service with its values, 8,032 for the lists
-/// that name a thousand of them, 560 for the other keys, and the header of 32. The lists stand at 344, 360 and 4,368.
+/// that name a thousand of them, 560 for the other keys, and the header of 32. The lists are at 344, 360 and 4,368.
 fn a_thousand(
     rt: &impl Abort,
     alloc: Global,
@@ -109,7 +109,7 @@ fn root_with_big_data(alloc: Global) -> Result<Key, AllocError> {
     root_with(alloc, values)
 }
 
-/// In version 1.3 its data have one cell of 16,352 bytes at 160, behind the header of 32, 88 for the root, 8 for its value
+/// In version 1.3 its data have one cell of 16,352 bytes at 160, after the header of 32, 88 for the root, 8 for its value
 /// list and 32 for the value.
 fn one_cell(rt: &impl Abort, alloc: Global, tree: &Key) -> Result<(), Fail> {
     assert_eq!(rt; tree.bulk(HiveVersion::V3), 16_512);
@@ -150,7 +150,7 @@ fn data_that_fill_more_than_a_segment_are_read_back(rt: HostRuntime) -> Result<(
     two_segments(&rt, rt.alloc(), &tree)
 }
 
-/// One more value of the root, with so many bytes: zeros, and 1 to 4 at the end.
+/// One more value of the root, with that many bytes: zeros, and 1 to 4 at the end.
 fn one_more(alloc: Global, count: usize) -> Result<Steps, AllocError>
     requires { 4 ≤ count }
 {
@@ -189,7 +189,7 @@ const LAST_VALUE: [u8; 36] = [
 ];
 
 /// The bytes of the tree at the limit, from the sizes of its cells: 88 for the root, 72 for the list of 16 values, and for
-/// each 32 with 1,048,584 for its data. No free cell is behind the last data.
+/// each 32 with 1,048,584 for its data. No free cell is after the last data.
 fn full_bytes(rt: &impl Abort, bytes: &[u8])
     requires { length bytes.now ≡ 16773120 }
 {

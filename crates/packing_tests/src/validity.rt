@@ -86,7 +86,7 @@ fn is_key(key: &Key) -> bool
     are_items(key.values.as_slice()) && are_named(key.children.as_slice())
 }
 
-/// Whether each key can be held and there are at most so many levels.
+/// Whether each key can be held and there are at most that many levels.
 #[cycle(holds)]
 fn holds(key: &Key, room: u32) -> bool
     ensures keys { IsTrue result → HoldsKeys key.now }

@@ -22,7 +22,7 @@ pub(crate) struct Case<'a> {
     pub said: &'a str,
     /// How many files it asks for.
     pub gets: u8,
-    /// How often it says something. Where that is more than once, it says a line at a time.
+    /// How often it prints something. Where that is more than once, it prints a line at a time.
     pub says: u8,
     /// How many files it saves: `x` is the hive and `y` its log.
     pub puts: u8,
@@ -46,7 +46,7 @@ pub(crate) fn host(alloc: Global, case: &Case<'_>) -> Result<MemHost, AllocError
     Ok(host)
 }
 
-/// The first lines of a text, so many.
+/// The first lines of a text, that many.
 fn front(alloc: Global, text: &str, lines: u8) -> Result<String, AllocError> {
     let mut front = String::new(alloc);
     for line in text.split_inclusive('\n').take(usize::from(lines)) {
@@ -65,7 +65,7 @@ fn holds(rt: &impl Abort, host: &MemHost, name: &str, bytes: &[u8]) {
     assert!(rt; host.file(name) == Some(bytes), "the file {name}");
 }
 
-/// Makes the call on this host and a new disk. It answers this status and says this, and so many files are saved; no other file
+/// Makes the call on this host and a new disk. It answers this status and says this, and that many files are saved; no other file
 /// changes. The disk is off, since its files are taken.
 fn ends(
     rt: &impl Abort,
@@ -88,7 +88,7 @@ fn ends(
     Ok(())
 }
 
-/// With a `get` failing nothing is said and saved.
+/// With a `get` failing nothing is printed and saved.
 fn each_get(rt: &impl Abort, alloc: Global, case: &Case<'_>) -> Result<(), Fail> {
     for n in 0..case.gets {
         let mut host = host(alloc, case)?;
@@ -98,7 +98,7 @@ fn each_get(rt: &impl Abort, alloc: Global, case: &Case<'_>) -> Result<(), Fail>
     Ok(())
 }
 
-/// With a `say` failing all before it is said, no byte more, and nothing is saved.
+/// With a `say` failing all before it is printed, no byte more, and nothing is saved.
 fn each_say(rt: &impl Abort, alloc: Global, case: &Case<'_>) -> Result<(), Fail> {
     for n in 0..case.says {
         let mut host = host(alloc, case)?;
@@ -109,7 +109,7 @@ fn each_say(rt: &impl Abort, alloc: Global, case: &Case<'_>) -> Result<(), Fail>
     Ok(())
 }
 
-/// With a `put` failing all is said, and the files before it are saved.
+/// With a `put` failing all is printed, and the files before it are saved.
 fn each_put(rt: &impl Abort, alloc: Global, case: &Case<'_>) -> Result<(), Fail> {
     for n in 0..case.puts {
         let mut host = host(alloc, case)?;
@@ -125,7 +125,7 @@ fn each_put(rt: &impl Abort, alloc: Global, case: &Case<'_>) -> Result<(), Fail>
     Ok(())
 }
 
-/// The host after the call without a failure, which made as many calls as the case says: the first one behind them is the one
+/// The host after the call without a failure, which made the same number of calls as the case says: the first one after them is the one
 /// that was to fail.
 pub(crate) fn whole(rt: &impl Abort, alloc: Global, case: &Case<'_>) -> Result<MemHost, Fail> {
     let mut host = host(alloc, case)?;

@@ -21,10 +21,10 @@ const SETS: Sets<'static> = Sets {
     good: 0,
 };
 
-/// Words, the file `s`, what is said, how many files are asked for, and how many are saved.
+/// Words, the file `s`, what is printed, how many files are asked for, and how many are saved.
 type Row = (&'static [&'static str], &'static [u8], &'static str, u8, u8);
 
-/// The call without a failure, and with each call of the host failing. The host after the call, to which this was said.
+/// The call without a failure, and with each call of the host failing. The host after the call, to which this was printed.
 fn row(
     rt: &impl Abort,
     alloc: Global,
@@ -67,7 +67,7 @@ fn saving(
     starts(rt, alloc, host, words, (said, Status::Done, &first))
 }
 
-/// Words that are refused, the file `s`, the status, the line that is said, and how many files were asked for.
+/// Words that are refused, the file `s`, the status, the line that is printed, and how many files were asked for.
 type Refused = (
     &'static [&'static str],
     &'static [u8],
@@ -361,7 +361,7 @@ const DRIVER: &str = "Windows Registry Editor Version 5.00\r
 \r
 ";
 
-/// UTF-16LE behind its mark.
+/// UTF-16LE after its mark.
 fn wide(alloc: Global, text: &str) -> Result<Bytes, AllocError> {
     let mut bytes = Bytes::from_slice(alloc, &[0xff, 0xfe])?;
     for byte in text.as_bytes() {
@@ -409,7 +409,7 @@ fn imported(
     Ok(())
 }
 
-/// The export of the driver to the file `x`, which is put before the line is said: what comes of it.
+/// The export of the driver to the file `x`, which is put before the line is printed: what comes of it.
 fn exported(
     rt: &impl Abort,
     alloc: Global,

@@ -17,7 +17,7 @@ use std::test::Fail;
 /// The names of a service's numbers.
 const NUMBERS: [&[u8]; 3] = [b"Start", b"Type", b"ErrorControl"];
 
-/// A service: its name, and its numbers, the first ones, as many as it has.
+/// A service: its name, and its numbers, the first ones, the same number as it has.
 pub(crate) type Service<'a> = (&'a [u8], &'a [u32]);
 
 /// The sets of a hive, whose Current and Default are 1.

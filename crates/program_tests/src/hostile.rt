@@ -22,7 +22,7 @@ const BINS: usize = 4096;
 /// Bytes that are put at an offset of the file.
 type Change = (usize, &'static [u8]);
 
-/// Changes of a file, and the line that is said then.
+/// Changes of a file, and the line that is printed then.
 type Hostile = (&'static [Change], &'static str);
 
 /// Changes of the primary file, which has one bin of 4096 bytes and the sequence number 5.
@@ -52,7 +52,7 @@ const CELLS: [Hostile; 8] = [
     (&[(BINS + 36, b"x")], "form-sign at 32"),
 ];
 
-/// Changes of what stands in the cells.
+/// Changes of what is in the cells.
 const FORMS: [Hostile; 13] = [
     (&[(BINS + 348, b"x")], "form-sign at 344"),
     (&[(BINS + 436, &[100, 0])], "form-short at 360"),
@@ -82,7 +82,7 @@ const FORMS: [Hostile; 13] = [
     (&[(BINS + 280, &[2, 0, 0, 0])], "count at 256"),
 ];
 
-/// The file with its changes, in a minor version, and with a checksum made anew.
+/// The file with its changes, in a minor version, and with a checksum made again.
 fn changed(
     alloc: Global,
     file: &[u8],
@@ -105,7 +105,7 @@ fn put(file: &mut [u8], at: usize, bytes: &[u8]) {
     }
 }
 
-/// The checksum of the base block is made anew.
+/// The checksum of the base block is made again.
 fn sum(file: &mut [u8]) {
     let mut block = [0; 512];
     put(&mut block, 0, file);
@@ -158,7 +158,7 @@ fn each_change(rt: &impl Abort, alloc: Global, rows: &[Hostile]) -> Result<(), F
     Ok(())
 }
 
-/// The hive's first fault is said, or of `run` that the start runs.
+/// The hive's first fault is printed, or of `run` that the start runs.
 fn hostile(
     rt: &impl Abort,
     alloc: Global,
@@ -185,7 +185,7 @@ fn hostile(
 
 // ---- logs
 
-/// A log behind a hive whose numbers are 6 and 5: changes of the log, how many bytes of it are there, and the line that is said.
+/// A log after a hive whose numbers are 6 and 5: changes of the log, how many bytes of it are there, and the line that is printed.
 type HostileLog = (&'static [Change], usize, &'static str);
 
 /// How long the log of the eight sectors of one bin is, in bytes.
@@ -259,7 +259,7 @@ const SCRIPTS: [(&[u8], &str); 10] = [
     (b"set A B binary abc\n", "number"),
 ];
 
-/// So many times a line.
+/// That many times a line.
 fn repeated(alloc: Global, line: &[u8], count: u32) -> Result<Vec<u8>, AllocError> {
     let mut text = Vec::new(alloc);
     for _ in 0..count {
@@ -304,7 +304,7 @@ fn bad_ini(rt: &impl Abort, alloc: Global, ini: &[u8], fault: &str) -> Result<()
     )
 }
 
-/// The section of so many entries, and so many bytes behind them.
+/// The section of that many entries, and that many bytes after them.
 fn ini_of(alloc: Global, entries: u32, more: u32) -> Result<Vec<u8>, AllocError> {
     let mut ini = Vec::from_slice(alloc, b"[operating systems]\n")?;
     ini.extend_from_slice(&repeated(alloc, b"a=b\n", entries)?)?;

@@ -1,4 +1,4 @@
-//! The top call over a host in memory: what it says, saves and answers, and where the host fails.
+//! The top call over a host in memory: what it prints, saves and answers, and where the host fails.
 //!
 //! No crate of the program stands on this one: it is for its tests.
 #![tactic(auto)]

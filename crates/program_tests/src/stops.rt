@@ -20,7 +20,7 @@ const RUN: [&str; 5] = ["run", "--hive", "h", "--script", "s"];
 #[derive(Clone, Copy)]
 struct Stopped<'a> {
     sets: Sets<'a>,
-    /// The events behind the order of a stop, up to the last start.
+    /// The events after the order of a stop, up to the last start.
     script: &'a str,
     /// The states that the disk settles to in turn, with sequence number 5 first and one more each: the numbers of Select that a
     /// start of the default set then has.
@@ -63,7 +63,7 @@ off
     states: &["1 1 0 2", "1 1 0 2", "1 1 0 2"],
 };
 
-/// The stops that a script can order: the order's words before and behind the number of the call.
+/// The stops that a script can order: the order's words before and after the number of the call.
 const READS: [(&str, &str); 5] = [
     ("cut read", "none"),
     ("cut read", "all"),
@@ -95,7 +95,7 @@ struct Played {
     calls: u64,
 }
 
-/// Runs a script on this hive, and a start behind it.
+/// Runs a script on this hive, and a start after it.
 fn play(
     rt: &impl Abort,
     alloc: Global,
@@ -125,7 +125,7 @@ fn is_stopped(line: &str) -> bool {
     line == "verdict cut\n" || line == "verdict device\n"
 }
 
-/// What a run said behind its first stop.
+/// What a run said after its first stop.
 #[derive(Drop)]
 struct Behind {
     /// How many commits were said before it.
@@ -134,7 +134,7 @@ struct Behind {
     text: String,
 }
 
-/// Up to the first stop, what was said is what is said without one. None where nothing was stopped.
+/// Up to the first stop, what was printed is what is printed without one. None where nothing was stopped.
 fn behind_stop(
     rt: &impl Abort,
     alloc: Global,
@@ -171,7 +171,7 @@ fn line_of<'a>(text: &'a str, start: &str) -> Option<&'a str> {
     None
 }
 
-/// The next start behind a stop loads the state that was settled last, or the one of the change that was stopped.
+/// The next start after a stop loads the state that was settled last, or the one of the change that was stopped.
 fn loads_one(
     rt: &impl Abort,
     alloc: Global,
@@ -197,7 +197,7 @@ fn loads_one(
     Ok(())
 }
 
-/// One order for each call of a kind, until a run meets no stop: that is the first order behind all calls of the run.
+/// One order for each call of a kind, until a run meets no stop: that is the first order after all calls of the run.
 fn each_call(
     rt: &impl Abort,
     alloc: Global,
@@ -239,7 +239,7 @@ fn each_stop(
     Ok(())
 }
 
-/// Two cuts, each at a sync, the second one in the start behind the first: the start behind both loads what the first left.
+/// Two cuts, each at a sync, the second one in the start after the first: the start after both loads what the first left.
 fn each_pair(rt: &impl Abort, alloc: Global, case: &Stopped<'_>, keep: &str) -> Result<(), Fail> {
     let hive = hive(rt, alloc, &case.sets)?;
     let script = case.script;

@@ -119,7 +119,7 @@ fn run<'a>(hive: &'a [u8], script: &'a str, said: &'a str, says: u8) -> Case<'a>
     }
 }
 
-/// Starts what was saved: it answers this, and says this first, behind what was said before.
+/// Starts what was saved: it answers this, and says this first, after what was printed before.
 pub(crate) fn starts(
     rt: &impl Abort,
     alloc: Global,
@@ -287,7 +287,7 @@ fn made(rt: &impl Abort, alloc: Global) -> Result<(), Fail> {
     starts(rt, alloc, host, &ALONE, (said, Status::Done, &first))
 }
 
-/// Calls that are refused: the words, the script, the status, the line that is said, and how many files were asked for before.
+/// Calls that are refused: the words, the script, the status, the line that is printed, and how many files were asked for before.
 const REFUSED: [(&[&str], &str, Status, &str, u8); 14] = [
     (
         &["run", "--hive", "h", "--save-hive", "x", "--save-log", "y"],
@@ -439,7 +439,7 @@ fn refusals(rt: &impl Abort, alloc: Global) -> Result<(), Fail> {
     Ok(())
 }
 
-/// The report is said up to the call that fails, and each file is whole or as it was. What is saved loads as the disk does.
+/// The report is printed up to the call that fails, and each file is whole or as it was. What is saved loads as the disk does.
 #[test]
 fn a_fall_back_ends_where_the_host_fails(rt: HostRuntime) -> Result<(), Fail> {
     fall_back(&rt, rt.alloc())

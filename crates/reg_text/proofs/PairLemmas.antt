@@ -1,4 +1,4 @@
--- Bytes one after the other, as the loop reads them.
+-- Bytes in sequence, as the loop reads them.
 use Rattle.std.proofs.Common.{◌≡◌, ℕ, Bool, true, false, cond, eqb, List, [], ◌∷◌, ◌++◌, Option, Some, None, Result, Ok, Err, refl, sym, ap, ◌∙◌, append_assoc}
 use Rattle.reg_text.specs.declared.stop.RegFaultKind.{RegFaultKind}
 use Rattle.reg_text.specs.declared.stop.RegFaultKind.TheVariants.{Line}

@@ -1,4 +1,4 @@
--- Units of a text in quotes one after the other, as the loop reads them.
+-- Units of a text in quotes in sequence, as the loop reads them.
 use Rattle.std.proofs.Common.{◌≡◌, ℕ, Bool, true, false, cond, eqb, List, [], ◌∷◌, ◌++◌, Option, Some, None, Result, Ok, Err, refl, sym, ap, ◌∙◌, append_assoc}
 use Rattle.std.proofs.lemmas.List.{append-nil}
 use Rattle.reg_text.specs.declared.stop.RegFaultKind.{RegFaultKind}

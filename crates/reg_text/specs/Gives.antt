@@ -1,4 +1,4 @@
--- What the calls return, against what a definition gives: want of memory is free.
+-- What the calls return, against what a definition gives: lack of memory is free.
 use Rattle.std.specs.Prelude.{◌≡◌, ℕ, List, map, Option, Some, None, Result, Ok, Err}
 use Rattle.reg_tree.specs.declared.steps.TreeStep.{TreeStep}
 use Rattle.reg_tree.specs.Makes.{step_of}

@@ -9,7 +9,7 @@
 --     NAME=hex(T):XX,..   a value of type T
 --     NAME=-              the value goes
 --
--- NAME is `@` or a text in quotes. Digits stand in either case, key words and the prefix of KEY too. A line has no blanks
+-- NAME is `@` or a text in quotes. Digits are in either case, key words and the prefix of KEY too. A line has no blanks
 -- at its ends here.
 use Rattle.std.specs.Prelude.{ℕ, ◌-◌, false, ◌&&◌, ◌||◌, ◌==◌, nat_lt, if◌then◌else◌, Bool, List, [], ◌∷◌, ◌++◌, length, take, drop, slice_index, codes, Option, Some, None, Result, Ok, Err}
 use Rattle.std.specs.List.{flat_map, list_all, prefix_len, slice_split}
@@ -46,7 +46,7 @@ behind (c ∷ word) (u ∷ text) = if folded_unit u == folded_unit c then behind
 
 -- ---- lines of keys
 
--- the names behind the prefix of a path
+-- the names after the prefix of a path
 unfoldable pub parts_behind : List ℕ → Result (List (List ℕ)) RegFaultKind
 parts_behind [] = Ok []
 parts_behind (c ∷ rest) = if is_backslash c then Ok (slice_split is_backslash rest) else Err Root
@@ -60,13 +60,13 @@ unfoldable pub bracketed : List ℕ → Result LineItem RegFaultKind
 bracketed [] = Err Root
 bracketed (c ∷ text) = if c == 45 then (path_at text >>= λ path. Ok (NoKey path)) else (path_at (c ∷ text) >>= λ path. Ok (InKey path))
 
--- the line of a key behind its first bracket: it runs to its last bracket
+-- the line of a key after its first bracket: it runs to its last bracket
 unfoldable pub key_item : List ℕ → Result LineItem RegFaultKind
 key_item text = if ends_in 93 text then bracketed (front text) else Err Line
 
 -- ---- lines of values
 
--- the name, and what follows the `=` behind it
+-- the name, and what follows the `=` after it
 unfoldable pub named : List ℕ → List ℕ → Result (List ℕ × List ℕ) RegFaultKind
 named name [] = Err Line
 named name (c ∷ text) = if c == 61 then Ok (name, text) else Err Line
@@ -79,15 +79,15 @@ name_at (c ∷ line) =
     else if c == 34 then (quoted_from false line >>= λ q. named q.0 q.1)
     else Err Line
 
--- a text in UTF-16, and a zero unit behind it
+-- a text in UTF-16, and a zero unit after it
 abbrev pub string_bytes : List ℕ → List ℕ
 string_bytes text = flat_map unit_bytes text ++ 0 ∷ 0 ∷ []
 
--- a string, behind whose closing quote nothing may stand
+-- a string, after whose closing quote nothing may stand
 unfoldable pub string_ended : List ℕ → List ℕ → List ℕ → Result LineItem RegFaultKind
 string_ended name text rest = if length rest == 0 then Ok (Named name 1 (string_bytes text)) else Err Line
 
--- a text in quotes, behind its first quote, is a value of type 1
+-- a text in quotes, after its first quote, is a value of type 1
 unfoldable pub string_item : List ℕ → List ℕ → Result LineItem RegFaultKind
 string_item name text = quoted_from false text >>= λ q. string_ended name q.0 q.1
 
@@ -115,7 +115,7 @@ bytes_item name kind text line = option_map_or
 unfoldable pub kind_ended : ℕ → List ℕ → Result (ℕ × List ℕ) RegFaultKind
 kind_ended kind rest = option_map_or (λ bytes. Ok (kind, bytes)) (behind (codes "):") rest) (Err Line)
 
--- the type behind `hex(`, with one to eight digits, and what follows it
+-- the type after `hex(`, with one to eight digits, and what follows it
 unfoldable pub kind_in : List ℕ → Result (ℕ × List ℕ) RegFaultKind
 kind_in text =
     let n = prefix_len is_hex text in
@@ -129,7 +129,7 @@ wide_kind text = option_map_or kind_in (behind (codes "hex(") text) (Err Line)
 unfoldable pub kind_at : List ℕ → Result (ℕ × List ℕ) RegFaultKind
 kind_at text = option_map_or (λ rest. Ok (3, rest)) (behind (codes "hex:") text) (wide_kind text)
 
--- bytes behind their type
+-- bytes after their type
 unfoldable pub hex_item : List ℕ → List ℕ → Result LineItem RegFaultKind
 hex_item name text = kind_at text >>= λ k. bytes_item name k.0 [] k.1
 
@@ -137,7 +137,7 @@ hex_item name text = kind_at text >>= λ k. bytes_item name k.0 [] k.1
 unfoldable pub number_item : List ℕ → List ℕ → Result LineItem RegFaultKind
 number_item name text = option_map_or (dword_item name) (behind (codes "dword:") text) (hex_item name text)
 
--- the data behind the `=`
+-- the data after the `=`
 unfoldable pub data_item : List ℕ → List ℕ → Result LineItem RegFaultKind
 data_item name [] = Err Line
 data_item name (c ∷ text) =
@@ -151,7 +151,7 @@ value_item line = name_at line >>= λ n. data_item n.0 n.1
 
 -- ---- a line
 
--- a line that begins anew; an empty one and one that begins with `;` say nothing
+-- a line that begins again; an empty one and one that begins with `;` say nothing
 unfoldable pub fresh_item : List ℕ → Result LineItem RegFaultKind
 fresh_item [] = Ok Nothing
 fresh_item (c ∷ line) =

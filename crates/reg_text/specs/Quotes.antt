@@ -5,7 +5,7 @@ use Rattle.std.specs.Prelude.{ℕ, Bool, true, false, ◌||◌, ◌==◌, if◌t
 use Rattle.reg_text.specs.declared.stop.RegFaultKind.{RegFaultKind}
 use Rattle.reg_text.specs.declared.stop.RegFaultKind.TheVariants.{Line}
 
--- a backslash or a quote, which stand behind a backslash
+-- a backslash or a quote, which stand after a backslash
 abbrev pub is_escaped : ℕ → Bool
 is_escaped u = (u == 92) || (u == 34)
 
@@ -23,7 +23,7 @@ quoted_from false (u ∷ text) =
     else if u == 92 then quoted_from true text
     else with_units (u ∷ []) (quoted_from false text)
 
--- the unit behind a backslash, and what follows it
+-- the unit after a backslash, and what follows it
 unfoldable pub escaped_unit : List ℕ → Result (Option ℕ × List ℕ) RegFaultKind
 escaped_unit [] = Err Line
 escaped_unit (u ∷ text) = if is_escaped u then Ok (Some u, text) else Err Line

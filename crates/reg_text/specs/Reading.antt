@@ -1,7 +1,7 @@
 -- What are the edits that a registry text stands for, or which line is the first faulty one? (the form "Windows Registry
 -- Editor Version 5.00": Microsoft's documentation of .reg files; the faults and their order are this project's own)
 --
--- The text is UTF-16 behind its mark. Lines end with LF, and a CR before it is dropped; a last line may lack its LF. Blanks
+-- The text is UTF-16 after its mark. Lines end with LF, and a CR before it is dropped; a last line may lack its LF. Blanks
 -- at both ends of a line are dropped. Half a unit at the end counts in the last line.
 use Rattle.std.specs.Prelude.{ℕ, ◌+◌, ◌%◌, min, Bool, ◌&&◌, ◌||◌, ◌==◌, if◌then◌else◌, List, [], ◌∷◌, ◌++◌, length, Option, Some, None, Result, Ok, Err}
 use Rattle.std.specs.Option.{option_map_or, is_some}
@@ -27,12 +27,12 @@ abbrev pub making : List (List ℕ) → List (List ℕ) → List Step
 making above [] = []
 making above (name ∷ path) = make_key above name ∷ making (above ++ name ∷ []) path
 
--- the edits of a value, which stands in a key
+-- the edits of a value, which is in a key
 abbrev pub in_key : Option (List (List ℕ)) → (List (List ℕ) → List Step) → Result (List Step) RegFaultKind
 in_key None edits = Err Line
 in_key (Some path) edits = Ok (edits path)
 
--- the edits of a line, where values stand in this key, if in any
+-- the edits of a line, where values are in this key, if in any
 abbrev pub edits_of : Option (List (List ℕ)) → LineItem → Result (List Step) RegFaultKind
 edits_of key Nothing = Ok []
 edits_of key (InKey path) = Ok (making [] path)
@@ -41,7 +41,7 @@ edits_of key (Named name kind bytes) = in_key key (λ path. set_value path name 
 edits_of key (NoValue name) = in_key key (λ path. delete_value path name ∷ [])
 edits_of key (GoesOn begun) = in_key key (λ path. [])
 
--- the key in which values stand behind the line
+-- the key in which values stand after the line
 abbrev pub key_after : Option (List (List ℕ)) → LineItem → Option (List (List ℕ))
 key_after key (InKey path) = Some path
 key_after key (NoKey path) = None
@@ -58,7 +58,7 @@ begun_after _ = None
 abbrev pub number_of : State → ℕ
 number_of state = if is_some state.begun then state.last else state.line
 
--- what is kept behind a line; a number past 4,294,967,295 is given as that
+-- what is kept after a line; a number past 4,294,967,295 is given as that
 abbrev pub state_after : State → LineItem → State
 state_after state item = record {
   line = min (state.line + 1) 4294967295;
@@ -67,7 +67,7 @@ state_after state item = record {
   begun = begun_after item;
 }
 
--- the edits of a line, and what is kept behind it
+-- the edits of a line, and what is kept after it
 unfoldable pub line_said : State → List ℕ → Result (List Step × State) RegFaultKind
 line_said state line = item_at state.begun (trimmed line) >>= λ item. edits_of state.key item >>= λ edits. Ok (edits, state_after state item)
 
@@ -81,7 +81,7 @@ abbrev pub then_lines : Result (List Step × State) RegFault → (State → Resu
 then_lines (Ok r) next = with_edits r.0 (next r.1)
 then_lines (Err f) next = Err f
 
--- the edits of lines, and what is kept behind them, or the first fault
+-- the edits of lines, and what is kept after them, or the first fault
 unfoldable pub lines_said : State → List (List ℕ) → Result (List Step × State) RegFault
 lines_said state [] = Ok ([], state)
 lines_said state (line ∷ more) = then_lines (at_line (number_of state) (line_said state line)) (λ next. lines_said next more)
@@ -92,7 +92,7 @@ lines_said state (line ∷ more) = then_lines (at_line (number_of state) (line_s
 abbrev pub first_state : State
 first_state = record { line = 2; last = 1; key = None; begun = None }
 
--- the lines behind the header
+-- the lines after the header
 unfoldable pub body_of : List (List ℕ) → Result (List (List ℕ)) RegFaultKind
 body_of [] = Err Header
 body_of (line ∷ more) = if bytes_eq (trimmed line) header then Ok more else Err Header
@@ -101,7 +101,7 @@ body_of (line ∷ more) = if bytes_eq (trimmed line) header then Ok more else Er
 abbrev pub ends_line : List ℕ → Bool
 ends_line units = (length units == 0) || ends_in 10 units
 
--- the line that lacks its end: a value's whose bytes were to go on, or the one that half a unit stands in
+-- the line that lacks its end: a value's whose bytes were to go on, or the one that half a unit is in
 unfoldable pub unended : State → List ℕ → Bool → Option ℕ
 unended state units odd =
     if is_some state.begun then Some state.last
@@ -113,12 +113,12 @@ abbrev pub closed : List ℕ → Bool → Result (List Step × State) RegFault �
 closed units odd (Err f) = Err f
 closed units odd (Ok r) = option_map_or (λ n. Err (record { kind = Line; line = n })) (unended r.1 units odd) (Ok r.0)
 
--- the lines behind the header, or its fault
+-- the lines after the header, or its fault
 abbrev pub lines_behind : Result (List (List ℕ)) RegFaultKind → Result (List Step × State) RegFault
 lines_behind (Err kind) = Err (record { kind = kind; line = 1 })
 lines_behind (Ok body) = lines_said first_state body
 
--- the edits of the units behind the mark, behind which half a unit may stand
+-- the edits of the units after the mark, after which half a unit may stand
 unfoldable pub units_said : List ℕ → Bool → Result (List Step) RegFault
 units_said units odd = closed units odd (lines_behind (body_of (lines units)))
 

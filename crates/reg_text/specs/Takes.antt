@@ -26,13 +26,13 @@ pub record AddsEdits (old new : List TreeStep) (said : Result (List Step) RegFau
   pub reads : said ≡ Ok edits
   pub adds : map step_of new ≡ map step_of old ++ edits
 
--- the list has the edits of what a line says more, and this is kept behind it
+-- the list has the edits of what a line says more, and this is kept after it
 pub record TakesItem (old new : List TreeStep) (key : Option (List (List ℕ))) (item : LineItem) (kept : Option (List (List ℕ)) × Option Begun) : Type 0 where
   pub added : AddsEdits old new (edits_of key item)
   pub key_is : kept.0 ≡ key_after key item
   pub begun_is : kept.1 ≡ begun_after item
 
--- the list has the edits of a line more, and this is kept behind it
+-- the list has the edits of a line more, and this is kept after it
 pub record TakesLine (old new : List TreeStep) (said : Result (List Step × State) RegFaultKind) (after : State) : Type 0 where
   pub edits : List Step
   pub reads : said ≡ Ok (edits, after)
@@ -43,7 +43,7 @@ abbrev pub GivesBody : Result (Bor (List ℕ)) RegFaultKind → Result (List (Li
 GivesBody (Ok rest) read = read ≡ Ok (lines rest.now)
 GivesBody (Err kind) read = read ≡ Err kind
 
--- the edits of lines with what is kept behind them, or the fault, or want of memory
+-- the edits of lines with what is kept after them, or the fault, or lack of memory
 abbrev pub GivesLines : Result (List TreeStep × State) RegStop → Result (List Step × State) RegFault → Type 0
 GivesLines (Ok r) given = given ≡ Ok (map step_of r.0, r.1)
 GivesLines (Err e) given = FailsBy e given

@@ -1,5 +1,5 @@
 -- What is the registry text of a key? (the form "Windows Registry Editor Version 5.00": Microsoft's documentation of .reg
--- files; which data stand in which form is this project's own)
+-- files; which data are in which form is this project's own)
 --
 -- A header and an empty line; then for each key, a key before those below it, `[PATH]`, a line for each value, and an empty
 -- line. A value is its name, `=` and its data. Each line ends with CR and LF.
@@ -52,11 +52,11 @@ bytes_text bytes = join_by byte_digits (codes ",") bytes
 abbrev pub number_digits : ℕ → List ℕ
 number_digits n = byte_digits (n / 16777216) ++ byte_digits (n / 65536 % 256) ++ byte_digits (n / 256 % 256) ++ byte_digits (n % 256)
 
--- the unit ends a line where it stands in a text
+-- the unit ends a line where it is in a text
 abbrev pub is_line_end : ℕ → Bool
 is_line_end u = (u == 10) || (u == 13)
 
--- the text can't stand in one line
+-- the text can't be in one line
 abbrev pub breaks : List ℕ → Bool
 breaks text = list_any is_line_end text
 
@@ -64,11 +64,11 @@ breaks text = list_any is_line_end text
 abbrev pub is_dword : ℕ → List ℕ → Bool
 is_dword kind bytes = (kind == 4) && (length bytes == 4)
 
--- the data are a string that stands in one line, and one zero unit behind it
+-- the data are a string that is in one line, and one zero unit after it
 unfoldable pub is_string : ℕ → List ℕ → Bool
 is_string kind bytes = (kind == 1) && (length bytes == 2 * length (sz_of bytes) + 2) && not (breaks (sz_of bytes))
 
--- bytes behind their type
+-- bytes after their type
 abbrev pub binary_text : ℕ → List ℕ → List ℕ
 binary_text kind bytes = if kind == 3 then codes "hex:" ++ bytes_text bytes else codes "hex(" ++ digits 16 false kind ++ codes "):" ++ bytes_text bytes
 
@@ -109,16 +109,16 @@ text_of path t = header ++ codes "\r\n\r\n" ++ key_text (place_of path) t
 
 -- ---- the whole
 
--- a value has a name that can't stand in one line
+-- a value has a name that can't be in one line
 abbrev pub has_broken_value : List Item → Bool
 has_broken_value values = list_any (λ (v : Item). breaks v.name) values
 
--- some name below the key, or of its values, can't stand in one line
+-- some name below the key, or of its values, can't be in one line
 abbrev mutual
   pub has_broken_name : Tree → Bool
   has_broken_name (key h ts) = has_broken_value h.values || have_broken_names ts
 
-  -- some name of these children, or below them, can't stand in one line
+  -- some name of these children, or below them, can't be in one line
   pub have_broken_names : Trees → Bool
   have_broken_names none = false
   have_broken_names (more t ts) = breaks (head t).name || has_broken_name t || have_broken_names ts
@@ -131,7 +131,7 @@ unit_bytes u = (u % 256) ∷ (u / 256) ∷ []
 abbrev pub mark : List ℕ
 mark = 255 ∷ 254 ∷ []
 
--- the text of the key that stands at a path, unless one of the names in it can't stand in one line
+-- the text of the key that is at a path, unless one of the names in it can't be in one line
 unfoldable pub reg_text_of : List (List ℕ) → Tree → Result (List ℕ) RegFault
 reg_text_of path t =
     if list_any breaks path || has_broken_name t then Err (record { kind = NotText; line = 0 })

@@ -45,7 +45,7 @@ pub fn all_hex(text: &[u16]) -> bool
     }
 }
 
-/// How many digits stand at the front.
+/// How many digits are at the front.
 pub fn hex_count(text: &[u16]) -> usize
     ensures count { result ≡ prefix_len is_hex text.now }
     ensures bound { result ≤ length text.now }

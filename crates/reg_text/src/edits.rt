@@ -117,7 +117,7 @@ fn in_key(key: Option<Names>) -> Result<Option<Names>, RegFaultKind>
     Ok(key)
 }
 
-/// Adds the edits of what a line says, and answers the key in which values stand behind it and the value
+/// Adds the edits of what a line says, and answers the key in which values stand after it and the value
 /// that goes on in the next line.
 fn take_item(
     alloc: Global,
@@ -150,7 +150,7 @@ fn take_item(
     }
 }
 
-/// Adds the edits of a line, and answers what is kept behind it.
+/// Adds the edits of a line, and answers what is kept after it.
 #[tactic(auto, unfolding(crate::specs::Reading::line_said))]
 pub fn say_line(
     alloc: Global,

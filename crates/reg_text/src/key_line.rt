@@ -23,7 +23,7 @@ pub fn split_path(alloc: Global, text: &[u16]) -> Result<Names, AllocError>
     Ok(names)
 }
 
-/// The names behind the prefix of a path.
+/// The names after the prefix of a path.
 #[tactic(auto, unfolding(crate::specs::Items::parts_behind))]
 fn parts_behind(alloc: Global, rest: &[u16]) -> Result<Names, RegLineStop>
     ensures { Gives (λ p. p) result (parts_behind rest.now) }
@@ -64,7 +64,7 @@ fn bracketed(alloc: Global, text: &[u16]) -> Result<LineItem, RegLineStop>
     }
 }
 
-/// The line of a key behind its first bracket: it runs to its last bracket.
+/// The line of a key after its first bracket: it runs to its last bracket.
 #[tactic(auto, unfolding(crate::specs::Items::key_item))]
 pub fn key_item(alloc: Global, text: &[u16]) -> Result<LineItem, RegLineStop>
     ensures { Gives (λ i. i) result (key_item text.now) }

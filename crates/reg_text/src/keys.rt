@@ -18,7 +18,7 @@ fn push_values(alloc: Global, out: &mut Vec<u16>, values: &[Value]) -> Result<()
     Ok(())
 }
 
-/// Puts a backslash and the name behind.
+/// Puts a backslash and the name at the end.
 pub fn push_part(place: &mut Vec<u16>, name: &[u16]) -> Result<(), AllocError>
     ensures { OnOk result (place.new.items ≡ place_below place.old.items name.now) }
 {
@@ -34,7 +34,7 @@ fn push_place(out: &mut Vec<u16>, place: &[u16]) -> Result<(), AllocError>
     push_ascii(out, b"]\r\n")
 }
 
-/// Puts the key that stands at this place and all below it behind. The place grows on the way down, so
+/// Puts the key that is at this place and all below it at the end. The place grows on the way down, so
 /// that it is made once.
 #[cycle(push_key)]
 pub fn push_key(
@@ -52,7 +52,7 @@ pub fn push_key(
     push_keys(alloc, out, place, key.children.as_slice())
 }
 
-/// Puts a child of the key at this place behind.
+/// Puts a child of the key at this place at the end.
 #[cycle(push_key)]
 fn push_child(
     alloc: Global,

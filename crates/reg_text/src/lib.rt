@@ -1,4 +1,4 @@
-//! Registry texts: the form "Windows Registry Editor Version 5.00", in UTF-16 behind its mark.
+//! Registry texts: the form "Windows Registry Editor Version 5.00", in UTF-16 after its mark.
 //!
 //! `reg_text` writes a key with all below it, `read_reg` reads a text as edits or names its first faulty
 //! line. Both ask nothing of what they are given and take time linear in the text and the edits.

@@ -1,4 +1,4 @@
-//! A line, whatever it says.
+//! A line, no matter what it says.
 
 ghost use Rattle.reg_text.specs.Gives.{Gives};
 ghost use Rattle.reg_text.specs.Items.{fresh_item, item_at};
@@ -9,7 +9,7 @@ use crate::stop::RegLineStop;
 use crate::value_line::{bytes_item, value_item};
 use std::alloc::Global;
 
-/// A line that begins anew.
+/// A line that begins again.
 #[tactic(auto, unfolding(crate::specs::Items::fresh_item))]
 fn fresh_item(alloc: Global, line: &[u16]) -> Result<LineItem, RegLineStop>
     ensures { Gives (λ i. i) result (fresh_item line.now) }

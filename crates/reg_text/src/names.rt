@@ -1,4 +1,4 @@
-//! Whether all names of a tree can stand in one line.
+//! Whether all names of a tree can be in one line.
 
 ghost use Rattle.std.specs.Prelude.{◌≡◌};
 ghost use Rattle.std.specs.List.{list_any};
@@ -15,7 +15,7 @@ pub fn breaks(text: &[u16]) -> bool
     text.iter().any(|u| *u == 10 || *u == 13)
 }
 
-/// Whether one of the names can't stand in one line.
+/// Whether one of the names can't be in one line.
 pub fn has_broken_part(names: &[Units]) -> bool
     ensures { result ≡ list_any breaks names.now }
 {
@@ -46,7 +46,7 @@ fn has_broken_value(values: &[Value]) -> bool
     }
 }
 
-/// Whether a name below the key, or of its values, can't stand in one line.
+/// Whether a name below the key, or of its values, can't be in one line.
 #[cycle(has_broken_name)]
 pub fn has_broken_name(key: &Key) -> bool
     ensures { result ≡ has_broken_name key.now }

@@ -8,7 +8,7 @@ use crate::stop::{RegFaultKind, RegLineStop};
 use nt_bytes::Units;
 use std::alloc::Global;
 
-/// The unit behind a backslash, and what follows it.
+/// The unit after a backslash, and what follows it.
 #[tactic(auto, unfolding(crate::specs::Quotes::escaped_unit))]
 fn escaped_unit(text: &[u16]) -> Result<(Option<u16>, &[u16]), RegFaultKind>
     ensures exact { Sees (λ x. (x.0, x.1.now)) result (escaped_unit text.now) }

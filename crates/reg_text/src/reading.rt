@@ -24,7 +24,7 @@ fn fault(kind: RegFaultKind, line: u32) -> RegStop
     RegStop::Fault(RegFault { kind, line })
 }
 
-/// Adds the edits of a line, and answers what is kept behind it.
+/// Adds the edits of a line, and answers what is kept after it.
 fn take_line(alloc: Global, steps: &mut Steps, state: State, line: &[u16]) -> Result<State, RegStop>
     ensures taken { IfOk result (λ s. TakesLine steps.old steps.new (line_said state line.now) s) }
     ensures refused { IfErr result (λ e. FailsBy e (at_line (number_of state) (line_said state line.now))) }
@@ -52,7 +52,7 @@ fn body(units: &[u16]) -> Result<&[u16], RegFaultKind>
     Ok(rest)
 }
 
-/// The edits of the lines behind the header, and what is kept behind them.
+/// The edits of the lines after the header, and what is kept after them.
 fn read_lines(alloc: Global, body: &[u16]) -> Result<(Steps, State), RegStop>
     ensures { GivesLines result (lines_said first_state (lines body.now)) }
 {
@@ -67,7 +67,7 @@ fn read_lines(alloc: Global, body: &[u16]) -> Result<(Steps, State), RegStop>
     Ok((steps, state))
 }
 
-/// The edits of all lines, and what is kept behind them.
+/// The edits of all lines, and what is kept after them.
 fn read_behind(alloc: Global, units: &[u16]) -> Result<(Steps, State), RegStop>
     ensures { GivesLines result (lines_behind (body_of (lines units.now))) }
 {
@@ -77,7 +77,7 @@ fn read_behind(alloc: Global, units: &[u16]) -> Result<(Steps, State), RegStop>
     }
 }
 
-/// The edits of the units behind the mark, behind which half a unit may stand.
+/// The edits of the units after the mark, after which half a unit may stand.
 #[tactic(auto, unfolding(crate::specs::Reading::units_said))]
 fn read_units(alloc: Global, units: &[u16], odd: bool) -> Result<Steps, RegStop>
     ensures { GivesSteps result (units_said units.now odd) }

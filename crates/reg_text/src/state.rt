@@ -20,7 +20,7 @@ pub struct State {
     pub begun: Option<Begun>,
 }
 
-/// Behind the header.
+/// After the header.
 pub fn first_state() -> State
     ensures { result ≡ first_state }
 {

@@ -17,7 +17,7 @@ pub enum RegFaultKind {
     Root,
     /// The line is none of those that are read, it has an odd last byte, or it is a value without a key.
     Line,
-    /// A name of the tree has a unit 10 or 13, so that it can't stand in one line.
+    /// A name of the tree has a unit 10 or 13, so that it can't be in one line.
     NotText,
 }
 

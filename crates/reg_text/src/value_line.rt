@@ -13,7 +13,7 @@ use crate::units::behind;
 use nt_bytes::{Bytes, Units};
 use std::alloc::{AllocError, Global};
 
-/// The name with what follows the `=` behind it.
+/// The name with what follows the `=` after it.
 #[tactic(auto, unfolding(crate::specs::Items::named))]
 fn named(name: Units, rest: &[u16]) -> Result<(Units, &[u16]), RegLineStop>
     ensures { Gives (λ n. (n.0, n.1.now)) result (named name rest.now) }
@@ -24,7 +24,7 @@ fn named(name: Units, rest: &[u16]) -> Result<(Units, &[u16]), RegLineStop>
     }
 }
 
-/// The name at the front of a line, and what follows the `=` behind it.
+/// The name at the front of a line, and what follows the `=` after it.
 #[tactic(auto, unfolding(crate::specs::Items::name_at))]
 fn name(alloc: Global, line: &[u16]) -> Result<(Units, &[u16]), RegLineStop>
     ensures { Gives (λ n. (n.0, n.1.now)) result (name_at line.now) }
@@ -59,7 +59,7 @@ fn string_bytes(alloc: Global, text: &[u16]) -> Result<Bytes, AllocError>
     Ok(bytes)
 }
 
-/// A string, behind whose closing quote nothing may stand.
+/// A string, after whose closing quote nothing may stand.
 #[tactic(auto, unfolding(crate::specs::Items::string_ended))]
 fn string_ended(
     alloc: Global,
@@ -80,7 +80,7 @@ fn string_ended(
     })
 }
 
-/// A text in quotes, behind its first quote.
+/// A text in quotes, after its first quote.
 #[tactic(auto, unfolding(crate::specs::Items::string_item))]
 fn string_item(alloc: Global, name: Units, text: &[u16]) -> Result<LineItem, RegLineStop>
     ensures { Gives (λ i. i) result (string_item name text.now) }
@@ -106,7 +106,7 @@ fn dword_item(alloc: Global, name: Units, text: &[u16]) -> Result<LineItem, RegL
     })
 }
 
-/// The text, where a comma stands at its end.
+/// The text, where a comma is at its end.
 fn comma_ended(text: &[u16]) -> Option<&[u16]>
     ensures { Finds (λ t. t.now) result (comma_ended text.now) }
 {
@@ -172,7 +172,7 @@ fn kind_ended(kind: u32, rest: &[u16]) -> Result<(u32, &[u16]), RegFaultKind>
     }
 }
 
-/// The type behind `hex(`, with one to eight digits, and what follows it.
+/// The type after `hex(`, with one to eight digits, and what follows it.
 #[tactic(auto, unfolding(crate::specs::Items::kind_in))]
 fn kind_in(text: &[u16]) -> Result<(u32, &[u16]), RegFaultKind>
     ensures { Sees (λ k. (k.0, k.1.now)) result (kind_in text.now) }
@@ -224,7 +224,7 @@ fn number_item(alloc: Global, name: Units, text: &[u16]) -> Result<LineItem, Reg
     }
 }
 
-/// The data behind the `=`.
+/// The data after the `=`.
 #[tactic(auto, unfolding(crate::specs::Items::data_item))]
 fn data_item(alloc: Global, name: Units, text: &[u16]) -> Result<LineItem, RegLineStop>
     ensures { Gives (λ i. i) result (data_item name text.now) }

@@ -12,7 +12,7 @@ use nt_bytes::{hex_digit, sz, u32_at};
 use reg_tree::Value;
 use std::alloc::{AllocError, Global};
 
-/// Puts characters behind, a unit for each byte.
+/// Puts characters after, a unit for each byte.
 pub fn push_ascii(out: &mut Vec<u16>, text: &[u8]) -> Result<(), AllocError>
     ensures { OnOk result (out.new.items ≡ out.old.items ++ text.now) }
 {
@@ -120,7 +120,7 @@ fn push_binary(alloc: Global, out: &mut Vec<u16>, kind: u32, bytes: &[u8]) -> Re
     push_bytes(out, bytes)
 }
 
-/// Whether the data are this string, which stands in one line, and one zero unit behind it.
+/// Whether the data are this string, which is in one line, and one zero unit after it.
 #[tactic(auto, unfolding(crate::specs::Writing::is_string))]
 fn is_plain_string(bytes: &[u8], text: &[u16]) -> bool
     requires text { text.now ≡ sz_of bytes.now }
@@ -168,7 +168,7 @@ fn push_data(alloc: Global, out: &mut Vec<u16>, kind: u32, bytes: &[u8]) -> Resu
     push_binary(alloc, out, kind, bytes)
 }
 
-/// Puts the line of a value behind.
+/// Puts the line of a value at the end.
 #[tactic(auto, unfolding(crate::specs::Writing::value_text))]
 pub fn push_value(alloc: Global, out: &mut Vec<u16>, value: &Value) -> Result<(), AllocError>
     ensures { OnOk result (out.new.items ≡ out.old.items ++ value_text value.now) }

@@ -61,7 +61,7 @@ fn push_units(out: &mut Vec<u8>, units: &[u16]) -> Result<(), AllocError>
     Ok(())
 }
 
-/// The units in UTF-16 behind the mark.
+/// The units in UTF-16 after the mark.
 fn marked(alloc: Global, units: &[u16]) -> Result<Bytes, AllocError>
     ensures { IfOk result (λ b. b ≡ mark ++ flat_map unit_bytes units.now) }
 {
@@ -70,7 +70,7 @@ fn marked(alloc: Global, units: &[u16]) -> Result<Bytes, AllocError>
     Ok(Bytes::from_vec(out))
 }
 
-/// The registry text of the key, which stands at the path. A name that can't stand in one line, of the
+/// The registry text of the key, which is at the path. A name that can't be in one line, of the
 /// path, below the key, or of a value, is `NotText` at line 0.
 #[tactic(auto, unfolding(crate::specs::Writing::reg_text_of))]
 pub fn reg_text(alloc: Global, key: &Key, path: &Names) -> Result<Bytes, RegStop>

@@ -1,4 +1,4 @@
--- Lists whose items have names that rise: what a search by halves finds in them, and what keeps them rising.
+-- Lists whose items have names that rise: what a binary search finds in them, and what keeps them rising.
 use Rattle.std.proofs.Common.{◌≡◌, ℕ, zero, suc, ◌-◌, ◌≤◌, ◌<◌, Bool, true, false, not, List, [], ◌∷◌, ◌++◌, length, get_or, Option, Some, None, refl, sym, ap, subst, ◌∙◌, arith, inl, inr}
 use Rattle.std.specs.Prelude.{position, find, slice_get, MatchOption}
 use Rattle.std.specs.Option.{option_map}
@@ -97,7 +97,7 @@ pub none_pass : {X : Type 0} (p : X → Bool) (xs : List X) → position p xs �
 none_pass p xs none k d within =
     (first_passes p xs).0 k d (omega arith) (omega (arith, within, position_past p xs none))
 
--- what stands at the first place
+-- what is at the first place
 pub found_item : {R X : Type 0} (now : R → X) (p : X → Bool) (xs : List X) (i : ℕ) (r : Option R)
     → MatchOption r (length xs ≤ i) (λ x. (i < length xs) × ((d : X) → now x ≡ get_or xs i d)) → position p xs ≡ Some i
     → option_map now r ≡ find p xs
@@ -214,7 +214,7 @@ module _ {X : Type 0} (name : X → List ℕ) (q : List ℕ) where
         λ lt d. same d,
       )
 
-  -- it ends at another, or behind all
+  -- it ends at another, or after all
   pub halved_none : (xs : List X) (low : ℕ) → Rising name xs → EndsAt less xs low → low ≤ length xs
       → (low < length xs → (d : X) → named (get_or xs low d) ≡ false) → All (λ x. named x ≡ false) xs
   halved_none xs low up ends most other k d within = elim (cases_lt k low) [
@@ -279,7 +279,7 @@ each_insert P [] (suc i) y own h = (own, tt)
 each_insert P (x ∷ xs) zero y own h = (own, h)
 each_insert P (x ∷ xs) (suc i) y own h = (h.0, each_insert P xs i y own h.1)
 
--- an insert between what may stand before it and what may stand behind it
+-- an insert between what may stand before it and what may stand after it
 pub pairs_insert : {X : Type 0} (R : X → X → Type 0) (xs : List X) (i : ℕ) (y : X) → AllPairs R xs
     → ((k : ℕ) (d : X) → k < i → k < length xs → R (get_or xs k d) y)
     → ((k : ℕ) (d : X) → i ≤ k → k < length xs → R y (get_or xs k d)) → AllPairs R (insert xs i y)
@@ -317,7 +317,7 @@ pairs_set Q name xs i y e inside same up a b d lt within =
 
 -- ---- keys
 
--- one more behind the last
+-- one more after the last
 pub rising_push : {X : Type 0} (name : X → List ℕ) (xs : List X) (y : X) → Rising name xs
     → (0 < length xs → (d : X) → is_lt (folded_order (name y) (name (get_or xs (length xs - 1) d))) ≡ false)
     → Rising name (xs ++ y ∷ [])

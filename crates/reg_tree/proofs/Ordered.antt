@@ -265,7 +265,7 @@ below_kept at k lt = rw (le-ltb at k (omega (arith, lt))) refl
 behind_lower : (at k : ℕ) → at < k → lowered at k ≡ k - 1
 behind_lower at k lt = rw (lt-ltb at k lt) refl
 
--- at another place: before it, or behind it
+-- at another place: before it, or after it
 before_or_behind : (at k : ℕ) → is_other at k ≡ true → (k < at) ⊎ (at < k)
 before_or_behind at k other = elim (cases_lt k at) [
   | inl lt ↦ inl lt
@@ -313,7 +313,7 @@ contains_filter p (y ∷ ys) x (suc i, lt, here) pass =
 contains_map : (f : ℕ → ℕ) (xs : List ℕ) (x : ℕ) → Contains xs x → Contains (map f xs) (f x)
 contains_map f xs x m = (m.0, omega (arith, m.1, length-map xs f), get_or-map f xs m.0 x (f x) m.1 ∙ ap f m.2)
 
--- the place of a value that goes is taken out, and those behind it are one lower
+-- the place of a value that goes is taken out, and those after it are one lower
 pub order_removed : (items : List Item) (order : List ℕ) (at : ℕ) → IsOrderOf items order → at < length items
     → IsOrderOf (remove items at) (map (lowered at) (filter (is_other at) order))
 order_removed items order at o within = record {

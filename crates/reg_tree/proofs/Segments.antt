@@ -2,7 +2,7 @@
 use Rattle.std.proofs.Common.{◌≡◌, ◌<◌, ◌+◌, ◌-◌, ◌*◌, ◌/◌, ◌%◌, ℕ, zero, suc, refl, arith}
 use Rattle.hive_model.specs.Size.{cell, cells_sum, segment_part, segment_count, segment_sizes}
 
--- as many full ones, and one for the rest
+-- the same number of full ones, and one for the rest
 several : (full rest n : ℕ) → n ≡ full * 16344 + rest → rest < 16344 → 0 < rest
     → cells_sum (segment_sizes (suc full) n) ≡ full * 16352 + cell rest
 several zero rest n is small some =
@@ -12,7 +12,7 @@ several (suc full) rest n is small some =
     let part : segment_part n ≡ 16344 = omega arith in
     rw part (omega (arith, several full rest (n - 16344) (omega arith) small some))
 
--- as many full ones, and nothing is left
+-- the same number of full ones, and nothing is left
 all_full : (full n : ℕ) → n ≡ full * 16344 → cells_sum (segment_sizes full n) ≡ full * 16352
 all_full zero n is = refl
 all_full (suc full) n is =

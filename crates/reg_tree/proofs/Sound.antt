@@ -107,7 +107,7 @@ mutual
   all_levels d none s = omega arith
   all_levels d (more t ts) s = omega (arith, sound_levels d t s.0, all_levels d ts s.1)
 
--- each key has at most so many values and children
+-- each key has at most that many values and children
 abbrev mutual
   pub Few : ℕ → Tree → Type 0
   Few n (key h ts) = (length h.values ≤ n) × (length (listed ts) ≤ n) × AllFew n ts

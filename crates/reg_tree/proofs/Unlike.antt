@@ -17,7 +17,7 @@ Each P (x ∷ xs) = P x × Each P xs
 abbrev pub Lacks : {X : Type 0} → (X → List ℕ) → List ℕ → List X → Type 0
 Lacks name n xs = Each (λ x. folds_same (name x) n ≡ false) xs
 
--- each has a name unlike those of all behind it
+-- each has a name unlike those of all after it
 abbrev pub Unlike : {X : Type 0} → (X → List ℕ) → List X → Type 0
 Unlike name [] = Unit {0}
 Unlike name (x ∷ xs) = Lacks name (name x) xs × Unlike name xs

@@ -8,7 +8,7 @@ use Rattle.reg_tree.specs.declared.stop.EditStop.TheVariants as stops
 use Rattle.reg_tree.specs.declared.steps.TreeStep.{TreeStep}
 use Rattle.reg_tree.specs.declared.steps.TreeStep.TheVariants as made
 
--- the refusal that a stop tells of; want of memory is none
+-- the refusal that a stop reports; lack of memory is none
 abbrev pub refusal_of : EditStop → Option Refusal
 refusal_of stops.NoKey = Some no_key
 refusal_of stops.NoValue = Some no_value
@@ -33,7 +33,7 @@ step_of (made.AddChild name tree) = add_child name tree
 abbrev pub IsRefused : Result Tree Refusal → EditStop → Type 0
 IsRefused edit stop = IfSome (refusal_of stop) (λ why. edit ≡ Err why)
 
--- what is left after a call is the edited tree, or the edit is refused as the call says
+-- what remains after a call is the edited tree, or the edit is refused as the call says
 abbrev pub Edits : Tree → Result (Unit {0}) EditStop → Result Tree Refusal → Type 0
 Edits new (Ok _) edit = edit ≡ Ok new
 Edits new (Err stop) edit = IsRefused edit stop

@@ -1,4 +1,4 @@
--- Which children of a key are searched by halves? (this project's own)
+-- Which children of a key are searched by binary search? (this project's own)
 use Rattle.std.specs.Prelude.{◌≡◌, false, List}
 use Rattle.std.specs.List.{AllPairs}
 use Rattle.std.specs.Ordering.{is_lt}

@@ -1,4 +1,4 @@
-//! Trees made anew.
+//! Trees made again.
 
 ghost use Rattle.std.specs.Prelude.{◌≡◌, IfOk};
 

@@ -1,4 +1,4 @@
-//! Places of keys among siblings: found by halves where the names rise, else by a scan.
+//! Places of keys among siblings: found by binary search where the names rise, else by a scan.
 
 ghost use Rattle.std.specs.Prelude.{◌≡◌, [], ◌∷◌, ◌++◌, IsTrue, find, not, position};
 ghost use Rattle.std.specs.Option.{option_copied};
@@ -87,7 +87,7 @@ fn greater_place(keys: &[Key], name: &[u16]) -> Option<usize>
         .position(|k| compare_folded(k.name(), name).is_gt())
 }
 
-/// Whether the names rise with one more behind them.
+/// Whether the names rise with one more after them.
 pub(crate) fn still_rising(keys: &[Key], rising: bool, more: &Key) -> bool
     requires { IsTrue rising → AreRising keys.now }
     ensures { IsTrue result → AreRising (keys.now ++ more.now ∷ []) }
@@ -101,7 +101,7 @@ pub(crate) fn still_rising(keys: &[Key], rising: bool, more: &Key) -> bool
     }
 }
 
-/// Whether a key's name may stand behind another's.
+/// Whether a key's name may stand after another's.
 fn may_follow(key: &Key, other: &Key) -> bool
     ensures { result ≡ not (is_lt (folded_order (head key.now).name (head other.now).name)) }
 {

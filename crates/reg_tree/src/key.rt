@@ -27,7 +27,7 @@ pub struct Key {
 #[derive(Drop)]
 pub struct Keys {
     pub(crate) items: Vec<Key>,
-    /// Whether the names are known to rise, so that one is found by halves. A hive may have others.
+    /// Whether the names are known to rise, so that one is found by binary search. A hive may have others.
     pub(crate) rising: bool,
 }
 

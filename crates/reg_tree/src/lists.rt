@@ -102,7 +102,7 @@ impl Keys {
         named_place(self.items.as_slice(), self.rising, name)
     }
 
-    /// Puts a key before the first one that folds greater, else behind all.
+    /// Puts a key before the first one that folds greater, else after all.
     pub(crate) fn insert(&mut self, key: Key) -> Result<(), AllocError>
         ensures { OnOk result (self.new ≡ placed key self.old) }
     {

@@ -6,7 +6,7 @@ ghost use Rattle.nt_bytes.specs.Counts.{capped};
 
 use nt_bytes::HiveVersion;
 
-/// The cell of a payload of so many bytes.
+/// The cell of a payload of that many bytes.
 pub fn cell_size(payload: u64) -> u64
     ensures { result ≡ capped (cell payload) }
 {
@@ -33,7 +33,7 @@ fn name_len(name: &[u16]) -> u64
     }
 }
 
-/// The cell of a form of so many bytes and a name behind them.
+/// The cell of a form of that many bytes and a name after them.
 #[tactic(auto, using(crate::proofs::Sums::sums))]
 pub fn named_size(form: u64, name: &[u16]) -> u64
     ensures { result ≡ capped (cell (form + name_bytes name.now)) }
@@ -41,7 +41,7 @@ pub fn named_size(form: u64, name: &[u16]) -> u64
     cell_size(name_len(name).saturating_add(form))
 }
 
-/// Are so many bytes of data written in segments?
+/// Are that many bytes of data written in segments?
 fn is_big(version: HiveVersion, len: u64) -> bool
     ensures { result ≡ is_big version len }
 {
@@ -110,7 +110,7 @@ pub fn security_size(shared: &[u8], security: &[u8]) -> u64
     cell_size((security.len() as u64).saturating_add(20))
 }
 
-/// The lists of so many children.
+/// The lists of that many children.
 #[tactic(auto, using(crate::proofs::Sums::sums))]
 pub fn list_size(n: u64) -> u64
     ensures { result ≡ capped (list_size n) }

@@ -86,7 +86,7 @@ pub(crate) fn order_with(
     Ok(order)
 }
 
-/// The order without a place, and each place behind it one lower.
+/// The order without a place, and each place after it one lower.
 pub(crate) fn close_up(order: &mut Vec<usize>, at: usize)
     ensures { order.new.items ≡ map (lowered at) (filter (is_other at) order.old.items) }
 {
@@ -101,7 +101,7 @@ fn drop_place(order: &mut Vec<usize>, at: usize)
     order.retain(|k| *k != at);
 }
 
-/// The order with each place behind one a place lower.
+/// The order with each place after one a place lower.
 fn lower_behind(order: &mut Vec<usize>, at: usize)
     ensures { order.new.items ≡ map (lowered at) order.old.items }
 {
@@ -141,7 +141,7 @@ fn sorted_places(alloc: Global, items: &[Value]) -> Result<Vec<usize>, AllocErro
     Ok(order)
 }
 
-/// The places of so many items, as they stand.
+/// The places of that many items, as they stand.
 fn all_places(alloc: Global, count: usize) -> Result<Vec<usize>, AllocError>
     ensures { IfOk result (λ places. places.items ≡ range_with_len 0 count) }
 {

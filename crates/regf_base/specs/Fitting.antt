@@ -10,7 +10,7 @@ pub record NumbersFit (base : Base) : Type 0 where
   pub root_fits : base.root < 2 ^ 32
   pub cluster_fits : base.cluster < 2 ^ 32
 
--- the name and the rest are bytes, as many as their places have
+-- the name and the rest are bytes, the same number as their places have
 pub record TextsFit (base : Base) : Type 0 where
   pub name_long : length base.name ≡ 64
   pub name_bytes : (k : ℕ) → slice_index base.name k < 256

@@ -47,8 +47,8 @@ fn a_base_block_of_version_1_5_is_read_back(rt: HostRuntime) -> Result<(), Fail>
     Ok(())
 }
 
-/// A turned byte behind the signature is seen by the check before its own, the checksum's, unless the
-/// sum is written anew.
+/// A turned byte after the signature is seen by the check before its own, the checksum's, unless the
+/// sum is rewritten.
 #[test]
 fn the_first_fault_is_named(rt: HostRuntime) -> Result<(), Fail> {
     let cases = [

@@ -42,7 +42,7 @@ replay_unsaid (Err r) name stop before after old new same files unwritten =
 replay_unsaid (Ok report) name stop before after old new same files unwritten =
     report_unsaid report.saved name (report_answer report) report.file stop before after old new same files unwritten
 
--- the outside stopped the search
+-- the environment stopped the search
 pub stopped_decides : (form : ReportForm) (asked : ReplayAsked) (stop : HostStop) (old new : HostState)
     → Looks {A = Report} (report_in form asked old.files) (Err (Stopped stop)) old new
     → DecidesReplay form asked (stopped_as stop) old new

@@ -10,7 +10,7 @@ use Rattle.command_parts.specs.Leaves.{Looks, Gives, more, named}
 use Rattle.command_parts.proofs.AskLemmas.{more_more}
 use Rattle.replay_command.specs.Inputs.{asks_replay}
 
--- so many files were asked for, and none changed
+-- that many files were asked for, and none changed
 pub record Searched (p : ℕ) (old mid : HostState) : Type 0 where
   pub tells : old.tells ≡ true → mid.tells ≡ true
   pub files : old.tells ≡ true → mid.files ≡ old.files

@@ -1,6 +1,6 @@
 -- What does `replay` print, and which file does it save? This project's own.
 --
--- The report on what the logs make of the hive is printed, and then the result is saved, where the words ask for that and it is clean.
+-- The report on what the logs make of the hive is printed, and then the result is saved, where the command line asks for that and it is clean.
 use Rattle.std.specs.Prelude.{◌≡◌, ◌⊎◌, ◌++◌, ℕ, Bool, true, false, List, Option, Some, None, Result, Ok, Err, if◌then◌else◌}
 use Rattle.std.specs.Option.{is_some}
 use Rattle.nt_bytes.specs.declared.fault.HiveFault.{HiveFault}
@@ -45,7 +45,7 @@ EndsPut told name file before after status =
     ((status ≡ told) × Puts before after name file)
     ⊎ (((status ≡ statuses.WriteFault) ⊎ (status ≡ statuses.Memory)) × KeepsOthers before after name)
 
--- The whole text was printed, and then the file put; or the outside stopped before, and no file changed.
+-- The whole text was printed, and then the file put; or the environment stopped before, and no file changed.
 abbrev pub EndsSaved : Answer → List ℕ → List ℕ → Files → Files → Status → List ℕ → List ℕ → Type 0
 EndsSaved answer name file before after status old new =
     ((new ≡ old ++ answer.text) × EndsPut answer.status name file before after status)

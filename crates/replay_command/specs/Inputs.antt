@@ -1,6 +1,6 @@
 -- What does `replay` read, or what is its first obstacle? This project's own.
 --
--- The hive, absent; each of its logs that the words name, absent.
+-- The hive, absent; each of its logs that the command line names, absent.
 use Rattle.std.specs.Prelude.{◌≡◌, ◌+◌, ◌++◌, ℕ, true, List, [], ◌∷◌, Option, Some, None, Result, Ok}
 use Rattle.nt_edge.specs.Host.{Files, HostState}
 use Rattle.command_words.specs.Words.{ReplayAsked}
@@ -22,12 +22,12 @@ inputs_in words files = do
   log2 ← log_in files words.log2
   Ok (record { hive = hive; log = log; log1 = log1; log2 = log2 })
 
--- a log with its name, where the words name one
+-- a log with its name, where the command line names one
 abbrev pub given : LogName → Option (List ℕ) → List LogFile
 given name None = []
 given name (Some bytes) = record { name = name; bytes = bytes } ∷ []
 
--- the logs that the words name, in their order
+-- the logs that the command line names, in their order
 abbrev pub logs_in : ReplayInputs → List LogFile
 logs_in inputs = (given Log inputs.log ++ given Log1 inputs.log1) ++ given Log2 inputs.log2
 

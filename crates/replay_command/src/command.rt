@@ -63,7 +63,7 @@ fn report_on(
     }
 }
 
-/// Gets what the words name, and makes the report. Nothing is printed.
+/// Gets what the command line names, and makes the report. Nothing is printed.
 fn seek<H: Host>(
     alloc: Global,
     words: ReplayWords<'_>,
@@ -132,7 +132,7 @@ fn finish<H: Host>(name: Option<&str>, report: &Report, host: &mut H) -> Status
     }
 }
 
-/// Gets the hive and the logs that the words name, prints what the logs make of the hive, and saves the result where the words ask
+/// Gets the hive and the logs that the command line names, prints what the logs make of the hive, and saves the result where the command line asks
 /// for that and it is clean; or prints the first obstacle.
 pub fn replay<H: Host>(
     alloc: Global,

@@ -22,7 +22,7 @@ pub struct ReplayInputs {
     pub log2: Option<Bytes>,
 }
 
-/// The bytes of a log, where the words name one.
+/// The bytes of a log, where the command line names one.
 fn log_in<H: Host>(
     alloc: Global,
     host: &mut H,
@@ -60,7 +60,7 @@ pub(crate) fn inputs_in<H: Host>(
     })
 }
 
-/// Appends a log, where the words name one.
+/// Appends a log, where the command line names one.
 fn push_log(files: &mut Row<LogFile>, name: LogName, bytes: Option<Bytes>) -> Result<(), AllocError>
     ensures { OnOk result (files.new ≡ files.old ++ given name bytes) }
 {
@@ -70,7 +70,7 @@ fn push_log(files: &mut Row<LogFile>, name: LogName, bytes: Option<Bytes>) -> Re
     }
 }
 
-/// The logs that the words name, in their order.
+/// The logs that the command line names, in their order.
 pub(crate) fn logs_in(
     alloc: Global,
     log: Option<Bytes>,

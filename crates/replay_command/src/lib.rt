@@ -1,7 +1,7 @@
 //! `replay`: the transaction logs of Windows, applied to a dirty hive.
 //!
 //! `replay` reads a hive and its logs and prints what these make of it, or the first obstacle. The result is then saved, where
-//! the words ask for that and it is clean. There is no disk.
+//! the command line asks for that and it is clean. There is no disk.
 #![tactic(auto)]
 
 mod command;

@@ -1,4 +1,4 @@
--- Fields of an object, appended one after another.
+-- Fields of an object, appended in sequence.
 use Rattle.std.proofs.Common.{◌≡◌, ℕ, List, [], ◌∷◌, ◌++◌, ap, ◌∙◌, sym, append_assoc, append-nil}
 use Rattle.std.specs.Prelude.{Result, Ok, Err, OnOk}
 use Rattle.line_text.specs.Objects.{Value, field_text, fields_text}

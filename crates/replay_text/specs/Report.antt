@@ -7,7 +7,7 @@ use Rattle.log_replay.specs.declared.replaying.Outcome.{Outcome}
 use Rattle.replay_text.specs.declared.reporting.Report.{Report}
 use Rattle.replay_text.specs.Lines.{printed_lines}
 
--- the line tells a fault of a log
+-- the line reports a fault of a log
 abbrev pub is_fault : ReplayLine → Bool
 is_fault (lines.Sequence first second dirty) = false
 is_fault (lines.EmptyLog name) = false
@@ -32,7 +32,7 @@ has_fault (line ∷ said) = is_fault line || has_fault said
 abbrev pub saving_line : Outcome → ReplayLine
 saving_line o = if o.first == o.second then lines.Saved o.first (length o.file) else lines.SaveRefused
 
--- what is said of the saving, where the words ask for it
+-- what is said of the saving, where the command line asks for it
 abbrev pub saving_lines : Bool → ReplayLine → List ReplayLine
 saving_lines asked line = if asked then line ∷ [] else []
 

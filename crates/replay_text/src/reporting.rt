@@ -74,7 +74,7 @@ fn printed(alloc: Global, form: ReportForm, lines: &[ReplayLine]) -> Result<Byte
     Ok(Bytes::from_vec(text))
 }
 
-/// The report on what the logs made of a hive, in a form; `asked` says whether the words ask for the file.
+/// The report on what the logs made of a hive, in a form; `asked` says whether the command line asks for the file.
 pub fn replay_report(
     alloc: Global,
     form: ReportForm,

@@ -136,7 +136,7 @@ fn what_an_entry_needs_goes_first(rt: HostRuntime) -> Result<(), Fail> {
     go_in_turn(&rt, rt.alloc())
 }
 
-// ---- the entries of a phase, tried one after another
+// ---- the entries of a phase, tried in sequence
 
 /// An attempt of the next entry: whether it goes well, the place that is tried, and the tests made so far.
 type Step = (bool, Option<u32>, u64);

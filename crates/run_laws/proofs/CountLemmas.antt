@@ -103,7 +103,7 @@ get_at : {X : Type 0} (front : List X) (x : X) (xs whole : List X) (a : ℕ) →
     → slice_get whole a ≡ Some x
 get_at front x xs whole a is at = rw (is, ← at) (slice_get-between front x xs)
 
--- as many places pass as items
+-- the same number of places pass as items
 number-places : {X : Type 0} (test : X → Bool) (front xs whole : List X) (a : ℕ) → whole ≡ front ++ xs
     → length front ≡ a → number (passes_at test whole) (range_with_len a (length xs)) ≡ number test xs
 number-places test front [] whole a is at = refl

@@ -71,7 +71,7 @@ twice : (b : Bool) (x y z : ℕ) → cond b x y ≡ cond b x (cond b z y)
 twice true x y z = refl
 twice false x y z = refl
 
--- so many for a name, and for others as before
+-- that many for a name, and for others as before
 pub failures-set : (fs : List (List ℕ × ℕ)) (name : List ℕ) (count : ℕ) (other : List ℕ)
     → failures_of (with_failures fs name count) other ≡ cond (folds_same name other) count (failures_of fs other)
 failures-set [] name count other = ap (λ b. cond b count 0) (same_for (folded name) name other (folded_again name))

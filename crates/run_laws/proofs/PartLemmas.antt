@@ -1,4 +1,4 @@
--- A run in two parts: its first events, and those behind them with what is left of wakes and outcomes.
+-- A run in two parts: its first events, and those after them with what remains of wakes and outcomes.
 use Rattle.std.proofs.Common.{◌≡◌, ℕ, List, [], ◌∷◌, ◌++◌, Option, Some, None, refl, sym, ap, subst, ◌∙◌, append_assoc}
 use Rattle.std.proofs.lemmas.List.{append-nil}
 use Rattle.start_model.specs.Lines.{Line}
@@ -68,7 +68,7 @@ then-same : (go other : Going) (first : RunResult) (rest : Option Left)
 then-same go other first None f = refl
 then-same go other first (Some (m, wakes, outcomes)) f = ap (behind first.lines first.notes) (f m wakes outcomes)
 
--- a run is its events, and the closing lines behind them
+-- a run is its events, and the closing lines after them
 pub run_from-until : (choice : Option ℕ → Choice) (es : List Event) (m : RunState) (wakes : List Woken)
     (outcomes : List Outcome) → run_from choice es m wakes outcomes ≡ run_until ended choice es m wakes outcomes
 run_from-until choice [] m wakes outcomes = refl
@@ -163,7 +163,7 @@ one_event act wakes outcomes (Some (m, ws, os)) e =
       rest = sym e i;
     }
 
--- one more event: what it made of its own wakes and outcomes stands behind
+-- one more event: what it made of its own wakes and outcomes stands after
 pub part_of-push : (choice : Option ℕ → Choice) (es : List Event) (e : Event) (first : RunState) (wakes : List Woken)
     (outcomes : List Outcome) (m : RunState) (w : List Woken) (o : List Outcome)
     → (part_of choice es first wakes outcomes).rest ≡ Some (m, [], [])
@@ -177,7 +177,7 @@ part_of-push choice es e first wakes outcomes m w o is =
     ∙ ap (behind (part_of choice es first wakes outcomes).lines (part_of choice es first wakes outcomes).notes)
     (one_event (event_step_of choice e m) w o (play (event_step_of choice e m) w o).rest refl)
 
--- the end of the script: the closing lines stand behind
+-- the end of the script: the closing lines stand after
 pub run_from-end : (choice : Option ℕ → Choice) (es : List Event) (first : RunState) (wakes : List Woken)
     (outcomes : List Outcome) (m : RunState) → (part_of choice es first wakes outcomes).rest ≡ Some (m, [], [])
     → run_from choice es first wakes outcomes

@@ -101,7 +101,7 @@ certain = record {
 abbrev Left : Type 0
 Left = RunState × List Woken × List Outcome
 
--- an event says what it says quietly, and what is left may be as before
+-- an event says what it says quietly, and what remains may be as before
 record PlaysQuiet (h : List Note) (act : Act) (wakes : List Woken) (outcomes : List Outcome) (more : List Possible)
     (left : Left) : Type 0 where
   lines : (play act wakes outcomes).lines ≡ (quiet_play act).lines
@@ -207,7 +207,7 @@ plays_quiet (acts.mark note act) h k d wakes outcomes more left e fits all =
 
 -- ---- a run
 
--- the rest of the script behind an event: what is left over of wakes and outcomes stays
+-- the rest of the script after an event: what remains of wakes and outcomes stays
 record RunsQuiet (choice : Option ℕ → Choice) (es : List Event) (m : RunState) (wakes : List Woken)
     (outcomes : List Outcome) (left : Left) : Type 0 where
   lines : (run_from choice es m wakes outcomes).lines ≡ (quiet_from choice es m).lines

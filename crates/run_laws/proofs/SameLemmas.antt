@@ -1,4 +1,4 @@
--- The test whether two trees are one tells just that.
+-- The test whether two trees are one reports just that.
 use Rattle.std.proofs.Common.{◌≡◌, ◌↔◌, Bool, true, false, ◌&&◌, List, [], ◌∷◌, refl, ap, subst}
 use Rattle.std.specs.Prelude.{bytes_eq, ◌==◌}
 use Rattle.std.specs.Bool.{Decides}

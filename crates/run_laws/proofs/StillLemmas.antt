@@ -42,7 +42,7 @@ still_last (Cuts ∷ h) n s = still_last h n s
 pub not_ended : (h : List Note) (o : Outcome) → IsStill (push h (Ended o)) → ⊥
 not_ended h o s = still_last h (Ended o) s
 
--- a load was asked for behind a wake
+-- a load was asked for after a wake
 pub not_woken : (h : List Note) (disk : Possible) (w : Woken) → IsStill (with_wake h disk w) → ⊥
 not_woken h disk w s = still_last h (Woke disk) (still_before (push h (Woke disk)) (Held w.state.tree) s)
 
@@ -143,7 +143,7 @@ play-still law (acts.mark note act) h k = by_note note k.0 (play-still law act (
     by_note Cuts mark s = s
     by_note (Ended o) mark s = mark
 
--- the fact of a state that was come to, without the notes
+-- the fact of a state that was amount to, without the notes
 rest_may : (c : Image) (h : List Note) (m : RunState) (o : Option Start) → IsStill h → AtRest (may_load c) h m o
     → IfSome o (λ s. m.disk.other ≡ None) × MayLoad m.disk c
 rest_may c h m None s r = (tt, r s)

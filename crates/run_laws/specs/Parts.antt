@@ -13,7 +13,7 @@ run_until last choice [] m wakes outcomes = last m wakes outcomes
 run_until last choice (e ∷ es) m wakes outcomes =
     let first : RunResult = play (event_step_of choice e m) wakes outcomes in then_run (run_until last choice es) first first.rest
 
--- the events alone: the script goes on behind them
+-- the events alone: the script goes on after them
 abbrev pub part_of : (Option ℕ → Choice) → List Event → RunState → List Woken → List Outcome → RunResult
 part_of choice es m wakes outcomes = run_until reached choice es m wakes outcomes
 

@@ -1,7 +1,7 @@
 //! What holds of every run, apart from any code.
 //!
 //! Where no operation of the disk is cut or fails, the run is the quiet one. Each wake expects every change that was
-//! acknowledged. A `go` without a number takes as many steps of the starter as there can be, so a loop that steps until the
+//! acknowledged. A `go` without a number takes the same number of steps of the starter as there can be, so a loop that steps until the
 //! start is done or over says the same.
 #![tactic(auto)]
 

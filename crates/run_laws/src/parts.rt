@@ -10,7 +10,7 @@ ghost use Rattle.start_model.specs.EventActs.{event_step_of};
 ghost use Rattle.start_model.specs.Run.{RunResult, play, behind, then_run, run_from};
 ghost use Rattle.run_laws.specs.Parts.{run_until, part_of, ended};
 
-/// An event that takes wakes and outcomes of its own stands behind the events before it; behind the last
+/// An event that takes wakes and outcomes of its own stands after the events before it; after the last
 /// one stand the closing lines. A run that is given up within an event begins with what that event said.
 pub fn a_run_goes_on_event_by_event()
     ensures pushed { (choice : Option ℕ → Choice) (es : List events.Event) (e : events.Event) (first : RunState) (wakes : List Woken)

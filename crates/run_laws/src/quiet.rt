@@ -11,7 +11,7 @@ ghost use Rattle.start_model.specs.Fits.{ArePossible, woke_in};
 ghost use Rattle.run_laws.specs.Quiet.{AllFinished};
 
 /// Where each operation of the disk was done, it is certain what the disk loads as, so each start begins from the
-/// settled state: the run says what the quiet run says, and comes to the same state.
+/// settled state: the run says what the quiet run says, and reaches the same state.
 pub fn without_stops_the_run_is_the_quiet_one()
     ensures lines { (choice : Option ℕ → Choice) (script : List events.Event) (placed : Woken) (wakes : List Woken) (outcomes : List Outcome)
         (last : RunState) (left : List Woken) (over : List Outcome)

@@ -5,7 +5,7 @@ ghost use Rattle.nt_bytes.specs.Folding.{folds_same};
 ghost use Rattle.hive_model.specs.Tree.{Tree, same_tree};
 ghost use Rattle.start_model.specs.Machine.{failures_of, one_failure_less, with_failures};
 
-/// The test whether two trees are one tells just that.
+/// The test whether two trees are one reports just that.
 pub fn two_trees_are_one_where_the_test_says_so()
     ensures { (a : Tree) (b : Tree) → same_tree a b ≡ true ↔ a ≡ b }
 {}

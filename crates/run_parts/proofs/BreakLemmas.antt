@@ -22,13 +22,13 @@ use Rattle.run_parts.specs.Parts.{Told, Tells, HasNoLineFeed, since_wake, tally_
 use Rattle.run_parts.proofs.CountLemmas.{Alone, Still, still}
 use Rattle.run_parts.proofs.GoesLemmas.{goes-untold, goes-but, goes-line, goes-told}
 
--- ---- a front of a line
+-- ---- a prefix of a line
 
 empty_end : (f r : List ℕ) → [] ≡ f ++ r → r ≡ []
 empty_end [] r e = sym e
 empty_end (x ∷ f) r e = absurd (cc)
 
--- a front of a text with one more item is all of it, or a front of the text
+-- a prefix of a text with one more item is all of it, or a prefix of the text
 front_or_all : (b f r : List ℕ) (x : ℕ) → b ++ x ∷ [] ≡ f ++ r → (r ≡ []) ⊎ ((g : List ℕ) × (b ≡ f ++ g))
 front_or_all b [] r x e = inr (b, refl)
 front_or_all [] (y ∷ f) r x e = let t : [] ≡ f ++ r = cc in inl (empty_end f r t)
@@ -41,7 +41,7 @@ front_or_all (c ∷ b) (y ∷ f) r x e =
     λ q. inr (q.0, ap (λ (z : ℕ). z ∷ b) h ∙ ap (λ (t : List ℕ). y ∷ t) q.1) in
     ⊎_elim Left Right (front_or_all b f r x t)
 
--- a front of a line that was cut off before its LF
+-- a prefix of a line that was cut off before its LF
 pub record IsCutOff (text x y : List ℕ) : Type 0 where
   pub part : List ℕ
   pub said_is : y ≡ x ++ part
@@ -54,7 +54,7 @@ no_lf-front a b t e h =
     (and_parts (list_all (λ c. not (c == 10)) a) (list_all (λ c. not (c == 10)) b)
     (sym (list_all-append (λ c. not (c == 10)) a b) ∙ all)).0
 
--- of a line a front was said: all of it, or a part without its LF
+-- of a line a front was printed: all of it, or a part without its LF
 pub whole_or_cut_off : (l : Line) (x y : List ℕ) → SaysFront x y (line_text l)
     → (y ≡ x ++ line_text l) ⊎ IsCutOff (line_text l) x y
 whole_or_cut_off l x y f =
@@ -81,7 +81,7 @@ told_with l x = record { said = x.said ++ line_text l; summary = with_line x.sum
 tells-line : (l : Line) (x : Told) → Tells x (told_with l x) (l ∷ [])
 tells-line l x = record { said = ap (λ (t : List ℕ). x.said ++ t) (sym (append-nil (line_text l))); summary = refl }
 
--- nothing of it was said
+-- nothing of it was printed
 pub breaks-silent : (a : Act) (x : Told) (d e : DiskState) → Still d e → EachCrash e (MayLoad (play a [] []).disk)
     → Breaks a x x.said d e
 breaks-silent a x d e s left =
@@ -97,7 +97,7 @@ breaks-silent a x d e s left =
       left = left;
     }
 
--- behind a part that was played
+-- after a part that was played
 pub breaks-then : (a b : Act) (x y : Told) (z : List ℕ) (d e f : DiskState) → Goes (play a) (play b) x y d e
     → Breaks b y z e f → Breaks a x z d f
 breaks-then a b x y z d e f p q =
@@ -113,7 +113,7 @@ breaks-then a b x y z d e f p q =
       left = q.left;
     }
 
--- a line that tells no outcome
+-- a line that reports no outcome
 pub breaks-line : (l : Line) (r : Act) (x : Told) (y : List ℕ) (d e : DiskState) → Still d e → outcomes_in (l ∷ []) ≡ []
     → SaysFront x.said y (line_text l)
     → EachCrash e (MayLoad (play r [] []).disk) → Breaks (say l r) x y d e
@@ -143,7 +143,7 @@ breaks-line l r x y d e s none f left =
     in
     ⊎_elim Whole Part (whole_or_cut_off l x.said y f)
 
--- An operation ended and is not told yet; of the line that tells it a front was said: the line whole, and then it is told, or a
+-- An operation ended and is not reported yet; of the line that reports it a front was printed: the line whole, and then it is reported, or a
 -- part of it.
 pub breaks-front : (whole rest r : Act) (l : Line) (more : List Line) (u : Outcome) (x : Told) (y : List ℕ)
     (d e : DiskState)
@@ -178,7 +178,7 @@ breaks-front whole rest r l more u x y d e told untold says f opened left =
     in
     ⊎_elim Whole Part (whole_or_cut_off l x.said y f)
 
--- an operation of the disk, and the line that tells its outcome
+-- an operation of the disk, and the line that reports its outcome
 pub breaks-told : (disk : Possible) (next : Outcome → Act) (l : Line) (u : Outcome) (r : Act) (x : Told) (y : List ℕ)
     (d e : DiskState)
     → Alone d e → HasCause u (since_wake d) (tally_now e) → CountedIn u (tally_now d) (tally_now e)

@@ -1,4 +1,4 @@
--- What was done to the disk in one part and in another behind it.
+-- What was done to the disk in one part and in another after it.
 use Rattle.std.proofs.Common.{◌≡◌, ◌≤◌, inl, inr, ℕ, List, [], ◌∷◌, ◌++◌, refl, sym, ap, subst, ◌∙◌, append-nil, append_assoc, arith}
 use Rattle.std.proofs.lemmas.List.{map-append}
 use Rattle.hive_model.specs.Image.{Arming}
@@ -78,7 +78,7 @@ last-append (w ∷ a) b since = last-append a b w
 pub tallies-append : (a b : List Wake) → tallies (a ++ b) ≡ tallies a ++ tallies b
 tallies-append a b = map-append tally_at a b
 
--- behind wakes that were added, the counts at the last wake are those of the last of these
+-- after wakes that were added, the counts at the last wake are those of the last of these
 pub since-grown : (d e : DiskState) (added : List Wake) → e.history.wakes ≡ d.history.wakes ++ added
     → since_wake e ≡ last_tally (tallies added) (since_wake d)
 since-grown d e added is =
@@ -114,9 +114,9 @@ caused-then (Saved t ∷ j) k a b since mid now later p q = caused-then j k a b 
 caused-then (Ordered x ∷ j) k a b since mid now later p q = caused-then j k a b since mid now later p q
 caused-then (Cuts ∷ j) k a b since mid now later p q = caused-then j k a b since mid now later p q
 
--- ---- that each stop is told
+-- ---- that each stop is reported
 
--- the counts of two parts, one behind the other, add up
+-- the counts of two parts, in sequence, add up
 pub adds-then : (j k : List Note) (a b : List Tally) (since mid now : Tally) → AddsUp j a since mid
     → AddsUp k b mid now
     → AddsUp (j ++ k) (a ++ b) since now
@@ -198,7 +198,7 @@ alone-by d e same counts = record {
   caused = tt;
 }
 
--- what was done in one part, and in another behind it
+-- what was done in one part, and in another after it
 pub grew-then : (j k : List Note) (a b : List Wake) (d e f : DiskState) → Grew j a d e → Grew k b e f
     → Grew (j ++ k) (a ++ b) d f
 grew-then j k a b d e f x y =

@@ -1,4 +1,4 @@
--- Parts of a run one behind another.
+-- Parts of a run in sequence.
 use Rattle.std.proofs.Common.{◌≡◌, ℕ, List, [], ◌∷◌, ◌++◌, map, refl, sym, ap, subst, ◌∙◌, append-nil, append_assoc}
 use Rattle.std.proofs.lemmas.List.{map-append}
 use Rattle.hive_model.specs.Image.{Image}
@@ -92,7 +92,7 @@ pub behind-append : (a b : List Line) (j k : List Note) (r : RunResult)
 behind-append a b j k r =
     λ i. record { lines = append_assoc a b r.lines i; notes = append_assoc j k r.notes i; disk = r.disk; rest = r.rest }
 
--- nothing was told
+-- nothing was reported
 pub tells-nothing : (x : Told) → Tells x x []
 tells-nothing x = record { said = sym (append-nil x.said); summary = refl }
 
@@ -100,7 +100,7 @@ with_lines-append : (s : Summary) (a b : List Line) → with_lines s (a ++ b) �
 with_lines-append s [] b = refl
 with_lines-append s (l ∷ a) b = with_lines-append (with_line s l) a b
 
--- lines were told, and then others
+-- lines were reported, and then others
 pub tells-then : (x y z : Told) (a b : List Line) → Tells x y a → Tells y z b → Tells x z (a ++ b)
 tells-then x y z a b p q = record {
   said = q.said ∙ ap (λ (t : List ℕ). t ++ text_of b) p.said ∙ append_assoc x.said (text_of a) (text_of b)
@@ -123,7 +123,7 @@ goes-nothing a x d e s =
       adds_up = s.same;
     }
 
--- an operation ended, and that is not told yet
+-- an operation ended, and that is not reported yet
 pub goes-untold : (u : Outcome) (a : Going) (x : Told) (d e : DiskState) → Alone d e
     → CountedIn u (tally_now d) (tally_now e)
     → GoesBut (Ended u ∷ []) a a x x d e
@@ -140,7 +140,7 @@ goes-untold u a x d e s counted =
       adds_up = (tally_now e, (counted, refl));
     }
 
--- one part behind another
+-- one part after another
 pub goes-but : (untold : List Note) (a b c : Going) (x y z : Told) (d e f : DiskState) → Goes a b x y d e
     → GoesBut untold b c y z e f
     → GoesBut untold a c x z d f
@@ -181,7 +181,7 @@ pub goes-then : (a b c : Going) (x y z : Told) (d e f : DiskState) → Goes a b 
     → Goes a c x z d f
 goes-then a b c x y z d e f p q = goes-but [] a b c x y z d e f p q
 
--- a line that tells no outcome
+-- a line that reports no outcome
 pub goes-line : (l : Line) (r : Act) (x y : Told) (d e : DiskState) → Still d e → outcomes_in (l ∷ []) ≡ []
     → Tells x y (l ∷ [])
     → Goes (play (say l r)) (play r) x y d e
@@ -212,7 +212,7 @@ grew-ended u d e s cause =
       caused = (cause, tt);
     }
 
--- an operation of the disk, and the line that tells its outcome
+-- an operation of the disk, and the line that reports its outcome
 pub goes-told : (disk : Possible) (next : Outcome → Act) (l : Line) (u : Outcome) (r : Act) (x y : Told)
     (d e : DiskState)
     → Alone d e → HasCause u (since_wake d) (tally_now e) → CountedIn u (tally_now d) (tally_now e)

@@ -1,4 +1,4 @@
--- What was played is the report that its text tells.
+-- What was played is the report that its text reports.
 use Rattle.std.proofs.Common.{◌≡◌, ℕ, List, [], ◌∷◌, ◌++◌, map, refl, sym, ap, subst, ◌∙◌, append-nil, append_assoc}
 use Rattle.nt_edge.specs.Disk.{DiskState}
 use Rattle.nt_edge.specs.Crash.{EachCrash}
@@ -18,7 +18,7 @@ use Rattle.run_parts.proofs.GoesLemmas.{image_at, text_of-append}
 outcomes-whole : (ls : List Line) → outcomes_of (text_of ls) ≡ outcomes_in ls
 outcomes-whole ls = ap outcomes_of (sym (append-nil (text_of ls))) ∙ outcomes_of-text ls [] refl
 
--- a run that was played to its end is the report that its text tells
+-- a run that was played to its end is the report that its text reports
 pub reports_of : (run : Going) (last : RunState) (x y : Told) (d e : DiskState) → Goes run (reached last) x y d e
     → EachCrash e (MayLoad last.disk) → Reports run x y d e
 reports_of run last x y d e g left =
@@ -50,7 +50,7 @@ reports_of run last x y d e g left =
           ∙ ap (with_lines x.summary) (sym (append-nil g.lines) ∙ sym (ap (λ (q : RunResult). q.lines) is));
     }
 
--- a run that was given up left a front of the report
+-- a run that was given up left a prefix of the report
 pub reports_front_of : (run : Going) (x : Told) (y : List ℕ) (d e : DiskState) → RunBreaks run x y d e
     → ReportsFront run x.said y d e
 reports_front_of run x y d e b =

@@ -1,7 +1,7 @@
 -- Is each stop that a disk counted told? (this project's own)
 --
 -- Numbers alone, as in the causes of the book: a disk counts the losses of power and the failed calls that it had. What a run
--- tells are its notes.
+-- reports are its notes.
 use Rattle.std.specs.Prelude.{◌≡◌, ◌+◌, List, [], ◌∷◌}
 use Rattle.nt_bytes.specs.Counts.{Rises, capped}
 use Rattle.start_model.specs.Possible.{Outcome, Finished, PowerCut, DeviceFault}
@@ -20,7 +20,7 @@ abbrev pub with_cut : Tally → Tally
 with_cut t = record t { cuts = capped (t.cuts + 1) }
 
 -- The counts add up: from `since` over those at each wake to those of now they rose by what the notes tell, and by nothing
--- else. An operation counts as it ended. A cut of the script counts once, and the stop that is told of it counts no more.
+-- else. An operation counts as it ended. A cut of the script counts once, and the stop that is reported of it counts no more.
 abbrev pub AddsUp : (notes : List Note) → (wakes : List Tally) → (since now : Tally) → Type 0
 AddsUp [] [] since now = now ≡ since
 AddsUp [] (w ∷ ws) since now = ⊥

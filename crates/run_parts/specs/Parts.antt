@@ -1,8 +1,8 @@
--- What did a part of a run come to: one that was played, and one that was given up? (this project's own)
+-- What did a part of a run amount to: one that was played, and one that was given up? (this project's own)
 --
 -- What happened beside the lines are the notes of the book. They tell what was done to the disk from outside: its wakes, the
--- stops that were ordered and the cuts of the script; and each stop that the part tells of has its cause, a count of the disk
--- that rose since the start's own wake. Of a part that was played the converse holds too: each stop that came is told.
+-- stops that were ordered and the cuts of the script; and each stop that the part reports has its cause, a count of the disk
+-- that rose since the start's own wake. Of a part that was played the converse holds too: each stop that came is reported.
 use Rattle.std.specs.Prelude.{◌≡◌, ◌≤◌, ◌==◌, not, true, ℕ, List, [], ◌∷◌, ◌++◌, map, None, Result, Ok, Err}
 use Rattle.std.specs.List.{list_all}
 use Rattle.nt_bytes.specs.Front.{IsFront}
@@ -44,7 +44,7 @@ last_tally (w ∷ ws) since = last_tally ws w
 abbrev pub since_wake : DiskState → Tally
 since_wake s = last_tally (tallies s.history.wakes) (record { cuts = 0; faults = 0 })
 
--- a later count is no smaller, and one that stands at its end stays there
+-- a later count is no smaller, and one that is at its end stays there
 pub record NoLess (before after : ℕ) : Type 0 where
   pub grown : before ≤ after
   pub ended : before ≡ 18446744073709551615 → after ≡ 18446744073709551615
@@ -65,7 +65,7 @@ IsMarked s = Later (since_wake s) [] (tally_now s)
 
 -- ---- what was done to the disk
 
--- the count of cuts that were called for, behind those of the notes
+-- the count of cuts that were called for, after those of the notes
 abbrev pub cuts_behind : List Note → ℕ → ℕ
 cuts_behind [] n = n
 cuts_behind (Cuts ∷ notes) n = cuts_behind notes (next n)
@@ -82,22 +82,22 @@ pub record Grew (notes : List Note) (added : List Wake) (old new : DiskState) : 
   pub later : Later (tally_now old) (tallies added) (tally_now new)
   pub caused : Caused notes (tallies added) (since_wake old) (tally_now new)
 
--- ---- what was told
+-- ---- what was reported
 
--- what was said so far, and what its lines came to
+-- what was printed so far, and what its lines came to
 pub record Told : Type 0 where
   pub said : List ℕ
   pub summary : Summary
 
--- these lines were told behind it
+-- these lines were reported after it
 pub record Tells (old new : Told) (lines : List Line) : Type 0 where
   pub said : new.said ≡ old.said ++ text_of lines
   pub summary : new.summary ≡ with_lines old.summary lines
 
 -- ---- a part that was played
 
--- Of the whole this rest is left: lines were told, the disk's history grew by notes, each wake could be, and whatever wakes and
--- outcomes follow, the whole goes on as the rest does. With the `untold` notes behind its own the disk's counts add up.
+-- Of the whole this rest is left: lines were reported, the disk's history grew by notes, each wake could be, and whatever wakes and
+-- outcomes follow, the whole goes on as the rest does. With the `untold` notes after its own the disk's counts add up.
 pub record GoesBut (untold : List Note) (whole rest : Going) (told told' : Told) (old new : DiskState) : Type 0 where
   pub lines : List Line
   pub notes : List Note
@@ -109,7 +109,7 @@ pub record GoesBut (untold : List Note) (whole rest : Going) (told told' : Told)
   pub goes : (w : List Woken) (o : List Outcome) → whole (woken ++ w) (outcomes_in lines ++ o) ≡ behind lines notes (rest w o)
   pub adds_up : AddsUp (notes ++ untold) (tallies added) (tally_now old) (tally_now new)
 
--- and each stop that came is told
+-- and each stop that came is reported
 abbrev pub Goes : (whole rest : Going) (told told' : Told) (old new : DiskState) → Type 0
 Goes whole rest told told' old new = GoesBut [] whole rest told told' old new
 
@@ -119,7 +119,7 @@ Goes whole rest told told' old new = GoesBut [] whole rest told told' old new
 abbrev pub HasNoLineFeed : List ℕ → Type 0
 HasNoLineFeed text = list_all (λ c. not (c == 10)) text ≡ true
 
--- A part was played up to a rest, which was then given up: of what the rest says with one more outcome a front was said, with
+-- A part was played up to a rest, which was then given up: of what the rest says with one more outcome a front was printed, with
 -- no whole line; no stop came since but that outcome; and whatever the disk is left as, it loads as the rest says where nothing
 -- more happens.
 pub record RunBreaks (whole : Going) (told : Told) (said' : List ℕ) (old new : DiskState) : Type 0 where
@@ -152,11 +152,11 @@ abbrev pub PlaysOr : {T E : Type 0} → Act → Told → Told → DiskState → 
 PlaysOr whole told told' old new (Ok x) Left = (rest : Act) × (Goes (play whole) (play rest) told told' old new × Left x rest)
 PlaysOr whole told told' old new (Err e) Left = Breaks whole told told'.said old new
 
--- the line was told, or a front of it was said
+-- the line was reported, or a prefix of it was printed
 abbrev pub TellsOr : {T E : Type 0} → Line → Told → Told → Result T E → Type 0
 TellsOr line old new (Ok x) = Tells old new (line ∷ [])
 TellsOr line old new (Err e) = SaysFront old.said new.said (line_text line)
 
--- whatever the disk may load as in a state in which nothing is open, it may behind the first words of what follows too
+-- whatever the disk may load as in a state in which nothing is open, it may after the first words of what follows too
 abbrev pub Stays : (RunState → Act) → Type 0
 Stays next = (m : RunState) (c : Image) → m.disk.other ≡ None → MayLoad m.disk c → MayLoad (play (next m) [] []).disk c

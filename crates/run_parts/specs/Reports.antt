@@ -1,4 +1,4 @@
--- When is what was said the report of a run, or a front of it, and what was done to the disk? (this project's own)
+-- When is what was printed the report of a run, or a prefix of it, and what was done to the disk? (this project's own)
 use Rattle.std.specs.Prelude.{◌≡◌, ℕ, List, [], ◌∷◌, ◌++◌, map, Result, Ok, Err}
 use Rattle.hive_model.specs.Image.{Image, IsCrashImage}
 use Rattle.nt_edge.specs.Disk.{DiskState, Wake}
@@ -13,8 +13,8 @@ use Rattle.run_parts.specs.Parts.{Told, Grew, tallies, tally_now}
 abbrev pub LeftOf : DiskState → Image → Type 0
 LeftOf s image = IsCrashImage s.held s.flight image
 
--- What was said since is the whole report of the run on the wakes that were added, and what was done to the disk are its notes:
--- with these its counts add up, so each stop that came is told.
+-- What was printed since is the whole report of the run on the wakes that were added, and what was done to the disk are its notes:
+-- with these its counts add up, so each stop that came is reported.
 pub record Reports (run : Going) (told told' : Told) (old new : DiskState) : Type 0 where
   pub text : List ℕ
   pub said_is : told'.said ≡ told.said ++ text
@@ -24,8 +24,8 @@ pub record Reports (run : Going) (told told' : Told) (old new : DiskState) : Typ
   pub adds_up : AddsUp (run report.woken (outcomes_of text)).notes (tallies added) (tally_now old) (tally_now new)
   pub summary : told'.summary ≡ with_lines told.summary (run report.woken (outcomes_of text)).lines
 
--- What was said since is a front of the report, and what was done to the disk a front of its notes. No stop came but those that
--- are told and the one more outcome.
+-- What was printed since is a prefix of the report, and what was done to the disk a prefix of its notes. No stop came but those that
+-- are reported and the one more outcome.
 pub record ReportsFront (run : Going) (said said' : List ℕ) (old new : DiskState) : Type 0 where
   pub text : List ℕ
   pub said_is : said' ≡ said ++ text
@@ -34,7 +34,7 @@ pub record ReportsFront (run : Going) (said said' : List ℕ) (old new : DiskSta
   pub grew : Grew report.notes added old new
   pub adds_up : AddsUp (report.notes ++ Ended report.outcome ∷ []) (tallies added) (tally_now old) (tally_now new)
 
--- the report was said whole; or up to a refusal a front of it
+-- the report was printed whole; or up to a refusal a prefix of it
 abbrev pub ReportsOr : {T E : Type 0} → Going → Told → Told → DiskState → DiskState → Result T E → Type 0
 ReportsOr run told told' old new (Ok x) = Reports run told told' old new
 ReportsOr run told told' old new (Err e) = ReportsFront run told.said told'.said old new

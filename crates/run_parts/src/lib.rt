@@ -1,6 +1,6 @@
 //! What a part of a run came to on a disk: one that was played, and one that was given up.
 //!
-//! A part is an act of the book of startup. The relations of `specs/Parts` say what was said and done so far and which act is
-//! left, whatever wakes and outcomes may follow; so parts compose one behind another, and a whole script is one more part.
+//! A part is an act of the book of startup. The relations of `specs/Parts` say what was printed and done so far and which act is
+//! left, whatever wakes and outcomes may follow; so parts compose in sequence, and a whole script is one more part.
 //! Of code there is none: the run's crate has it.
 #![tactic(auto)]

@@ -111,6 +111,6 @@ with_first p keep (key h ts) k =
     held_with h (listed ts) (at_first p (of_children (filter keep)) (listed ts)) k.0
     (first_reduced p keep (listed ts) (fits h ts k))
 
--- what is left can be held
+-- what remains can be held
 pub reduced_holds : (set : Tree) (mode : SafeMode) → HoldsKeys set → HoldsKeys (reduced_of set mode)
 reduced_holds set mode h = with_first (is_named (codes "Services")) (stays (listed_names set mode)) set h

@@ -1,4 +1,4 @@
--- What a start on a reduced set starts behind its first phase.
+-- What a start on a reduced set starts after its first phase.
 use Rattle.std.proofs.Common.{◌≡◌, ℕ, zero, suc, Bool, true, false, cond, not, ◌&&◌, ◌||◌, List, [], ◌∷◌, ◌++◌, length, map, Option, Some, None, refl, sym, ap, ◌∙◌, subst, arith, append_assoc}
 use Rattle.std.specs.Prelude.{filter, slice_get, option_map, ◌==◌}
 use Rattle.std.specs.Option.{option_map_or}
@@ -338,7 +338,7 @@ unfolding phase_played plan
 played_waiting r c = ap (λ phase. plan_of r (phase_after phase) (attempts_of (length c.start.waiting) c).start.tried)
     (attempts_phase (length c.start.waiting) c)
 
--- the lines behind the first phase
+-- the lines after the first phase
 late_lines : (set r : Tree) (mode : SafeMode) (c : Course) → Each (Stays set (listed_names set mode)) (entries_of r)
     → c.start.phase ≡ Boot
     → Extends (StartsListed set mode) (phase_played r c) (phase_played r (phase_played r (phase_played r c)))

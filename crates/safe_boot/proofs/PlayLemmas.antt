@@ -118,7 +118,7 @@ fewer m m' t usable h = fewer_in m m' t usable m.start h
 
 -- ---- all attempts of a phase
 
--- a machine from which a course comes to this end
+-- a machine from which a course reaches this end
 pub record StillGives (whole : Course) (machine : MachineState) (said : List SafeLine) : Type 0 where
   pub course : Course
   pub at : IsAt machine said course

@@ -100,7 +100,7 @@ names_kept change set mode =
     (ap (find is_control) (children_of (at_first is_services (of_children change)) set)
     ∙ others_found is_services is_control (of_children change) (children set) apart (named_so (codes "Control") change))
 
--- ---- what is left of the services
+-- ---- what remains of the services
 
 services_left : (keep : Tree → Bool) (o : Option Tree)
     → option_map_or children (option_and_then (find_key []) (option_map (of_children (filter keep)) o)) []

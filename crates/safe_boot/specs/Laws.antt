@@ -57,11 +57,11 @@ StartsListed set mode book.EndLine = Unit {0}
 abbrev pub first_phase_of : Tree → List book.Line
 first_phase_of set = (phase_played set (course_begun set)).lines
 
--- they stand in front of what a start in a safe mode says
+-- they are in front of what a start in a safe mode says
 abbrev pub FirstIsInFront : Type 0
 FirstIsInFront = (set : Tree) (mode : SafeMode) → (later : List book.Line) × (safe_lines_of set (Some mode) ≡ first_phase_of (reduced_of set mode) ++ later)
 
--- each name that is started behind the first phase is listed
+-- each name that is started after the first phase is listed
 abbrev pub LateIsListed : Type 0
 LateIsListed =
     (set : Tree) (mode : SafeMode) (later : List book.Line) → safe_lines_of set (Some mode) ≡ first_phase_of (reduced_of set mode) ++ later

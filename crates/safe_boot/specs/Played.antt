@@ -34,7 +34,7 @@ next_entry s = option_and_then (waiting_at s) (next_in s)
 abbrev pub tried_at : Course → ℕ → Entry → Course
 tried_at c place e = record { lines = c.lines ++ TryLine e.name TryOk ∷ []; start = after_attempt c.start place e true }
 
--- at most so many attempts
+-- at most that many attempts
 unfoldable pub attempts_of : ℕ → Course → Course
 attempts_of zero c = c
 attempts_of (suc n) c = option_map_or (λ (next : ℕ × Entry). attempts_of n (tried_at c next.0 next.1)) (next_entry c.start) c

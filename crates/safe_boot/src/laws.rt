@@ -8,7 +8,7 @@ pub fn an_unlisted_entry_changes_no_line()
 {}
 
 /// Each name that is started in the system phase or the automatic one is that of a listed entry (`listed`). These are the lines
-/// behind those of the boot phase, with which each start begins (`front`).
+/// after those of the boot phase, with which each start begins (`front`).
 pub fn what_starts_late_is_listed()
     ensures front { FirstIsInFront }
     ensures listed { LateIsListed }

@@ -1,7 +1,7 @@
 //! What a start in safe mode attempts.
 //!
 //! `safe_mode` reads the mode off the switches of boot.ini, `reduce` leaves out the services that the mode's list in the control
-//! set doesn't have, and `safe_start` plays the three phases on what is left, where each attempt goes well. Nothing is written.
+//! set doesn't have, and `safe_start` plays the three phases on what remains, where each attempt goes well. Nothing is written.
 //! Sources: Microsoft's documentation of boot.ini; Windows Internals, 4th edition, safe mode; docs/startup.md.
 #![tactic(auto)]
 

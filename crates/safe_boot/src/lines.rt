@@ -14,5 +14,5 @@ pub enum SafeLine {
     Unmet(Units),
 }
 
-/// Lines in the order in which they are said.
+/// Lines in the order in which they are printed.
 pub type SafeLines = Row<SafeLine>;

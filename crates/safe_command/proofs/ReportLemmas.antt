@@ -36,7 +36,7 @@ pub reported_as : (inputs : SafeInputs) (root : Tree) (sequence : ℕ) (version 
 reported_as inputs root sequence version text loads is =
     (record { state = state_of root sequence version; dirty = loads.0 }, loads.1, is)
 
--- the outside stopped the search for the files
+-- the environment stopped the search for the files
 pub unsaid : (wanted : Result SafeInputs Refusal) (stop : HostStop) (old new : List ℕ) → new ≡ old → (stop ≡ Write → ⊥)
     → EndsSafe wanted (stopped_as stop) old new
 unsaid (Err r) Read old new same unwritten = inr same

@@ -27,8 +27,8 @@ use Rattle.safe_command.specs.Report.{report_of}
 abbrev pub reported : SafeInputs → Woken → Answer
 reported inputs placed = record { status = statuses.Done; text = report_of inputs.ini inputs.system placed.state.tree }
 
--- The hive has a first fault, and that is said; or it loads as a state, and the report on its tree is said; or there was no memory
--- or a read fault before anything was said.
+-- The hive has a first fault, and that is printed; or it loads as a state, and the report on its tree is printed; or there was no memory
+-- or a read fault before anything was printed.
 abbrev pub EndsSafe : Result SafeInputs Refusal → Status → List ℕ → List ℕ → Type 0
 EndsSafe (Err r) status old new = Ends (refusal r) status old new
 EndsSafe (Ok inputs) status old new =

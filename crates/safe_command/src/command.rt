@@ -41,7 +41,7 @@ fn say_report<H: Host>(alloc: Global, inputs: &SafeInputs, host: &mut H) -> Stat
     }
 }
 
-/// Gets what the words name, and says what a start in safe mode would attempt; or says the first obstacle. Nothing is written.
+/// Gets what the command line names, and says what a start in safe mode would attempt; or says the first obstacle. Nothing is written.
 pub fn safe<H: Host>(alloc: Global, words: SafeWords<'_>, host: &mut H) -> Status
     ensures decides { DecidesSafe (safe_seen words.entry) result (H.state host.old) (H.state host.new) }
     ensures asked { AsksSoMany (asks_safe (safe_seen words.entry)) result (H.state host.old) (H.state host.new) }

@@ -22,7 +22,7 @@ pub struct SafeInputs {
     pub hive: HiveFiles,
 }
 
-/// What the words and files have, or the first obstacle. Nothing is said.
+/// What the words and files have, or the first obstacle. Nothing is printed.
 pub(crate) fn inputs_in<H: Host>(
     alloc: Global,
     words: SafeWords<'_>,

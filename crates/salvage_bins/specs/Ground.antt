@@ -1,4 +1,4 @@
--- What stands at an offset of damaged bins data (regf format 1.3 and 1.5, hive bin cells; loose cells are this project's own)?
+-- What is at an offset of damaged bins data (regf format 1.3 and 1.5, hive bin cells; loose cells are this project's own)?
 use Rattle.std.specs.Prelude.{ℕ, ◌+◌, ◌/◌, ◌%◌, ◌==◌, ◌&&◌, nat_lt, nat_le, Bool, true, false, if◌then◌else◌, List, length, slice_range, slice_index_or, Result, Ok, Err}
 use Rattle.nt_bytes.specs.Fields.{u32_in}
 use Rattle.nt_bytes.specs.declared.fault.HiveFaultKind.{HiveFaultKind}

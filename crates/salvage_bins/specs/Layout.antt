@@ -6,12 +6,12 @@ use Rattle.salvage_bins.specs.declared.layout.BrokenBin.{BrokenBin}
 use Rattle.salvage_bins.specs.Whole.{bin_marks}
 use Rattle.salvage_bins.specs.Loose.{loose_marks, loose_length}
 
--- the marks of places of eight bytes, one after another, and the bins that are not whole
+-- the marks of places of eight bytes, in sequence, and the bins that are not whole
 pub record Laid : Type 0 where
   pub marks : List Mark
   pub broken : List BrokenBin
 
--- one after the other
+-- in sequence
 abbrev pub joined : Laid → Laid → Laid
 joined a b = record { marks = a.marks ++ b.marks; broken = a.broken ++ b.broken }
 
@@ -24,7 +24,7 @@ pub record Stretch : Type 0 where
   pub laid : Laid
   pub long : ℕ
 
--- so many loose bytes, behind a bin with this fault
+-- that many loose bytes, after a bin with this fault
 abbrev pub loose : HiveFault → ℕ → List ℕ → Stretch
 loose fault long bytes = record {
   laid = record { marks = loose_marks (long / 8) bytes; broken = record { fault = fault; bytes = long } ∷ [] };
@@ -40,7 +40,7 @@ stretch_of at bytes (Err fault) = loose fault (loose_length (length bytes / 4096
 unfoldable pub stretch : ℕ → List ℕ → Stretch
 stretch at bytes = stretch_of at bytes (bin_marks at bytes)
 
--- the stretches of bytes that begin at a place, at most so many
+-- the stretches of bytes that begin at a place, at most that many
 unfoldable pub laid : ℕ → ℕ → List ℕ → Laid
 laid zero at bytes = nothing
 laid (suc n) at bytes =

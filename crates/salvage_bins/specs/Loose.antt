@@ -11,7 +11,7 @@ abbrev pub mark_where : Result ℕ HiveFaultKind → Mark
 mark_where (Ok size) = Loose
 mark_where (Err kind) = Nothing
 
--- the marks of so many places of eight bytes, from the front of bytes to the end of the loose ones: a cell begins where a length
+-- the marks of that many places of eight bytes, from the front of bytes to the end of the loose ones: a cell begins where a length
 -- stands that ends among them
 unfoldable pub loose_marks : ℕ → List ℕ → List Mark
 loose_marks zero bytes = []
@@ -21,7 +21,7 @@ loose_marks (suc n) bytes = mark_where (size_at (8 * suc n) bytes) ∷ loose_mar
 abbrev pub names_itself : ℕ → List ℕ → Bool
 names_itself at bytes = nat_le 8 (length bytes) && (u32_in bytes 0 == 0x6e696268) && (u32_in bytes 4 == at)
 
--- How many of the bytes from a place on are loose: the fewest pages of 4096 bytes, from so many bytes on, after which, and not before
+-- How many of the bytes from a place on are loose: the fewest pages of 4096 bytes, from that many bytes on, after which, and not before
 -- the fault's place, bytes begin that name themselves. All of them, where no such place is among the next n.
 unfoldable pub loose_length : ℕ → ℕ → ℕ → ℕ → List ℕ → ℕ
 loose_length zero from fault at bytes = length bytes

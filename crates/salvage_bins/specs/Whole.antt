@@ -6,13 +6,13 @@ use Rattle.hive_model.specs.Bins.{header_at, size_at, with_place}
 use Rattle.salvage_bins.specs.declared.layout.Mark.{Mark}
 use Rattle.salvage_bins.specs.declared.layout.Mark.TheVariants.{Nothing, InBin}
 
--- The mark of the place of eight bytes at the front of bytes, of which the cell before covers this and so many more places, in a bin
+-- The mark of the place of eight bytes at the front of bytes, of which the cell before covers this and that many more places, in a bin
 -- that has this much room from here; and how many places after it are covered then. Or the check of the cell that fails.
 unfoldable pub slot_mark : ℕ → ℕ → ℕ → List ℕ → Result (Mark × ℕ) HiveFault
 slot_mark room (suc covered) at bytes = Ok (Nothing, covered)
 slot_mark room zero at bytes = with_place at (size_at room bytes) >>= λ size. Ok (InBin, size / 8 - 1)
 
--- the marks of so many places of eight bytes from here to the end of the bin, or the first check of its cells that fails
+-- the marks of that many places of eight bytes from here to the end of the bin, or the first check of its cells that fails
 unfoldable pub cell_marks : ℕ → ℕ → ℕ → List ℕ → Result (List Mark) HiveFault
 cell_marks zero covered at bytes = Ok []
 cell_marks (suc n) covered at bytes =

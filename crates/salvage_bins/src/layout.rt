@@ -34,7 +34,7 @@ pub struct Layout {
     pub broken: Vec<BrokenBin>,
 }
 
-// The loose bytes behind a bin with this fault, and how many they are.
+// The loose bytes after a bin with this fault, and how many they are.
 fn loose_at(
     alloc: Global,
     bytes: &[u8],

@@ -28,7 +28,7 @@ fn ends(bytes: &[u8], from: usize, fault: u32, at: u32) -> bool
     fault <= place && bin_begins(&bytes[from..], place)
 }
 
-// How many bytes from here on are loose, behind a fault at this place.
+// How many bytes from here on are loose, after a fault at this place.
 pub(crate) fn loose_until(bytes: &[u8], fault: u32, at: u32) -> usize
     requires small { at + length bytes.now ≤ 268435456 }
     ensures exact { result ≡ loose_length (length bytes.now / 4096) 4096 fault at bytes.now }
@@ -57,7 +57,7 @@ fn mark_of(rest: &[u8], room: usize) -> Mark
     }
 }
 
-// The marks of so many places of eight bytes to the end of the loose bytes.
+// The marks of that many places of eight bytes to the end of the loose bytes.
 pub(crate) fn marks_in(alloc: Global, bytes: &[u8], slots: usize) -> Result<Vec<Mark>, AllocError>
     requires inside { 8 * slots ≤ length bytes.now }
     requires small { length bytes.now ≤ 268435456 }

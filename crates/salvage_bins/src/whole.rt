@@ -10,7 +10,7 @@ use crate::layout::Mark;
 use nt_bytes::HiveFault;
 use std::alloc::{AllocError, Global};
 
-// The mark of a place of eight bytes, of which the cell before it covers this and so many more; and how many
+// The mark of a place of eight bytes, of which the cell before it covers this and that many more; and how many
 // places after it are covered then.
 #[tactic(auto, unfolding(crate::specs::Whole::slot_mark))]
 fn mark_of(rest: &[u8], room: usize, covered: usize, at: u32) -> Result<(Mark, usize), HiveFault>
@@ -24,7 +24,7 @@ fn mark_of(rest: &[u8], room: usize, covered: usize, at: u32) -> Result<(Mark, u
     Ok((Mark::InBin, length / 8 - 1))
 }
 
-// The marks of so many places of eight bytes to the end of a bin, or the first check of its cells that fails.
+// The marks of that many places of eight bytes to the end of a bin, or the first check of its cells that fails.
 fn cells_in(
     alloc: Global,
     bytes: &[u8],

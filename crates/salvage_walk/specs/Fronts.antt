@@ -18,7 +18,7 @@ pub record Front : Type 0 where
   pub long : ℕ
   pub short : Bool
 
--- of so many entries of so many bytes each, behind so many bytes of a payload
+-- of that many entries of that many bytes each, after that many bytes of a payload
 abbrev pub front_of : ListKind → ℕ → ℕ → ℕ → List ℕ → Front
 front_of kind step count from p =
     let fits = min count ((length p - from) / step) in record {
@@ -28,7 +28,7 @@ front_of kind step count from p =
       short = nat_lt (length p) (from + step * count);
     }
 
--- a list of so many values
+-- a list of that many values
 unfoldable pub values_front : ℕ → List ℕ → Result Front HiveFaultKind
 values_front count p = Ok (front_of Li 4 count 0 p)
 

@@ -66,7 +66,7 @@ abbrev pub key_done : Judge → Ground → List ℕ → List (List ℕ) → ℕ 
 key_done judge hive above path i at w (Ok r) = found_key (key_below judge hive above (path ++ r.0.name ∷ []) r.0 at (using w r.1))
 key_done judge hive above path i at w (Err kind) = (None, say w (key_line path i (fault_at kind at) (reading key_node_at hive.cells at)))
 
--- a child with all below it, where so many levels are left; or none, and its fault
+-- a child with all below it, where that many levels are left; or none, and its fault
 unfoldable pub judged_key : ℕ → Ground → Judge
 judged_key zero hive above path names i at w = (None, say w (key_line path i (fault_at TooDeep at) (reading key_node_at hive.cells at)))
 judged_key (suc left) hive above path names i at w =
@@ -79,7 +79,7 @@ abbrev pub has_root_flag : Result KeyNode HiveFaultKind → Bool
 has_root_flag (Ok node) = node.flags / 4 % 2 == 1
 has_root_flag (Err kind) = false
 
--- of so many places of eight bytes from here on, the first where an allocated cell begins that has the form of a root
+-- of that many places of eight bytes from here on, the first where an allocated cell begins that has the form of a root
 unfoldable pub least_root : Ground → ℕ → ℕ → Option ℕ
 least_root hive zero at = None
 least_root hive (suc n) at = if has_root_flag (reading key_node_at hive.cells at) then Some at else least_root hive n (at + 8)

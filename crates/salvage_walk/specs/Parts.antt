@@ -15,7 +15,7 @@ use Rattle.salvage_bins.specs.Ground.{Ground}
 use Rattle.salvage_walk.specs.declared.claims.Claim.{Claim}
 use Rattle.salvage_walk.specs.Uses.{admitted, claimed}
 
--- what the cell at an offset holds, by its form, and the uses with its own, of as many bytes as the form says; or the first check
+-- what the cell at an offset holds, by its form, and the uses with its own, of the same number of bytes as the form says; or the first check
 -- of it that fails
 unfoldable pub part : {F : Type 0} → (List ℕ → Result F HiveFaultKind) → (F → ℕ) → Bool → Ground → List Claim → ℕ → Result (F × List Claim) HiveFaultKind
 part form long security hive claims at =

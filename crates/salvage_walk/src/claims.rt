@@ -47,7 +47,7 @@ fn mark(marks: &[bool], slot: usize) -> bool
     }
 }
 
-// Marks until one stands at this slot.
+// Marks until one is at this slot.
 fn widen(marks: &mut Vec<bool>, slot: usize) -> Result<(), AllocError>
     ensures same { (k : ℕ) → slice_index_or marks.new.items k false ≡ slice_index_or marks.old.items k false }
     ensures there { OnOk result (slot < length marks.new.items) }

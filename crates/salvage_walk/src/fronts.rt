@@ -27,7 +27,7 @@ pub struct FrontForm {
     pub short: bool,
 }
 
-// So many numbers of four bytes, each a step after the one before.
+// That many numbers of four bytes, each a step after the one before.
 fn numbers(alloc: Global, step: usize, count: usize, bytes: &[u8]) -> Result<Offsets, AllocError>
     requires wide { 4 ≤ step }
     requires inside { step * count ≤ length bytes.now }
@@ -44,7 +44,7 @@ fn numbers(alloc: Global, step: usize, count: usize, bytes: &[u8]) -> Result<Off
     Ok(Offsets::from_vec(all))
 }
 
-// Of so many entries of so many bytes each, after so many bytes of a payload, those that are there.
+// Of that many entries of that many bytes each, after that many bytes of a payload, those that are there.
 fn front(
     alloc: Global,
     kind: ListKind,
@@ -171,7 +171,7 @@ fn claim_front(
     }
 }
 
-/// A list of so many values, and its use.
+/// A list of that many values, and its use.
 #[tactic(auto, unfolding(crate::specs::Fronts::front_part, crate::specs::Fronts::values_front))]
 pub(crate) fn use_values(
     alloc: Global,

@@ -86,7 +86,7 @@ fn own_flags(flags: u16) -> u16
     }
 }
 
-// A child with all below it, where so many levels are left.
+// A child with all below it, where that many levels are left.
 #[cycle(walk)]
 #[tactic(auto, using(crate::proofs::WalkLemmas::key_steps))]
 fn key(
@@ -131,7 +131,7 @@ fn key(
     }
 }
 
-/// The key of a node, itself at a path, with all below it, where so many levels are left.
+/// The key of a node, itself at a path, with all below it, where that many levels are left.
 #[cycle(walk)]
 #[tactic(auto, unfolding(crate::specs::Keys::key_below))]
 pub(crate) fn key_of(

@@ -61,7 +61,7 @@ pub(crate) fn admit<'a>(
     }
 }
 
-/// Uses so many bytes of a cell.
+/// Uses that many bytes of a cell.
 #[tactic(auto, using(crate::proofs::UseLemmas::befores), unfolding(crate::specs::Uses::claimed))]
 pub(crate) fn claim(
     cells: &DamagedCells<'_>,
@@ -225,7 +225,7 @@ pub(crate) fn use_bytes(
     Ok(bytes)
 }
 
-/// So many offsets of segments, and their use.
+/// That many offsets of segments, and their use.
 #[tactic(auto, unfolding(crate::specs::Parts::part))]
 pub(crate) fn use_offsets(
     alloc: Global,
@@ -243,14 +243,14 @@ pub(crate) fn use_offsets(
     Ok(offsets)
 }
 
-// How many segments so many bytes of big data fill.
+// How many segments that many bytes of big data fill.
 fn segment_count(size: u32) -> u64
     ensures { result ≡ segments_of size }
 {
     (u64::from(size) + 16_343) / 16_344
 }
 
-// A cell of big data for so many bytes.
+// A cell of big data for that many bytes.
 #[tactic(auto, unfolding(hive_model::specs::Walk::big_data_of))]
 fn big_data_in(payload: &[u8], size: u32, at: u32) -> Result<DbForm, ReadStop>
     ensures { Gives form_of at result (big_data_of size payload.now) }
@@ -262,7 +262,7 @@ fn big_data_in(payload: &[u8], size: u32, at: u32) -> Result<DbForm, ReadStop>
     Ok(form)
 }
 
-/// The cell of big data of so many bytes, and its use.
+/// The cell of big data of that many bytes, and its use.
 #[tactic(auto, unfolding(crate::specs::Parts::part))]
 pub(crate) fn use_big_data(
     cells: &DamagedCells<'_>,

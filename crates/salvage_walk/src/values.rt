@@ -58,7 +58,7 @@ fn try_segments(
     }
 }
 
-// Big data of so many bytes.
+// Big data of that many bytes.
 #[tactic(auto, using(crate::proofs::UseLemmas::befores), unfolding(crate::specs::Values::big_part))]
 fn try_big(
     alloc: Global,

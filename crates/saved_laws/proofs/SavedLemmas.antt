@@ -20,7 +20,7 @@ use Rattle.hive_model.specs.Forms.{◌>>=◌}
 pub filled : (bytes : List ℕ) → length bytes ≡ 512 → padded bytes ≡ bytes
 filled bytes long = ap (λ n. bytes ++ replicate (512 - n) 0) long ∙ append-nil bytes
 
--- a sector within the bytes is whole, as these are so many sectors
+-- a sector within the bytes is whole, as these are that many sectors
 pub whole : (bytes : List ℕ) (count n : ℕ) → length bytes ≡ 512 * count → n < count
     → length (take 512 (drop (512 * n) bytes)) ≡ 512
 whole bytes count n long inside = omega (arith, length-take 512 (drop (512 * n) bytes), length-drop (512 * n) bytes)
@@ -59,7 +59,7 @@ module _ (image : Image) (primary log : List ℕ) where
       → Loads (image_of primary log) state false
   primary_loads state is loads = clean_load_stays image (image_of primary log) state (primary_kept is) loads
 
--- Where whatever a loss of power may leave loads within these, so do the files of what is left.
+-- Where whatever a loss of power may leave loads within these, so do the files of what remains.
 module _ (these : HiveState → Bool → Type 0) (held image : Image) (flight : List Write) (primary log : List ℕ)
     (each : (c : Image) → IsCrashImage held flight c → LoadsWithin these c) (left : IsCrashImage held flight image)
   where
@@ -88,7 +88,7 @@ module _ (these : HiveState → Bool → Type 0) (held image : Image) (flight : 
           within = loads.within;
         }
 
--- the same of a primary and of the log that is taken behind it
+-- the same of a primary and of the log that is taken after it
 pub taken_files_load : (these : HiveState → Bool → Type 0) (disk : DiskState) (image later : Image)
     (primary log : List ℕ)
     → EachCrash disk (LoadsWithin these)

@@ -15,7 +15,7 @@ pub fn takes_in_a_row_are_of_one_image()
 {}
 
 /// Where each image that a loss of power may leave loads as one of these states, so do the files of the one that is left,
-/// if all its sectors can be read (`left`): the primary, and the log that is taken behind it (`taken`). Where each loads
+/// if all its sectors can be read (`left`): the primary, and the log that is taken after it (`taken`). Where each loads
 /// clean, the primary alone does so, with any log, whatever sectors can't be read (`alone`).
 pub fn taken_files_load()
     ensures left { (these : List (HiveState × Bool)) (held image : Image) (flight : List Write) (primary log : List ℕ)

@@ -28,7 +28,7 @@ map_one : (b : Bool) (n : ℕ) → map deletion (cond b (n ∷ []) []) ≡ cond 
 map_one true n = refl
 map_one false n = refl
 
--- one number more: its set is deleted behind the others where it retires
+-- one number more: its set is deleted after the others where it retires
 pub deleted_more : (marks : List Bool) (old new : SelectNumbers) (n : ℕ) → 1 ≤ n
     → deleted_before marks old new (n + 1) ≡ deleted_before marks old new n
     ++ cond (retires marks old new n) (deletion n ∷ []) []
@@ -42,7 +42,7 @@ deleted_more marks old new n low =
     ∙ map-append deletion (kept (range_with_len 1 (n - 1))) (cond (retires marks old new n) (n ∷ []) [])
     ∙ ap (λ ss. deleted_before marks old new n ++ ss) (map_one (retires marks old new n) n)
 
--- the number's set retires, and the step that deletes it was put behind
+-- the number's set retires, and the step that deletes it was put after
 pub deleted_next : (first done after : List Step) (marks : List Bool) (old new : SelectNumbers) (n : ℕ)
     (path : List (List ℕ)) → 1 ≤ n → done ≡ first ++ deleted_before marks old new n
     → after ≡ done ++ delete_key path ∷ [] → path ≡ set_name n ∷ [] → retires marks old new n ≡ true

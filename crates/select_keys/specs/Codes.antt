@@ -1,4 +1,4 @@
--- What the logic asks of a plan as the value of a model: a code that tells plans apart. This project's own.
+-- What the logic asks of a plan as the value of a model: a code that distinguishes plans. This project's own.
 use Rattle.std.specs.Prelude.{◌≡◌, ◌⊎◌, ℕ, List, refl}
 use Rattle.std.proofs.Common.{inl, inr}
 use Rattle.std.specs.Coded.{Coded, code_by, coded×, coded⊎, coded_ℕ, coded_list}

@@ -12,7 +12,7 @@ use std::alloc::{AllocError, Global};
 /// The type of a number of 32 bits.
 const DWORD: u32 = 4;
 
-/// Puts the steps behind that write the numbers which differ.
+/// Puts the steps after that write the numbers which differ.
 pub(crate) fn write_numbers(
     alloc: Global,
     old: SelectNumbers,
@@ -27,7 +27,7 @@ pub(crate) fn write_numbers(
     write_number(alloc, &GOOD, old.good, new.good, steps)
 }
 
-/// Puts the step behind that writes a number, if it differs from the old one.
+/// Puts the step after that writes a number, if it differs from the old one.
 fn write_number(
     alloc: Global,
     name: &[u16],

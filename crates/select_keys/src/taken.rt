@@ -76,7 +76,7 @@ impl TakenNumbers {
         None
     }
 
-    /// Puts the steps behind that delete the sets which an old number names and no new one does, in rising
+    /// Puts the steps after that delete the sets which an old number names and no new one does, in rising
     /// number.
     pub(crate) fn delete_retired(
         &self,

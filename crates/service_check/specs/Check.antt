@@ -114,7 +114,7 @@ abbrev pub found_lines : Tree → Option ℕ → Bool → List CheckLine
 found_lines root (Some number) in_order = number_lines root in_order number (NoSet number ∷ [])
 found_lines root None in_order = select_lines root ++ key_lines root ++ number_lines root in_order (select_numbers_of root).default []
 
--- a line that tells of something suspicious
+-- a line that reports something suspicious
 abbrev pub is_finding : CheckLine → Bool
 is_finding (Set number) = false
 is_finding (Select word number) = true

@@ -1,4 +1,4 @@
--- What stands beside the entries, so that a name or a group is found without a scan? (this project's own)
+-- What is beside the entries, so that a name or a group is found without a scan? (this project's own)
 use Rattle.std.specs.Prelude.{◌≡◌, ℕ, List}
 use Rattle.service_check.specs.declared.stage.Stage.TheVariants.{Boot, System, Automatic}
 use Rattle.service_check.specs.declared.stage.Staged.{Staged}

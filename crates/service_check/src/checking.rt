@@ -130,7 +130,7 @@ fn put_hive(
     put_taken(alloc, root, in_order, lines)
 }
 
-/// Tells of a root key `CurrentControlSet`.
+/// Reports a root key `CurrentControlSet`.
 fn put_key(root: &Key, lines: &mut CheckLines) -> Result<(), AllocError>
     ensures { OnOk result (lines.new ≡ lines.old ++ key_lines root.now) }
 {

@@ -76,7 +76,7 @@ pub enum CheckLine {
     NoList,
     /// Something is wrong with the child of this name.
     About { fault: Fault, name: Units },
-    /// So many taken entries are of a group that isn't listed.
+    /// That many taken entries are of a group that isn't listed.
     GroupUnlisted { count: u64, group: Units },
     /// How many lines there were before, but for `Set`.
     Found { count: u64 },

@@ -12,7 +12,7 @@ use Rattle.service_control.specs.Turns.{starts_of}
 use Rattle.service_control.specs.Needed.{members_of, missing_in, disabled_in}
 use Rattle.service_control.specs.Leaning.{in_use_by, others_in, leaning_in}
 
--- a call stops for this reason; want of memory may stop any call
+-- a call stops for this reason; lack of memory may stop any call
 abbrev pub StopsBy : Option ControlStop → ControlStop → Type 0
 StopsBy why Memory = Unit {0}
 StopsBy why stop = why ≡ Some stop
@@ -57,7 +57,7 @@ start_refusal c name = option_map_or (start_refusal_at c) (named c.table name) (
 abbrev pub new_of : ControlState → List ℕ → List Need
 new_of c name = option_map_or (λ n. started_by c n.name) (named c.table name) []
 
--- they stand behind the others
+-- they stand after the others
 abbrev pub after_start : ControlState → List ℕ → ControlState
 after_start c name = record c { running = c.running ++ new_of c name }
 

@@ -25,7 +25,7 @@ by_group n group = cause_of n [] (group ∷ []) None
 abbrev pub own_causes : Need → List Need
 own_causes n = map (by_name n) (n.name ∷ []) ++ map (by_name n) n.services ++ map (by_group n) n.groups
 
--- a service's own group behind a 1, or nothing where it has none
+-- a service's own group after a 1, or nothing where it has none
 abbrev pub key_of : Need → List ℕ
 key_of n = option_map_or (λ group. 1 ∷ group) n.group []
 

@@ -36,11 +36,11 @@ ranks_of orders table = filter_map (λ p. option_map (group_rank orders p) (slic
 abbrev pub by_group_of : List GroupOrder → List Need → List Need
 by_group_of orders table = filter_map (slice_get table) (map (λ r. r.place) (ordered_of (ranks_of orders table)))
 
--- what a phase takes starts as its turns come, behind those of the phases before, which are not taken again
+-- what a phase takes starts as its turns come, after those of the phases before, which are not taken again
 abbrev pub after_phase : Tree → Phase → List Need → List Need
 after_phase set phase running = running ++ starts_of (map need_of (plan_of set phase (names_of running))) (labels_of running)
 
--- all phases, one after the other
+-- all phases, in sequence
 abbrev pub first_running : Tree → List Need
 first_running set = after_phase set Automatic (after_phase set System (after_phase set Boot []))
 

@@ -20,7 +20,7 @@ after_call c (start name) = option_map_or (λ why. c) (start_refusal c name) (af
 after_call c (stop name) = option_map_or (λ why. c) (stop_refusal c name) (after_stop c name)
 after_call c (stop_all name) = option_map_or (λ why. c) (off_refusal c name) (after_stop_all c name)
 
--- calls one after the other
+-- calls in sequence
 abbrev pub after_calls : ControlState → List Call → ControlState
 after_calls c [] = c
 after_calls c (call ∷ more) = after_calls (after_call c call) more
@@ -32,7 +32,7 @@ pub record AreMet (running : List Need) : Type 0 where
   pub groups : (k : ℕ) (d : Need) → k < length running → list_all (has_group (labels_of running)) (slice_index_or running k d).groups ≡ true
 
 -- Of the services that lean, in the order of their starts: what one of them names in DependOnService and another one has
--- stands before it. They are answered the other way round, so each one stands behind all that name it.
+-- stands before it. They are answered the other way round, so each one stands after all that name it.
 abbrev pub AreStoppedInOrder : List Need → Type 0
 AreStoppedInOrder leaning =
     (k : ℕ) (d : Need) (name : List ℕ) → k < length leaning → Contains (slice_index_or leaning k d).services name

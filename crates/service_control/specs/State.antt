@@ -24,7 +24,7 @@ labels_of running = map label_of running
 abbrev pub named : List Need → List ℕ → Option Need
 named table name = option_and_then (slice_get table) (position (folds_same name) (names_of table))
 
--- what stands beside the three lists: the names of the table, by which one is found, and the labels of the started ones
+-- what is beside the three lists: the names of the table, by which one is found, and the labels of the started ones
 pub record IsKept (table by_group running : List Need) (names : List (List ℕ)) (started : List Label) : Type 0 where
   pub few : length table < 2 ^ 32
   pub as_few : length by_group < 2 ^ 32

@@ -9,7 +9,7 @@ use Rattle.start_model.specs.Ready.{Label}
 use Rattle.dependencies.specs.Waiting.{WaitingState, next_place_in, after_trying}
 use Rattle.dependencies.specs.Attempts.{all_waiting}
 
--- the places of the next ones, so many at most: each is the first that is ready once those before it are started
+-- the places of the next ones, that many at most: each is the first that is ready once those before it are started
 unfoldable pub turns : ℕ → WaitingState → List ℕ
 turns zero w = []
 turns (suc n) w = option_map_or (λ at. at ∷ turns n (after_trying w at true)) (next_place_in w) []

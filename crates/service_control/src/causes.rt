@@ -33,7 +33,7 @@ pub(crate) fn causes(alloc: Global, running: &[Need]) -> Result<CauseList, Alloc
     Ok(CauseList { needs, owners })
 }
 
-/// Puts the causes of one owner behind the others.
+/// Puts the causes of one owner after the others.
 fn add(
     alloc: Global,
     owner: usize,
@@ -82,7 +82,7 @@ fn causes_of(
     with_one(causes, more)
 }
 
-/// One more cause behind the others, where there is one.
+/// One more cause after the others, where there is one.
 fn with_one(causes: Needs, more: Option<Need>) -> Result<Needs, AllocError>
     ensures { IfOk result (λ n. n ≡ causes ++ option_to_list more) }
 {
@@ -263,7 +263,7 @@ fn key_of(alloc: Global, need: &Need) -> Result<Units, AllocError>
     }
 }
 
-/// A group behind a 1.
+/// A group after a 1.
 fn key(alloc: Global, group: &Units) -> Result<Units, AllocError>
     ensures { IfOk result (λ u. u ≡ 1 ∷ group.now) }
 {

@@ -74,7 +74,7 @@ fn is_service(kind: u32) -> bool
     kind & 0x30 != 0 && kind & 0x0b == 0
 }
 
-/// What the phases start, one after the other.
+/// What the phases start, in sequence.
 pub(crate) fn first_running(alloc: Global, set: &Key) -> Result<Needs, AllocError>
     requires { HoldsKeys set.now }
     ensures { IfOk result (λ n. n ≡ first_running set.now) }
@@ -85,7 +85,7 @@ pub(crate) fn first_running(alloc: Global, set: &Key) -> Result<Needs, AllocErro
     after_phase(alloc, set, Phase::Automatic, system)
 }
 
-/// What a phase starts stands behind the others.
+/// What a phase starts stands after the others.
 fn after_phase(alloc: Global, set: &Key, phase: Phase, running: Needs) -> Result<Needs, AllocError>
     requires { HoldsKeys set.now }
     ensures { IfOk result (λ n. n ≡ after_phase set.now (phase_in phase) running) }

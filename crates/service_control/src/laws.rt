@@ -34,8 +34,8 @@ pub fn a_stop_goes_backwards()
     ensures { (set : Tree) (calls : List Call) (name : List ℕ) → AreStoppedInOrder (leaning_in (after_calls (control_of set) calls).running name) }
 {}
 
-/// A start takes in no more than it has to: where the names of the table differ, all that it starts is started by every list of
-/// entries that are ready one after the other, and after which the service is started.
+/// A start takes in at most it has to: where the names of the table differ, all that it starts is started by every list of
+/// entries that are ready in sequence, and after which the service is started.
 pub fn a_start_is_least()
     ensures { (c : ControlState) (name : List ℕ) → NamesDiffer c.by_group → IsLeast c name }
 {}

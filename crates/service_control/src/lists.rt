@@ -34,7 +34,7 @@ fn copied_group(alloc: Global, group: &Option<Units>) -> Result<Option<Units>, A
     }
 }
 
-/// Puts copies of these entries behind the others. After want of memory some of them may stand there.
+/// Puts copies of these entries after the others. After lack of memory some of them may stand there.
 pub(crate) fn append(alloc: Global, needs: &mut Needs, more: &[Need]) -> Result<(), AllocError>
     ensures { OnOk result (needs.new ≡ needs.old ++ more.now) }
 {
@@ -137,7 +137,7 @@ pub(crate) fn names_back(alloc: Global, needs: &[Need]) -> Result<Names, AllocEr
     names(alloc, back.as_slice())
 }
 
-/// Who was started, where these were, one after the other.
+/// Who was started, where these were, in sequence.
 pub(crate) fn started(alloc: Global, needs: &[Need]) -> Result<Started, AllocError>
     ensures { IfOk result (λ s. s ≡ labels_of needs.now) }
 {

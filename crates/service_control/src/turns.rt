@@ -1,4 +1,4 @@
-//! Entries that start one after the other.
+//! Entries that start in sequence.
 
 ghost use Rattle.std.specs.Prelude.{◌≡◌, ◌<◌, ◌^◌, length, IfOk, OnOk};
 ghost use Rattle.service_control.specs.Turns.{turns, starts_of};
@@ -45,7 +45,7 @@ pub(crate) fn waiting(alloc: Global, needs: Needs, started: &Started) -> Result<
     Waiting::new(alloc, needs, started, &mut tests)
 }
 
-/// A list of entries has fewer than 2^32; more of them are taken for want of memory.
+/// A list of entries has fewer than 2^32; more of them are taken for lack of memory.
 pub(crate) fn few(count: usize) -> Result<(), AllocError>
     ensures { OnOk result (count < 2 ^ 32) }
 {

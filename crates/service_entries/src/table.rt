@@ -44,7 +44,7 @@ impl ServiceTable {
         }
     }
 
-    /// Adds an entry behind the others. No other one has its name.
+    /// Adds an entry after the others. No other one has its name.
     fn push(&mut self, entry: Entry, alloc: Global) -> Result<(), AllocError>
         requires new { All (λ e. folds_same entry.name e.name ≡ false) self.old }
         requires few { length self.old + 1 < 2 ^ 32 }

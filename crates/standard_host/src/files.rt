@@ -16,21 +16,21 @@ pub enum FileFault {
     Memory,
 }
 
-/// Files by their names, and where a text is said. One that tells is known by what it holds and what was said to it; of one that
+/// Files by their names, and where a text is printed. One that reports is known by what it holds and what was printed to it; of one that
 /// does not, as those of the system, nothing is promised.
 ///
 /// A file that is put may wait: it stands under its name once `finish` is done.
 pub trait Files {
-    /// Whether it tells what its files are and what was said to it.
+    /// Whether it shows what its files are and what was printed to it.
     ghost tells: { Bool };
 
     /// The files, those that wait among them.
     ghost held: { Self → Held };
 
-    /// What was said on standard output so far.
+    /// What was printed on standard output so far.
     ghost said: { Self → List ℕ };
 
-    /// What was said on standard error so far; nothing, of one that does not tell.
+    /// What was printed on standard error so far; nothing, of one that does not tell.
     ghost errors: { Self → List ℕ };
 
     /// The bytes of a file, or none exactly where it is absent.
@@ -47,7 +47,7 @@ pub trait Files {
         ensures unsaid { tells ≡ true → said self.new ≡ said self.old }
         ensures errors { errors self.new ≡ errors self.old };
 
-    /// Says the bytes on standard output. After a refusal a prefix of them was said.
+    /// Says the bytes on standard output. After a refusal a prefix of them was printed.
     fn say(&mut self, rt: &HostRuntime, bytes: &[u8]) -> Result<(), FileFault>
         ensures said { tells ≡ true → OnOk result (said self.new ≡ said self.old ++ bytes.now) }
         ensures front { tells ≡ true → OnErr result (SaysFront (said self.old) (said self.new) bytes.now) }
@@ -72,7 +72,7 @@ pub trait Files {
         ensures errors { errors self.new ≡ errors self.old };
 }
 
-/// None: no file is there, and none can be put. Texts are said on the standard output and the standard error of the program.
+/// None: no file is there, and none can be put. Texts are printed on the standard output and the standard error of the program.
 #[derive(Clone, Copy, Debug, Drop)]
 pub struct NoFiles;
 

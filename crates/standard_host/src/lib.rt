@@ -1,6 +1,6 @@
 //! The host of a program: its files, as they are given, standard output and standard error.
 //!
-//! It tells what its files tell: those of the system tell no content, since no contract can say what a file holds or what standard
+//! It shows what its files tell: those of the system tell no content, since no contract can say what a file holds or what standard
 //! output takes. It counts each file that it is asked for, and each error.
 #![tactic(auto)]
 

@@ -19,7 +19,7 @@ pub fn say_error_out(rt: &HostRuntime, bytes: &[u8]) {
     let _unsaid = io::writer(&rt.stderr()).write_all(bytes);
 }
 
-/// Opens what stands for a closed descriptor. It is open for reading alone, so what is said there is refused.
+/// Opens what stands for a closed descriptor. It is open for reading alone, so what is printed there is refused.
 fn open_null(rt: &HostRuntime) -> io::Result<File> {
     match File::open(rt, "/dev/null") {
         Ok(null) => Ok(null),

@@ -6,7 +6,7 @@ use std::io::{Error, ErrorKind, Result};
 use std::os::unix::fs::MetadataExt;
 use std::path::{Path, PathBuf};
 
-/// How many links are followed, one after another; as many as Linux follows.
+/// How many links are followed, in sequence; the same number as Linux follows.
 const MOST_LINKS: u32 = 40;
 
 /// Where a file is put: a path that is no link, what stands there now, and the folder that it is in.
@@ -24,7 +24,7 @@ pub(crate) struct Folder {
     number: u64,
 }
 
-/// What stands at a path; a link is not followed.
+/// What is at a path; a link is not followed.
 fn standing(rt: &HostRuntime, path: Path<'_>) -> Result<Option<Metadata>> {
     match fs::symlink_metadata(rt, path) {
         Ok(old) => Ok(Some(old)),

@@ -1,7 +1,7 @@
 //! A file that is written, and waits for its name.
 //!
 //! The bytes go into a new file in the folder of the old one, and are synced there. That it then takes the name at one moment is the
-//! system's promise: up to then the name has the old file, and from then on the new one.
+//! system's promise: up to then the name has the old file, and afterwards the new one.
 
 ghost use Rattle.std.specs.Prelude.{◌≡◌};
 ghost use Rattle.standard_host.specs.Hives.{is_dirty_hive};
@@ -111,7 +111,7 @@ fn sync_folder(folder: &File) -> Result<()> {
     }
 }
 
-/// Whether a hive that needs its log stands at a place.
+/// Whether a hive that needs its log is at a place.
 fn stands_dirty(rt: &HostRuntime, place: &Place) -> bool {
     let mut head = [0u8; 512];
     match File::open(rt, place.path.as_path()) {

@@ -29,7 +29,7 @@ pub data BeginCase (old : SelectNumbers) (usable : List ℕ) (on_good : Bool) (p
       → plan ≡ plan_with (taken_number old on_good) usable old (begun old on_good) []
       → BeginCase old usable on_good plan
 
--- what a plan that is there tells: the taken number names a set, and which case it is
+-- what a plan that is there reports: the taken number names a set, and which case it is
 pub record Begun (old : SelectNumbers) (usable : List ℕ) (on_good : Bool) (plan : SetPlan) : Type 0 where
   pub usable_one : has_number usable (taken_number old on_good) ≡ true
   pub kind : BeginCase old usable on_good plan

@@ -57,7 +57,7 @@ play-front (acts.mark note act) wakes outcomes w o = behind-front [] (note ∷ [
 
 -- ---- a run
 
--- what a run goes on with is put behind
+-- what a run goes on with is put after
 pub then-front : (go : RunState → List Woken → List Outcome → RunResult) (first whole : RunResult)
     (rest : Option (RunState × List Woken × List Outcome)) → IsFrontOfRun first whole
     → IsFrontOfRun first (then_run go whole rest)
@@ -69,7 +69,7 @@ then-front go first whole (Some (m, ws, os)) f =
       notes = ahead_of first.notes whole.notes r.notes f.notes;
     }
 
--- over these events more wakes and outcomes only lengthen what is said and noted
+-- over these events more wakes and outcomes only lengthen what is printed and noted
 Fronts : (Option ℕ → Choice) → List Event → Type 0
 Fronts choice es = (m : RunState) (wakes : List Woken) (outcomes : List Outcome) (w : List Woken) (o : List Outcome)
     → IsFrontOfRun (run_from choice es m wakes outcomes) (run_from choice es m (wakes ++ w) (outcomes ++ o))

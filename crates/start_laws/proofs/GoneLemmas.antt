@@ -156,7 +156,7 @@ still_gone n (r ∷ rs) t u none e =
     deleted-is r t one.middle (single (delete_key (set_name r ∷ [])) t one.middle one.front) in
     still_gone n rs one.middle u (ap (λ v. set_of v n) (sym is) ∙ without_set-still_gone n r t none) one.back
 
--- each set whose number is among the deletions is gone behind them
+-- each set whose number is among the deletions is gone after them
 pub all_gone : (n : ℕ) (numbers : List ℕ) (t u : Tree) → has_number numbers n ≡ true → named_so_many n t ≤ 1
     → after_steps t (deletions numbers) ≡ Ok u → set_of u n ≡ None
 all_gone n [] t u h few e = absurd (false≢true h)
@@ -238,7 +238,7 @@ both_so true true h g = absurd (false≢true (sym g))
 both_so true false h g = refl
 both_so false b h g = absurd (false≢true h)
 
--- a set that an old number named and no new one names is gone behind the plan's deletions and writes
+-- a set that an old number named and no new one names is gone after the plan's deletions and writes
 pub plan_gone : (usable : List ℕ) (old new : SelectNumbers) (t middle u : Tree) (m : ℕ) → has_number usable m ≡ true
     → has_number (four_of old) m ≡ true → has_number (four_of new) m ≡ false
     → named_so_many m t ≤ 1 → after_steps t (deletions_of usable old new) ≡ Ok middle

@@ -28,7 +28,7 @@ good_stays trees more clones later set g = (
   ),
 )
 
--- a set that is good behind a front of a run is good behind the whole run
+-- a set that is good after a prefix of a run is good after the whole run
 pub good_in_front : (first whole : RunResult) (set : Tree) → IsFrontOfRun first whole
     → IsGoodSet (held_in first.notes) (saved_in first.notes) set
     → IsGoodSet (held_in whole.notes) (saved_in whole.notes) set
@@ -43,7 +43,7 @@ good_in_front first whole set f g =
     subst Q (sym saved) (subst P (sym held)
     (good_stays (held_in first.notes) (held_in rest) (saved_in first.notes) (saved_in rest) set g))
 
--- what one note more tells
+-- what one note more reports
 pub held_more : (h : List Note) (n : Note) → held_in (h ++ n ∷ []) ≡ held_in h ++ held_in (n ∷ [])
 held_more h n = held_in-append h (n ∷ [])
 

@@ -111,7 +111,7 @@ has_small n (x ∷ xs) h e = split (x == n) refl e (has_small n xs h.1)
     split true is g deep = let same : x ≡ n = eqb-true x n is in let first : x ≤ 999 = h.0.1 in omega arith
     split false is g deep = deep g
 
--- sets that are all there can be deleted one after the other, since no deletion removes another one
+-- sets that are all there can be deleted in sequence, since no deletion removes another one
 all_go : (numbers : List ℕ) (t : Tree) → Rises numbers → Small numbers
     → ((n : ℕ) → has_number numbers n ≡ true → is_some (set_of t n) ≡ true)
     → (u : Tree) × (after_steps t (deletions numbers) ≡ Ok u)
@@ -161,7 +161,7 @@ one_written name old new t short there = split (old == new)
           (with_value-renumbers name new t there).there there;
     }
 
--- the four writes can be made, each behind the one before
+-- the four writes can be made, each after the one before
 pub writes_made : (old new : SelectNumbers) (t : Tree) → is_some (select_key t) ≡ true
     → (u : Tree) × (after_steps t (writes_of old new) ≡ Ok u)
 writes_made old new t there =
@@ -240,7 +240,7 @@ settled_so from t old new sets there =
     let r = retired numbers t gone.0 small gone.1 in
     (gone.0, (gone.1, writes_made old new gone.0 (ap is_some r.select ∙ there)))
 
--- a plan can be made behind its first steps, which leave Select and the sets that retire
+-- a plan can be made after its first steps, which leave Select and the sets that retire
 plan_made : (from t m : Tree) (old new : SelectNumbers) (first : List Step) (chosen : ℕ) → after_steps t first ≡ Ok m
     → ((n : ℕ) → n ≤ 999 → is_usable from n ≡ true → is_some (set_of m n) ≡ true) → is_some (select_key m) ≡ true
     → Made t (plan_with chosen (usable_numbers_of from) old new first).steps

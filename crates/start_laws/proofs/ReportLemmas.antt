@@ -1,4 +1,4 @@
--- What a report tells of its run.
+-- What a report says of its run.
 use Rattle.std.proofs.Common.{◌≡◌, ◌≤◌, ℕ, suc, List, [], ◌∷◌, ◌++◌, length, Option, Some, refl, sym, ap, subst, ◌∙◌, append-nil, arith}
 use Rattle.std.proofs.lemmas.List.{length-append}
 use Rattle.hive_model.specs.Image.{Image}
@@ -30,7 +30,7 @@ pub report-possible : (choice : Option ℕ → Choice) (script : List Event) (pl
 report-possible choice script placed images left text r =
     fits_possible images r.woken (woke_in (run_of choice script placed r.woken (outcomes_of text)).notes) r.fits
 
--- the outcomes that the run notes are those that the text tells
+-- the outcomes that the run notes are those that the text reports
 pub report-ended : (choice : Option ℕ → Choice) (script : List Event) (placed : Woken) (images : List Image)
     (left : Image → Type 0) (text : List ℕ) (r : Report (run_of choice script placed) images left text)
     → ended_in (run_of choice script placed r.woken (outcomes_of text)).notes ≡ outcomes_of text
@@ -38,7 +38,7 @@ report-ended choice script placed images left text r =
     let t = run_of-takes choice script placed r.woken (outcomes_of text) r.last [] [] r.taken in
     t.noted ∙ sym (append-nil t.ended) ∙ sym t.outcomes_are
 
--- where the text tells no stop, the report's run is the quiet run
+-- where the text reports no stop, the report's run is the quiet run
 pub report-quiet : (choice : Option ℕ → Choice) (script : List Event) (placed : Woken) (images : List Image)
     (left : Image → Type 0) (text : List ℕ) (r : Report (run_of choice script placed) images left text)
     → AllFinished (outcomes_of text)
@@ -54,7 +54,7 @@ pub report-quiet_text : (choice : Option ℕ → Choice) (script : List Event) (
 report-quiet_text choice script placed images left text r all =
     r.lines ∙ ap text_of (report-quiet choice script placed images left text r all).lines
 
--- and what is left of the disk loads as the quiet run's last state
+-- and what remains of the disk loads as the quiet run's last state
 pub report-quiet_loads : (choice : Option ℕ → Choice) (script : List Event) (placed : Woken) (images : List Image)
     (left : Image → Type 0) (text : List ℕ) → Report (run_of choice script placed) images left text
     → AllFinished (outcomes_of text) → (c : Image) → left c → MayLoad (quiet_run_of choice script placed).state.disk c
@@ -62,7 +62,7 @@ report-quiet_loads choice script placed images left text r all c l =
     let P : RunState → Type 0 = λ m. MayLoad m.disk c in
     subst P (report-quiet choice script placed images left text r all).state (r.loads c l)
 
--- ---- a front of a report
+-- ---- a prefix of a report
 
 as_many : (wakes : List Woken) (ps : List Possible) → ArePossible wakes ps → length ps ≡ length wakes
 as_many [] [] f = refl
@@ -94,7 +94,7 @@ front-possible choice script placed images left text r =
     let P : List Possible → Type 0 = ArePossible r.woken in
     subst P (sym whole) might
 
--- with no outcome more, what the run woke up with is a front of that
+-- with no outcome more, what the run woke up with is a prefix of that
 pub front-shorter : (choice : Option ℕ → Choice) (script : List Event) (placed : Woken) (images : List Image)
     (left : Image → Type 0) (text : List ℕ) (r : ReportFront (run_of choice script placed) images left text)
     → (more : List Possible) × (woke_in (run_of choice script placed r.woken (outcomes_of text ++ r.outcome ∷ [])).notes

@@ -34,7 +34,7 @@ pub first_test : (b : Bool) (why : Refusal) (r : Result Tree Refusal) (u : Tree)
 first_test true why r u e = absurd cc
 first_test false why r u e = refl
 
--- ---- what stands below the root
+-- ---- what is below the root
 
 unfoldable pub select_key : Tree → Option Tree
 select_key t = find_key (codes "Select" ∷ []) t

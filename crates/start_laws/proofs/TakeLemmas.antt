@@ -23,7 +23,7 @@ same_left a b e = cc
 
 -- ---- an event
 
--- an act that ended took a front of its wakes and outcomes, and noted each of them
+-- an act that ended took a prefix of its wakes and outcomes, and noted each of them
 play-takes : (act : Act) (h : List Note) → Keeps nothing h act
     → (wakes : List Woken) (outcomes : List Outcome) (m : RunState) (ws : List Woken) (os : List Outcome)
     → (play act wakes outcomes).rest ≡ Some (m, ws, os)
@@ -174,7 +174,7 @@ unfolding run_of Takes
 run_of-takes choice script placed wakes outcomes m ws os e =
     run_from-takes choice script (first_state placed) wakes outcomes m ws os e
 
--- ---- what is left over grows with what is given, and nothing else changes
+-- ---- what remains grows with what is given, and nothing else changes
 
 -- over these events what is given besides is left over, and changes nothing else
 More : (Option ℕ → Choice) → List Event → Type 0

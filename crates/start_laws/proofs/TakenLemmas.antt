@@ -14,7 +14,7 @@ use Rattle.start_model.specs.Order.{GroupOrder, Rank, is_before, placed, ordered
 use Rattle.boot_phases.proofs.PlaceLemmas.{Rises}
 use Rattle.boot_phases.proofs.RisingLemmas.{ranks_rise}
 
--- an entry stands at each of the places
+-- an entry is at each of the places
 abbrev There : List Entry → List ℕ → Type 0
 There entries places = AllByRecursion (λ p. is_some (slice_get entries p) ≡ true) places
 

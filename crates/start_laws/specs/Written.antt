@@ -37,7 +37,7 @@ text name units = record { name = name; kind = 1; bytes = wide (units ++ 0 ∷ [
 abbrev pub texts : List ℕ → List (List ℕ) → Item
 texts name strings = record { name = name; kind = 7; bytes = wide (flat_map (λ units. units ++ 0 ∷ []) strings ++ 0 ∷ []) }
 
--- a REG_BINARY that holds a count and so many tags
+-- a REG_BINARY that holds a count and that many tags
 abbrev pub tags : List ℕ → ℕ → List ℕ → Item
 tags name count numbers = record { name = name; kind = 3; bytes = flat_map (to_le_bytes w32) (count ∷ numbers) }
 
@@ -54,7 +54,7 @@ service name start kind control more =
 abbrev pub set_with : ℕ → List Tree → Tree
 set_with number services = plain (set_name number) [] (plain (codes "Services") [] services ∷ [])
 
--- the same, with what stands below Control
+-- the same, with what is below Control
 abbrev pub ordered_set : ℕ → List Tree → List Tree → Tree
 ordered_set number control services = plain (set_name number) [] (plain (codes "Control") [] control ∷ plain (codes "Services") [] services ∷ [])
 
@@ -104,7 +104,7 @@ first_lines good =
     ∷ codes "phase boot"
     ∷ []
 
--- so many operations of the disk that are done
+-- that many operations of the disk that are done
 abbrev pub all_done : ℕ → List Outcome
 all_done zero = []
 all_done (suc n) = Finished ∷ all_done n
@@ -114,7 +114,7 @@ unfoldable pub report : Tree → List Event → List ℕ
 unfolding digits all_sets is_taken edited usable_numbers_of free_number_of attempt_of unit_text line_text go_steps event_step_of quiet_run_of
 report tree script = text_of (quiet_run_of first_entry script (placed tree)).lines
 
--- the run of a script with one boot, where so many operations of the disk are done
+-- the run of a script with one boot, where that many operations of the disk are done
 unfoldable pub run_with : Tree → List Event → ℕ → RunResult
 unfolding digits all_sets is_taken edited usable_numbers_of free_number_of attempt_of go_steps event_step_of run_of
 run_with tree script operations = run_of first_entry script (placed tree) (placed tree ∷ []) (all_done operations)

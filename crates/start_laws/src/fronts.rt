@@ -27,7 +27,7 @@ pub fn wakes_and_outcomes_are_taken_in_order()
         ≡ record (run_of choice script placed wakes outcomes) { rest = Some (m, left ++ w, over ++ o) } }
 {}
 
-/// What the first events of a script say and note is a front of what a run over more events does.
+/// What the first events of a script say and note is a prefix of what a run over more events does.
 pub fn more_events_go_on()
     ensures { (choice : Option ℕ → Choice) (script : List events.Event) (more : List events.Event) (placed : Woken) (wakes : List Woken)
         (outcomes : List Outcome)

@@ -21,7 +21,7 @@ pub fn tags_follow_the_group_order_list()
         ∷ []) }
 {}
 
-/// An entry of a group that is not listed stands with those of none, behind the listed groups.
+/// An entry of a group that is not listed stands with those of none, after the listed groups.
 pub fn unlisted_groups_come_last()
     ensures { report grouped boot_and_go ≡ lines (first_lines (codes "0")
         ++ codes "try C ok"
@@ -44,7 +44,7 @@ pub fn the_order_of_a_phase_is_one()
 {}
 
 /// The plan of a phase has each entry that the phase takes exactly once, and no other: the places of its order are a
-/// rearrangement of those that the phase takes, of which no two are the same, and an entry stands at each.
+/// rearrangement of those that the phase takes, of which no two are the same, and an entry is at each.
 pub fn a_plan_has_each_taken_entry_once()
     ensures places { (set : Tree) (phase : Phase) (tried : List (List ℕ))
         → IsPermutation (taken_of (entries_of set) phase tried) (map (λ r. r.place) (ordered_of (ranks_of set phase tried))) }

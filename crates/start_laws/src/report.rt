@@ -1,4 +1,4 @@
-//! What a report tells of its run.
+//! What a report says of its run.
 
 ghost use Rattle.std.specs.Prelude.{◌≡◌, ℕ, List, Option};
 ghost use Rattle.hive_model.specs.Image.{Image, Write, IsCrashImage};
@@ -13,8 +13,8 @@ ghost use Rattle.start_model.specs.Report.{Report};
 ghost use Rattle.run_laws.specs.Quiet.{AllFinished};
 ghost use Rattle.run_laws.specs.Told.{ended_in};
 
-/// The operations of the disk ended as the text tells. Where all were done, the text is that of the quiet run, and each
-/// image that a cut may then leave loads as the state that this comes to.
+/// The operations of the disk ended as the text reports. Where all were done, the text is that of the quiet run, and each
+/// image that a cut may then leave loads as the state that this amounts to.
 pub fn a_report_tells_its_run()
     ensures ended { (choice : Option ℕ → Choice) (script : List events.Event) (placed : Woken) (images : List Image) (held : Image)
         (flight : List Write) (text : List ℕ) (r : Report (run_of choice script placed) images (IsCrashImage held flight) text)

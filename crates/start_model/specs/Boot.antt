@@ -38,7 +38,7 @@ begin_with on_good change m =
 abbrev pub set_line : Bool → RunState → Line
 set_line on_good m = SetLine (taken_number (select_numbers_of m.live) on_good) on_good
 
--- the `set` line and the beginning; or the verdict where there is none, behind that line where the number names a set
+-- the `set` line and the beginning; or the verdict where there is none, after that line where the number names a set
 abbrev pub begin_by : Bool → RunState → Result SetChange ChangeStop → Act
 begin_by on_good m (Ok change) = say (set_line on_good m) (begin_with on_good change m)
 begin_by on_good m (Err (NoPlan NoControlSet)) = end_with lines.NoControlSet false m
@@ -59,7 +59,7 @@ loaded_state m w =
 abbrev pub woken_state : RunState → Woken → RunState
 woken_state m w = record m { disk = woken_at w }
 
--- the hive was loaded, its line is said and a set is taken; or the load was stopped, and the start ends
+-- the hive was loaded, its line is printed and a set is taken; or the load was stopped, and the start ends
 abbrev pub loaded : Bool → RunState → Woken → Outcome → Act
 loaded on_good m w Finished = say (LoadLine w.state.sequence w.dirty) (take_set on_good (loaded_state m w))
 loaded on_good m w PowerCut = end_with lines.Cut false (woken_state m w)
@@ -69,7 +69,7 @@ loaded on_good m w DeviceFault = end_with lines.Device false (woken_state m w)
 abbrev pub woken : Bool → RunState → Woken → Act
 woken on_good m w = mark (Held w.state.tree) (ask (woken_at w) (loaded on_good m w))
 
--- the entry is said and the disk turned on; or the start ends before that
+-- the entry is printed and the disk turned on; or the start ends before that
 abbrev pub chosen : Bool → RunState → Choice → Act
 chosen on_good m (EntryTaken number path entry_on_good) = say (EntryLine number path) (wake m.disk (woken (on_good || entry_on_good) m))
 chosen on_good m NoEntry = end_with lines.NoEntry false m

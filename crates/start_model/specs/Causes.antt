@@ -1,4 +1,4 @@
--- Has each stop that a run tells of its cause, a count of the disk that rose since its start began? (this project's own)
+-- Has each stop that a run reports its cause, a count of the disk that rose since its start began? (this project's own)
 --
 -- Numbers alone: which wake, and which counts. A disk counts the losses of power and the failed calls that it had.
 use Rattle.std.specs.Prelude.{ℕ, List, [], ◌∷◌}

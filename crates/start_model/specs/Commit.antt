@@ -43,7 +43,7 @@ noted_saved ok s m = with_machine (with_start (record s { saved = Some ok; clone
 abbrev pub save_refused : Bool → Start → RunState → (RunState → Act) → Act
 save_refused too_full s m next = say (SaveRefusedLine too_full) (next (noted_saved false s m))
 
--- the tree with the clone in it is committed, and the numbers are said; or the save is refused, as full or for want of a
+-- the tree with the clone in it is committed, and the numbers are printed; or the save is refused, as full or for want of a
 -- free number
 abbrev pub saved_by : Start → Tree → RunState → (RunState → Act) → Result SetChange ChangeStop → Act
 saved_by s clone m next (Ok change) =

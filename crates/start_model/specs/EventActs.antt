@@ -42,7 +42,7 @@ reason_of too_deep = lines.TooDeepReason
 reason_of data_too_long = lines.DataTooLongReason
 reason_of full = lines.FullReason
 
--- the edited tree is the live one, and is changed where it is unlike the one before; or the refusal is said
+-- the edited tree is the live one, and is changed where it is unlike the one before; or the refusal is printed
 abbrev pub edit_done : Event → RunState → Result Tree Refusal → Act
 edit_done e m (Ok tree) = say EditOkLine (done (record m { live = tree; changed = m.changed || not (same_tree m.live tree) }))
 edit_done e m (Err refusal) = say (RefusedLine (event_word_of e) (reason_of refusal)) (done m)
@@ -57,17 +57,17 @@ off_act s m =
     if m.changed then commit lines.OffCommit m.live m (end_with (ending_of s) false)
     else end_with (ending_of s) false m
 
--- the logon is said and noted, and a start that became good by it is saved
+-- the logon is printed and noted, and a start that became good by it is saved
 abbrev pub logon_act : Start → RunState → Act
 logon_act s m =
     let after : Start = record s { logged_on = true } in
     say LogonLine (save_where_due (Some after) (with_machine (with_start after m.machine) m) done)
 
--- the power is cut: one outcome is taken, whatever it is called, and the state stays the settled one
+-- the power is cut: one outcome is taken, no matter what it is called, and the state stays the settled one
 abbrev pub cut_act : RunState → Act
 cut_act m = mark Cuts (ask m.disk (λ outcome. end_with lines.Cut false m))
 
--- a stop of the disk is ordered, and nothing is said
+-- a stop of the disk is ordered, and nothing is printed
 abbrev pub arm_act : Arming → RunState → Act
 arm_act arming m = mark (Ordered arming) (done m)
 

@@ -18,7 +18,7 @@ pub data Edit : Type 0 where
 pub data Event : Type 0 where
   -- the wanted entry of boot.ini, counted from 1, and whether LastKnownGood is wanted
   BootNow : (entry : Option ℕ) → (last_known_good : Bool) → Event
-  -- so many steps of the starter, or all
+  -- that many steps of the starter, or all
   Go : (steps : Option ℕ) → Event
   -- the next attempts of this name that fail
   Fail : (name : List ℕ) → (count : ℕ) → Event

@@ -12,7 +12,7 @@ use Rattle.start_model.specs.Possible.{Possible, Woken, Outcome, Finished, Power
 use Rattle.start_model.specs.Act.{Note, Woke, Held, Saved}
 use Rattle.start_model.specs.Starter.{good_is_usable}
 
--- ---- the outcomes that a report tells
+-- ---- the outcomes that a report says
 
 -- a verdict of a cut or a device fault is an outcome, before those of later lines; no other is
 abbrev pub verdict_outcome : lines.Verdict → List Outcome → List Outcome
@@ -36,7 +36,7 @@ whole_lines text = let parts : List (List ℕ) = slice_split (λ c. c == 10) tex
 abbrev pub begins_with : List ℕ → List ℕ → Bool
 begins_with word line = bytes_eq (take (length word) line) word
 
--- how the disk operation ended that a line tells of, if it tells of one
+-- how the disk operation ended that a line reports, if it reports one
 abbrev pub outcome_of : List ℕ → Option Outcome
 outcome_of line =
     if begins_with (codes "load") line then Some Finished
@@ -76,7 +76,7 @@ ArePossible [] (p ∷ ps) = ⊥
 ArePossible (w ∷ wakes) [] = ⊥
 ArePossible (w ∷ wakes) (p ∷ ps) = IsPossible p w × ArePossible wakes ps
 
--- The image of each wake loads as told, and that was possible then; there are as many of each. No image may have a
+-- The image of each wake loads as told, and that was possible then; there are the same number of of each. No image may have a
 -- fault.
 abbrev pub Fits : List Image → List Woken → List Possible → Type 0
 Fits [] [] [] = Unit {0}
@@ -125,7 +125,7 @@ IsGoodSet trees clones set = (good : Tree) × ((Contains (first_good_in trees) g
 abbrev pub NamesGood : List Tree → List Tree → Tree → Type 0
 NamesGood trees clones t = (set : Tree) × ((good_set_of t ≡ Some set) × IsGoodSet trees clones set)
 
--- Behind what was noted so far, LastKnownGood names a good set in this tree: the first one or one that was saved before;
+-- After what was noted so far, LastKnownGood names a good set in this tree: the first one or one that was saved before;
 -- unless it names none here and named none in any tree before.
 abbrev pub IsGoodBehind : List Note → Tree → Type 0
 IsGoodBehind before t = list_any good_is_usable (held_in before ++ t ∷ []) ≡ true → NamesGood (held_in before ++ t ∷ []) (saved_in before) t

@@ -6,10 +6,10 @@
 -- that is on it is this project's own.
 use Rattle.std.specs.Prelude.{ℕ, Bool, ◌&&◌, not, ◌==◌, if◌then◌else◌}
 
--- what a failed attempt leads to: the start goes on and nobody is told, or the failure is logged; or it ends and the
+-- what a failed attempt leads to: the start goes on and nobody is notified, or the failure is logged; or it ends and the
 -- next one takes LastKnownGood, or it just ends
 pub data Judgement : Type 0 where
-  -- the start goes on, and nobody is told
+  -- the start goes on, and nobody is notified
   Ignore : Judgement
   -- the start goes on, and the failure is logged
   Log : Judgement

@@ -1,6 +1,6 @@
 -- What does the report say, line by line? (this project's own)
 --
--- Numbers are decimal, each line ends with LF, and a line begins with a word that tells what it is about.
+-- Numbers are decimal, each line ends with LF, and a line begins with a word that shows what it is about.
 use Rattle.std.specs.Prelude.{ℕ, ◌/◌, ◌%◌, Bool, false, List, [], ◌∷◌, ◌++◌, map, if◌then◌else◌, codes}
 use Rattle.std.specs.List.{flat_map}
 use Rattle.std.specs.Fmt.{decimal, digit_glyph}

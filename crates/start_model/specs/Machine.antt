@@ -1,7 +1,7 @@
 -- What is a start that runs, and what does one step of it do?
 --
 -- The phases, ErrorControl and the fallback on LastKnownGood: Windows Internals, 4th edition, startup. That attempts go
--- one at a time, that failures are told in advance, and which events are refused, is this project's own.
+-- one at a time, that failures are announced in advance, and which events are refused, is this project's own.
 use Rattle.std.specs.Prelude.{ℕ, ◌-◌, Bool, true, false, ◌||◌, ◌&&◌, not, ◌==◌, if◌then◌else◌, List, [], ◌∷◌, ◌++◌, map, filter, slice_get, remove, Option, None, Some, option_map, option_and_then}
 use Rattle.std.specs.List.{list_any}
 use Rattle.nt_bytes.specs.Folding.{folded, folds_same}
@@ -55,12 +55,12 @@ abbrev pub one_failure_less : List (List ℕ × ℕ) → List ℕ → List (List
 one_failure_less [] name = []
 one_failure_less (f ∷ fs) name = if folds_same f.0 name then (f.0, f.1 - 1) ∷ fs else f ∷ one_failure_less fs name
 
--- so many for a name, in place of an earlier number
+-- that many for a name, in place of an earlier number
 abbrev pub with_failures : List (List ℕ × ℕ) → List ℕ → ℕ → List (List ℕ × ℕ)
 with_failures [] name count = (folded name, count) ∷ []
 with_failures (f ∷ fs) name count = if folds_same f.0 name then (f.0, count) ∷ fs else f ∷ with_failures fs name count
 
--- the machine with so many failures noted for a name
+-- the machine with that many failures noted for a name
 abbrev pub failing : List ℕ → ℕ → MachineState → MachineState
 failing name count m = record m { failures = with_failures m.failures name count }
 
@@ -129,7 +129,7 @@ attempt_of m usable = option_and_then (λ s. attempt_in m s usable) m.start
 
 -- ---- a change of phase
 
--- the next phase; behind the last stands the last
+-- the next phase; after the last stands the last
 abbrev pub phase_after : Phase → Phase
 phase_after Boot = System
 phase_after System = Automatic

@@ -1,7 +1,7 @@
 -- In which order does a phase take its entries?
 --
 -- By the place of the group in ServiceGroupOrder, then by the place of the tag in GroupOrderList, then
--- as they stand in the registry (Windows Internals, 4th edition, startup; Microsoft's documentation of
+-- as they are in the registry (Windows Internals, 4th edition, startup; Microsoft's documentation of
 -- service entries). That the services of the automatic phase stand by group and not by tag is from there too.
 use Rattle.std.specs.Prelude.{ℕ, ◌+◌, ◌-◌, ◌*◌, ◌/◌, min, nat_lt, nat_eq, Bool, true, false, ◌==◌, codes, List, [], ◌∷◌, map, filter, not, length, slice_get, position, unwrap_or, Option, if◌then◌else◌}
 use Rattle.std.specs.declared.cmp.Ordering.{Ordering}
@@ -58,11 +58,11 @@ orders_of set = map (order_of (tag_lists set)) (first_names (listed_groups set))
 abbrev pub first_place : {X : Type 0} → (X → Bool) → List X → ℕ
 first_place p xs = unwrap_or (position p xs) (length xs)
 
--- the first group of this name; an entry of no listed group stands behind all groups
+-- the first group of this name; an entry of no listed group stands after all groups
 abbrev pub group_place : List GroupOrder → Option (List ℕ) → ℕ
 group_place orders group = option_map_or (λ name. first_place (λ o. folds_same name o.name) orders) group (length orders)
 
--- the first of the group's tags that is this one; without one of them an entry stands behind all tags
+-- the first of the group's tags that is this one; without one of them an entry stands after all tags
 abbrev pub tag_place_in : List GroupOrder → ℕ → Option ℕ → ℕ
 tag_place_in orders place tag =
     option_map_or (λ (o : GroupOrder). option_map_or (λ t. first_place (λ x. nat_eq x t) o.tags) tag (length o.tags)) (slice_get orders place) 0

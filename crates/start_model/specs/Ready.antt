@@ -25,6 +25,6 @@ has_group started group = list_any (λ s. option_map_or (folds_same group) s.1 f
 abbrev pub is_ready : List Label → Need → Bool
 is_ready started need = list_all (has_name started) need.services && list_all (has_group started) need.groups
 
--- the place of the next entry: the waiting ones stand in the order of the phase, and the first that is ready is next
+-- the place of the next entry: the waiting ones are in the order of the phase, and the first that is ready is next
 abbrev pub next_of : List Label → List Need → Option ℕ
 next_of started waiting = position (is_ready started) waiting

@@ -1,6 +1,6 @@
--- When is a text the report of a run, or a front of it? It is read off the text alone. (this project's own)
+-- When is a text the report of a run, or a prefix of it? It is read off the text alone. (this project's own)
 --
--- What the run needs beside the script is told by the text and the disk: how the operations ended by the lines, and what
+-- What the run needs beside the script is known from the text and the disk: how the operations ended by the lines, and what
 -- the disk woke up with by the images.
 use Rattle.std.specs.Prelude.{◌≡◌, ℕ, List, [], ◌∷◌, ◌++◌, Some}
 use Rattle.nt_bytes.specs.Front.{IsFront}
@@ -15,7 +15,7 @@ use Rattle.start_model.specs.Fits.{outcomes_of, woke_in, Fits, MayLoad}
 abbrev pub Going : Type 0
 Going = List Woken → List Outcome → RunResult
 
--- The text is the whole report on what the disk woke up with, and on the outcomes that the text tells. No wake and no
+-- The text is the whole report on what the disk woke up with, and on the outcomes that the text reports. No wake and no
 -- outcome is left over, each wake is what the disk could load as, and each image that the disk may be left as (`left`)
 -- loads as the run's last state says.
 pub record Report (run : Going) (images : List Image) (left : Image → Type 0) (text : List ℕ) : Type 0 where
@@ -26,7 +26,7 @@ pub record Report (run : Going) (images : List Image) (left : Image → Type 0) 
   pub fits : Fits images woken (woke_in (run woken (outcomes_of text)).notes)
   pub loads : (c : Image) → left c → MayLoad last.disk c
 
--- The text is a front of the report with one more outcome than it tells, and what happened to the disk (`notes`) is a
+-- The text is a prefix of the report with one more outcome than it reports, and what happened to the disk (`notes`) is a
 -- front of what that run notes. Each image that the disk may be left as loads as the run says where nothing more happens.
 pub record ReportFront (run : Going) (images : List Image) (left : Image → Type 0) (text : List ℕ) : Type 0 where
   pub woken : List Woken

@@ -40,7 +40,7 @@ play (wake disk next) [] outcomes = ran_out disk
 play (wake disk next) (w ∷ wakes) outcomes = behind [] (Woke disk ∷ []) (play (next w) wakes outcomes)
 play (mark note act) wakes outcomes = behind [] (note ∷ []) (play act wakes outcomes)
 
--- the first result, and behind it what follows from its state; the first alone where it ran out
+-- the first result, and after it what follows from its state; the first alone where it ran out
 abbrev pub then_run : (RunState → List Woken → List Outcome → RunResult) → RunResult → Option (RunState × List Woken × List Outcome) → RunResult
 then_run go first None = first
 then_run go first (Some (m, wakes, outcomes)) = behind first.lines first.notes (go m wakes outcomes)

@@ -65,7 +65,7 @@ phase_passed s m next (name ∷ names) = say_all (map VitalLine (name ∷ names)
 abbrev pub phase_step : Start → RunState → (RunState → Act) → Act
 phase_step s m next = say_all (map UnmetLine (unmet_in s)) (phase_passed s m next (missing_in m.machine.vital s))
 
--- an attempt that was made is said and judged; where there is none, the phase ends
+-- an attempt that was made is printed and judged; where there is none, the phase ends
 abbrev pub starter_step : Start → RunState → (RunState → Act) → Option (MachineState × Tried) → Act
 starter_step s m next (Some one) = say (try_line one.1) (judged one.1.judgement (with_machine one.0 m) next)
 starter_step s m next None = phase_step s m next
@@ -76,17 +76,17 @@ stepping None m next = done m
 stepping (Some s) m next =
     if is_done s.phase then done m else starter_step s m next (attempt_of m.machine (good_is_usable m.live))
 
--- at most so many steps of the starter
+-- at most that many steps of the starter
 unfoldable pub go_steps : ℕ → RunState → Act
 go_steps zero m = done m
 go_steps (suc n) m = stepping m.machine.start m (go_steps n)
 
--- so many steps are enough for all that a start can still do
+-- that many steps are enough for all that a start can still do
 abbrev pub enough_steps : Option Start → RunState → ℕ
 enough_steps None m = 0
 enough_steps (Some s) m = length s.waiting + length (option_map_or children (find_key (codes "Services" ∷ []) (live_set m s.number)) []) + 3
 
--- so many steps of the starter, or without a number all that there can be
+-- that many steps of the starter, or without a number all that there can be
 abbrev pub go_act : Option ℕ → RunState → Act
 go_act (Some n) m = go_steps n m
 go_act None m = go_steps (enough_steps m.machine.start m) m

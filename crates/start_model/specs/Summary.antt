@@ -1,4 +1,4 @@
--- What do the lines of a report come to, counted together? (this project's own)
+-- What do the lines of a report amount to, counted together? (this project's own)
 use Rattle.std.specs.Prelude.{ℕ, ◌+◌, min, List, [], ◌∷◌, Option, None, Some}
 use Rattle.start_model.specs.Lines as lines
 use Rattle.start_model.specs.Lines.{Line, Verdict, TryWord, LoadLine, CommitLine, TryLine, UnmetLine, VerdictLine}

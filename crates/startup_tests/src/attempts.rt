@@ -48,7 +48,7 @@ fn starts(rt: &impl Abort, alloc: Global, machine: &mut Machine, name: &[u8]) ->
     tries(rt, alloc, machine, false, name, (true, Judgement::Ignore))
 }
 
-/// The names, each with a blank behind it.
+/// The names, each with a blank after it.
 fn line_of(alloc: Global, names: &[Units]) -> Result<Units, AllocError> {
     let mut line = Units::new(alloc);
     for name in names {
@@ -93,7 +93,7 @@ fn system_goes(
     starts(rt, alloc, machine, b"Beep")
 }
 
-/// A service goes behind the driver that it names.
+/// A service goes after the driver that it names.
 fn services_go(
     rt: &impl Abort,
     alloc: Global,

@@ -18,7 +18,7 @@ pub(crate) fn put(line: &mut Units, name: &[u16]) -> Result<(), AllocError> {
     line.push(0x20)
 }
 
-/// The names, each with a blank behind it.
+/// The names, each with a blank after it.
 fn names_of(alloc: Global, entries: &[Entry]) -> Result<Units, AllocError> {
     let mut line = Units::new(alloc);
     for entry in entries {

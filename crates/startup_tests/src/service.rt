@@ -101,7 +101,7 @@ fn push_texts(
     })
 }
 
-/// The text as units, and a zero behind it.
+/// The text as units, and a zero after it.
 pub(crate) fn put_text(bytes: &mut Bytes, text: &[u8]) -> Result<(), AllocError> {
     for unit in text {
         bytes.put_u16(u16::from(*unit))?;

@@ -53,7 +53,7 @@ fn first_stands(rt: &impl Abort, alloc: Global, set: &Key) -> Result<(), Fail> {
     says(rt, alloc, &table, 3, (0, 1, 3), b"System Reserved", None)
 }
 
-/// A service stands at its place with what its key says, and is found by its name in any case.
+/// A service is at its place with what its key says, and is found by its name in any case.
 #[test]
 fn a_service_is_an_entry(rt: HostRuntime) -> Result<(), Fail> {
     let set = small_system(rt.alloc())?;

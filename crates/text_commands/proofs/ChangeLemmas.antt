@@ -35,7 +35,7 @@ still_loads disk s dirty still loads c crash =
     let here : P disk.held = loads in
     subst P (sym (still_crash disk.held c (rw still at crash))) here
 
--- whether an edit gave another tree is told by a test
+-- whether an edit gave another tree is known from a test
 changed_is : (same now : Bool) (t u : Tree) → Decides same (t ≡ u) → (now ≡ true ↔ (false ≡ true) ⊎ (u ≡ t → ⊥))
     → now ≡ not same
 changed_is true true t u d f = ⊎_elim (λ e. absurd (false≢true e)) (λ n. absurd (n (sym (d.0 refl)))) (f.0 refl)

@@ -37,7 +37,7 @@ exported_as image path root sequence version (Err (Stopped stop)) loads is = sto
     stop_is a b e = cc
 exported_as image path root sequence version (Err (Refused why)) loads is = absurd cc
 
--- ---- behind the search for the hive
+-- ---- after the search for the hive
 
 stopped_end : (wanted : Result HiveFiles Refusal) (path : List (List ℕ)) (name : List ℕ) (stop : HostStop)
     (before after : Files) (old new : List ℕ)
@@ -50,7 +50,7 @@ stopped_end (Err r) path name Memory before after old new same files unwritten =
     (inr (no_front (refusal_text r) old new same), files)
 stopped_end (Ok x) path name Memory before after old new same files unwritten = inr (inr (inl refl, same, files))
 
--- the outside stopped the search
+-- the environment stopped the search
 pub stopped_exports : (words : ExportAsked) (stop : HostStop) (old new : HostState)
     → Looks {A = HiveFiles} (hive_in old.files words.hive words.log) (Err (Stopped stop)) old new
     → DecidesExport words (stopped_as stop) old new

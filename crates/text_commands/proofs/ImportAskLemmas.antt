@@ -17,7 +17,7 @@ use Rattle.command_parts.proofs.DecideLemmas.{not_read}
 use Rattle.text_commands.specs.Asks.{AsksBehind, AsksText, AsksImport}
 use Rattle.text_commands.specs.Imports.{IsLoadable}
 
--- ---- behind the check of the hive
+-- ---- after the check of the hive
 
 -- the text was got, or it is absent
 pub text_asked : (files : HiveFiles) (status : Status) (old mid new : ℕ) → IsLoadable files → mid ≡ more 1 old
@@ -26,7 +26,7 @@ pub text_asked : (files : HiveFiles) (status : Status) (old mid new : ℕ) → I
 text_asked files status old mid new loads asked unasked unread =
     inr (inl (loads.0, loads.1, asks_on 1 (stop_in status) old mid new (λ e. unread (not_read status e)) asked unasked))
 
--- ---- behind the search for the hive
+-- ---- after the search for the hive
 
 none_more : (n : ℕ) → n ≡ n + 0
 none_more n = omega arith
@@ -66,7 +66,7 @@ stopped_search (Ok files) n Read old new unwritten asks = inr (inr (inr refl, as
 stopped_search (Ok files) n Write old new unwritten asks = absurd (unwritten refl)
 stopped_search (Ok files) n Memory old new unwritten asks = inr (inr (inl refl, asks))
 
--- the outside stopped the search
+-- the environment stopped the search
 pub stopped_asked : (words : ImportAsked) (stop : HostStop) (old new : HostState)
     → Looks {A = HiveFiles} (hive_in old.files words.hive words.log) (Err (Stopped stop)) old new
     → AsksHive {A = HiveFiles} words.hive words.log (Err (Stopped stop)) old new

@@ -32,7 +32,7 @@ use Rattle.text_commands.specs.declared.changing.Done.{Done}
 use Rattle.text_commands.specs.Imported.{Change, change_of, IsImported, EndsChange, EndsHive, EndsImport, import_saves, DecidesImport}
 use Rattle.text_commands.specs.Imports.{done_text, IsImportOf, EndsRead, IsChecked, IsLoadable, DecidesEdits, DecidesText, DecidesFile}
 
--- ---- the disk behind the saving
+-- ---- the disk after the saving
 
 more_few : (n : ℕ) → n ≤ 2 → more n 0 ≡ n
 more_few zero le = refl
@@ -110,7 +110,7 @@ untouched_told status disk (inl is) = (let P : Status → Type 0 = λ s. IsUntou
 untouched_told status disk (inr (inl is)) = (let P : Status → Type 0 = λ s. IsUntouchedBy s disk in subst P (sym is) tt)
 untouched_told status disk (inr (inr is)) = (let P : Status → Type 0 = λ s. IsUntouchedBy s disk in subst P (sym is) tt)
 
--- the line was said and the files saved, or that was stopped
+-- the line was printed and the files saved, or that was stopped
 pub finished_imports : (files : HiveFiles) (saves : Saves) (steps : List Step) (done : Done) (line : List ℕ)
     (status : Status) (old new : HostState)
     (mid after : DiskState) → IsImportOf files steps mid done → mid.on ≡ false → line ≡ done_text done
@@ -140,7 +140,7 @@ finished_imports files saves steps done line status old new mid after on off is 
       unread = told_unread statuses.Done status f.told (λ e. absurd cc);
     }
 
--- ---- behind the search for the text
+-- ---- after the search for the text
 
 read_hive : (files : HiveFiles) (saves : Saves) (r : Result (List Step) RegFault) (text : List ℕ) (disk : DiskState)
     (status : Status) (old new : List ℕ) → IsLoadable files
@@ -193,12 +193,12 @@ stopped_hive files saves wanted Write disk old new fresh same unwritten = absurd
 stopped_hive files saves wanted Memory disk old new fresh same unwritten =
     inr (inr (inl (refl, same, new_part files disk fresh)))
 
--- ---- behind the check of the hive
+-- ---- after the check of the hive
 
 pub checked : (image : Image) (x : ℕ × HiveVersion) → JudgesAs image (Ok x) → IsChecked image (Ok tt)
 checked image x judged = (record { state = state_of judged.0 x.0 x.1; dirty = judged.1.0 }, judged.1.1)
 
--- ---- behind the search for the hive
+-- ---- after the search for the hive
 
 stopped_import : (wanted : Result HiveFiles Refusal) (saves : Saves) (text : Result (List ℕ) Refusal) (stop : HostStop)
     (disk : DiskState) (old new : List ℕ) → disk ≡ new_state

@@ -1,6 +1,6 @@
 -- What does `export` put, and what does it say? (this project's own)
 --
--- The registry text of the key that the path leads to is put into a file, and then one line is said. Where there is no such
+-- The registry text of the key that the path leads to is put into a file, and then one line is printed. Where there is no such
 -- key, or no such text, no file is put.
 use Rattle.std.specs.Prelude.{◌≡◌, ◌⊎◌, ◌++◌, ◌+◌, ℕ, List, [], Option, Some, None, Result, Ok, Err, codes}
 use Rattle.std.specs.Fmt.{decimal}
@@ -75,7 +75,7 @@ PutsAs name (Some text) statuses.Done old new = Puts old new name text
 PutsAs name (Some text) statuses.ReadFault old new = new ≡ old
 PutsAs name (Some text) stopped old new = KeepsOthers old new name
 
--- The first obstacle of the words' files is said; or the hive has a first fault, and that is said; or it loads as a state, and
+-- The first obstacle of the command line's files is printed; or the hive has a first fault, and that is printed; or it loads as a state, and
 -- its export is put and said; or there was no memory or a read fault before anything was done. Before the export nothing is put.
 abbrev pub EndsExported : Result HiveFiles Refusal → List (List ℕ) → List ℕ → Files → Files → Status → List ℕ → List ℕ → Type 0
 EndsExported (Err r) path name before after status old new = Ends (refusal r) status old new × (after ≡ before)

@@ -1,6 +1,6 @@
 -- What does `import` do, and what does it say? (this project's own)
 --
--- The edits of a registry text are made in a hive, all or none, and committed where they gave another tree. One line is said.
+-- The edits of a registry text are made in a hive, all or none, and committed where they gave another tree. One line is printed.
 use Rattle.std.specs.Prelude.{◌≡◌, ◌⊎◌, ◌+◌, ◌++◌, ℕ, false, if◌then◌else◌, List, [], Result, Ok, Err, codes}
 use Rattle.std.specs.Fmt.{decimal}
 use Rattle.nt_bytes.specs.declared.fault.HiveFault.{HiveFault}
@@ -63,7 +63,7 @@ change_of s steps = change_by s (edited s.version s.tree steps)
 
 -- ---- the disk
 
--- The disk afterwards: each named file was placed and so many taken, no stop was ordered and none came, and it
+-- The disk afterwards: each named file was placed and that many taken, no stop was ordered and none came, and it
 -- loads as the state, clean.
 pub record IsImported (files : HiveFiles) (state : HiveState) (saved : ℕ) (disk : DiskState) : Type 0 where
   pub loads : (c : Image) → LeftOf disk c → Loads c state false
@@ -80,7 +80,7 @@ pub record IsImported (files : HiveFiles) (state : HiveState) (saved : ℕ) (dis
 abbrev pub imported : Change → Answer
 imported change = record { status = statuses.Done; text = change.text }
 
--- The line was said whole at the end, and the files saved; or a front of the line up to a fault in saying or saving, or to want of
+-- The line was printed whole at the end, and the files saved; or a prefix of the line up to a fault in saying or saving, or to want of
 -- memory. The disk is this afterwards.
 abbrev pub EndsChange : HiveFiles → Saves → Change → DiskState → Status → List ℕ → List ℕ → Type 0
 EndsChange files saves change disk statuses.Done old new = (new ≡ old ++ change.text) × IsImported files change.state (saved_count saves) disk
@@ -90,30 +90,30 @@ EndsChange files saves change disk statuses.Memory old new =
     Ends (imported change) statuses.Memory old new × IsPartDone files (saved_count saves) disk
 EndsChange files saves change disk refused old new = ⊥
 
--- the fault of the text is said, and nothing was done to the disk; or its edits are made
+-- the fault of the text is printed, and nothing was done to the disk; or its edits are made
 abbrev pub EndsSteps : HiveFiles → Saves → HiveState → Result (List Step) RegFault → DiskState → Status → List ℕ → List ℕ → Type 0
 EndsSteps files saves s (Err fault) disk status old new = Ends (fault_answer fault) status old new × (disk ≡ new_state)
 EndsSteps files saves s (Ok steps) disk status old new = EndsChange files saves (change_of s steps) disk status old new
 
--- the text's file is absent, and that is said; or it is read
+-- the text's file is absent, and that is printed; or it is read
 abbrev pub EndsText : HiveFiles → Saves → HiveState → Result (List ℕ) Why → DiskState → Status → List ℕ → List ℕ → Type 0
 EndsText files saves s (Err why) disk status old new = Ends (refusal why) status old new × (disk ≡ new_state)
 EndsText files saves s (Ok text) disk status old new = EndsSteps files saves s (reg_steps_of text) disk status old new
 
--- The hive has a first fault, and that is said; or it loads as a state, and the text is asked for; or there was no memory or a read
--- fault before anything was said.
+-- The hive has a first fault, and that is printed; or it loads as a state, and the text is asked for; or there was no memory or a read
+-- fault before anything was printed.
 abbrev pub EndsHive : HiveFiles → Saves → Result (List ℕ) Why → DiskState → Status → List ℕ → List ℕ → Type 0
 EndsHive files saves text disk status old new =
     ((fault : HiveFault) × (LoadFault (image_in files) fault) × Ends (refusal (BadHive fault)) status old new × (disk ≡ new_state))
     ⊎ (((placed : Woken) × (Loads (image_in files) placed.state placed.dirty) × EndsText files saves placed.state text disk status old new)
     ⊎ (((status ≡ statuses.Memory) × (new ≡ old) × IsPartDone files 0 disk) ⊎ ((status ≡ statuses.ReadFault) × (new ≡ old) × (disk ≡ new_state))))
 
--- the first obstacle is said, and nothing was done to the disk; or there is none, and the hive decides
+-- the first obstacle is printed, and nothing was done to the disk; or there is none, and the hive decides
 abbrev pub EndsImport : Result HiveFiles Why → Saves → Result (List ℕ) Why → DiskState → Status → List ℕ → List ℕ → Type 0
 EndsImport (Err r) saves text disk status old new = Ends (refusal r) status old new × (disk ≡ new_state)
 EndsImport (Ok files) saves text disk status old new = EndsHive files saves text disk status old new
 
--- the files that the words want to be saved
+-- the files that the command line wants to be saved
 abbrev pub import_saves : ImportAsked → Saves
 import_saves words = record { hive = words.save_hive; log = words.save_log }
 

@@ -61,7 +61,7 @@ Settles s old new dones.Nothing = (s.changed ≡ false) × (new ≡ old)
 Settles s old new (dones.Commit number) =
     (s.changed ≡ true) × (number ≡ next_number s.base.first) × (new.flight ≡ []) × Loads new.held (committed_state s) false
 
--- a refusal is told, and want of memory is a stop
+-- a refusal is reported, and lack of memory is a stop
 abbrev pub IsRefusedAs : {E : Type 0} → EditStop → Result Done E → Type 0
 IsRefusedAs stop (Ok done) = (done ≡ dones.Refused stop) × (stop ≡ stops.Memory → ⊥)
 IsRefusedAs stop (Err e) = stop ≡ stops.Memory
@@ -109,7 +109,7 @@ ImportsOn files steps (Err e) disk = IsPartDone files 0 disk
 
 -- ---- the end
 
--- the edits were made in the state that the hive's files load as, and a line was said; or there was no memory for it
+-- the edits were made in the state that the hive's files load as, and a line was printed; or there was no memory for it
 abbrev pub EndsEdits : HiveFiles → Saves → List Step → DiskState → Status → List ℕ → List ℕ → Type 0
 EndsEdits files saves steps disk status old new =
     ((placed : Woken) × (Loads (image_in files) placed.state placed.dirty) × EndsChange files saves (change_of placed.state steps) disk status old new)
@@ -125,12 +125,12 @@ IsChecked image (Err read.Memory) = Unit {0}
 abbrev pub IsLoadable : HiveFiles → Type 0
 IsLoadable files = (placed : Woken) × Loads (image_in files) placed.state placed.dirty
 
--- the text's fault is said, and nothing was done to the disk; or its edits are made
+-- the text's fault is printed, and nothing was done to the disk; or its edits are made
 abbrev pub EndsRead : HiveFiles → Saves → Result (List Step) RegFault → DiskState → Status → List ℕ → List ℕ → Type 0
 EndsRead files saves (Err fault) disk status old new = Ends (fault_answer fault) status old new × (disk ≡ new_state)
 EndsRead files saves (Ok steps) disk status old new = EndsEdits files saves steps disk status old new
 
--- the fault of a text was said
+-- the fault of a text was printed
 pub record TellsFault (fault : RegFault) (status : Status) (old new : HostState) : Type 0 where
   pub leaves : Leaves (Ends (fault_answer fault)) status old new
   pub files : KeepsFiles old new

@@ -23,7 +23,7 @@ use reg_text::{RegFault, RegStop, reg_text};
 use reg_tree::Key;
 use std::alloc::{AllocError, Global};
 
-/// What is put into the file, if anything, and what is said with which status.
+/// What is put into the file, if anything, and what is printed with which status.
 #[derive(Drop)]
 pub struct Outcome {
     pub put: Option<Bytes>,
@@ -63,7 +63,7 @@ fn with_fault(alloc: Global, key: &Key, fault: RegFault) -> Result<Outcome, Allo
     })
 }
 
-/// The export of a key, which stands at the path.
+/// The export of a key, which is at the path.
 fn key_export(alloc: Global, path: &Names, key: &Key) -> Result<Outcome, AllocError>
     ensures { IfOk result (λ e. export_with e.put e.status e.line ≡ found_export path.now (Some key.now)) }
 {
@@ -172,7 +172,7 @@ fn export_key<H: Host>(
     }
 }
 
-/// Gets the hive that the words name, and exports its key; or says the first obstacle.
+/// Gets the hive that the command line names, and exports its key; or says the first obstacle.
 pub fn export<H: Host>(alloc: Global, words: ExportWords<'_>, host: &mut H) -> Status
     ensures decides { DecidesExport (export_seen words.entry) result (H.state host.old) (H.state host.new) }
     ensures asked { AsksSoMany (asks_export (export_seen words.entry)) result (H.state host.old) (H.state host.new) }

@@ -1,4 +1,4 @@
-//! `import`: the inputs one after the other, the change, and the line on it.
+//! `import`: the inputs in sequence, the change, and the line on it.
 
 ghost use Rattle.std.specs.Prelude.{◌≡◌, ◌++◌, codes, map, IfOk};
 ghost use Rattle.std.specs.Fmt.{decimal};
@@ -165,7 +165,7 @@ fn import_hive<H: Host, B: Bench>(
     }
 }
 
-/// Gets the hive that the words name and the text, makes the text's edits as one change, says so and saves the
+/// Gets the hive that the command line names and the text, makes the text's edits as one change, says so and saves the
 /// files; or says the first obstacle.
 pub fn import<H: Host, B: Bench>(
     alloc: Global,

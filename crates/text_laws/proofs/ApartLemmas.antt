@@ -1,4 +1,4 @@
--- Names that none of those before them passes for, put behind one another.
+-- Names that none of those before them passes for, put after one another.
 use Rattle.std.proofs.Common.{◌≡◌, ℕ, suc, Bool, true, false, cond, List, [], ◌∷◌, ◌++◌, map, Some, None, refl, ◌∙◌, ap, arith}
 use Rattle.std.specs.Prelude.{find}
 use Rattle.std.specs.List.{All, AllPairs}

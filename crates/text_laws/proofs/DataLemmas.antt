@@ -90,7 +90,7 @@ byte_back b lt =
     let low : digit_value (digit_glyph false (b % 16)) ≡ b % 16 = digit_value_glyph (b % 16) (omega arith) in
     omega (arith, high, low)
 
--- the bytes behind the first one
+-- the bytes after the first one
 abbrev more_text : List ℕ → List ℕ
 more_text bytes = flat_map (λ y. codes "," ++ byte_digits y) bytes
 
@@ -164,7 +164,7 @@ pub bytes_whole : (bytes : List ℕ) → AreBytes bytes → breaks (bytes_text b
 bytes_whole [] all = refl
 bytes_whole (b ∷ bytes) all = more_whole b bytes all
 
--- behind a text that ends so
+-- after a text that ends so
 pub bytes_end : (before bytes : List ℕ) → Ends before → AreBytes bytes → Ends (before ++ bytes_text bytes)
 bytes_end before [] ends all = subst Ends (sym (append-nil before)) ends
 bytes_end before (b ∷ bytes) ends all = ends_behind before (byte_digits b ++ more_text bytes) (more_ends b bytes all)
@@ -203,7 +203,7 @@ byte_value x n lt =
     let low : digit_value (digit_glyph false (x % 16)) ≡ x % 16 = digit_value_glyph (x % 16) (omega arith) in
     omega (arith, high, low)
 
--- the number n, of which another one is known, with a byte behind
+-- the number n, of which another one is known, with a byte after
 next_byte : (x n m : ℕ) → x < 256 → n ≡ m
     → (n * 16 + digit_value (digit_glyph false (x / 16))) * 16 + digit_value (digit_glyph false (x % 16)) ≡ m * 256 + x
 next_byte x n m lt is =
@@ -410,7 +410,7 @@ kind_back kind text lt =
 
 -- ---- data
 
--- data that are written are read, stand in one line, and end in no blank
+-- data that are written are read, are in one line, and end in no blank
 pub record Back (kind : ℕ) (bytes text : List ℕ) : Type 0 where
   pub back : (name : List ℕ) → data_item name text ≡ Ok (Named name kind bytes)
   pub whole : breaks text ≡ false

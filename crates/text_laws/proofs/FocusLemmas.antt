@@ -137,7 +137,7 @@ change_none (name ∷ path) (key h ts) =
     ap (λ (us : List Tree). key h (trees us)) (first_none name (at_key path (λ k. k)) (change_none path) (listed ts))
     ∙ ap (key h) (trees_listed ts)
 
--- two keys in its place, one after the other
+-- two keys in its place, in sequence
 pub change_again : (path : List (List ℕ)) (k l m : Tree) → (head l).name ≡ (head k).name → (t : Tree)
     → find_key path t ≡ Some k
     → at_key path (λ _. m) (at_key path (λ _. l) t) ≡ at_key path (λ _. m) t
@@ -150,7 +150,7 @@ change_again (name ∷ path) k l m named (key h ts) e =
     (λ w d. change_again path k l m named w d)
     (kept_name path k l named) (listed ts) e)
 
--- ---- a path behind a path
+-- ---- a path after a path
 
 pub change_behind : (path further : List (List ℕ)) (f : Tree → Tree) (t : Tree)
     → at_key (path ++ further) f t ≡ at_key path (at_key further f) t
@@ -180,7 +180,7 @@ unless_ok {X} (test ∷ tests) x y e = go test.0 (unless_ok tests x y) e
     go true rest e = absurd cc
     go false rest e = rest e
 
--- the tree behind the first of two parts of a list of steps
+-- the tree after the first of two parts of a list of steps
 pub record Parts (first rest : List Step) (t u : Tree) : Type 0 where
   pub mid : Tree
   pub before : after_steps t first ≡ Ok mid

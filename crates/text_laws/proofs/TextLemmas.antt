@@ -165,7 +165,7 @@ key_whole path e = whole_append (place_of path) (93 ∷ [])
 abbrev Read : Type 0
 Read = Result (List Step × State) RegFault
 
--- A text is read as these edits, and values then stand in this key; what follows is read behind it.
+-- A text is read as these edits, and values then are in this key; what follows is read after it.
 record Said (state : State) (text : List ℕ) (edits : List Step) (into : Option (List (List ℕ))) : Type 0 where
   after : State
   begun : after.begun ≡ None

@@ -59,11 +59,11 @@ abbrev mutual
   bares none = none
   bares (more t ts) = more (bare t) (bares ts)
 
--- keys stand in rising order of their folded names
+-- keys are in rising order of their folded names
 abbrev pub Rise : List Tree → Type 0
 Rise keys = AllPairs (λ a b. is_gt (folded_order (head a).name (head b).name) ≡ false) keys
 
--- no two values and no two children of a key have names that fold to one, and children stand in rising order
+-- no two values and no two children of a key have names that fold to one, and children are in rising order
 abbrev mutual
   pub IsOrdered : Tree → Type 0
   IsOrdered (key h ts) = ItemsDiffer h.values × KeysDiffer (listed ts) × Rise (listed ts) × AreOrdered ts
@@ -78,7 +78,7 @@ abbrev pub IsFree : Option Tree → Type 0
 IsFree None = Unit {0}
 IsFree (Some (key h ts)) = (h.values ≡ []) × (ts ≡ none)
 
--- nothing stands at the path
+-- nothing is at the path
 abbrev pub IsFreeAt : List (List ℕ) → Tree → Type 0
 IsFreeAt path root = IsFree (find_key path root)
 
@@ -86,6 +86,6 @@ IsFreeAt path root = IsFree (find_key path root)
 abbrev pub HasSame : Tree → Tree → Type 0
 HasSame (key h ts) (key i us) = (i.values ≡ h.values) × (bares us ≡ bares ts)
 
--- a key stands at the path that has the same as the one that was written
+-- a key is at the path that has the same as the one that was written
 abbrev pub HasBack : List (List ℕ) → Tree → Tree → Type 0
 HasBack path written made = (k : Tree) × (find_key path made ≡ Some k) × HasSame written k

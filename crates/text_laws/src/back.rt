@@ -16,14 +16,14 @@ pub fn a_text_is_read_as_its_edits()
         → reg_text_of path written ≡ Ok text → reg_steps_of text ≡ Ok (key_steps path written) }
 {}
 
-/// These edits, made in a tree in which nothing stands at the path, give the key's values and all below it, unless one is
+/// These edits, made in a tree in which nothing is at the path, give the key's values and all below it, unless one is
 /// refused.
 pub fn edits_build_the_key()
     ensures { (path : List (List ℕ)) (written root made : Tree) → IsOrdered written → IsFreeAt path root
         → after_steps root (key_steps path written) ≡ Ok made → HasBack path written made }
 {}
 
-/// A key that is written as a text and read again, its edits made in a tree in which nothing stands at the path, is there with all
+/// A key that is written as a text and read again, its edits made in a tree in which nothing is at the path, is there with all
 /// below it, unless an edit is refused or the tree is too large then.
 pub fn a_text_gives_its_key_back()
     ensures { (path : List (List ℕ)) (written root made : Tree) (text : List ℕ) (steps : List Step) (version : HiveVersion)

@@ -8,10 +8,10 @@ use std::test::Fail;
 
 const HEADER: &[u8] = b"Windows Registry Editor Version 5.00\r\n";
 
-/// Lines behind the header, and the edits that they say or the first fault.
+/// Lines after the header, and the edits that they say or the first fault.
 type Row = (&'static [u8], &'static [u8]);
 
-/// A whole text behind its mark, in bytes, and the same.
+/// A whole text after its mark, in bytes, and the same.
 const WHOLE: [Row; 9] = [
     (b"", b"0 mark"),
     (b"\xff", b"0 mark"),
@@ -177,7 +177,7 @@ fn behind(rt: &impl Abort, alloc: Global, rows: &[Row]) -> Result<(), Fail> {
     Ok(())
 }
 
-/// With half a unit behind.
+/// With half a unit at the end.
 fn odd(rt: &impl Abort, alloc: Global, rows: &[Row]) -> Result<(), Fail> {
     for (lines, wanted) in rows {
         let mut text = text_of(alloc, b"", lines)?;

@@ -5,7 +5,7 @@ use reg_text::{RegFault, RegFaultKind, RegStop, read_reg, reg_text};
 use reg_tree::{Key, Keys, TreeStep, Values};
 use std::alloc::{AllocError, Global};
 
-/// UTF-16LE behind its mark, a unit a byte.
+/// UTF-16LE after its mark, a unit a byte.
 pub fn wide(alloc: Global, text: &[u8]) -> Result<Bytes, AllocError> {
     let mut bytes = Bytes::from_slice(alloc, &[0xff, 0xfe])?;
     for byte in text {

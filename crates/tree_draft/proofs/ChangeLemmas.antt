@@ -132,7 +132,7 @@ none_below (next ∷ parent) name t =
     ≡ option_map_or (λ k. not (has_child name k)) (option_and_then (find_key parent) o) true)
     [ None ↦ refl | Some k ↦ none_below parent name k ]
 
--- to take away the key at a path is to take that child from its parent
+-- to remove the key at a path is to take that child from its parent
 without_child : (parent : List (List ℕ)) (name : List ℕ) (t : Tree)
     → without_key (parent ++ name ∷ []) t ≡ at_key parent (of_children (without_first (is_named name))) t
 without_child [] name t = refl

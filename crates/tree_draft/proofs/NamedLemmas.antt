@@ -142,7 +142,7 @@ put_in k t (e ∷ es) key new by =
         let m = more rest in
         (ap (λ (ts : List Tree). e.1 ∷ ts) m.0, (by.0, m.1))
 
--- a key greater than all goes behind them
+-- a key greater than all goes after them
 put_last : (k : Vec ℕ) (t : Tree) (es : List Entry) → Each (λ e. compared k e.0 ≡ Greater) es
     → insert_entry compared es k t ≡ es ++ (k, t) ∷ []
 put_last k t [] above = refl
@@ -167,7 +167,7 @@ opened_more k t es fs keys key behind put old =
       named = each_all IsByName (es ++ (k, t) ∷ []) (named_last k t es key (each_from IsByName es old.named));
     })
 
--- behind the last key, where no other is greater
+-- after the last key, where no other is greater
 pub behind_last : (last : Vec ℕ) (name : List ℕ) (es : List Entry) → is_lt (slice_cmp nat_cmp last.items name) ≡ true
     → All (λ q. is_lt (compared last q) ≡ false) (keys_of es) → IsBehind name es
 behind_last last name es less upto = each_all (λ (e : Entry). slice_cmp nat_cmp name e.0.items ≡ Greater) es

@@ -31,7 +31,7 @@ one_folded a b same = (bytes_decides (folded b) (folded a)).0 (sym (same_bytes a
 folded_one : (a b : List ℕ) → folded b ≡ folded a → folds_same a b ≡ true
 folded_one a b same = same_bytes a b ∙ (bytes_decides (folded b) (folded a)).1 same
 
--- texts that f tells apart are apart
+-- texts that f reports apart are apart
 apart_by : {X : Type 0} (f : List ℕ → X) (a b : List ℕ) → (f a ≡ f b → ⊥) → bytes_eq a b ≡ false
 apart_by f a b differ = false_from_ne_true _ (λ same. differ (ap f ((bytes_decides a b).0 same)))
 
@@ -217,7 +217,7 @@ module _ (slots : List (Option Item)) (places : BTreeMap (Vec ℕ) ℕ) (index :
       by_place None e = e
       by_place (Some k) e = absurd (both_ways _ (ap is_some none) (found_at k e))
 
--- where no value has this name one is added behind the others
+-- where no value has this name one is added after the others
 pub added_last : (name : List ℕ) (kind : ℕ) (bytes : List ℕ) (items : List Item)
     → find (is_item name) items ≡ None
     → with_item name kind bytes items ≡ items ++ record { name = name; kind = kind; bytes = bytes } ∷ []
@@ -225,7 +225,7 @@ added_last name kind bytes items none = rw none refl
 
 -- ---- what the index keeps
 
--- a value behind the others, whose name the map did not have
+-- a value after the others, whose name the map did not have
 pub index_push : (slots : List (Option Item)) (old new : BTreeMap (Vec ℕ) ℕ) (v : Item) → IsIndexOf slots old
     → place_in old (folded v.name) ≡ None → ChangesAt (folded v.name) old new (Some (length slots))
     → IsIndexOf (slots ++ Some v ∷ []) new

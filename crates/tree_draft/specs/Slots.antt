@@ -20,7 +20,7 @@ abbrev pub IsNamed : List ℕ → Option Item → Type 0
 IsNamed name None = ⊥
 IsNamed name (Some v) = folded v.name ≡ name
 
--- each value stands in the slot that the map names for its folded name, and the map names no other
+-- each value is in the slot that the map names for its folded name, and the map names no other
 pub record IsIndexOf (slots : List (Option Item)) (places : BTreeMap (Vec ℕ) ℕ) : Type 0 where
   pub each : (k : ℕ) (v : Item) → get_or slots k None ≡ Some v → place_in places (folded v.name) ≡ Some k
   pub only : (name : List ℕ) (k : ℕ) → place_in places name ≡ Some k → IsNamed name (get_or slots k None)

@@ -16,7 +16,7 @@ abbrev pub RefusesNothing : DraftStop → Type 0
 RefusesNothing (Refused stop) = refusal_of stop ≡ None
 RefusesNothing Disorder = Unit {0}
 
--- what is left after a call is what the edit makes, or the edit stops as the call says
+-- what remains after a call is what the edit makes, or the edit stops as the call says
 abbrev pub Drafts : {A : Type 0} → A → Result (Unit {0}) DraftStop → Result A Refusal → Type 0
 Drafts new (Ok _) edit = edit ≡ Ok new
 Drafts new (Err stop) edit = IsStopped edit stop

@@ -42,7 +42,7 @@ impl DraftKeys {
         }
     }
 
-    /// Takes the children by their folded names. What is left has none.
+    /// Takes the children by their folded names. What remains has none.
     fn take_opened(&mut self, alloc: Global) -> Result<BTreeMap<Vec<u16>, Draft>, DraftStop>
         ensures opened { IfOk result (λ m. AreOpened self.old m.entries) }
         ensures stopped { IfErr result RefusesNothing }
@@ -128,7 +128,7 @@ fn by_name(alloc: Global, keys: Keys) -> Result<BTreeMap<Vec<u16>, Draft>, Draft
     Ok(opened)
 }
 
-/// Puts a key behind the others. `Disorder` where its name does not fold greater than theirs.
+/// Puts a key after the others. `Disorder` where its name does not fold greater than theirs.
 fn push(alloc: Global, opened: &mut BTreeMap<Vec<u16>, Draft>, key: Key) -> Result<(), DraftStop>
     ensures pushed { OnOk result ((keys : List Tree) → AreOpened keys opened.old.entries
         → AreOpened (keys ++ key ∷ []) opened.new.entries) }

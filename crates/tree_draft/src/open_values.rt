@@ -58,7 +58,7 @@ impl OpenValues {
         Ok(open)
     }
 
-    /// Puts a value behind the others. `Disorder` where one has its name.
+    /// Puts a value after the others. `Disorder` where one has its name.
     fn push(&mut self, alloc: Global, value: Value) -> Result<(), DraftStop>
         ensures pushed { OnOk result (self.new ≡ self.old ++ value ∷ []) }
         ensures stopped { IfErr result RefusesNothing }
@@ -71,7 +71,7 @@ impl OpenValues {
         Ok(())
     }
 
-    /// Puts a value behind the others, whose folded name no other has.
+    /// Puts a value after the others, whose folded name no other has.
     fn add(&mut self, key: Units, value: Value) -> Result<(), AllocError>
         requires named { key ≡ folded value.name }
         requires new { find (is_item value.name) self.old ≡ None }

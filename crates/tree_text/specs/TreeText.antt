@@ -8,11 +8,11 @@ use Rattle.hex.specs.Hex.{encode_lower}
 use Rattle.hive_model.specs.Tree.{Item, Tree, Trees, key, none, more}
 use Rattle.start_model.specs.Lines.{name_text}
 
--- the margin of what stands below a key
+-- the margin of what is below a key
 abbrev pub deeper : List ℕ → List ℕ
 deeper margin = margin ++ codes "  "
 
--- data in lower-case hexadecimal behind a space; empty data are not shown
+-- data in lower-case hexadecimal after a space; empty data are not shown
 abbrev pub data_text : List ℕ → List ℕ
 data_text bytes = if length bytes == 0 then [] else codes " " ++ encode_lower bytes
 
@@ -30,7 +30,7 @@ abbrev mutual
   pub key_text : List ℕ → Tree → List ℕ
   key_text margin (key h ts) = margin ++ name_text h.name ++ codes "\n" ++ values_text (deeper margin) h.values ++ keys_text (deeper margin) ts
 
-  -- the lines of children, one after another
+  -- the lines of children, in sequence
   pub keys_text : List ℕ → Trees → List ℕ
   keys_text margin none = []
   keys_text margin (more t ts) = key_text margin t ++ keys_text margin ts

@@ -1,4 +1,4 @@
-//! What the definitions come to.
+//! What the definitions amount to.
 
 ghost use Rattle.std.specs.Prelude.{◌≡◌, ◌+◌};
 ghost use Rattle.nt_bytes.specs.declared.version.HiveVersion.TheVariants.{V3};

@@ -1,6 +1,6 @@
 //! The text of a registry tree, which the command `show` says.
 //!
-//! `tree_text` is a tree as lines, `shown_text` the same behind a line on the hive. Both ask nothing
+//! `tree_text` is a tree as lines, `shown_text` the same after a line on the hive. Both ask nothing
 //! of the tree and take time linear in the text. Definitions: `specs/TreeText.antt`.
 #![tactic(auto)]
 

@@ -10,7 +10,7 @@ use itoa::{Buffer, Integer};
 use reg_tree::Value;
 use std::alloc::{AllocError, Global};
 
-/// Puts a space and the number behind.
+/// Puts a space and the number at the end.
 fn push_number(out: &mut Vec<u8>, number: u64) -> Result<(), AllocError>
     ensures { OnOk result (out.new.items ≡ out.old.items ++ codes " " ++ decimal number) }
 {
@@ -30,7 +30,7 @@ fn push_data(alloc: Global, out: &mut Vec<u8>, bytes: &[u8]) -> Result<(), Alloc
     out.extend_from_slice(text.as_bytes())
 }
 
-/// Puts the line of a key behind.
+/// Puts the line of a key at the end.
 pub fn push_head(out: &mut Vec<u8>, margin: &[u8], name: &[u16]) -> Result<(), AllocError>
     ensures { OnOk result (out.new.items ≡ out.old.items ++ margin.now ++ name_text name.now ++ codes "\n") }
 {
@@ -40,7 +40,7 @@ pub fn push_head(out: &mut Vec<u8>, margin: &[u8], name: &[u16]) -> Result<(), A
     Ok(())
 }
 
-/// Puts the line of a value behind.
+/// Puts the line of a value at the end.
 #[tactic(auto, unfolding(crate::specs::TreeText::value_text))]
 pub fn push_value(
     alloc: Global,

@@ -1,4 +1,4 @@
-//! A tree as a text, alone and behind a line on its hive.
+//! A tree as a text, alone and after a line on its hive.
 
 ghost use Rattle.std.specs.Prelude.{◌≡◌, IfOk};
 ghost use Rattle.tree_text.specs.TreeText.{tree_text, shown_text};

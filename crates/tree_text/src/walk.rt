@@ -22,7 +22,7 @@ fn push_values(
     Ok(())
 }
 
-/// Puts the key and all below it behind. The margin grows on the way down, so that it is made once.
+/// Puts the key and all below it at the end. The margin grows on the way down, so that it is made once.
 #[cycle(push_key)]
 pub fn push_key(
     alloc: Global,

@@ -94,7 +94,7 @@ module _ (old new : DiskState) (lost failed lacked : Type 0) (goes : GoesOn old 
   never_failed is = no_rise old.faults new.faults awake.no_faults
       (omega (arith, keeps.faults, no_fault_orders new.history.armings armings_are)) (goes.fault is)
 
--- ---- what is told
+-- ---- what is reported
 
 word_done : (number : Option ℕ) (found : Recovered) (change : Change)
     → (change ≡ nothing) ⊎ ((u : Tree) × (change ≡ changed u))

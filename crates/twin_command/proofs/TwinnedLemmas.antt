@@ -179,7 +179,7 @@ module _ (stands : Standing) (files : HiveFiles) (number : Option ℕ) (saves : 
   abbrev pub Whole : DiskState → Status → List ℕ → List ℕ → Type 0
   Whole disk = EndsFiles stands files number saves disk
 
-  -- there was no memory before anything was said
+  -- there was no memory before anything was printed
   pub untold : (some : SomeFound stands (image_in files)) (host : HostState) (disk : DiskState) → disk.on ≡ false
       → IsPartDone files 0 disk
       → DecidesAlone (Whole disk) saves statuses.Memory host host disk
@@ -219,7 +219,7 @@ module _ (stands : Standing) (files : HiveFiles) (number : Option ℕ) (saves : 
         subst (λ (s : Status). EndsTwinned stands files number saves found tree disk s old new) (sym is)
         (part, part_of stands files number found tree taken (saved_count saves) disk few made)
 
-  -- the lines were said and the disk saved, or that was stopped
+  -- the lines were printed and the disk saved, or that was stopped
   pub finished_twins : (told : Told) (line : List ℕ) (status : Status) (old new : HostState) (mid after : DiskState)
       → mid.on ≡ false
       → TwinnedAs stands files number told mid → line ≡ told_text told → FinishesAs line saves status old new mid after
@@ -250,7 +250,7 @@ module _ (stands : Standing) (files : HiveFiles) (number : Option ℕ) (saves : 
         unread = told_unread statuses.Done status f.told (λ e. absurd cc);
       }
 
-  -- the first fault was said
+  -- the first fault was printed
   pub fault_twins : (fault : HiveFault) (status : Status) (old new : HostState) (disk : DiskState)
       → StandFault stands (image_in files) fault → disk ≡ new_state
       → Leaves (Ends (refusal (refusals.HiveFault fault))) status old new → KeepsFiles old new → AsksNone old new
@@ -271,7 +271,7 @@ module _ (stands : Standing) (files : HiveFiles) (number : Option ℕ) (saves : 
       memory_decides (Whole disk) saves host disk (ap (λ (d : DiskState). d.on) fresh)
       (inr (inr (refl, refl, unrun disk fresh)))
 
--- the outside stopped the search for the files
+-- the environment stopped the search for the files
 pub unsaid_twin : (wanted : Result HiveFiles Refusal) (stands : Standing) (number : Option ℕ) (saves : Saves)
     (disk : DiskState) (stop : HostStop) (old new : List ℕ) → disk ≡ new_state
     → new ≡ old → (stop ≡ Write → ⊥) → EndsTwin wanted stands number saves disk (stopped_as stop) old new

@@ -28,7 +28,7 @@ pub record IsAwake (disk : DiskState) : Type 0 where
   pub no_cuts : disk.cuts ≡ 0
   pub no_faults : disk.faults ≡ 0
 
--- what is told is that of what was found on the disk, which then stands for the tree as it is to be; nothing else was done to it
+-- what is reported is that of what was found on the disk, which then stands for the tree as it is to be; nothing else was done to it
 pub record ToldOf (stands : Standing) (number : Option ℕ) (told : Told) (old new : DiskState) : Type 0 where
   pub found : Recovered
   pub tree : Tree
@@ -45,7 +45,7 @@ done_word None committed = words.Unasked
 done_word (Some number) None = words.Nothing
 done_word (Some number) (Some sequence) = words.Commit sequence
 
--- what is told of an answer; want of memory tells nothing, and nothing is said of what never comes
+-- what is reported of an answer; lack of memory reports nothing, and nothing is said of what never comes
 abbrev pub ToldBy : Option ℕ → Result Changed ChangeStop → Result Told AllocError → Type 0
 ToldBy number (Ok done) result = result ≡ Ok (record { loaded = done.loaded; mended = done.mended; word = done_word number done.committed })
 ToldBy number (Err (stops.Fault fault)) result = Unit {0}

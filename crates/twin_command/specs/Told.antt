@@ -10,11 +10,11 @@ use Rattle.twin_command.specs.declared.report.Word.{Word}
 use Rattle.twin_command.specs.declared.report.Word.TheVariants as words
 use Rattle.twin_command.specs.declared.report.Told.{Told}
 
--- whether something was mended
+-- whether something was repaired
 abbrev pub load_end : Bool → List ℕ
 load_end mended = if mended then codes " recovered\n" else codes " clean\n"
 
--- the line of the load: the sequence number, and whether something was mended
+-- the line of the load: the sequence number, and whether something was repaired
 abbrev pub load_text : ℕ → Bool → List ℕ
 load_text number mended = codes "load " ++ decimal number ++ load_end mended
 
@@ -38,7 +38,7 @@ word_of (Some number) found no_select = words.NoKey
 word_of (Some number) found too_large = words.Full
 word_of (Some number) found (changed u) = words.Commit (next_number found.base.first)
 
--- what is told of what was found and becomes of its tree
+-- what is reported of what was found and becomes of its tree
 abbrev pub told_of : Option ℕ → Recovered → Tree → Told
 told_of number found tree = record {
   loaded = found.base.first;

@@ -1,6 +1,6 @@
 -- What does `twin` do? (this project's own)
 --
--- It loads what two files stand for by one of two ways to keep a hive, mends it, changes the default set where that is asked
+-- It loads what two files stand for by one of two ways to keep a hive, repairs it, changes the default set where that is asked
 -- for, and says so.
 use Rattle.std.specs.Prelude.{◌≡◌, ◌⊎◌, ◌+◌, ◌++◌, ℕ, List, [], Option, Result, Ok, Err}
 use Rattle.nt_bytes.specs.declared.fault.HiveFault.{HiveFault}
@@ -32,7 +32,7 @@ use Rattle.command_parts.specs.Saves.{Saves, saved_count}
 use Rattle.twin_command.specs.declared.report.Told.{Told}
 use Rattle.twin_command.specs.Told.{told_text, told_of}
 
--- what the words' way to keep a hive makes of an image
+-- what the command line's way to keep a hive makes of an image
 abbrev pub stands_by : AskedScheme → Standing
 stands_by Alt = twin_of
 stands_by Log = recovered_of
@@ -41,7 +41,7 @@ stands_by Log = recovered_of
 abbrev pub SomeFound : Standing → Image → Type 0
 SomeFound stands image = (found : Recovered) × (tree : Tree) × IsFound stands image found tree
 
--- The disk afterwards: each named file was placed and so many taken, no stop was ordered and none came, and it stands for the
+-- The disk afterwards: each named file was placed and that many taken, no stop was ordered and none came, and it stands for the
 -- tree as it is to be.
 pub record IsTwinned (stands : Standing) (files : HiveFiles) (number : Option ℕ) (found : Recovered) (tree : Tree) (saved : ℕ) (disk : DiskState) : Type 0 where
   pub stands_for : (c : Image) → LeftOf disk c → StandsFor stands (after_change found tree (change_of (version_of found.base.minor) tree number)) c
@@ -52,7 +52,7 @@ pub record IsTwinned (stands : Standing) (files : HiveFiles) (number : Option �
   pub no_cuts : disk.cuts ≡ 0
   pub no_faults : disk.faults ≡ 0
 
--- what is told is that of what was found, and the disk is as it is to be
+-- what is reported is that of what was found, and the disk is as it is to be
 pub record TwinnedAs (stands : Standing) (files : HiveFiles) (number : Option ℕ) (told : Told) (disk : DiskState) : Type 0 where
   pub found : Recovered
   pub tree : Tree
@@ -64,7 +64,7 @@ pub record TwinnedAs (stands : Standing) (files : HiveFiles) (number : Option �
 abbrev pub twinned : Option ℕ → Recovered → Tree → Answer
 twinned number found tree = record { status = statuses.Done; text = told_text (told_of number found tree) }
 
--- The lines were said whole at the end, and the files saved; or a front of the lines up to a fault in saying or saving, or to want
+-- The lines were printed whole at the end, and the files saved; or a prefix of the lines up to a fault in saying or saving, or to want
 -- of memory. The disk is this afterwards.
 abbrev pub EndsTwinned : Standing → HiveFiles → Option ℕ → Saves → Recovered → Tree → DiskState → Status → List ℕ → List ℕ → Type 0
 EndsTwinned stands files number saves found tree disk statuses.Done old new =
@@ -83,21 +83,21 @@ pub record EndsFound (stands : Standing) (files : HiveFiles) (number : Option �
   pub is_found : IsFound stands (image_in files) found tree
   pub ends : EndsTwinned stands files number saves found tree disk status old new
 
--- The files have a first fault, and that is said; or they stand for something that holds a tree; or there was no memory before
--- anything was said.
+-- The files have a first fault, and that is printed; or they stand for something that holds a tree; or there was no memory before
+-- anything was printed.
 abbrev pub EndsFiles : Standing → HiveFiles → Option ℕ → Saves → DiskState → Status → List ℕ → List ℕ → Type 0
 EndsFiles stands files number saves disk status old new =
     ((fault : HiveFault) × (StandFault stands (image_in files) fault) × Ends (refusal (BadHive fault)) status old new × (disk ≡ new_state))
     ⊎ (EndsFound stands files number saves disk status old new
     ⊎ ((status ≡ statuses.Memory) × (new ≡ old) × IsUnrun disk))
 
--- the first obstacle is said, and nothing was done to the disk; or there is none, and the files decide
+-- the first obstacle is printed, and nothing was done to the disk; or there is none, and the files decide
 abbrev pub EndsTwin : Result HiveFiles Refusal → Standing → Option ℕ → Saves → DiskState → Status → List ℕ → List ℕ → Type 0
 EndsTwin (Err r) stands number saves disk status old new = Ends (refusal r) status old new × (disk ≡ new_state)
 EndsTwin (Ok files) stands number saves disk status old new =
     EndsFiles stands files number saves disk status old new ⊎ ((status ≡ statuses.ReadFault) × (new ≡ old) × (disk ≡ new_state))
 
--- the files that the words want to be saved
+-- the files that the command line wants to be saved
 abbrev pub twin_saves : TwinAsked → Saves
 twin_saves words = record { hive = words.save_hive; log = words.save_alt }
 

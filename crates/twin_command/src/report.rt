@@ -21,7 +21,7 @@ pub(crate) enum Word {
     Commit(u32),
 }
 
-/// What is said: the sequence number that was loaded, whether something was mended, and the word on the default set.
+/// What is printed: the sequence number that was loaded, whether something was repaired, and the word on the default set.
 #[derive(Clone, Copy, Debug, PartialEq, Eq)]
 pub(crate) struct Told {
     pub(crate) loaded: u32,
@@ -29,7 +29,7 @@ pub(crate) struct Told {
     pub(crate) word: Word,
 }
 
-/// Puts a text behind a line.
+/// Puts a text after a line.
 fn push_text(line: &mut Vec<u8>, text: &str) -> Result<(), AllocError>
     ensures { OnOk result (line.new.items ≡ line.old.items ++ text.now) }
 {

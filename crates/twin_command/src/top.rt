@@ -35,7 +35,7 @@ fn begin_by<H: Host, B: Bench>(
     }
 }
 
-/// Loads what two files stand for, mends it, and changes the default set where the words have a number; says so, and saves
+/// Loads what two files stand for, repairs it, and changes the default set where the command line has a number; says so, and saves
 /// the two files. Or says the first obstacle. The disk is a new one, and off afterwards.
 pub fn twin<H: Host, B: Bench>(
     alloc: Global,

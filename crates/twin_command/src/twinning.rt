@@ -48,7 +48,7 @@ fn done_word(number: Option<u32>, committed: Option<u32>) -> Word
     }
 }
 
-/// What is told of a change that was not stopped by the disk.
+/// What is reported of a change that was not stopped by the disk.
 fn told_by(number: Option<u32>, done: Result<Changed, ChangeStop>) -> Result<Told, AllocError>
     requires sound { (fault : HiveFault) → done ≡ Err (stops.Fault fault) → ⊥ }
     requires powered { IsLost done → ⊥ }

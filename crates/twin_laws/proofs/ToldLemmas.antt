@@ -1,4 +1,4 @@
--- What stands behind `twin` is what its lines tell.
+-- What stands after `twin` is what its lines tell.
 use Rattle.std.specs.Prelude.{nat_lt, codes, IfSome}
 use Rattle.std.proofs.Common.{◌≡◌, ◌++◌, inl, inr, ℕ, Bool, true, false, cond, List, Option, Some, None, Result, Ok, Err, refl, sym, ◌∙◌, ap, subst}
 use Rattle.nt_bytes.specs.declared.version.HiveVersion.{HiveVersion}

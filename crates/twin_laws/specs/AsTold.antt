@@ -38,7 +38,7 @@ with_default None tree = tree
 with_default (Some number) tree = defaulted number tree
 
 -- The state that these lines tell: the loaded tree under the number of `load`; with the default set, under the number of
--- `commit default`, where that was said.
+-- `commit default`, where that was printed.
 abbrev pub told_state : Option ℕ → Recovered → Tree → Change → HiveState
 told_state number found tree nothing = state_of tree found.base.first (version_of found.base.minor)
 told_state number found tree no_select = state_of tree found.base.first (version_of found.base.minor)
@@ -50,7 +50,7 @@ told_state number found tree (changed u) =
 abbrev pub becomes : Option ℕ → Recovered → Tree → Change
 becomes number found tree = change_of (version_of found.base.minor) tree number
 
--- The files that the words name stood for a tree, its lines were said, and the image stands for the state that they tell.
+-- The files that the command line names stood for a tree, its lines were printed, and the image stands for the state that they tell.
 pub record StandsAsTold (words : TwinAsked) (old new : HostState) (image : Image) : Type 0 where
   pub files : HiveFiles
   pub found : Recovered

@@ -1,4 +1,4 @@
-//! What the files stand for that the disk holds behind `twin`.
+//! What the files stand for that the disk holds after `twin`.
 
 ghost use Rattle.std.specs.Prelude.{◌≡◌, true, ℕ, List, Some};
 ghost use Rattle.nt_bytes.specs.declared.fault.HiveFaultKind.TheVariants.{NotRegf};
@@ -15,7 +15,7 @@ ghost use Rattle.command_parts.specs.declared.status.Status.TheVariants as statu
 ghost use Rattle.twin_command.specs.Twinned.{stands_by, DecidesTwin};
 ghost use Rattle.twin_laws.specs.AsTold.{StandsAsTold};
 
-/// Behind `twin` that ended as done, the two files that the disk holds stand together for the state that the lines tell, by the
+/// After `twin` that ended as done, the two files that the disk holds stand together for the state that the lines tell, by the
 /// scheme of the words (`held`). So do the two files that were saved, where each has its own name (`saved`). The primary's
 /// sector 0 has to be one that can be read.
 pub fn what_was_saved_stands_as_told()

@@ -1,5 +1,5 @@
 //! A cut at each sync of a commit to two copies, with each way of leaving what is in flight, and a second one at
-//! each sync of the mending behind it.
+//! each sync of the repair after it.
 
 use super::*;
 use commit_tests::{Bins, Change, Order, is_size};
@@ -14,7 +14,7 @@ use std::test::Fail;
 const KEEPS: [Keep; 4] = [Keep::Nothing, Keep::Everything, Keep::OddOnes, Keep::Torn];
 
 /// A change of one bin's second sector, cut at this sync. Answers the disk, the number and the bins data that the start
-/// behind it finds.
+/// after it finds.
 fn cut_at(
     rt: &impl Abort,
     alloc: Global,
@@ -59,7 +59,7 @@ fn a_cut_at_a_sync_leaves_the_old_or_the_new(rt: HostRuntime) -> Result<(), Fail
     Ok(())
 }
 
-/// Cuts the mending at this sync, behind a commit that was torn.
+/// Cuts the repair at this sync, after a commit that was torn.
 fn cut_again(
     rt: &impl Abort,
     alloc: Global,
@@ -80,7 +80,7 @@ fn cut_again(
     Ok(())
 }
 
-/// The second copy is mended by three syncs, the primary by two.
+/// The second copy is repaired by three syncs, the primary by two.
 #[test]
 fn a_second_cut_leaves_what_was_found(rt: HostRuntime) -> Result<(), Fail> {
     let change = Change::new(rt.alloc(), 1, 1)?;

@@ -30,7 +30,7 @@ pub fn restart<B: Bench>(alloc: Global, bench: &mut B) -> Result<Recovered, Load
     TwinScheme::look(alloc, bench)
 }
 
-/// Turns the disk off, if it is on, and on again, mends it with a stop ordered, and answers the stop that came and
+/// Turns the disk off, if it is on, and on again, repairs it with a stop ordered, and answers the stop that came and
 /// what the start after it finds.
 pub fn mend_with<B: Bench>(
     alloc: Global,

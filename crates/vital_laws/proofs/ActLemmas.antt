@@ -93,7 +93,7 @@ due-told vital s f m next told e n =
 
 -- ---- an attempt
 
--- what an attempt leaves is what its line tells
+-- what an attempt leaves is what its line reports
 record IsTried (vital : List (List ℕ)) (f : Who) (one : MachineState × Tried) : Type 0 where
   told : IsTold (after f (try_line one.1)) one.0.start
   kept : one.0.vital ≡ vital

@@ -50,7 +50,7 @@ record Parts (r q : RunResult) : Type 0 where
 abbrev Alike : RunResult → RunResult → Type 0
 Alike r q = Passes r q ⊎ Parts r q
 
--- behind the same lines and notes
+-- after the same lines and notes
 behind-alike : (ls : List Line) (ns : List Note) (r q : RunResult) → says_missing ls ≡ false → Alike r q
     → Alike (behind ls ns r) (behind ls ns q)
 behind-alike ls ns r q none (inl p) = inl (record {

@@ -72,7 +72,7 @@ asked_before (events.Arm arming ∷ es) names name = asked_before es names name
 abbrev Apart : List ℕ → List ℕ → Type 0
 Apart a b = folds_same a b ≡ false
 
--- each name is apart from those behind it
+-- each name is apart from those after it
 abbrev AreApart : List (List ℕ) → Type 0
 AreApart [] = Unit {0}
 AreApart (x ∷ names) = AllByRecursion (Apart x) names × AreApart names

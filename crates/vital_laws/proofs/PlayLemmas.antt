@@ -37,7 +37,7 @@ nil_split : (before : List Line) (l : Line) (more : List Line) → [] ≡ before
 nil_split [] l more e = cc
 nil_split (b ∷ before) l more e = cc
 
--- each line that was said is fair behind those before it
+-- each line that was printed is fair after those before it
 pub play-fair : (act : Act) (vital : List (List ℕ)) (f : Who) → Tells vital f act → (w : List Woken) (o : List Outcome)
     (before : List Line) (l : Line) (more : List Line) → (play act w o).lines ≡ before ++ l ∷ more
     → IsFair vital (after_all f before) l
@@ -57,7 +57,7 @@ play-fair (acts.wake disk next) vital f tells (one ∷ w) o before l more e =
     play-fair (next one) vital f (tells one) w o before l more e
 play-fair (acts.mark note act) vital f tells w o before l more e = play-fair act vital f tells w o before l more e
 
--- the state that was reached is told by the lines
+-- the state that was reached is known from the lines
 pub play-at : (act : Act) (vital : List (List ℕ)) (f : Who) → Tells vital f act → (w : List Woken) (o : List Outcome)
     (m : RunState) (ws : List Woken) (os : List Outcome) → (play act w o).rest ≡ Some (m, ws, os)
     → IsAt vital (after_all f (play act w o).lines) m
@@ -147,7 +147,7 @@ part-vital choice es m wakes outcomes n w o is =
 pub first-at : (placed : Woken) → IsAt [] nobody (first_state placed)
 first-at placed = (tt, refl)
 
--- what an event says behind the events of a script
+-- what an event says after the events of a script
 pub line-fair : (choice : Option ℕ → Choice) (script : List Event) (e : Event) (placed : Woken) (wakes : List Woken)
     (outcomes : List Outcome) (m : RunState) (w : List Woken) (o : List Outcome) (before : List Line) (l : Line)
     (more : List Line) → (part_of choice script (first_state placed) wakes outcomes).rest ≡ Some (m, w, o)

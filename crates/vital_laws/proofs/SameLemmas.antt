@@ -33,7 +33,7 @@ abbrev pub Unless : Bool → Type 0 → Type 0
 Unless true P = Unit {0}
 Unless false P = P
 
--- the second act does what the first does, with nothing vital; behind a line of a missing name it may do anything
+-- the second act does what the first does, with nothing vital; after a line of a missing name it may do anything
 abbrev pub Same : Act → Act → Type 0
 Same (acts.done m) b = b ≡ acts.done (bare m)
 Same (acts.say l a) b = Unless (is_missing_line l) ((c : Act) × ((b ≡ acts.say l c) × Same a c))

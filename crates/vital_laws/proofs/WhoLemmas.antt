@@ -120,7 +120,7 @@ missing_each started all (name ∷ vital) f told within =
     by_test true is rest = rest
     by_test false is rest = ((within.0, sym (told name) ∙ is), rest)
 
--- only behind the boot phase comes the system phase
+-- only after the boot phase comes the system phase
 is_boot_before : (phase : Phase) → phase_after phase ≡ System → is_boot phase ≡ true
 is_boot_before Boot e = refl
 is_boot_before System e = absurd cc

@@ -9,7 +9,7 @@ abbrev pub asks_for : List ℕ → Event → Bool
 asks_for name (Vital other) = folds_same name other
 asks_for name e = false
 
--- the vital names behind these events, where those were vital before
+-- the vital names after these events, where those were vital before
 abbrev pub vital_behind : List (List ℕ) → List Event → List (List ℕ)
 vital_behind names [] = names
 vital_behind names (Vital name ∷ es) = vital_behind (with_vital names name) es

@@ -18,8 +18,8 @@ ghost use Rattle.run_laws.specs.Parts.{part_of};
 ghost use Rattle.vital_laws.specs.Asked.{vital_behind};
 ghost use Rattle.vital_laws.specs.Told.{started_by};
 
-/// Behind the events of a script one more is played. Where it says that the system phase begins, each name that was vital
-/// then had a good attempt in this start, by the lines before. Where it says that a vital name is missing, that is one of
+/// After the events of a script one more is played. Where it prints that the system phase begins, each name that was vital
+/// then had a good attempt in this start, by the lines before. Where it prints that a vital name is missing, that is one of
 /// those, and had none.
 pub fn no_start_passes_its_boot_phase_without_a_vital_name()
     ensures passed { (choice : Option ℕ → Choice) (script : List events.Event) (e : events.Event) (placed : Woken) (wakes : List Woken)
@@ -37,7 +37,7 @@ pub fn no_start_passes_its_boot_phase_without_a_vital_name()
 {}
 
 /// Where every vital name was started, and in each later phase, the phase ends as if none were vital. Else each vital
-/// name that was not started is said, in their order, and the start stops.
+/// name that was not started is printed, in their order, and the start stops.
 pub fn a_phase_goes_on_where_nothing_vital_is_missing()
     ensures goes_on { (s : Start) (m : RunState) (next : RunState → Act) → All (λ name. has_name s.started name ≡ true) m.machine.vital
         → phase_step s m next ≡ say_all (map UnmetLine (unmet_in s)) (phase_begun s m next) }

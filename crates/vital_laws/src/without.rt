@@ -11,7 +11,7 @@ ghost use Rattle.start_model.specs.Run.{run_of};
 ghost use Rattle.vital_laws.specs.Without.{without_vital, is_missing_line};
 
 /// Where no line says that a vital name is missing, the script without its `vital` lines says the same, and does the same
-/// to the disk. Else what it says begins with all that stands before the first such line. Whatever the disk wakes up
+/// to the disk. Else what it prints begins with all that stands before the first such line. Whatever the disk wakes up
 /// with and however its operations end.
 pub fn a_script_whose_starts_pass_reads_the_same_without_vital_lines()
     ensures lines { (choice : Option ℕ → Choice) (script : List events.Event) (placed : Woken) (wakes : List Woken) (outcomes : List Outcome)

@@ -193,7 +193,7 @@ fn every_command_is_read(rt: HostRuntime) -> Result<(), Fail> {
     script_is_read(&rt, rt.alloc())
 }
 
-/// So many lines `boot`.
+/// That many lines `boot`.
 fn starts(alloc: Global, count: u32) -> Result<Vec<u8>, Fail> {
     let mut text = Vec::new(alloc);
     for _ in 0..count {

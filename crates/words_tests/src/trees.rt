@@ -101,7 +101,7 @@ fn values_stand_before_children(rt: HostRuntime) -> Result<(), Fail> {
     Ok(check_family(&rt, rt.alloc())?)
 }
 
-/// A key with one child, which has one child, and so on: so many levels, each named `A`.
+/// A key with one child, which has one child, and so on: that many levels, each named `A`.
 fn chain(alloc: Global, levels: u32) -> Result<Key, AllocError> {
     let mut top = key(alloc, &[0x41], Values::new(alloc), Keys::new(alloc))?;
     for _ in 1..levels {
@@ -112,7 +112,7 @@ fn chain(alloc: Global, levels: u32) -> Result<Key, AllocError> {
     Ok(top)
 }
 
-/// The 512 lines have two bytes each behind margins of 0, 2, 4, .. 1022 bytes.
+/// The 512 lines have two bytes each after margins of 0, 2, 4, .. 1022 bytes.
 fn check_chain(rt: &impl Abort, alloc: Global) -> Result<(), AllocError> {
     let text = tree_text(alloc, &chain(alloc, 512)?)?;
     assert_eq!(rt; text.len(), 262_656);
