@@ -1,3 +1,5 @@
+pub mod FewerLemmas
 pub mod LawLemmas
 pub mod SplitLemmas
 pub mod ValueLemmas
+pub mod VerboseLemmas

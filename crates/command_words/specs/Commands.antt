@@ -9,8 +9,8 @@ use Rattle.command_words.specs.declared.table.Takes.{Takes}
 use Rattle.command_words.specs.declared.table.Takes.TheVariants as takes
 use Rattle.command_words.specs.Words.{Text, Asked, Reason, missing, bad_value, usual_system}
 use Rattle.command_words.specs.Words.{run, show, make, safe, control, twin, export, import}
-use Rattle.command_words.specs.Words.{key, replay}
-use Rattle.command_words.specs.Table.{OptionRow, count_of, depth_of, set_number_of}
+use Rattle.command_words.specs.Words.{key, replay, check, whatif, salvage}
+use Rattle.command_words.specs.Table.{OptionRow, count_of, depth_of, mode_of, set_number_of}
 use Rattle.command_words.specs.Walk.{and_then, no_values}
 
 -- ---- the options
@@ -27,47 +27,67 @@ any name = row name takes.Any
 abbrev pub system_row : OptionRow
 system_row = row (codes "--system") takes.System
 
--- the flag of a command whose lines can be JSON
-abbrev pub json_flag : List OptionRow
-json_flag = row (codes "--json") takes.Flag ∷ []
+-- an option without a value
+abbrev pub flag : Text → OptionRow
+flag name = row name takes.Flag
+
+-- the flag of every command: whether the reason of a refusal is to be printed
+abbrev pub flags : List OptionRow
+flags = flag (codes "--verbose") ∷ []
+
+-- the same of a command whose lines can be JSON
+abbrev pub json_flags : List OptionRow
+json_flags = flag (codes "--json") ∷ flags
 
 abbrev pub run_options : List OptionRow
 run_options =
     any (codes "--hive") ∷ any (codes "--script") ∷ any (codes "--log") ∷ any (codes "--boot-ini") ∷ system_row
-    ∷ any (codes "--save-hive") ∷ any (codes "--save-log") ∷ []
+    ∷ any (codes "--save-hive") ∷ any (codes "--save-log") ∷ flags
 
 abbrev pub show_options : List OptionRow
-show_options = any (codes "--hive") ∷ any (codes "--log") ∷ []
+show_options = any (codes "--hive") ∷ any (codes "--log") ∷ flags
 
 abbrev pub make_options : List OptionRow
-make_options = row (codes "N") takes.Count ∷ any (codes "--save-hive") ∷ []
+make_options = row (codes "N") takes.Count ∷ any (codes "--save-hive") ∷ flags
 
 abbrev pub safe_options : List OptionRow
-safe_options = any (codes "--hive") ∷ any (codes "--log") ∷ any (codes "--boot-ini") ∷ system_row ∷ []
+safe_options =
+    any (codes "--hive") ∷ any (codes "--log") ∷ any (codes "--boot-ini") ∷ system_row
+    ∷ row (codes "--mode") takes.Mode ∷ flag (codes "--images") ∷ json_flags
 
 abbrev pub control_options : List OptionRow
-control_options = any (codes "--hive") ∷ any (codes "--log") ∷ any (codes "--commands") ∷ []
+control_options = any (codes "--hive") ∷ any (codes "--log") ∷ any (codes "--commands") ∷ flags
 
 abbrev pub twin_options : List OptionRow
 twin_options =
     any (codes "--hive") ∷ any (codes "--alt") ∷ row (codes "--scheme") takes.Scheme ∷ row (codes "--default") takes.SetNumber
-    ∷ any (codes "--save-hive") ∷ any (codes "--save-alt") ∷ []
+    ∷ any (codes "--save-hive") ∷ any (codes "--save-alt") ∷ flags
 
 abbrev pub export_options : List OptionRow
-export_options = any (codes "--hive") ∷ any (codes "--log") ∷ any (codes "--reg") ∷ any (codes "--key") ∷ []
+export_options = any (codes "--hive") ∷ any (codes "--log") ∷ any (codes "--reg") ∷ any (codes "--key") ∷ flags
 
 abbrev pub import_options : List OptionRow
 import_options =
-    any (codes "--hive") ∷ any (codes "--log") ∷ any (codes "--reg") ∷ any (codes "--save-hive") ∷ any (codes "--save-log") ∷ []
+    any (codes "--hive") ∷ any (codes "--log") ∷ any (codes "--reg") ∷ any (codes "--save-hive") ∷ any (codes "--save-log")
+    ∷ flags
 
 abbrev pub key_options : List OptionRow
 key_options =
     any (codes "--hive") ∷ any (codes "--log")
-    ∷ any (codes "--key") ∷ row (codes "--depth") takes.Depth ∷ row (codes "--security") takes.Flag ∷ json_flag
+    ∷ any (codes "--key") ∷ row (codes "--depth") takes.Depth ∷ flag (codes "--security") ∷ json_flags
 
 abbrev pub replay_options : List OptionRow
 replay_options =
-    any (codes "--hive") ∷ any (codes "--log") ∷ any (codes "--log1") ∷ any (codes "--log2") ∷ any (codes "--save-hive") ∷ json_flag
+    any (codes "--hive") ∷ any (codes "--log") ∷ any (codes "--log1") ∷ any (codes "--log2") ∷ any (codes "--save-hive") ∷ json_flags
+
+abbrev pub check_options : List OptionRow
+check_options = any (codes "--hive") ∷ any (codes "--log") ∷ row (codes "--set") takes.SetNumber ∷ flag (codes "--order") ∷ json_flags
+
+abbrev pub whatif_options : List OptionRow
+whatif_options = any (codes "--hive") ∷ any (codes "--log") ∷ any (codes "--boot-ini") ∷ system_row ∷ any (codes "--of") ∷ json_flags
+
+abbrev pub salvage_options : List OptionRow
+salvage_options = any (codes "--hive") ∷ any (codes "--log") ∷ any (codes "--save-hive") ∷ json_flags
 
 -- a command: its name, and what it takes
 pub record CommandRow : Type 0 where
@@ -88,6 +108,9 @@ commands =
     ∷ record { name = codes "import"; command = names.Import; options = import_options }
     ∷ record { name = codes "key"; command = names.Key; options = key_options }
     ∷ record { name = codes "replay"; command = names.Replay; options = replay_options }
+    ∷ record { name = codes "check"; command = names.Check; options = check_options }
+    ∷ record { name = codes "whatif"; command = names.Whatif; options = whatif_options }
+    ∷ record { name = codes "salvage"; command = names.Salvage; options = salvage_options }
     ∷ []
 
 -- each of the command's options has a place among the values
@@ -116,6 +139,10 @@ needed_in look name = needed name (look name)
 -- the system that is named, or the usual one
 abbrev pub system_in : Look → Text
 system_in look = unwrap_or (look (codes "--system")) usual_system
+
+-- whether the flag is given
+abbrev pub flag_in : Look → Text → Bool
+flag_in look name = is_some (look name)
 
 -- what the values ask of `run`
 abbrev pub run_by : Look → Result Asked Reason
@@ -152,6 +179,8 @@ safe_by look = and_then (needed_in look (codes "--hive")) (λ hive. Ok (safe (re
   log = look (codes "--log");
   boot_ini = look (codes "--boot-ini");
   system = system_in look;
+  mode = option_and_then mode_of (look (codes "--mode"));
+  images = flag_in look (codes "--images");
 })))
 
 -- what the values ask of `control`
@@ -194,10 +223,6 @@ import_by look = and_then (needed_in look (codes "--hive")) (λ hive. and_then (
   save_log = look (codes "--save-log");
 }))))
 
--- whether the flag is given
-abbrev pub flag_in : Look → Text → Bool
-flag_in look name = is_some (look name)
-
 -- the number of levels, none where it isn't said
 abbrev pub levels_in : Look → ℕ
 levels_in look = unwrap_or (option_and_then depth_of (look (codes "--depth"))) 0
@@ -222,6 +247,33 @@ replay_by look = and_then (needed_in look (codes "--hive")) (λ hive. Ok (replay
   save_hive = look (codes "--save-hive");
 })))
 
+-- what the values ask of `check`
+abbrev pub check_by : Look → Result Asked Reason
+check_by look = and_then (needed_in look (codes "--hive")) (λ hive. Ok (check (record {
+  hive = hive;
+  log = look (codes "--log");
+  set = set_in look (codes "--set");
+  order = flag_in look (codes "--order");
+})))
+
+-- what the values ask of `whatif`
+abbrev pub whatif_by : Look → Result Asked Reason
+whatif_by look = and_then (needed_in look (codes "--hive")) (λ hive. Ok (whatif (record {
+  hive = hive;
+  log = look (codes "--log");
+  boot_ini = look (codes "--boot-ini");
+  system = system_in look;
+  of = look (codes "--of");
+})))
+
+-- what the values ask of `salvage`
+abbrev pub salvage_by : Look → Result Asked Reason
+salvage_by look = and_then (needed_in look (codes "--hive")) (λ hive. Ok (salvage (record {
+  hive = hive;
+  log = look (codes "--log");
+  save_hive = look (codes "--save-hive");
+})))
+
 -- what the values ask of the command
 abbrev pub asks_of : CommandName → Look → Result Asked Reason
 asks_of names.Run look = run_by look
@@ -234,3 +286,6 @@ asks_of names.Export look = export_by look
 asks_of names.Import look = import_by look
 asks_of names.Key look = key_by look
 asks_of names.Replay look = replay_by look
+asks_of names.Check look = check_by look
+asks_of names.Whatif look = whatif_by look
+asks_of names.Salvage look = salvage_by look

@@ -4,4 +4,5 @@ pub mod Walk
 pub mod Commands
 pub mod Reading
 pub mod Laws
+pub mod Reasons
 pub mod Views

@@ -2,7 +2,7 @@
 --
 -- The first word is the command. `help`, `--help` and `-h` ask for help, `version` and `--version` for the version. After a command
 -- `--help` or `-h` asks for the command's page, whatever the other words are.
-use Rattle.std.specs.Prelude.{Bool, ◌||◌, false, List, [], ◌∷◌, Option, Some, None, is_some, codes, Result, Ok, Err, bytes_eq, if◌then◌else◌}
+use Rattle.std.specs.Prelude.{Bool, ◌||◌, false, List, [], ◌∷◌, Option, Some, None, codes, Result, Ok, Err, bytes_eq, if◌then◌else◌}
 use Rattle.std.specs.Prelude.{option_map}
 use Rattle.std.specs.List.{list_any}
 use Rattle.command_words.specs.declared.asked.Page.{Page}
@@ -18,6 +18,20 @@ is_help word = bytes_eq word (codes "--help") || bytes_eq word (codes "-h")
 -- one of the words asks for help
 abbrev pub asks_help : List Text → Bool
 asks_help words = list_any is_help words
+
+-- the word asks for the reason of a refusal
+abbrev pub is_verbose : Text → Bool
+is_verbose word = bytes_eq word (codes "-v") || bytes_eq word (codes "--verbose")
+
+-- the first word asks for help or the version
+abbrev pub is_about : Text → Bool
+is_about first = is_help first || (bytes_eq first (codes "help") || (bytes_eq first (codes "version") || bytes_eq first (codes "--version")))
+
+-- whether the reason of a refusal is to be printed: a word after the first asks for it, also where the words cannot be parsed;
+-- but never where help or the version is asked for
+unfoldable pub wants_reason : List Text → Bool
+wants_reason [] = false
+wants_reason (first ∷ words) = if is_about first then false else list_any is_verbose words
 
 -- the page of a command
 abbrev pub page_of_row : CommandRow → Page

@@ -1,14 +1,16 @@
 -- Which options does a command have, and which values do they take? (this project's own)
 use Rattle.std.specs.Prelude.{ℕ, ◌&&◌, ◌||◌, ◌+◌, Bool, true, false, List, [], ◌∷◌, Option, Some, None, is_some, codes}
-use Rattle.std.specs.Prelude.{if◌then◌else◌, length, nat_le, bytes_eq, is_ok}
+use Rattle.std.specs.Prelude.{if◌then◌else◌, length, nat_le, bytes_eq, is_ok, option_map}
 use Rattle.std.specs.Str.Parse.{digits_value}
 use Rattle.nt_bytes.specs.Text.{is_digits}
 use Rattle.arc_path.specs.Reading.{arc_of}
+use Rattle.command_words.specs.declared.asked.AskedMode.{AskedMode}
+use Rattle.command_words.specs.declared.asked.AskedMode.TheVariants.{Minimal, Network}
 use Rattle.command_words.specs.declared.table.Takes.{Takes}
 use Rattle.command_words.specs.declared.table.Takes.TheVariants as takes
 use Rattle.command_words.specs.Words.{Text}
 
--- an option by its name with the hyphens, or the word without an option by `N` or `NAME`, and the values that it takes
+-- an option by its name with the hyphens, or the word without an option by `N`, and the values that it takes
 pub record OptionRow : Type 0 where
   pub name : Text
   pub takes : Takes
@@ -36,6 +38,11 @@ set_number_of text = number_of 3 1 999 text
 abbrev pub depth_of : Text → Option ℕ
 depth_of text = number_of 3 0 999 text
 
+-- the mode of a start in safe mode that the text names
+abbrev pub mode_of : Text → Option AskedMode
+mode_of text =
+    if bytes_eq text (codes "minimal") then Some Minimal else if bytes_eq text (codes "network") then Some Network else None
+
 -- the text is the one or the other
 abbrev pub is_either : Text → Text → Text → Bool
 is_either one other text = bytes_eq text one || bytes_eq text other
@@ -49,6 +56,7 @@ accepts takes.System text = is_ok (arc_of text)
 accepts takes.Scheme text = is_either (codes "alt") (codes "log") text
 accepts takes.SetNumber text = is_some (set_number_of text)
 accepts takes.Depth text = is_some (depth_of text)
+accepts takes.Mode text = is_some (mode_of text)
 
 -- no value is taken
 abbrev pub is_flag : Takes → Bool
@@ -59,6 +67,7 @@ is_flag takes.System = false
 is_flag takes.Scheme = false
 is_flag takes.SetNumber = false
 is_flag takes.Depth = false
+is_flag takes.Mode = false
 
 -- the value is a word without an option
 abbrev pub is_free : Takes → Bool
@@ -69,6 +78,7 @@ is_free takes.System = false
 is_free takes.Scheme = false
 is_free takes.SetNumber = false
 is_free takes.Depth = false
+is_free takes.Mode = false
 
 -- the first row that passes, with its place; the first of these rows has this place
 abbrev pub known_from : ℕ → (OptionRow → Bool) → List OptionRow → Option Known

@@ -2,11 +2,11 @@
 use Rattle.std.specs.Borrow.{Bor}
 use Rattle.std.specs.Prelude.{◌≡◌, ℕ, List, Bool, Option, Result, Ok, Err, map, option_map}
 use Rattle.command_words.specs.Words.{Asked, Reason, RunAsked, ShowAsked, MakeAsked, SafeAsked, ControlAsked, TwinAsked, ExportAsked, ImportAsked}
-use Rattle.command_words.specs.Words.{KeyAsked, ReplayAsked}
+use Rattle.command_words.specs.Words.{KeyAsked, ReplayAsked, CheckAsked, WhatifAsked, SalvageAsked}
 use Rattle.command_words.specs.Words.{Reading, help, version, asks, refused}
 use Rattle.command_words.specs.Words.{unknown_command, left_over, bad_value, unknown_option, twice, no_value, missing}
 use Rattle.command_words.specs.Words.{run, show, make, safe, control, twin, export, import}
-use Rattle.command_words.specs.Words.{key, replay}
+use Rattle.command_words.specs.Words.{key, replay, check, whatif, salvage}
 use Rattle.command_words.specs.declared.asked.Command.{Command}
 use Rattle.command_words.specs.declared.asked.Command.TheVariants as commands
 use Rattle.command_words.specs.declared.asked.Command.TheVariants.{Run, Show, Make, Safe, Control, Twin, Export, Import}
@@ -20,6 +20,9 @@ use Rattle.command_words.specs.declared.asked.ExportWords.{ExportWords}
 use Rattle.command_words.specs.declared.asked.ImportWords.{ImportWords}
 use Rattle.command_words.specs.declared.asked.KeyWords.{KeyWords}
 use Rattle.command_words.specs.declared.asked.ReplayWords.{ReplayWords}
+use Rattle.command_words.specs.declared.asked.CheckWords.{CheckWords}
+use Rattle.command_words.specs.declared.asked.WhatifWords.{WhatifWords}
+use Rattle.command_words.specs.declared.asked.SalvageWords.{SalvageWords}
 use Rattle.command_words.specs.declared.reason.Reason.{Reason as CodeReason}
 use Rattle.command_words.specs.declared.reason.Reason.TheVariants as reasons
 use Rattle.command_words.specs.declared.asked.Reading.{Reading as CodeReading}
@@ -60,6 +63,8 @@ safe_seen s = record {
   log = option_map (λ t. t.now) s.log;
   boot_ini = option_map (λ t. t.now) s.boot_ini;
   system = s.system.now;
+  mode = s.mode;
+  images = s.images;
 }
 
 -- what `control` is asked for, seen so
@@ -116,6 +121,28 @@ replay_seen w = record {
   save_hive = option_map (λ t. t.now) w.save_hive;
 }
 
+-- what `check` is asked for, seen so
+abbrev pub check_seen : CheckWords → CheckAsked
+check_seen w = record { hive = w.hive.now; log = option_map (λ t. t.now) w.log; set = w.set; order = w.order }
+
+-- what `whatif` is asked for, seen so
+abbrev pub whatif_seen : WhatifWords → WhatifAsked
+whatif_seen w = record {
+  hive = w.hive.now;
+  log = option_map (λ t. t.now) w.log;
+  boot_ini = option_map (λ t. t.now) w.boot_ini;
+  system = w.system.now;
+  of = option_map (λ t. t.now) w.of;
+}
+
+-- what `salvage` is asked for, seen so
+abbrev pub salvage_seen : SalvageWords → SalvageAsked
+salvage_seen w = record {
+  hive = w.hive.now;
+  log = option_map (λ t. t.now) w.log;
+  save_hive = option_map (λ t. t.now) w.save_hive;
+}
+
 -- the command seen so
 abbrev pub command_seen : Command → Asked
 command_seen (Run r) = run (run_seen r)
@@ -128,6 +155,9 @@ command_seen (Export e) = export (export_seen e)
 command_seen (Import i) = import (import_seen i)
 command_seen (commands.Key w) = key (key_seen w)
 command_seen (commands.Replay w) = replay (replay_seen w)
+command_seen (commands.Check w) = check (check_seen w)
+command_seen (commands.Whatif w) = whatif (whatif_seen w)
+command_seen (commands.Salvage w) = salvage (salvage_seen w)
 
 -- a reason, as the texts after the references
 abbrev pub reason_seen : CodeReason → Reason

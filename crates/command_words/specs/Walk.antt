@@ -35,9 +35,13 @@ abbrev pub attached_in : Text → Option Text
 attached_in [] = None
 attached_in (c ∷ text) = if is_equals c then Some text else attached_in text
 
--- the option's name, up to the first `=`
+-- the name of an option by the way it is written: `-v` is `--verbose`
+abbrev pub long_name : Text → Text
+long_name name = if bytes_eq name (codes "-v") then codes "--verbose" else name
+
+-- the option's name, which is written up to the first `=`
 abbrev pub name_in : Text → Text
-name_in word = before_first is_equals word
+name_in word = long_name (before_first is_equals word)
 
 -- with this value at its place
 abbrev pub with_value : Values → Known → Text → State

@@ -1,5 +1,6 @@
 -- What the words of the command line can ask for. This project's own.
 use Rattle.std.specs.Prelude.{ℕ, ◌==◌, Bool, true, false, List, [], ◌∷◌, Option, codes}
+use Rattle.command_words.specs.declared.asked.AskedMode.{AskedMode}
 use Rattle.command_words.specs.declared.asked.AskedScheme.{AskedScheme}
 use Rattle.command_words.specs.declared.asked.Page.{Page}
 
@@ -47,12 +48,15 @@ pub record MakeAsked : Type 0 where
   pub count : ℕ
   pub save_hive : Option Text
 
--- what `safe` is asked for: the names of the files, and the ARC path of the system
+-- what `safe` is asked for: the names of the files, the ARC path of the system, the mode where one is named, and whether drivers
+-- are listed by their images too
 pub record SafeAsked : Type 0 where
   pub hive : Text
   pub log : Option Text
   pub boot_ini : Option Text
   pub system : Text
+  pub mode : Option AskedMode
+  pub images : Bool
 
 -- what `control` is asked for
 pub record ControlAsked : Type 0 where
@@ -100,6 +104,27 @@ pub record ReplayAsked : Type 0 where
   pub log2 : Option Text
   pub save_hive : Option Text
 
+-- what `check` is asked for: the names of the files, the number of a set, and whether what hangs on the order of a start is judged
+pub record CheckAsked : Type 0 where
+  pub hive : Text
+  pub log : Option Text
+  pub set : Option ℕ
+  pub order : Bool
+
+-- what `whatif` is asked for: the names of the files, the ARC path of the system, and the name of an entry as it was given
+pub record WhatifAsked : Type 0 where
+  pub hive : Text
+  pub log : Option Text
+  pub boot_ini : Option Text
+  pub system : Text
+  pub of : Option Text
+
+-- what `salvage` is asked for: the names of the files, and whether keys are found by the parent that they state
+pub record SalvageAsked : Type 0 where
+  pub hive : Text
+  pub log : Option Text
+  pub save_hive : Option Text
+
 -- what is asked for
 pub data Asked : Type 0 where
   run : RunAsked → Asked
@@ -112,6 +137,9 @@ pub data Asked : Type 0 where
   import : ImportAsked → Asked
   key : KeyAsked → Asked
   replay : ReplayAsked → Asked
+  check : CheckAsked → Asked
+  whatif : WhatifAsked → Asked
+  salvage : SalvageAsked → Asked
 
 -- why words cannot be parsed; an option is named with its hyphens
 pub data Reason : Type 0 where

@@ -33,7 +33,15 @@ pub struct MakeWords<'a> {
     pub save_hive: Option<&'a str>,
 }
 
-/// What `safe` is asked for: the names of the files that it reads, and the ARC path of the system.
+/// A mode of a start in safe mode.
+#[derive(Clone, Copy, Debug, PartialEq, Eq)]
+pub enum AskedMode {
+    Minimal,
+    Network,
+}
+
+/// What `safe` is asked for: the names of the files that it reads, the ARC path of the system, the mode where one is named, and
+/// whether drivers are listed by their images too.
 ///
 /// That the path is one is for the caller to judge.
 #[derive(Clone, Copy, Debug, PartialEq, Eq)]
@@ -42,6 +50,8 @@ pub struct SafeWords<'a> {
     pub log: Option<&'a str>,
     pub boot_ini: Option<&'a str>,
     pub system: &'a str,
+    pub mode: Option<AskedMode>,
+    pub images: bool,
 }
 
 /// What `control` is asked for: the names of the files that it reads.
@@ -109,6 +119,38 @@ pub struct ReplayWords<'a> {
     pub save_hive: Option<&'a str>,
 }
 
+/// What `check` is asked for: the names of the files that it reads, the number of a set, from 1 to 999, and whether what hangs on
+/// the order of a start is judged too.
+#[derive(Clone, Copy, Debug, PartialEq, Eq)]
+pub struct CheckWords<'a> {
+    pub hive: &'a str,
+    pub log: Option<&'a str>,
+    pub set: Option<u32>,
+    pub order: bool,
+}
+
+/// What `whatif` is asked for: the names of the files that it reads, the ARC path of the system, and the name of an entry as it was
+/// given.
+///
+/// That the path is one is for the caller to judge.
+#[derive(Clone, Copy, Debug, PartialEq, Eq)]
+pub struct WhatifWords<'a> {
+    pub hive: &'a str,
+    pub log: Option<&'a str>,
+    pub boot_ini: Option<&'a str>,
+    pub system: &'a str,
+    pub of: Option<&'a str>,
+}
+
+/// What `salvage` is asked for: the names of the files that it reads and saves, and whether keys are found by the parent that they
+/// state.
+#[derive(Clone, Copy, Debug, PartialEq, Eq)]
+pub struct SalvageWords<'a> {
+    pub hive: &'a str,
+    pub log: Option<&'a str>,
+    pub save_hive: Option<&'a str>,
+}
+
 /// A command by its name.
 #[derive(Clone, Copy, Debug, PartialEq, Eq)]
 pub enum CommandName {
@@ -122,6 +164,9 @@ pub enum CommandName {
     Import,
     Key,
     Replay,
+    Check,
+    Whatif,
+    Salvage,
 }
 
 /// A page of help: of all commands, of one, of `help`, of `version`, or of a topic.
@@ -149,6 +194,9 @@ pub enum Command<'a> {
     Import(ImportWords<'a>),
     Key(KeyWords<'a>),
     Replay(ReplayWords<'a>),
+    Check(CheckWords<'a>),
+    Whatif(WhatifWords<'a>),
+    Salvage(SalvageWords<'a>),
 }
 
 /// What words are read as.

@@ -1,18 +1,19 @@
 //! What the values of a command's options ask for.
 
 ghost use Rattle.std.specs.Prelude.{◌≡◌, codes, option_and_then, option_map, Some};
-ghost use Rattle.command_words.specs.Table.{count_of, depth_of};
+ghost use Rattle.command_words.specs.Table.{count_of, depth_of, mode_of};
 ghost use Rattle.command_words.specs.Commands.{needed_in, system_in, set_in, scheme_of, counted, asks_of};
 ghost use Rattle.command_words.specs.Commands.{run_by, show_by, make_by, safe_by, control_by, twin_by, export_by, import_by};
 ghost use Rattle.command_words.specs.Commands.{flag_in, levels_in};
-ghost use Rattle.command_words.specs.Commands.{key_by, replay_by};
+ghost use Rattle.command_words.specs.Commands.{key_by, replay_by, check_by, whatif_by, salvage_by};
 ghost use Rattle.command_words.specs.Views.{Sees, command_seen, look_of};
 
 use crate::asked::{
-    AskedScheme, Command, CommandName, ControlWords, ExportWords, ImportWords, KeyWords, MakeWords,
-    ReplayWords, RunWords, SafeWords, ShowWords, TwinWords, USUAL_SYSTEM,
+    AskedMode, AskedScheme, CheckWords, Command, CommandName, ControlWords, ExportWords,
+    ImportWords, KeyWords, MakeWords, ReplayWords, RunWords, SafeWords, SalvageWords, ShowWords,
+    TwinWords, USUAL_SYSTEM, WhatifWords,
 };
-use crate::count::{count_in, depth_in, set_number_in};
+use crate::count::{count_in, depth_in, mode_named, set_number_in};
 use crate::reason::Reason;
 use crate::table::{CommandOption, option_named};
 use crate::walk::{Values, value_at};
@@ -63,6 +64,13 @@ fn set_number<'a>(given: &Given<'a>, name: &str) -> Option<u32>
     }
 }
 
+/// Whether the flag is given.
+pub fn flag<'a>(given: &Given<'a>, name: &str) -> bool
+    ensures { result ≡ flag_in (look_of given.now) name.now }
+{
+    value(given, name).is_some()
+}
+
 fn run_words<'a>(given: &Given<'a>) -> Result<Command<'a>, Reason<'a>>
     ensures { Sees command_seen result (run_by (look_of given.now)) }
 {
@@ -109,6 +117,16 @@ fn make_words<'a>(given: &Given<'a>) -> Result<Command<'a>, Reason<'a>>
     }))
 }
 
+/// The mode that is named, where one is.
+fn mode<'a>(given: &Given<'a>) -> Option<AskedMode>
+    ensures { result ≡ option_and_then mode_of (look_of given.now (codes "--mode")) }
+{
+    match value(given, "--mode") {
+        Some(text) => mode_named(text),
+        None => None,
+    }
+}
+
 fn safe_words<'a>(given: &Given<'a>) -> Result<Command<'a>, Reason<'a>>
     ensures { Sees command_seen result (safe_by (look_of given.now)) }
 {
@@ -118,6 +136,8 @@ fn safe_words<'a>(given: &Given<'a>) -> Result<Command<'a>, Reason<'a>>
         log: value(given, "--log"),
         boot_ini: value(given, "--boot-ini"),
         system: system(given),
+        mode: mode(given),
+        images: flag(given, "--images"),
     }))
 }
 
@@ -194,13 +214,6 @@ fn import_words<'a>(given: &Given<'a>) -> Result<Command<'a>, Reason<'a>>
     }))
 }
 
-/// Whether the flag is given.
-pub fn flag<'a>(given: &Given<'a>, name: &str) -> bool
-    ensures { result ≡ flag_in (look_of given.now) name.now }
-{
-    value(given, name).is_some()
-}
-
 /// The number of levels that is said, where one is.
 fn levels_said<'a>(given: &Given<'a>) -> Option<u32>
     ensures { result ≡ option_and_then depth_of (look_of given.now (codes "--depth")) }
@@ -247,6 +260,42 @@ fn replay_words<'a>(given: &Given<'a>) -> Result<Command<'a>, Reason<'a>>
     }))
 }
 
+fn check_words<'a>(given: &Given<'a>) -> Result<Command<'a>, Reason<'a>>
+    ensures { Sees command_seen result (check_by (look_of given.now)) }
+{
+    let hive = needed(given, "--hive")?;
+    Ok(Command::Check(CheckWords {
+        hive,
+        log: value(given, "--log"),
+        set: set_number(given, "--set"),
+        order: flag(given, "--order"),
+    }))
+}
+
+fn whatif_words<'a>(given: &Given<'a>) -> Result<Command<'a>, Reason<'a>>
+    ensures { Sees command_seen result (whatif_by (look_of given.now)) }
+{
+    let hive = needed(given, "--hive")?;
+    Ok(Command::Whatif(WhatifWords {
+        hive,
+        log: value(given, "--log"),
+        boot_ini: value(given, "--boot-ini"),
+        system: system(given),
+        of: value(given, "--of"),
+    }))
+}
+
+fn salvage_words<'a>(given: &Given<'a>) -> Result<Command<'a>, Reason<'a>>
+    ensures { Sees command_seen result (salvage_by (look_of given.now)) }
+{
+    let hive = needed(given, "--hive")?;
+    Ok(Command::Salvage(SalvageWords {
+        hive,
+        log: value(given, "--log"),
+        save_hive: value(given, "--save-hive"),
+    }))
+}
+
 /// What the values ask of the command, or the first that it needs and lacks.
 pub fn command_asked<'a>(name: CommandName, given: &Given<'a>) -> Result<Command<'a>, Reason<'a>>
     ensures { Sees command_seen result (asks_of name (look_of given.now)) }
@@ -262,5 +311,8 @@ pub fn command_asked<'a>(name: CommandName, given: &Given<'a>) -> Result<Command
         CommandName::Import => import_words(given),
         CommandName::Key => key_words(given),
         CommandName::Replay => replay_words(given),
+        CommandName::Check => check_words(given),
+        CommandName::Whatif => whatif_words(given),
+        CommandName::Salvage => salvage_words(given),
     }
 }

@@ -1,8 +1,9 @@
-//! Numbers among the words.
+//! What values of options mean.
 
 ghost use Rattle.std.specs.Prelude.{◌≡◌, ◌≤◌};
-ghost use Rattle.command_words.specs.Table.{count_of, depth_of, number_of, set_number_of};
+ghost use Rattle.command_words.specs.Table.{count_of, depth_of, mode_of, number_of, set_number_of};
 
+use crate::asked::AskedMode;
 use nt_bytes::{are_digits, value_of};
 
 /// The number from the least to the greatest that at most that many decimal digits write.
@@ -39,4 +40,17 @@ pub fn depth_in(text: &[u8]) -> Option<u32>
     ensures { result ≡ depth_of text.now }
 {
     number_in(text, 3, 0, 999)
+}
+
+/// The mode of a start in safe mode that the text names.
+pub fn mode_named(text: &str) -> Option<AskedMode>
+    ensures { result ≡ mode_of text.now }
+{
+    if text == "minimal" {
+        Some(AskedMode::Minimal)
+    } else if text == "network" {
+        Some(AskedMode::Network)
+    } else {
+        None
+    }
 }

@@ -2,10 +2,13 @@
 
 ghost use Rattle.std.specs.Prelude.{◌≡◌, ◌∷◌, ◌++◌, Err, false, List, Ok, true};
 ghost use Rattle.std.specs.List.{list_all, list_any};
+ghost use Rattle.std.specs.Prelude.{[], codes, None, Some};
 ghost use Rattle.command_words.specs.Words.{Reason, Text};
 ghost use Rattle.command_words.specs.Table.{OptionRow, is_free};
-ghost use Rattle.command_words.specs.Walk.{State, walked, with_step};
-ghost use Rattle.command_words.specs.Commands.{commands, has_places};
+ghost use Rattle.command_words.specs.Walk.{State, no_values, walked, with_step};
+ghost use Rattle.command_words.specs.Commands.{CommandRow, commands, flag, has_places, row_named};
+ghost use Rattle.command_words.specs.Reading.{asked_of, command_read, is_verbose};
+ghost use Rattle.command_words.specs.declared.asked.CommandName.{CommandName};
 ghost use Rattle.command_words.specs.Laws.{names_one, steps};
 
 /// The first fault from the left decides: where the words before a word have none and the word is wrong, what follows it
@@ -22,7 +25,25 @@ pub fn unnamed_options_change_nothing()
         → list_any (λ row. is_free row.takes) extra ≡ false → walked (rows ++ extra) state words ≡ walked rows state words }
 {}
 
+/// More options ask nothing of words that name none of them: a command is asked what it would be asked without them.
+pub fn unnamed_options_ask_nothing()
+    ensures { (name : Text) (command : CommandName) (rows extra : List OptionRow) (words : List Text)
+        → list_any (names_one extra) words ≡ false → list_any (λ row. is_free row.takes) extra ≡ false
+        → asked_of (record { name = name; command = command; options = rows ++ extra }) words
+        ≡ asked_of (record { name = name; command = command; options = rows }) words }
+{}
+
 /// The value of each option of each command has a place of its own.
 pub fn each_option_has_a_place()
     ensures { list_all has_places commands ≡ true }
+{}
+
+/// `--verbose` changes nothing of what is asked: a word that gives it, where no option waits for its value and no other word gives it,
+/// can be left out.
+pub fn verbose_changes_nothing()
+    ensures { (first : Text) (row : CommandRow) (reached : State) (before after : List Text) (word : Text)
+        → row_named first ≡ Some row
+        → steps row.options (record { values = no_values; waiting = None }) before ≡ Ok reached → reached.waiting ≡ None
+        → is_verbose word ≡ true → list_any (names_one (flag (codes "--verbose") ∷ [])) (before ++ after) ≡ false
+        → command_read first (before ++ word ∷ after) (Some row) ≡ command_read first (before ++ after) (Some row) }
 {}

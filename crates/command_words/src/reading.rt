@@ -4,6 +4,7 @@ ghost use Rattle.std.specs.Prelude.{◌≡◌, ◌∷◌, [], false, Some, map, 
 ghost use Rattle.std.specs.List.{list_any};
 ghost use Rattle.command_words.specs.Commands.{row_named};
 ghost use Rattle.command_words.specs.Reading.{page_of_row};
+ghost use Rattle.command_words.specs.Reading.{is_about, is_verbose, wants_reason};
 ghost use Rattle.command_words.specs.Reading.{is_help, asks_help, page_named, page_read, alone, help_topic, help_read, version_read};
 ghost use Rattle.command_words.specs.Reading.{asked_by, asked_of, asked_read, command_read, first_read, reading_of};
 ghost use Rattle.command_words.specs.Views.{Sees, asked_seen, entry_seen, reading_seen, values_seen};
@@ -32,6 +33,43 @@ fn asks_help(words: &[&str]) -> bool
         rest = more;
     }
     false
+}
+
+fn is_verbose(word: &str) -> bool
+    ensures { result ≡ is_verbose word.now }
+{
+    word == "-v" || word == "--verbose"
+}
+
+fn asks_verbose(words: &[&str]) -> bool
+    ensures { result ≡ list_any is_verbose (map (λ w. w.now) words.now) }
+{
+    let mut rest = words;
+    'words: while let [word, more @ ..] = rest {
+        if is_verbose(word) {
+            return true;
+        }
+        rest = more;
+    }
+    false
+}
+
+fn is_about(first: &str) -> bool
+    ensures { result ≡ is_about first.now }
+{
+    is_help(first) || first == "help" || first == "version" || first == "--version"
+}
+
+/// Whether the reason of a refusal is to be printed: a word after the first is `-v` or `--verbose`, also where the words cannot be
+/// parsed; but never where the first one asks for help or the version.
+#[tactic(auto, unfolding(crate::specs::Reading::wants_reason))]
+pub fn wants_reason(words: &[&str]) -> bool
+    ensures exact { result ≡ wants_reason (map (λ w. w.now) words.now) }
+{
+    match words {
+        [] => false,
+        [first, more @ ..] => !is_about(first) && asks_verbose(more),
+    }
 }
 
 fn command_page(name: &str) -> Option<Page>

@@ -24,9 +24,11 @@ pub enum Takes {
     SetNumber,
     /// A number of levels, from 0 to 999.
     Depth,
+    /// `minimal` or `network`.
+    Mode,
 }
 
-/// An option by its name with the hyphens, or a word without an option by `N` or `NAME`.
+/// An option by its name with the hyphens, or a word without an option by `N`.
 #[derive(Clone, Copy)]
 pub struct CommandOption {
     pub name: &'static str,
@@ -96,39 +98,58 @@ const LOG1: CommandOption = option!("--log1", Any);
 
 const LOG2: CommandOption = option!("--log2", Any);
 
+const MODE: CommandOption = option!("--mode", Mode);
+
+const IMAGES: CommandOption = option!("--images", Flag);
+
+const SET: CommandOption = option!("--set", SetNumber);
+
+const ORDER: CommandOption = option!("--order", Flag);
+
+const OF: CommandOption = option!("--of", Any);
+
 const JSON: CommandOption = option!("--json", Flag);
 
-/// A command with these options.
+const VERBOSE: CommandOption = option!("--verbose", Flag);
+
+/// A command with these options and the flag of every command.
 macro_rules! command {
-    ($name:literal, $command:ident, $options:expr) => {
+    ($name:literal, $command:ident, [$($option:ident),*]) => {
         CommandEntry {
             name: $name,
             command: CommandName::$command,
-            options: $options,
+            options: &[$($option,)* VERBOSE],
         }
     };
 }
 
-/// The commands. What remains out here is no command.
+/// The commands. What is left out here is no command.
 static COMMANDS: &[CommandEntry] = &[
     command!(
         "run",
         Run,
-        &[HIVE, SCRIPT, LOG, BOOT_INI, SYSTEM, SAVE_HIVE, SAVE_LOG]
+        [HIVE, SCRIPT, LOG, BOOT_INI, SYSTEM, SAVE_HIVE, SAVE_LOG]
     ),
-    command!("show", Show, &[HIVE, LOG]),
-    command!("make", Make, &[COUNT, SAVE_HIVE]),
-    command!("safe", Safe, &[HIVE, LOG, BOOT_INI, SYSTEM]),
-    command!("control", Control, &[HIVE, LOG, COMMANDS_FILE]),
+    command!("show", Show, [HIVE, LOG]),
+    command!("make", Make, [COUNT, SAVE_HIVE]),
+    command!(
+        "safe",
+        Safe,
+        [HIVE, LOG, BOOT_INI, SYSTEM, MODE, IMAGES, JSON]
+    ),
+    command!("control", Control, [HIVE, LOG, COMMANDS_FILE]),
     command!(
         "twin",
         Twin,
-        &[HIVE, ALT, SCHEME, DEFAULT, SAVE_HIVE, SAVE_ALT]
+        [HIVE, ALT, SCHEME, DEFAULT, SAVE_HIVE, SAVE_ALT]
     ),
-    command!("export", Export, &[HIVE, LOG, REG, KEY]),
-    command!("import", Import, &[HIVE, LOG, REG, SAVE_HIVE, SAVE_LOG]),
-    command!("key", Key, &[HIVE, LOG, KEY, DEPTH, SECURITY, JSON]),
-    command!("replay", Replay, &[HIVE, LOG, LOG1, LOG2, SAVE_HIVE, JSON]),
+    command!("export", Export, [HIVE, LOG, REG, KEY]),
+    command!("import", Import, [HIVE, LOG, REG, SAVE_HIVE, SAVE_LOG]),
+    command!("key", Key, [HIVE, LOG, KEY, DEPTH, SECURITY, JSON]),
+    command!("replay", Replay, [HIVE, LOG, LOG1, LOG2, SAVE_HIVE, JSON]),
+    command!("check", Check, [HIVE, LOG, SET, ORDER, JSON]),
+    command!("whatif", Whatif, [HIVE, LOG, BOOT_INI, SYSTEM, OF, JSON]),
+    command!("salvage", Salvage, [HIVE, LOG, SAVE_HIVE, JSON]),
 ];
 
 /// The table is the one of the definitions.

@@ -7,10 +7,11 @@ ghost use Rattle.nt_bytes.specs.Text.{is_equals};
 ghost use Rattle.arc_path.specs.Reading.{arc_of};
 ghost use Rattle.command_words.specs.Words.{begins_with_hyphen, is_empty_text};
 ghost use Rattle.command_words.specs.Table.{accepts, is_either};
-ghost use Rattle.command_words.specs.Walk.{attached_in, no_values, value_at, walked, with_value, with_taken, with_word, with_option, with_known, with_free, with_next, with_step, finished};
+ghost use Rattle.command_words.specs.Walk.{attached_in, long_name, no_values, value_at};
+ghost use Rattle.command_words.specs.Walk.{walked, with_value, with_taken, with_word, with_option, with_known, with_free, with_next, with_step, finished};
 ghost use Rattle.command_words.specs.Views.{Sees, found_seen, option_seen, values_seen, walk_seen};
 
-use crate::count::{count_in, depth_in, set_number_in};
+use crate::count::{count_in, depth_in, mode_named, set_number_in};
 use crate::reason::Reason;
 use crate::table::{CommandOption, Found, Takes, free_word, is_flag, option_named};
 use arc_path::{ArcStop, read_arc};
@@ -29,7 +30,8 @@ pub struct Walk<'a> {
     pub waiting: Option<Found>,
 }
 
-fn is_empty(text: &[u8]) -> bool
+/// Whether it has no byte.
+pub fn is_empty(text: &[u8]) -> bool
     ensures { result ≡ is_empty_text text.now }
 {
     match text {
@@ -75,6 +77,7 @@ fn accepts(alloc: Global, takes: Takes, value: &str) -> bool
         Takes::Scheme => is_either(value, "alt", "log"),
         Takes::SetNumber => set_number_in(value.as_bytes()).is_some(),
         Takes::Depth => depth_in(value.as_bytes()).is_some(),
+        Takes::Mode => mode_named(value).is_some(),
     }
 }
 
@@ -257,6 +260,13 @@ fn split(word: &str) -> (&str, Option<&str>)
     }
 }
 
+/// The name of an option by the way it is written.
+fn long_name<'a>(name: &'a str) -> &'a str
+    ensures { result.now ≡ long_name name.now }
+{
+    if name == "-v" { "--verbose" } else { name }
+}
+
 /// A word where no option waits for its value.
 fn with_next<'a>(
     alloc: Global,
@@ -270,7 +280,13 @@ fn with_next<'a>(
         return with_free(alloc, values, word, free_word(options));
     }
     let (name, attached) = split(word);
-    with_known(alloc, values, word, attached, option_named(name, options))
+    with_known(
+        alloc,
+        values,
+        word,
+        attached,
+        option_named(long_name(name), options),
+    )
 }
 
 fn with_step<'a>(

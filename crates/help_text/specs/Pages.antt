@@ -18,6 +18,9 @@ command_text names.Export = texts.EXPORT.now
 command_text names.Import = texts.IMPORT.now
 command_text names.Key = texts.KEY.now
 command_text names.Replay = texts.REPLAY.now
+command_text names.Check = texts.CHECK.now
+command_text names.Whatif = texts.WHATIF.now
+command_text names.Salvage = texts.SALVAGE.now
 
 -- the text of a page
 abbrev pub page_text : Page → List ℕ

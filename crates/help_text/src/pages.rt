@@ -4,8 +4,8 @@ ghost use Rattle.std.specs.Prelude.{◌≡◌, codes};
 ghost use Rattle.help_text.specs.Pages.{command_text, page_text};
 
 use crate::texts::{
-    CONTROL, EXITS, EXPORT, HELP, IMPORT, KEY, MAKE, OVERVIEW, REPLAY, REPORT, RUN, SAFE, SCRIPT,
-    SHOW, TWIN, VERSION,
+    CHECK, CONTROL, EXITS, EXPORT, HELP, IMPORT, KEY, MAKE, OVERVIEW, REPLAY, REPORT, RUN, SAFE,
+    SALVAGE, SCRIPT, SHOW, TWIN, VERSION, WHATIF,
 };
 use command_words::{CommandName, Page};
 
@@ -24,6 +24,9 @@ fn command_page(command: CommandName) -> &'static [u8]
         CommandName::Import => IMPORT,
         CommandName::Key => KEY,
         CommandName::Replay => REPLAY,
+        CommandName::Check => CHECK,
+        CommandName::Whatif => WHATIF,
+        CommandName::Salvage => SALVAGE,
     }
 }
 

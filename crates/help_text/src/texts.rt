@@ -10,20 +10,24 @@ Predict
   run      play a script of boots, failures, edits and power cuts, and report it
   safe     what a boot in safe mode would start
   control  start and stop services after a boot
+  whatif   what is lost when an entry fails or is disabled
 Look
   show     print the hive as text
   key      print one key readably
+  check    everything suspicious about the services of a control set
   export   write a key as registry text
 Repair
   import   apply a registry text to a hive
   twin     load a hive kept as two copies, repair it, set its Default set
+  salvage  read what can be read of a damaged hive, and save a sound one
   replay   apply the transaction logs that Windows itself writes
 Teach
   make     make a hive of N services and boot it
 
 Help: 'ntboot help NAME', NAME a command or exits, script or report. The
-version: 'ntboot version'. Any command: -h, --help. key and replay: --json (one
-JSON object a line).
+version: 'ntboot version'. Any command: -v, --verbose (say on standard error why
+a command was refused), -h, --help. Of safe, key, check, whatif, salvage and
+replay: --json (one JSON object a line).
 Options may come in any order, as --name VALUE or --name=VALUE. Files are
 changed only where an option says so.
 ";
@@ -56,8 +60,10 @@ Print what a boot in safe mode would start, if nothing fails.
   --boot-ini F    boot.ini; its default entry has the switch /SAFEBOOT:
   --system ARC    this system's ARC path
                   [default: multi(0)disk(0)rdisk(0)partition(1)\\WINDOWS]
+  --mode MODE     minimal or network, whatever boot.ini says
+  --images        list a driver by the name of its image, as vga.sys, too
 
-Without a switch nothing is left out.
+Without --mode and without a switch nothing is left out.
 ";
 
 /// Of `control`.
@@ -71,6 +77,20 @@ Boot the Default set with no failures, then start and stop services.
 
 start starts what NAME needs first. stop is refused while another service needs
 NAME; stopall stops those first.
+";
+
+/// Of `whatif`.
+pub const WHATIF: &[u8] = b"Usage: ntboot whatif --hive F [OPTIONS]
+
+For each entry that a boot starts, print what is lost when it fails, and when it
+is disabled.
+
+  --hive F       the SYSTEM hive
+  --of NAME      only this entry, and everything that leans on it
+  --log F        the hive's log, which recovers a dirty hive
+  --boot-ini F   boot.ini
+  --system ARC   this system's ARC path
+                 [default: multi(0)disk(0)rdisk(0)partition(1)\\WINDOWS]
 ";
 
 /// Of `show`.
@@ -93,6 +113,18 @@ Print one key readably: when it was written, its class, values and subkeys.
   --depth N    also N levels below it [default: 0]
   --security   also the security descriptors
   --log F      the hive's log, which recovers a dirty hive
+";
+
+/// Of `check`.
+pub const CHECK: &[u8] = b"Usage: ntboot check --hive F [OPTIONS]
+
+Print everything suspicious about the services of a control set. The exit is 8
+where something was found.
+
+  --hive F   the SYSTEM hive
+  --log F    its log, which recovers a dirty hive
+  --set N    judge control set N alone [default: the Default set, and Select]
+  --order    also entries of unlisted groups and tags
 ";
 
 /// Of `export`.
@@ -130,6 +162,17 @@ the Default control set.
   --default N     set Select\\Default to N, from 1 to 999
   --save-hive F   write the first copy
   --save-alt F    write the second copy or the log
+";
+
+/// Of `salvage`.
+pub const SALVAGE: &[u8] = b"Usage: ntboot salvage --hive F [OPTIONS]
+
+Read what can be read of a damaged hive, or of a dirty one without its log, and
+print each fault and what it takes away. The exit is 8 where a fault was found.
+
+  --hive F        the hive
+  --log F         its log
+  --save-hive F   write a sound hive of everything that was read
 ";
 
 /// Of `replay`.
@@ -182,7 +225,8 @@ pub const EXITS: &[u8] = b"Exit status:
    9  out of memory
   10  the registry text has a fault
 
-A boot that fails is no error: look for the line verdict.
+Add -v to see on standard error why a command was refused. A boot that fails is
+no error: look for the line verdict.
 ";
 
 /// The lines of a script.

@@ -13,3 +13,5 @@ mod scripts;
 mod trees;
 #[cfg(test)]
 mod words;
+#[cfg(test)]
+mod words_and_reasons;

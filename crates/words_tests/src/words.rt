@@ -9,7 +9,7 @@ use std::process::Abort;
 use std::test::Fail;
 
 /// Words, and what they are read as.
-type Case = (&'static [&'static str], Reading<'static>);
+pub(crate) type Case = (&'static [&'static str], Reading<'static>);
 
 /// Words without a reading, for this reason.
 macro_rules! no {
@@ -56,7 +56,7 @@ const SHOWN_WITH_LOG: ShowWords<'static> = ShowWords {
     log: Some("--log"),
 };
 
-fn check(rt: &impl Abort, alloc: Global, cases: &[Case]) {
+pub(crate) fn check(rt: &impl Abort, alloc: Global, cases: &[Case]) {
     for (words, read) in cases {
         assert_eq!(rt; read_words(alloc, words), *read);
     }
@@ -99,8 +99,12 @@ fn run_takes_two_files_and_five_more_options(rt: HostRuntime) {
     check(&rt, rt.alloc(), RUN.as_slice());
 }
 
-static SHOW: [Case; 4] = [
+static SHOW: [Case; 5] = [
     (&["show", "--hive", "h"], asks!(Command::Show(SHOWN))),
+    (
+        &["show", "--hive", "h", "--json"],
+        no!(Reason::UnknownOption("--json")),
+    ),
     (
         &["show", "--log=--log", "--hive", "h"],
         asks!(Command::Show(SHOWN_WITH_LOG)),
@@ -168,6 +172,8 @@ const PLAINLY_SAFE: SafeWords<'static> = SafeWords {
     log: None,
     boot_ini: None,
     system: "multi(0)disk(0)rdisk(0)partition(1)\\WINDOWS",
+    mode: None,
+    images: false,
 };
 
 const SAFE_WITH_EACH: SafeWords<'static> = SafeWords {
@@ -175,6 +181,8 @@ const SAFE_WITH_EACH: SafeWords<'static> = SafeWords {
     log: Some("l"),
     boot_ini: Some("b"),
     system: "scsi(0)disk(1)rdisk(0)partition(2)\\WINNT",
+    mode: None,
+    images: false,
 };
 
 static SAFE: [Case; 4] = [
@@ -455,7 +463,7 @@ fn words_without_a_reading(rt: HostRuntime) {
 }
 
 /// Each sort of reason; some of several faults.
-static REASONS: [Case; 12] = [
+static REASONS: [Case; 11] = [
     (
         &["run", "--hive", "hive", "--scrpt=script"],
         no!(Reason::UnknownOption("--scrpt=script")),
@@ -479,10 +487,6 @@ static REASONS: [Case; 12] = [
         no!(Reason::BadValue("--system", "C:\\WINDOWS")),
     ),
     (&["show", ""], no!(Reason::LeftOver(""))),
-    (
-        &["show", "--hive", "h", "--json"],
-        no!(Reason::UnknownOption("--json")),
-    ),
     (&["key", "--json=1"], no!(Reason::UnknownOption("--json=1"))),
     (
         &["key", "--hive", "h", "--json", "--json"],
