@@ -1,8 +1,8 @@
 -- Which lines does a check say of a hive's tree?
 --
 -- Select and the sets: Windows Internals, 4th edition, startup. The lines and their order are this project's own.
-use Rattle.std.specs.Prelude.{ℕ, Bool, true, false, not, ◌&&◌, ◌==◌, List, [], ◌∷◌, ◌++◌, map, filter, length, position, count_by, Option, Some, None, codes, if◌then◌else◌}
-use Rattle.std.specs.List.{list_any, flat_map}
+use Rattle.std.specs.Prelude.{ℕ, ◌+◌, Bool, true, false, not, ◌&&◌, ◌==◌, List, [], ◌∷◌, ◌++◌, map, filter, length, position, slice_get, slice_index_or, count_by, Option, Some, None, codes, if◌then◌else◌}
+use Rattle.std.specs.List.{list_any, flat_map, range_with_len}
 use Rattle.std.specs.Option.{is_some, option_map_or}
 use Rattle.nt_bytes.specs.Folding.{folds_same}
 use Rattle.name_places.specs.Places.{places_named}
@@ -12,15 +12,16 @@ use Rattle.start_model.specs.Entries.{entry_of}
 use Rattle.start_model.specs.Order.{GroupOrder, first_names, orders_of}
 use Rattle.start_model.specs.Sets.{SelectNumbers, select_numbers_of}
 use Rattle.select_keys.specs.Sets.{usable_set}
-use Rattle.service_check.specs.declared.lines.Fault.{Fault}
-use Rattle.service_check.specs.declared.lines.SelectWord.{SelectWord}
-use Rattle.service_check.specs.declared.lines.SelectWord.TheVariants.{Current, Default, Failed, LastKnownGood}
-use Rattle.service_check.specs.declared.lines.CheckLine.{CheckLine}
-use Rattle.service_check.specs.declared.lines.CheckLine.TheVariants.{Select, CurrentSetKey, Set, NoSet, NoServices, NoList, About, GroupUnlisted, Found, End}
+use Rattle.check_lines.specs.declared.lines.Fault.{Fault}
+use Rattle.check_lines.specs.declared.lines.SelectWord.{SelectWord}
+use Rattle.check_lines.specs.declared.lines.SelectWord.TheVariants.{Current, Default, Failed, LastKnownGood}
+use Rattle.check_lines.specs.declared.lines.CheckLine.{CheckLine}
+use Rattle.check_lines.specs.declared.lines.CheckLine.TheVariants.{Select, CurrentSetKey, Set, NoSet, NoServices, NoList, About, GroupUnlisted, Cycle, Found, End}
 use Rattle.service_check.specs.declared.stage.Stage.TheVariants.{Automatic}
 use Rattle.service_check.specs.declared.stage.Staged.{Staged}
 use Rattle.service_check.specs.Stages.{rows_of, is_taken}
-use Rattle.service_check.specs.Needs.{groups_upto}
+use Rattle.service_check.specs.Needs.{groups_upto, waits_of}
+use Rattle.wait_cycles.specs.Waits.{cycles_of}
 use Rattle.service_check.specs.Children.{Scope, has_image, child_faults}
 
 -- a line where it is found
@@ -91,9 +92,29 @@ group_line groups group = GroupUnlisted (length (places_named group groups)) gro
 abbrev pub group_lines : Scope → List CheckLine
 group_lines s = if s.in_order then map (group_line (unlisted_in s)) (first_names (unlisted_in s)) else []
 
+-- the name of the entry at a place
+abbrev pub name_at : List Staged → ℕ → List ℕ
+name_at rows p = option_map_or (λ r. r.entry.name) (slice_get rows p) []
+
+-- the place is in the cycle of this number
+abbrev pub cycle_line : List Staged → ℕ → ℕ → CheckLine
+cycle_line rows number p = Cycle number (name_at rows p)
+
+-- the cycle at a place of a list: its number is one more
+abbrev pub lines_of_cycle : List Staged → List (List ℕ) → ℕ → List CheckLine
+lines_of_cycle rows cycles k = map (cycle_line rows (k + 1)) (slice_index_or cycles k [])
+
+-- the members of each cycle
+abbrev pub numbered_lines : List Staged → List (List ℕ) → List CheckLine
+numbered_lines rows cycles = flat_map (lines_of_cycle rows cycles) (range_with_len 0 (length cycles))
+
+-- entries that wait for one another
+abbrev pub cycle_lines : Scope → List CheckLine
+cycle_lines s = numbered_lines s.rows (cycles_of (waits_of s.rows))
+
 -- the lines on a set by its services
 abbrev pub services_lines : Scope → List Tree → List CheckLine
-services_lines s keys = list_lines s ++ flat_map (child_lines s) keys ++ group_lines s
+services_lines s keys = list_lines s ++ flat_map (child_lines s) keys ++ group_lines s ++ cycle_lines s
 
 -- the lines on a set by its key Services
 abbrev pub judged_lines : Bool → Tree → Option Tree → List CheckLine
@@ -124,6 +145,7 @@ is_finding NoServices = true
 is_finding NoList = true
 is_finding (About fault name) = true
 is_finding (GroupUnlisted count group) = true
+is_finding (Cycle number name) = true
 is_finding (Found count) = false
 is_finding End = false
 

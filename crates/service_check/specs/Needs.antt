@@ -2,13 +2,13 @@
 --
 -- A name of DependOnService or a group of DependOnGroup that is given twice counts where it stands first. That an entry
 -- waits for what it names, and for the first member of a group: Microsoft's documentation of service entries.
-use Rattle.std.specs.Prelude.{ℕ, Bool, true, false, not, ◌&&◌, nat_lt, List, [], ◌∷◌, ◌++◌, map, position, slice_get, Option, Some, None, option_and_then, if◌then◌else◌}
-use Rattle.std.specs.List.{list_any, flat_map}
+use Rattle.std.specs.Prelude.{ℕ, Bool, true, false, not, ◌&&◌, ◌==◌, nat_lt, List, [], ◌∷◌, ◌++◌, map, filter, length, position, slice_get, Option, Some, None, option_and_then, if◌then◌else◌}
+use Rattle.std.specs.List.{list_any, flat_map, range_with_len}
 use Rattle.std.specs.Option.{option_map_or, option_to_list}
 use Rattle.nt_bytes.specs.Folding.{folds_same}
 use Rattle.start_model.specs.Order.{first_names}
-use Rattle.service_check.specs.declared.lines.Fault.{Fault}
-use Rattle.service_check.specs.declared.lines.Fault.TheVariants as faults
+use Rattle.check_lines.specs.declared.lines.Fault.{Fault}
+use Rattle.check_lines.specs.declared.lines.Fault.TheVariants as faults
 use Rattle.service_check.specs.declared.stage.Stage.{Stage}
 use Rattle.service_check.specs.declared.stage.Stage.TheVariants as stages
 use Rattle.service_check.specs.declared.stage.Staged.{Staged}
@@ -71,3 +71,38 @@ faults_at rows r own =
 -- what is wrong with the needs of an entry; without a stage it needs nothing
 abbrev pub need_faults : List Staged → Staged → List Fault
 need_faults rows r = option_map_or (faults_at rows r) r.stage []
+
+-- ---- good needs
+
+-- nothing is wrong with a name that an entry of this stage needs
+abbrev pub is_good : List Staged → Stage → List ℕ → Bool
+is_good rows own need = length (service_fault rows own need) == 0
+
+-- a good name has one way: the place of the entry of that name
+abbrev pub name_ways : List Staged → Stage → List ℕ → List (List ℕ)
+name_ways rows own need = if is_good rows own need then map (λ p. p ∷ []) (option_to_list (position (folds_same need) (names_of rows))) else []
+
+-- the entry is of the group, and taken by this stage
+abbrev pub is_way : Stage → List ℕ → Staged → Bool
+is_way own group r = is_upto own r.stage && option_map_or (folds_same group) r.entry.group false
+
+-- the places of these entries, rising
+abbrev pub ways_in : List Staged → Stage → List ℕ → List ℕ
+ways_in rows own group = filter (λ p. option_map_or (is_way own group) (slice_get rows p) false) (range_with_len 0 (length rows))
+
+-- a good group has them as its ways
+abbrev pub group_ways : List Staged → Stage → List ℕ → List (List ℕ)
+group_ways rows own group = if is_without rows own group then [] else ways_in rows own group ∷ []
+
+-- the good needs of an entry of this stage, each by its ways
+abbrev pub ways_at : List Staged → Staged → Stage → List (List ℕ)
+ways_at rows r own =
+    flat_map (name_ways rows own) (first_names r.entry.services) ++ flat_map (group_ways rows own) (first_names r.entry.groups)
+
+-- those of an entry; without a stage it needs nothing
+abbrev pub good_ways : List Staged → Staged → List (List ℕ)
+good_ways rows r = option_map_or (ways_at rows r) r.stage []
+
+-- those of each entry
+abbrev pub waits_of : List Staged → List (List (List ℕ))
+waits_of rows = map (good_ways rows) rows

@@ -10,10 +10,11 @@ ghost use Rattle.start_model.specs.Sets.{select_numbers_of};
 ghost use Rattle.service_check.specs.Check.{line_when, is_imaged, scope_of, list_lines, about, child_lines, services_lines, judged_lines, set_lines, number_lines, found_lines, select_line, failed_line, four_lines, select_lines, key_lines, is_finding, finding_count, check_lines};
 
 use crate::child::{Scope, child_faults, has_image};
+use crate::cycles::put_cycles;
 use crate::groups::put_groups;
-use crate::lines::{CheckLine, CheckLines, Fault, SelectWord};
 use crate::stage::Stage;
 use crate::table::Table;
+use check_lines::{CheckLine, CheckLines, Fault, SelectWord};
 use group_order::read_orders;
 use nt_bytes::Units;
 use reg_tree::Key;
@@ -78,7 +79,8 @@ fn is_finding(line: &CheckLine) -> bool
         | CheckLine::NoServices
         | CheckLine::NoList
         | CheckLine::About { fault: _, name: _ }
-        | CheckLine::GroupUnlisted { count: _, group: _ } => true,
+        | CheckLine::GroupUnlisted { count: _, group: _ }
+        | CheckLine::Cycle { number: _, name: _ } => true,
     }
 }
 
@@ -274,7 +276,8 @@ fn put_judged(
     let scope = scope(alloc, in_order, set, keys)?;
     put_list(&scope, lines)?;
     put_children(alloc, &scope, keys, lines)?;
-    put_groups(alloc, &scope, lines)
+    put_groups(alloc, &scope, lines)?;
+    put_cycles(alloc, &scope, lines)
 }
 
 /// What the children of a set are judged by.

@@ -4,11 +4,11 @@ ghost use Rattle.std.specs.Prelude.{◌≡◌, ◌++◌, ◌∷◌, [], position
 ghost use Rattle.std.specs.Option.{is_some, option_copied};
 ghost use Rattle.service_check.specs.Children.{when, has_value, missing_faults, has_image, number_faults, control_beyond, control_faults, image_faults, listed, tag_fault, tag_faults_of, tag_faults, order_faults, own_faults, bond_faults, entry_faults, service_faults, child_faults};
 
-use crate::lines::{Fault, Faults};
 use crate::malformed::put_malformed;
 use crate::needs::put_needs;
 use crate::stage::{Stage, Staged, is_driver, is_service, is_taken, is_upto};
 use crate::table::Table;
+use check_lines::{Fault, Faults};
 use group_order::{GroupOrder, Orders};
 use nt_bytes::Units;
 use reg_tree::Key;

@@ -5,9 +5,9 @@ ghost use Rattle.start_model.specs.Order.{first_names};
 ghost use Rattle.service_check.specs.Check.{is_unlisted, unlisted_in, group_line, group_lines};
 
 use crate::child::Scope;
-use crate::lines::{CheckLine, CheckLines};
 use crate::names::firsts;
 use crate::stage::Stage;
+use check_lines::{CheckLine, CheckLines};
 use group_order::Orders;
 use name_places::NamePlaces;
 use nt_bytes::{Names, Units};

@@ -7,14 +7,14 @@
 
 mod checking;
 mod child;
+mod cycles;
 mod groups;
-mod lines;
 mod malformed;
 mod names;
 mod needs;
 mod stage;
 mod table;
+mod waits;
 
 pub use checking::{Checked, check};
-pub use lines::{CheckLine, CheckLines, Fault, Faults, Field, SelectWord};
 pub use stage::{Stage, Staged};

@@ -4,7 +4,7 @@ ghost use Rattle.std.specs.Prelude.{◌≡◌, ◌++◌, true, map, filter, OnOk
 ghost use Rattle.std.specs.List.{list_any};
 ghost use Rattle.service_check.specs.Children.{field_name, is_some_unit, has_rest, is_no_dword, is_no_string, is_no_list, is_malformed, has_malformed, malformed, malformed_faults};
 
-use crate::lines::{Fault, Faults, Field};
+use check_lines::{Fault, Faults, Field};
 use nt_bytes::wide;
 use reg_tree::{Key, Value};
 use std::alloc::{AllocError, Global};

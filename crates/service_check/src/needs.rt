@@ -6,10 +6,10 @@ ghost use Rattle.std.specs.Option.{option_copied};
 ghost use Rattle.start_model.specs.Order.{first_names};
 ghost use Rattle.service_check.specs.Needs.{stage_fault, name_fault, service_fault, group_fault, is_demand, faults_at, need_faults};
 
-use crate::lines::{Fault, Faults};
 use crate::names::first_names;
 use crate::stage::{Stage, Staged};
 use crate::table::Table;
+use check_lines::{Fault, Faults};
 use nt_bytes::Units;
 use std::alloc::{AllocError, Global};
 

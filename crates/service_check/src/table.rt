@@ -1,6 +1,6 @@
 //! The entries of a set with their stages, found by name and by group.
 
-ghost use Rattle.std.specs.Prelude.{◌≡◌, ◌++◌, map, IfOk, OnOk};
+ghost use Rattle.std.specs.Prelude.{◌≡◌, ◌++◌, ◌^◌, ◌<◌, map, length, position, IfOk, IfSome, OnOk};
 ghost use Rattle.std.specs.List.{list_any};
 ghost use Rattle.std.specs.Option.{option_copied, option_to_list};
 ghost use Rattle.nt_bytes.specs.Folding.{folds_same};
@@ -61,11 +61,28 @@ impl Table {
         })
     }
 
+    /// How many entries there are.
+    pub(crate) fn len(&self) -> usize
+        ensures len { result ≡ length self.now }
+        ensures few { result < 2 ^ 32 }
+    {
+        self.rows.len()
+    }
+
     /// The entries.
     pub(crate) fn rows(&self) -> &[Staged]
         ensures { result.now ≡ self.now }
     {
         self.rows.as_slice()
+    }
+
+    /// The place of the entry of this name.
+    #[tactic(auto, using(crate::proofs::TableLemmas::count_names))]
+    pub(crate) fn place_of(&self, name: &[u16]) -> Option<usize>
+        ensures place { result ≡ position (folds_same name.now) (names_of self.now) }
+        ensures within { IfSome result (λ at. at < length self.now) }
+    {
+        self.names.place_of(name)
     }
 
     /// The entry of this name.
@@ -88,6 +105,16 @@ impl Table {
         }
     }
 
+    /// How many groups these are.
+    #[tactic(auto, using(crate::proofs::TableLemmas::few_groups))]
+    pub(crate) fn count_groups(&self, stage: Stage) -> usize
+        ensures len { result ≡ length (groups_upto stage self.now) }
+        ensures few { result < 2 ^ 32 }
+    {
+        let _ = &self.rows;
+        self.groups(stage).as_slice().len()
+    }
+
     /// Whether an entry of this group is taken by this stage.
     pub(crate) fn has_group(&self, stage: Stage, group: &Units) -> bool
         ensures { result ≡ list_any (folds_same group.now) (groups_upto stage self.now) }
@@ -99,11 +126,29 @@ impl Table {
 /// The entries with their stages.
 fn rows(alloc: Global, set: &Key) -> Result<Vec<Staged>, AllocError>
     requires { HoldsKeys set.now }
-    ensures { IfOk result (λ r. r.items ≡ rows_of set.now) }
+    ensures rows { IfOk result (λ r. r.items ≡ rows_of set.now) }
+    ensures few { IfOk result (λ r. length r.items < 2 ^ 32) }
 {
     let taken = TakenNames::of(alloc, set)?;
-    let entries = entries(alloc, set)?.into_entries(alloc)?;
-    each_staged(alloc, &taken, entries.into_vec())
+    let table = entries(alloc, set)?;
+    let count = table.len();
+    let entries = table.into_entries(alloc)?;
+    few_staged(alloc, &taken, entries.into_vec(), count)
+}
+
+/// The same of that many entries.
+fn few_staged(
+    alloc: Global,
+    taken: &TakenNames,
+    entries: Vec<Entry>,
+    count: usize,
+) -> Result<Vec<Staged>, AllocError>
+    requires count { count ≡ length entries.items }
+    requires few { count < 2 ^ 32 }
+    ensures rows { IfOk result (λ r. r.items ≡ map (staged_in taken.now) entries.items) }
+    ensures few { IfOk result (λ r. length r.items < 2 ^ 32) }
+{
+    each_staged(alloc, taken, entries)
 }
 
 fn each_staged(

@@ -78,6 +78,8 @@ pub enum CheckLine {
     About { fault: Fault, name: Units },
     /// That many taken entries are of a group that isn't listed.
     GroupUnlisted { count: u64, group: Units },
+    /// The entry of this name is in the cycle of this number, from 1: its entries wait for one another.
+    Cycle { number: u64, name: Units },
     /// How many lines there were before, but for `Set`.
     Found { count: u64 },
     End,

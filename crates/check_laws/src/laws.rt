@@ -1,0 +1,25 @@
+//! The laws. Each has its statement in `specs/Laws.antt`.
+
+ghost use Rattle.check_laws.specs.Laws.{NothingFoundIsQuiet, OrderOnlyAdds, GoodNeedsAreProper, StuckHoldsItself, StuckIsGreatest, NoCycleNoneStuck};
+
+/// The number of `found` is 0 exactly where each line is `set`, `found 0` or `end`.
+pub fn nothing_found_is_quiet()
+    ensures quiet { NothingFoundIsQuiet }
+{}
+
+/// Without the order of groups and tags the lines are the same, but for those that tell of it.
+pub fn the_order_only_adds_lines()
+    ensures adds { OrderOnlyAdds }
+{}
+
+/// Each good need has a way, and its ways are entries. The stuck places have each a need all of whose ways are stuck, and no other set of places that has this reaches beyond them.
+pub fn stuck_entries_are_the_greatest_set()
+    ensures proper { GoodNeedsAreProper }
+    ensures holds { StuckHoldsItself }
+    ensures greatest { StuckIsGreatest }
+{}
+
+/// There is a cycle exactly where an entry is stuck.
+pub fn no_cycle_is_said_where_none_is_stuck()
+    ensures cycles { NoCycleNoneStuck }
+{}

@@ -1,0 +1,9 @@
+//! What holds of the lines of a check.
+#![tactic(auto)]
+
+mod laws;
+
+pub use laws::{
+    no_cycle_is_said_where_none_is_stuck, nothing_found_is_quiet,
+    stuck_entries_are_the_greatest_set, the_order_only_adds_lines,
+};

@@ -1,0 +1,5 @@
+pub mod InverseLemmas
+pub mod ReachLemmas
+pub mod MetLemmas
+pub mod CycleLemmas
+pub mod StuckLemmas

@@ -1,0 +1,7 @@
+use Rattle.std.proofs.Common.{◌≡◌, ℕ, length, take}
+use Rattle.wait_cycles.specs.Graph.{HasEdge}
+use Rattle.wait_cycles.proofs.InverseLemmas.{IsTurned}
+use Rattle.wait_cycles.proofs.inverse.inverse.Given as goal
+
+abbrev pub invariant-loop-from : goal.invariant-loop-from
+invariant-loop-from l = IsTurned l.rows l.from l.back.items

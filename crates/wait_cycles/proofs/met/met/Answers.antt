@@ -1,0 +1,18 @@
+use Rattle.std.proofs.Common.{◌≡◌, List, ℕ, arith}
+use Rattle.std.proofs.lemmas.List.{nil_from_length}
+use Rattle.wait_cycles.proofs.MetLemmas.{back_within, settling_more, settled_all}
+use Rattle.wait_cycles.proofs.met.met.Goals as goal
+
+pub settle_all-requires-clause-within : goal.settle_all-requires-clause-within
+settle_all-requires-clause-within c =
+    back_within c.args.rows.now c.args.back.now c.in-Some.at c.row_at.result.now c.row_at.ensures c.requires.back
+
+pub work-preserved : goal.work-preserved
+work-preserved c =
+    settling_more _ c.args.back.now _ _ _ _ _ _ _ c.requires.back c.in-Some.ensures.items c.work.invariant
+    (rw c.row_at.ensures at c.in_ok-settle_all.ensures)
+
+pub returns : goal.returns
+returns c =
+    settled_all _ _ _ c.work.work.items (nil_from_length c.work.work.items (omega (arith, c.in_default.ensures.cases)))
+    c.work.invariant

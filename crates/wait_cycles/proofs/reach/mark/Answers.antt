@@ -1,0 +1,10 @@
+use Rattle.std.proofs.Common.{sym}
+use Rattle.std.proofs.lemmas.Bool.{not-true}
+use Rattle.wait_cycles.proofs.ReachLemmas.{marks_new}
+use Rattle.wait_cycles.proofs.reach.mark.Goals as goal
+
+pub returns-in_ok-push : goal.returns-in_ok-push
+returns-in_ok-push c =
+    rw (c.in_ok-push.ensures.items)
+    (marks_new c.args.at c.args.marks.now.items c.args.work.now.items c.requires
+    (not-true _ (rw c.as_slice.ensures.value at (sym c.if-is_open.ensures))))

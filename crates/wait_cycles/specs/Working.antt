@@ -1,0 +1,25 @@
+-- How far has a list of work come?
+use Rattle.std.specs.Prelude.{◌≡◌, ◌⊎◌, ℕ, ◌<◌, Bool, true, not, nat_eq, ◌&&◌, List, length, Contains}
+use Rattle.std.specs.List.{list_any}
+use Rattle.start_model.specs.Demand.{member}
+use Rattle.wait_cycles.specs.Graph.{HasEdge, IsClosedFrom, is_ripe, IsMetBy}
+
+-- what is marked has to be, and leads to what is marked or is still work
+pub record IsReaching (rows : List (List ℕ)) (start : ℕ) (marks : List Bool) (work : List ℕ) : Type 0 where
+  pub len : length marks ≡ length rows
+  pub honest : (k : ℕ) → Contains work k → member marks k ≡ true
+  pub begun : (v : ℕ) → HasEdge rows start v → member marks v ≡ true
+  pub closed : (u : ℕ) → member marks u ≡ true
+      → Contains work u ⊎ ((v : ℕ) → HasEdge rows u v → member marks v ≡ true)
+  pub least : (set : ℕ → Bool) → IsClosedFrom rows start set → (v : ℕ) → member marks v ≡ true → set v ≡ true
+
+-- it is marked, and was worked on
+abbrev pub is_done : List Bool → List ℕ → ℕ → Bool
+is_done marks work k = member marks k && not (list_any (nat_eq k) work)
+
+-- what is marked has to be, and what is met by all that was worked on is marked
+pub record IsSettling (rows : List (List ℕ)) (places : ℕ) (marks : List Bool) (work : List ℕ) : Type 0 where
+  pub len : length marks ≡ length rows
+  pub honest : (k : ℕ) → Contains work k → member marks k ≡ true
+  pub settled : (u : ℕ) → u < length rows → is_ripe rows places (is_done marks work) u ≡ true → member marks u ≡ true
+  pub least : (set : ℕ → Bool) → IsMetBy rows places set → (k : ℕ) → member marks k ≡ true → set k ≡ true
