@@ -1,0 +1,12 @@
+use Rattle.std.proofs.Common.{◌≡◌, ◌++◌, [], cond, take}
+use Rattle.std.specs.List.{flat_map}
+use Rattle.std.specs.Option.{option_copied}
+use Rattle.failure_effects.specs.declared.told.Told.{Told}
+use Rattle.failure_effects.specs.Lost.{blocks_of}
+use Rattle.failure_effects.specs.Effects.{is_asked}
+use Rattle.failure_effects.proofs.blocks.push_blocks.Given as goal
+
+abbrev pub invariant-loop-told : goal.invariant-loop-told
+invariant-loop-told l = l.lines
+    ≡ l.initial.lines
+    ++ flat_map (λ (t : Told). cond (is_asked (option_copied l.of) t.name) (blocks_of l.taken l.plain t) []) (take l.told-index l.plain)

@@ -1,0 +1,6 @@
+use Rattle.std.proofs.Common.{◌≡◌, take}
+use Rattle.failure_effects.specs.Played.{unmet_in}
+use Rattle.failure_effects.proofs.told.unmet_in.Given as goal
+
+abbrev pub invariant-loop-one : goal.invariant-loop-one
+invariant-loop-one l = l.names ≡ unmet_in (take l.one-index l.told)

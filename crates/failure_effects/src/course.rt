@@ -1,0 +1,155 @@
+//! A start in its course, attempt by attempt.
+
+ghost use Rattle.std.specs.Prelude.{◌≡◌, ◌<◌, ◌++◌, false, map, Some, IfOk, OnOk, length};
+ghost use Rattle.std.specs.Option.{option_copied};
+ghost use Rattle.hive_model.specs.Valid.{HoldsKeys};
+ghost use Rattle.start_model.specs.Machine.{MachineState, off_machine};
+ghost use Rattle.boot_machine.specs.Steps.{is_at_end};
+ghost use Rattle.failure_effects.specs.Played.{noted, judged, left, begun, attempted, next_course, attempts_of, phase_ended, phase_played, played_on, played, waiting_count};
+ghost use Rattle.error_control.specs.Judgement.{judgement_in};
+
+use crate::opening::Taken;
+use crate::told::{Fate, Told, ToldRow, told_of};
+use boot_machine::Machine;
+use boot_report::Verdict;
+use error_control::Judgement;
+use nt_bytes::Units;
+use reg_tree::Key;
+use std::alloc::{AllocError, Global};
+
+/// What a start has said so far, and the machine that plays it.
+#[derive(Drop)]
+pub struct Course {
+    pub told: ToldRow,
+    pub machine: Machine,
+}
+
+/// What a start on this set says of the entries that it takes. The first attempt of the entry of this name fails, where there
+/// is one, and each other attempt goes well.
+#[tactic(auto, unfolding(crate::specs::Played::played))]
+pub(crate) fn play(
+    alloc: Global,
+    taken: &Taken,
+    set: &Key,
+    failing: Option<&Units>,
+) -> Result<ToldRow, AllocError>
+    requires { HoldsKeys set.now }
+    ensures { IfOk result (λ told. told ≡ played taken.now set.now (option_copied failing.entry)) }
+{
+    let mut course = begin(alloc, taken, set, failing)?;
+    play_phases(alloc, set, taken.usable, &mut course)?;
+    Ok(course.told)
+}
+
+/// The start in its boot phase, with the failure that is to come.
+#[tactic(auto, unfolding(crate::specs::Played::begun), using(crate::proofs::PlayLemmas::noted_off))]
+fn begin(
+    alloc: Global,
+    taken: &Taken,
+    set: &Key,
+    failing: Option<&Units>,
+) -> Result<Course, AllocError>
+    requires { HoldsKeys set.now }
+    ensures { IfOk result (λ course. course ≡ begun taken.now set.now (option_copied failing.entry)) }
+{
+    let mut machine = Machine::new(alloc);
+    note_failure(alloc, failing, &mut machine)?;
+    machine.begin(alloc, set, taken.number, taken.on_good)?;
+    let _clone = machine.take_clone();
+    Ok(Course {
+        told: ToldRow::new(alloc),
+        machine,
+    })
+}
+
+/// Notes that the first attempt of this name fails, where there is a name.
+fn note_failure(
+    alloc: Global,
+    failing: Option<&Units>,
+    machine: &mut Machine,
+) -> Result<(), AllocError>
+    ensures { OnOk result (machine.new ≡ noted (option_copied failing.entry) machine.old) }
+{
+    match failing {
+        Some(name) => machine.fail(alloc, name.copy(alloc)?, 1),
+        None => Ok(()),
+    }
+}
+
+/// The three phases.
+fn play_phases(
+    alloc: Global,
+    set: &Key,
+    usable: bool,
+    course: &mut Course,
+) -> Result<(), AllocError>
+    requires { HoldsKeys set.now }
+    ensures { OnOk result (course.new ≡ played_on usable set.now course.old) }
+{
+    play_phase(alloc, set, usable, course)?;
+    play_phase(alloc, set, usable, course)?;
+    play_phase(alloc, set, usable, course)
+}
+
+/// A phase to its end.
+#[tactic(auto, unfolding(crate::specs::Played::phase_played))]
+fn play_phase(alloc: Global, set: &Key, usable: bool, course: &mut Course) -> Result<(), AllocError>
+    requires { HoldsKeys set.now }
+    ensures { OnOk result (course.new ≡ phase_played usable set.now course.old) }
+{
+    attempt_all(alloc, usable, course)?;
+    end_phase(alloc, set, course)
+}
+
+/// Attempts the entries of a phase, until none that waits is ready or the start is over.
+fn attempt_all(alloc: Global, usable: bool, course: &mut Course) -> Result<(), AllocError>
+    ensures { OnOk result (course.new ≡ attempts_of (waiting_count course.old.machine) usable course.old) }
+{
+    'attempt: while !course.machine.at_phase_end() {
+        attempt_next(alloc, usable, course)?;
+    }
+    Ok(())
+}
+
+/// Attempts the next entry.
+fn attempt_next(alloc: Global, usable: bool, course: &mut Course) -> Result<(), AllocError>
+    requires { is_at_end course.old.machine.start ≡ false }
+    ensures next { OnOk result (next_course usable course.old ≡ Some course.new) }
+    ensures fewer { OnOk result (waiting_count course.new.machine < waiting_count course.old.machine) }
+{
+    let tried = course.machine.attempt(alloc, usable)?;
+    end_where_judged(tried.judgement, &mut course.machine);
+    course.told.push(told_of(tried))
+}
+
+/// Ends the start where the judgement says so.
+fn end_where_judged(judgement: Judgement, machine: &mut Machine)
+    ensures { machine.new ≡ judged (judgement_in judgement) machine.old }
+{
+    match judgement {
+        Judgement::Ignore | Judgement::Log => {}
+        Judgement::FallBack => machine.end(Verdict::FallBack),
+        Judgement::Stop => machine.end(Verdict::Stopped),
+    }
+}
+
+/// Says what is unmet, and goes on to the next phase.
+fn end_phase(alloc: Global, set: &Key, course: &mut Course) -> Result<(), AllocError>
+    requires { HoldsKeys set.now }
+    ensures { OnOk result (course.new ≡ phase_ended set.now course.old) }
+{
+    let unmet = course.machine.next_phase(alloc, set)?;
+    push_unmet(alloc, unmet.as_slice(), &mut course.told)
+}
+
+fn push_unmet(alloc: Global, names: &[Units], told: &mut ToldRow) -> Result<(), AllocError>
+    ensures { OnOk result (told.new ≡ told.old ++ map left names.now) }
+{
+    for name in names {
+        told.push(Told {
+            name: name.copy(alloc)?,
+            fate: Fate::Unmet,
+        })?;
+    }
+    Ok(())
+}

@@ -1,0 +1,20 @@
+use Rattle.std.proofs.Common.{◌≡◌}
+use Rattle.std.specs.Option.{option_copied}
+use Rattle.failure_effects.specs.Effects.{effects_of}
+use Rattle.whatif_text.specs.Lines.{printed_lines}
+use Rattle.whatif_command.specs.Answer.{choice_in}
+use Rattle.whatif_command.proofs.SeekLemmas.{told_at}
+use Rattle.whatif_command.proofs.command.report_at.Goals as goal
+
+pub returns-in-Ok-text_on : goal.returns-in-Ok-text_on
+returns-in-Ok-text_on c =
+    let form = c.args.form in
+    let inputs = c.args.inputs.now in
+    let of = option_copied c.args.of in
+    let made = c.in-Ok-text_on.ensures in
+    let root = c.in-Ok.root-is in
+    let version = c.in-Ok.version-is in
+    let is : c.in-Ok-text_on.text ≡ printed_lines form (effects_of c.in-Ok.version c.in-Ok.root (choice_in inputs) of) =
+    cc in
+    told_at form of inputs c.in-Ok.root c.in-Ok.field-0-1 c.in-Ok.version c.in-Ok-text_on.text c.done.result
+    c.in-Ok.ensures.checks is c.done.ensures

@@ -1,0 +1,39 @@
+//! What `whatif` reads: one step after the other, up to the first obstacle.
+
+ghost use Rattle.std.specs.Prelude.{◌≡◌, Err};
+ghost use Rattle.command_parts.specs.Leaves.{Looks, IsBadUsage};
+ghost use Rattle.command_words.specs.Views.{whatif_seen};
+ghost use Rattle.whatif_command.specs.Inputs.{arguments_in, inputs_in, AsksWhatif};
+
+use arc_path::Arc;
+use boot_ini::BootIni;
+use command_parts::{HiveFiles, Obstacle, Refusal, bytes_in, hive_in, ini_in, system_in};
+use command_words::WhatifWords;
+use nt_edge::Host;
+use std::alloc::Global;
+
+/// All that `whatif` reads.
+#[derive(Drop)]
+pub struct WhatifInputs {
+    pub system: Arc,
+    pub ini: BootIni,
+    pub hive: HiveFiles,
+}
+
+/// What the words and files have, or the first obstacle. Nothing is printed.
+pub(crate) fn inputs_in<H: Host>(
+    alloc: Global,
+    words: WhatifWords<'_>,
+    host: &mut H,
+) -> Result<WhatifInputs, Obstacle>
+    ensures looks { Looks (inputs_in (whatif_seen words.entry) (H.state host.old).files) result (H.state host.old) (H.state host.new) }
+    ensures asks { AsksWhatif (whatif_seen words.entry) result (H.state host.old) (H.state host.new) }
+    ensures usage { result ≡ Err (Obstacle.Refused Refusal.Usage) → arguments_in (whatif_seen words.entry) ≡ Err Refusal.Usage }
+    ensures refused { arguments_in (whatif_seen words.entry) ≡ Err Refusal.Usage → IsBadUsage result }
+{
+    let system = system_in(alloc, words.system.as_bytes())?;
+    let text = bytes_in(alloc, host, words.boot_ini)?;
+    let ini = ini_in(alloc, text.as_slice(), words.system.as_bytes())?;
+    let hive = hive_in(alloc, host, words.hive, words.log)?;
+    Ok(WhatifInputs { system, ini, hive })
+}

@@ -1,0 +1,10 @@
+//! What holds of single failures, by their definitions and the book of startup, apart from any code.
+#![tactic(auto)]
+
+mod blocks;
+mod leaning;
+mod off;
+
+pub use blocks::the_blocks_of_a_name_are_those_of_the_whole;
+pub use leaning::{a_line_stands_for_each_that_leans, whoever_needs_one_that_leans_leans};
+pub use off::an_entry_that_is_off_has_start_four;
