@@ -1,0 +1,10 @@
+use Rattle.std.specs.Prelude.{codes}
+use Rattle.salvage_text.specs.Lines.{bytes_fields}
+use Rattle.salvage_text.proofs.ObjectLemmas.{ended}
+use Rattle.salvage_text.proofs.json.push_bytes.Goals as goal
+
+pub returns : goal.returns
+returns c =
+    ended c.close_object.result c.args.out.now.items c.open_object.new.out.items c.push_bytes_fields.new.out.items
+    c.close_object.new.out.items (codes "fault") (bytes_fields c.args.broken)
+    c.in_ok-open_object.ensures c.in_ok-push_bytes_fields.ensures c.close_object.ensures

@@ -1,0 +1,7 @@
+use Rattle.std.proofs.Common.{◌≡◌, ◌++◌, take}
+use Rattle.std.specs.List.{flat_map}
+use Rattle.salvage_text.specs.Lines.{WalkedLine, printed}
+use Rattle.salvage_text.proofs.printing.push_walk.Given as goal
+
+abbrev pub invariant-loop-line : goal.invariant-loop-line
+invariant-loop-line l = l.out.items ≡ l.fn.out.items ++ flat_map (λ line. printed l.form (WalkedLine line)) (take l.line-index l.lines)
