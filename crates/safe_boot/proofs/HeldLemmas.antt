@@ -112,5 +112,7 @@ with_first p keep (key h ts) k =
     (first_reduced p keep (listed ts) (fits h ts k))
 
 -- what remains can be held
-pub reduced_holds : (set : Tree) (mode : SafeMode) → HoldsKeys set → HoldsKeys (reduced_of set mode)
-reduced_holds set mode h = with_first (is_named (codes "Services")) (stays (listed_names set mode)) set h
+pub reduced_holds : (set : Tree) (mode : SafeMode) (images : Bool) → HoldsKeys set
+    → HoldsKeys (reduced_of set mode images)
+reduced_holds set mode images h =
+    with_first (is_named (codes "Services")) (stays images (listed_names set mode)) set h

@@ -17,9 +17,9 @@ use Rattle.start_model.specs.Machine.{phase_after, after_phase}
 use Rattle.start_model.specs.Starter.{phase_line}
 use Rattle.dependencies.proofs.PulledLemmas.{is_taken-least_of_all}
 use Rattle.safe_boot.specs.declared.mode.SafeMode.{SafeMode}
-use Rattle.safe_boot.specs.Listed.{listed_names, is_left_out, is_listed, reduced_of}
+use Rattle.safe_boot.specs.Listed.{listed_names, is_left_out, reduced_of}
 use Rattle.safe_boot.specs.Played.{Course, next_entry, tried_at, attempts_of, phase_ended, phase_played, course_begun, start_lines_of}
-use Rattle.safe_boot.specs.Laws.{HasListed, StartsListed, first_phase_of, FirstIsInFront, LateIsListed}
+use Rattle.safe_boot.specs.Laws.{is_key_listed, HasListed, StartsListed, first_phase_of, FirstIsInFront, LateIsListed}
 use Rattle.safe_boot.proofs.HeldLemmas.{each_kept}
 use Rattle.safe_boot.proofs.ListLemmas.{each_map, each_passes, each_given, each_at, each_append, each_left}
 use Rattle.safe_boot.proofs.PlayLemmas.{there}
@@ -28,23 +28,14 @@ use Rattle.std.proofs.lemmas.Bool.{and_parts, or_left, or_right}
 
 -- ---- the entries of a reduced set
 
-further : (o : Option Entry) (xs : List Entry) (e : Entry) → Contains xs e → Contains (cons_option o xs) e
-further None xs e h = h
-further (Some x) xs e h = (suc h.0, omega (arith, h.1), h.2)
+further : (t : Tree) (ts : List Tree) (u : Tree) → Contains ts u → Contains (t ∷ ts) u
+further t ts u h = (suc h.0, omega (arith, h.1), h.2)
 
-first : (o : Option Entry) (xs : List Entry) (e : Entry) → o ≡ Some e → Contains (cons_option o xs) e
-first o xs e h = subst (λ o. Contains (cons_option o xs) e) (sym h) (0, omega arith, refl)
-
--- what is read of a key is in the list
-abbrev IsIn : (Tree → Option Entry) → List Entry → Tree → Type 0
-IsIn read entries t = (e : Entry) → read t ≡ Some e → Contains entries e
-
-all_in : (read : Tree → Option Entry) (ts : List Tree) → Each (IsIn read (filter_map read ts)) ts
-all_in read [] = tt
-all_in read (t ∷ ts) = (
-  λ e h. first (read t) (filter_map read ts) e h,
-  each_map (IsIn read (filter_map read ts)) (IsIn read (cons_option (read t) (filter_map read ts)))
-      (λ u f e h. further (read t) (filter_map read ts) e (f e h)) ts (all_in read ts),
+all_in : (ts : List Tree) → Each (Contains ts) ts
+all_in [] = tt
+all_in (t ∷ ts) = (
+  (0, omega arith, refl),
+  each_map (Contains ts) (Contains (t ∷ ts)) (λ u f. further t ts u f) ts (all_in ts),
 )
 
 each_both : {X : Type 0} (P Q R : X → Type 0) → ((x : X) → P x → Q x → R x) → (xs : List X) → Each P xs → Each Q xs
@@ -57,32 +48,36 @@ not_so true h = absurd cc
 not_so false h = refl
 
 -- the keys of which no entry is read that is out
-abbrev kept_by : (Tree → Option Entry) → (Entry → Bool) → Tree → Bool
-kept_by read out t = not (option_map_or out (read t) false)
+abbrev kept_by : (Tree → Option Entry) → (Tree → Entry → Bool) → Tree → Bool
+kept_by read out t = not (option_map_or (out t) (read t) false)
 
-stay_by : (read : Tree → Option Entry) (out : Entry → Bool) (keys : List Tree) (P : Entry → Type 0)
-    → ((e : Entry) → Contains (filter_map read keys) e → out e ≡ false → P e)
+stay_by : (read : Tree → Option Entry) (out : Tree → Entry → Bool) (keys : List Tree) (P : Entry → Type 0)
+    → ((t : Tree) (e : Entry) → Contains keys t → read t ≡ Some e → out t e ≡ false → P e)
     → Each P (filter_map read (filter (kept_by read out) keys))
 stay_by read out keys P says =
     each_given read P (filter (kept_by read out) keys)
-    (each_both (IsIn read (filter_map read keys)) (λ t. kept_by read out t ≡ true)
+    (each_both (Contains keys) (λ t. kept_by read out t ≡ true)
     (λ t. (e : Entry) → read t ≡ Some e → P e)
-    (λ t f s e h. says e (f e h) (not_so (out e) (sym (ap (λ o. not (option_map_or out o false)) h) ∙ s)))
+    (λ t c s e h. says t e c h (not_so (out t e) (sym (ap (λ o. not (option_map_or (out t) o false)) h) ∙ s)))
     (filter (kept_by read out) keys)
-    (each_kept (IsIn read (filter_map read keys)) (kept_by read out) keys (all_in read keys))
+    (each_kept (Contains keys) (kept_by read out) keys (all_in keys))
     (each_passes (kept_by read out) keys))
 
--- an entry of the set that is not left out
-record Stays (set : Tree) (names : List (List ℕ)) (e : Entry) : Type 0 where
-  there : Contains (entries_of set) e
-  unleft : is_left_out names e ≡ false
+-- the entry of a service of the set that is not left out
+record Stays (set : Tree) (images : Bool) (names : List (List ℕ)) (e : Entry) : Type 0 where
+  service : Tree
+  there : Contains (services_of set) service
+  read : entry_of service ≡ Some e
+  unleft : is_left_out images names service e ≡ false
 
-entries_stay : (set : Tree) (mode : SafeMode)
-    → Each (Stays set (listed_names set mode)) (entries_of (reduced_of set mode))
-entries_stay set mode =
-    subst (λ ts. Each (Stays set (listed_names set mode)) (filter_map entry_of ts)) (sym (services_reduced set mode))
-    (stay_by entry_of (is_left_out (listed_names set mode)) (services_of set) (Stays set (listed_names set mode))
-    (λ e c u. record { there = c; unleft = u }))
+entries_stay : (set : Tree) (mode : SafeMode) (images : Bool)
+    → Each (Stays set images (listed_names set mode)) (entries_of (reduced_of set mode images))
+entries_stay set mode images =
+    subst (λ ts. Each (Stays set images (listed_names set mode)) (filter_map entry_of ts))
+    (sym (services_reduced set mode images))
+    (stay_by entry_of (is_left_out images (listed_names set mode)) (services_of set)
+    (Stays set images (listed_names set mode))
+    (λ t e c h u. record { service = t; there = c; read = h; unleft = u }))
 
 -- ---- what a phase takes
 
@@ -222,33 +217,40 @@ automatic_late entries tried =
 
 -- ---- an entry that is taken late is listed
 
--- an entry of the set that is listed
-record IsTaken (set : Tree) (mode : SafeMode) (e : Entry) : Type 0 where
-  there : Contains (entries_of set) e
-  listed : is_listed set mode e ≡ true
+-- the entry of a service of the set that is listed
+record IsTaken (set : Tree) (mode : SafeMode) (images : Bool) (e : Entry) : Type 0 where
+  service : Tree
+  there : Contains (services_of set) service
+  read : entry_of service ≡ Some e
+  listed : is_key_listed set mode images service e ≡ true
 
 listed_so : (zero among : Bool) → zero ≡ false → (not zero && not among) ≡ false → among ≡ true
 listed_so true among z h = absurd cc
 listed_so false true z h = refl
 listed_so false false z h = absurd cc
 
-late_entries : (set : Tree) (mode : SafeMode) (entries : List Entry) (taken : List ℕ)
-    → Each (Stays set (listed_names set mode)) entries → Each (At (λ e. (e.start == 0) ≡ false) entries) taken
-    → Each (At (IsTaken set mode) entries) taken
-late_entries set mode entries taken stay late =
-    each_map (At (λ e. (e.start == 0) ≡ false) entries) (At (IsTaken set mode) entries)
+late_entries : (set : Tree) (mode : SafeMode) (images : Bool) (entries : List Entry) (taken : List ℕ)
+    → Each (Stays set images (listed_names set mode)) entries → Each (At (λ e. (e.start == 0) ≡ false) entries) taken
+    → Each (At (IsTaken set mode images) entries) taken
+late_entries set mode images entries taken stay late =
+    each_map (At (λ e. (e.start == 0) ≡ false) entries) (At (IsTaken set mode images) entries)
     (λ p h e is.
-    let s = each_at (Stays set (listed_names set mode)) entries p e stay is in
-    record { there = s.there; listed = listed_so (e.start == 0) (is_listed set mode e) (h e is) s.unleft })
+    let s = each_at (Stays set images (listed_names set mode)) entries p e stay is in
+    record {
+      service = s.service;
+      there = s.there;
+      read = s.read;
+      listed = listed_so (e.start == 0) (is_key_listed set mode images s.service e) (h e is) s.unleft;
+    })
     taken late
 
-late_taken : (set r : Tree) (mode : SafeMode) (phase : Phase) (tried : List (List ℕ))
-    → Each (Stays set (listed_names set mode)) (entries_of r)
+late_taken : (set r : Tree) (mode : SafeMode) (images : Bool) (phase : Phase) (tried : List (List ℕ))
+    → Each (Stays set images (listed_names set mode)) (entries_of r)
     → Each (At (λ e. (e.start == 0) ≡ false) (entries_of r)) (taken_of (entries_of r) phase tried)
-    → Each (IsTaken set mode) (plan r phase tried)
-late_taken set r mode phase tried stay late =
-    in_plan (IsTaken set mode) r phase tried
-    (late_entries set mode (entries_of r) (taken_of (entries_of r) phase tried) stay late)
+    → Each (IsTaken set mode images) (plan r phase tried)
+late_taken set r mode images phase tried stay late =
+    in_plan (IsTaken set mode images) r phase tried
+    (late_entries set mode images (entries_of r) (taken_of (entries_of r) phase tried) stay late)
 
 -- ---- the lines of a course
 
@@ -295,36 +297,48 @@ attempts_phase (suc n) c = by_next (next_entry c.start) (λ d. attempts_phase n 
     by_next None rest = refl
     by_next (Some next) rest = rest (tried_at c next.0 next.1)
 
-unmet_listed : (set : Tree) (mode : SafeMode) (names : List (List ℕ))
-    → Each (StartsListed set mode) (map UnmetLine names)
-unmet_listed set mode [] = tt
-unmet_listed set mode (n ∷ ns) = (tt, unmet_listed set mode ns)
+unmet_listed : (set : Tree) (mode : SafeMode) (images : Bool) (names : List (List ℕ))
+    → Each (StartsListed set mode images) (map UnmetLine names)
+unmet_listed set mode images [] = tt
+unmet_listed set mode images (n ∷ ns) = (tt, unmet_listed set mode images ns)
 
-phase_listed : (set : Tree) (mode : SafeMode) (phase : Phase) → StartsListed set mode (phase_line phase)
-phase_listed set mode Boot = tt
-phase_listed set mode System = tt
-phase_listed set mode Automatic = tt
-phase_listed set mode Done = tt
+phase_listed : (set : Tree) (mode : SafeMode) (images : Bool) (phase : Phase)
+    → StartsListed set mode images (phase_line phase)
+phase_listed set mode images Boot = tt
+phase_listed set mode images System = tt
+phase_listed set mode images Automatic = tt
+phase_listed set mode images Done = tt
 
-says_listed : (set : Tree) (mode : SafeMode) (e : Entry) → IsTaken set mode e → HasListed set mode e.name
-says_listed set mode e t = record { entry = e; there = t.there; named = refl; listed = t.listed }
+says_listed : (set : Tree) (mode : SafeMode) (images : Bool) (e : Entry) → IsTaken set mode images e
+    → HasListed set mode images e.name
+says_listed set mode images e t = record {
+  service = t.service;
+  entry = e;
+  there = t.there;
+  read = t.read;
+  named =
+      refl;
+  listed = t.listed;
+}
 
 -- a phase of listed entries
-phase_extends : (set r : Tree) (mode : SafeMode) (c : Course) → Each (IsTaken set mode) c.start.waiting
-    → Extends (StartsListed set mode) c (phase_played r c)
+phase_extends : (set r : Tree) (mode : SafeMode) (images : Bool) (c : Course)
+    → Each (IsTaken set mode images) c.start.waiting
+    → Extends (StartsListed set mode images) c (phase_played r c)
 unfolding phase_played
-phase_extends set r mode c h =
+phase_extends set r mode images c h =
     let d : Course = attempts_of (length c.start.waiting) c in
-    extends_then (StartsListed set mode) c d (phase_ended r d)
-    (attempts_extend (StartsListed set mode) (IsTaken set mode) (says_listed set mode) (length c.start.waiting) c h)
+    extends_then (StartsListed set mode images) c d (phase_ended r d)
+    (attempts_extend (StartsListed set mode images) (IsTaken set mode images) (says_listed set mode images)
+    (length c.start.waiting) c h)
     (record {
       more = map UnmetLine (map (λ e. e.name) d.start.waiting) ++ phase_line (after_phase r d.start).phase ∷ [];
       lines = append_assoc d.lines (map UnmetLine (map (λ e. e.name) d.start.waiting))
           (phase_line (after_phase r d.start).phase ∷ []);
-      each = each_append (StartsListed set mode) (map UnmetLine (map (λ e. e.name) d.start.waiting))
+      each = each_append (StartsListed set mode images) (map UnmetLine (map (λ e. e.name) d.start.waiting))
           (phase_line (after_phase r d.start).phase ∷ [])
-          (unmet_listed set mode (map (λ e. e.name) d.start.waiting))
-          (phase_listed set mode (after_phase r d.start).phase, tt);
+          (unmet_listed set mode images (map (λ e. e.name) d.start.waiting))
+          (phase_listed set mode images (after_phase r d.start).phase, tt);
     })
 
 played_phase : (r : Tree) (c : Course) → (phase_played r c).start.phase ≡ phase_after c.start.phase
@@ -339,48 +353,54 @@ played_waiting r c = ap (λ phase. plan_of r (phase_after phase) (attempts_of (l
     (attempts_phase (length c.start.waiting) c)
 
 -- the lines after the first phase
-late_lines : (set r : Tree) (mode : SafeMode) (c : Course) → Each (Stays set (listed_names set mode)) (entries_of r)
+late_lines : (set r : Tree) (mode : SafeMode) (images : Bool) (c : Course)
+    → Each (Stays set images (listed_names set mode)) (entries_of r)
     → c.start.phase ≡ Boot
-    → Extends (StartsListed set mode) (phase_played r c) (phase_played r (phase_played r (phase_played r c)))
-late_lines set r mode c stay boot =
+    → Extends (StartsListed set mode images) (phase_played r c) (phase_played r (phase_played r (phase_played r c)))
+late_lines set r mode images c stay boot =
     let one : Course = phase_played r c in
     let two : Course = phase_played r one in
     let before : List (List ℕ) = (attempts_of (length c.start.waiting) c).start.tried in
     let tried : List (List ℕ) = (attempts_of (length one.start.waiting) one).start.tried in
     let started : one.start.phase ≡ System = played_phase r c ∙ ap phase_after boot in
-    let system : Each (IsTaken set mode) one.start.waiting =
-    subst (Each (IsTaken set mode)) (sym (played_waiting r c ∙ ap (λ phase. plan r (phase_after phase) before) boot))
-    (late_taken set r mode System before stay (system_late (entries_of r) before)) in
-    let automatic : Each (IsTaken set mode) two.start.waiting =
-    subst (Each (IsTaken set mode))
+    let system : Each (IsTaken set mode images) one.start.waiting =
+    subst (Each (IsTaken set mode images)) (sym (played_waiting r c
+    ∙ ap (λ phase. plan r (phase_after phase) before) boot))
+    (late_taken set r mode images System before stay (system_late (entries_of r) before)) in
+    let automatic : Each (IsTaken set mode images) two.start.waiting =
+    subst (Each (IsTaken set mode images))
     (sym (played_waiting r one ∙ ap (λ phase. plan r (phase_after phase) tried) started))
-    (late_taken set r mode Automatic tried stay (automatic_late (entries_of r) tried)) in
-    extends_then (StartsListed set mode) one two (phase_played r two) (phase_extends set r mode one system)
-    (phase_extends set r mode two automatic)
+    (late_taken set r mode images Automatic tried stay (automatic_late (entries_of r) tried)) in
+    extends_then (StartsListed set mode images) one two (phase_played r two)
+    (phase_extends set r mode images one system)
+    (phase_extends set r mode images two automatic)
 
-behind_first : (set : Tree) (mode : SafeMode) (one whole : Course) (later : List Line)
-    → Extends (StartsListed set mode) one whole → whole.lines ≡ one.lines ++ later → All (StartsListed set mode) later
-behind_first set mode one whole later more is =
-    each_all (StartsListed set mode) later
-    (subst (Each (StartsListed set mode)) (append_cancel_left one.lines more.more later (sym more.lines ∙ is))
+behind_first : (set : Tree) (mode : SafeMode) (images : Bool) (one whole : Course) (later : List Line)
+    → Extends (StartsListed set mode images) one whole → whole.lines ≡ one.lines ++ later
+    → All (StartsListed set mode images) later
+behind_first set mode images one whole later more is =
+    each_all (StartsListed set mode images) later
+    (subst (Each (StartsListed set mode images)) (append_cancel_left one.lines more.more later (sym more.lines ∙ is))
     more.each)
 
 begins : (r : Tree) → (course_begun r).start.phase ≡ Boot
 unfolding course_begun
 begins r = refl
 
-late_of : (set r : Tree) (mode : SafeMode) (later : List Line) → Each (Stays set (listed_names set mode)) (entries_of r)
-    → start_lines_of r ≡ first_phase_of r ++ later → All (StartsListed set mode) later
-late_of set r mode later stay is =
-    behind_first set mode (phase_played r (course_begun r))
+late_of : (set r : Tree) (mode : SafeMode) (images : Bool) (later : List Line)
+    → Each (Stays set images (listed_names set mode)) (entries_of r)
+    → start_lines_of r ≡ first_phase_of r ++ later → All (StartsListed set mode images) later
+late_of set r mode images later stay is =
+    behind_first set mode images (phase_played r (course_begun r))
     (phase_played r (phase_played r (phase_played r (course_begun r)))) later
-    (late_lines set r mode (course_begun r) stay (begins r)) is
+    (late_lines set r mode images (course_begun r) stay (begins r)) is
 
 pub first_in_front : FirstIsInFront
-first_in_front set mode =
-    let r : Tree = reduced_of set mode in
-    let behind = late_lines set r mode (course_begun r) (entries_stay set mode) (begins r) in
+first_in_front set mode images =
+    let r : Tree = reduced_of set mode images in
+    let behind = late_lines set r mode images (course_begun r) (entries_stay set mode images) (begins r) in
     (behind.more, behind.lines)
 
 pub late_is_listed : LateIsListed
-late_is_listed set mode later is = late_of set (reduced_of set mode) mode later (entries_stay set mode) is
+late_is_listed set mode images later is = late_of set (reduced_of set mode images) mode images later
+    (entries_stay set mode images) is

@@ -5,3 +5,4 @@ pub mod PlayLemmas
 pub mod ListLemmas
 pub mod SetLemmas
 pub mod LateLemmas
+pub mod MoreLemmas

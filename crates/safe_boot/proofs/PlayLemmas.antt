@@ -19,7 +19,7 @@ use Rattle.safe_boot.specs.declared.lines.SafeLine.TheVariants as code
 use Rattle.safe_boot.specs.declared.mode.SafeMode.{SafeMode}
 use Rattle.safe_boot.specs.Lines.{line_of}
 use Rattle.safe_boot.specs.Listed.{reduced_of}
-use Rattle.safe_boot.specs.Played.{Course, at_place, waiting_at, next_entry, tried_at, attempts_of, phase_ended, phase_played, course_begun, start_lines_of, safe_lines_of, IsAt, AttemptsNext, waiting_count}
+use Rattle.safe_boot.specs.Played.{Course, at_place, waiting_at, next_entry, tried_at, attempts_of, phase_ended, phase_played, course_begun, start_lines_of, safe_lines_by, IsAt, AttemptsNext, waiting_count}
 
 abbrev pub running : Start → MachineState
 running s = with_start s off_machine
@@ -248,11 +248,11 @@ begun_at set off m none said is begun empty first = record {
   lines = ap (map line_of) (first ∙ ap (λ ls. ls ++ code.Phase phases.Boot ∷ []) empty);
 }
 
-pub reduced_lines : {E : Type 0} (r : Result (List SafeLine) E) (set reduced : Tree) (mode : SafeMode)
-    → reduced ≡ reduced_of set mode → IfOk r (λ lines. map line_of lines ≡ start_lines_of reduced)
-    → IfOk r (λ lines. map line_of lines ≡ safe_lines_of set (Some mode))
-reduced_lines (Ok lines) set reduced mode is h = h ∙ ap start_lines_of is
-reduced_lines (Err e) set reduced mode is h = tt
+pub reduced_lines : {E : Type 0} (r : Result (List SafeLine) E) (set reduced : Tree) (mode : SafeMode) (images : Bool)
+    → reduced ≡ reduced_of set mode images → IfOk r (λ lines. map line_of lines ≡ start_lines_of reduced)
+    → IfOk r (λ lines. map line_of lines ≡ safe_lines_by set (Some mode) images)
+reduced_lines (Ok lines) set reduced mode images is h = h ∙ ap start_lines_of is
+reduced_lines (Err e) set reduced mode images is h = tt
 
 pub lines_by : {E : Type 0} (r : Result (Unit {0}) E) (set : Tree) (c : Course) (m m' : MachineState)
     (said said' : List SafeLine) → IsAt m said c

@@ -11,7 +11,7 @@ use Rattle.reg_tree.proofs.Trees.{listed_trees}
 use Rattle.reg_tree.proofs.Unlike.{folds_swap}
 use Rattle.start_model.specs.Entries.{Entry, services_of}
 use Rattle.safe_boot.specs.declared.mode.SafeMode.{SafeMode}
-use Rattle.safe_boot.specs.Listed.{list_name, listed_names, is_among, is_left_out, stays, reduced_of}
+use Rattle.safe_boot.specs.Listed.{list_name, listed_names, has_entry, is_left_out, stays, reduced_of}
 use Rattle.safe_boot.specs.Played.{start_lines_of}
 use Rattle.safe_boot.specs.Laws.{with_services, UnlistedChangesNoLine}
 
@@ -108,10 +108,10 @@ services_left : (keep : Tree → Bool) (o : Option Tree)
 services_left keep None = refl
 services_left keep (Some t) = children_of (filter keep) t
 
-pub services_reduced : (set : Tree) (mode : SafeMode)
-    → services_of (reduced_of set mode) ≡ filter (stays (listed_names set mode)) (services_of set)
-services_reduced set mode =
-    let keep : Tree → Bool = stays (listed_names set mode) in
+pub services_reduced : (set : Tree) (mode : SafeMode) (images : Bool)
+    → services_of (reduced_of set mode images) ≡ filter (stays images (listed_names set mode)) (services_of set)
+services_reduced set mode images =
+    let keep : Tree → Bool = stays images (listed_names set mode) in
     ap (λ o. option_map_or children (option_and_then (find_key []) o) [])
     (ap (find is_services) (children_of (at_first is_services (of_children (filter keep))) set)
     ∙ found_changed is_services (of_children (filter keep)) (children set) (named_so (codes "Services") (filter keep)))
@@ -140,9 +140,9 @@ same_left set keep keys old is same =
         twice (λ _. keys) (filter keep) t
         ∙ changed_alike (λ _. filter keep keys) (filter keep) t (same ∙ ap (filter keep) here)
 
-left_out : (names : List (List ℕ)) (e : Entry) → (e.start == 0) ≡ false → is_among names e.name e.group ≡ false
-    → is_left_out names e ≡ true
-left_out names e late absent = λ i. not (late i) && not (absent i)
+left_out : (images : Bool) (names : List (List ℕ)) (t : Tree) (e : Entry) → (e.start == 0) ≡ false
+    → has_entry images names t e ≡ false → is_left_out images names t e ≡ true
+left_out images names t e late absent = λ i. not (late i) && not (absent i)
 
 gone : (keep : Tree → Bool) (front back : List Tree) (t : Tree) → keep t ≡ false
     → filter keep (front ++ back) ≡ filter keep (front ++ t ∷ back)
@@ -152,12 +152,14 @@ gone keep front back t out =
     ∙ sym (filter-append keep front (t ∷ back))
 
 pub unlisted_changes_no_line : UnlistedChangesNoLine
-unlisted_changes_no_line set mode front back t is u =
+unlisted_changes_no_line set mode images front back t is u =
     let names : List (List ℕ) = listed_names set mode in
-    let out : stays names t ≡ false =
-    ap (λ o. not (option_map_or (is_left_out names) o false)) u.read
-    ∙ ap not (left_out names u.entry u.late u.absent) in
+    let keep : Tree → Bool = stays images names in
+    let out : keep t ≡ false =
+    ap (λ o. not (option_map_or (is_left_out images names t) o false)) u.read
+    ∙ ap not (left_out images names t u.entry u.late u.absent) in
     ap start_lines_of
-    (ap (λ ns. of_children (at_first is_services (of_children (filter (stays ns)))) (with_services (front ++ back) set))
+    (ap (λ ns. of_children (at_first is_services (of_children (filter (stays images ns))))
+    (with_services (front ++ back) set))
     (names_kept (λ _. front ++ back) set mode)
-    ∙ same_left set (stays names) (front ++ back) (front ++ t ∷ back) is (gone (stays names) front back t out))
+    ∙ same_left set keep (front ++ back) (front ++ t ∷ back) is (gone keep front back t out))

@@ -1,4 +1,5 @@
 pub mod Modes
+pub mod Images
 pub mod Listed
 pub mod Lines
 pub mod Played

@@ -1,16 +1,18 @@
 -- Which services does a safe mode list, and what does it leave of a control set?
 --
 -- The lists are the keys `Control\SafeBoot\Minimal` and `Control\SafeBoot\Network` (Windows Internals, 4th edition, safe mode).
--- That an entry is listed by its name or its group, and that drivers of Start 0 are never left out, is this project's own.
-use Rattle.std.specs.Prelude.{ℕ, Bool, false, not, ◌&&◌, ◌||◌, ◌==◌, List, [], ◌∷◌, filter, map, Option, codes}
+-- That an entry is listed by its name or its group, or a driver by its image where images count, and that drivers of Start 0 are never
+-- left out, is this project's own.
+use Rattle.std.specs.Prelude.{ℕ, Bool, false, not, ◌&&◌, ◌||◌, ◌==◌, List, [], ◌∷◌, length, filter, map, Option, codes}
 use Rattle.std.specs.Option.{option_map_or}
 use Rattle.std.specs.List.{list_any}
 use Rattle.nt_bytes.specs.Folding.{folds_same}
 use Rattle.hive_model.specs.Tree.{Tree, head, children, find_key}
 use Rattle.hive_model.specs.Edit.{of_children, at_key}
-use Rattle.start_model.specs.Entries.{Entry, entry_of}
+use Rattle.start_model.specs.Entries.{Entry, entry_of, is_driver}
 use Rattle.safe_boot.specs.declared.mode.SafeMode.{SafeMode}
 use Rattle.safe_boot.specs.declared.mode.SafeMode.TheVariants.{Minimal, Network}
+use Rattle.safe_boot.specs.Images.{image_of}
 
 -- the name of a mode's list
 abbrev pub list_name : SafeMode → List ℕ
@@ -34,14 +36,26 @@ is_among names name group = has_name names name || option_map_or (has_name names
 abbrev pub is_listed : Tree → SafeMode → Entry → Bool
 is_listed set mode e = is_among (listed_names set mode) e.name e.group
 
--- an entry is left out where its Start is not 0 and it is not listed
-abbrev pub is_left_out : List (List ℕ) → Entry → Bool
-is_left_out names e = not (e.start == 0) && not (is_among names e.name e.group)
+-- the names have this file, which isn't empty
+abbrev pub has_file : List (List ℕ) → List ℕ → Bool
+has_file names file = not (length file == 0) && has_name names file
+
+-- the entry of a key is a driver, and the names have its image
+abbrev pub has_image : List (List ℕ) → Tree → Entry → Bool
+has_image names t e = is_driver e.kind && has_file names (image_of t)
+
+-- the names have the entry of a key: by its name or its group, or by its image where images count
+abbrev pub has_entry : Bool → List (List ℕ) → Tree → Entry → Bool
+has_entry images names t e = (images && has_image names t e) || is_among names e.name e.group
+
+-- the entry of a key is left out where its Start is not 0 and the names don't have it
+abbrev pub is_left_out : Bool → List (List ℕ) → Tree → Entry → Bool
+is_left_out images names t e = not (e.start == 0) && not (has_entry images names t e)
 
 -- a child of `Services` stays unless it is an entry that is left out
-abbrev pub stays : List (List ℕ) → Tree → Bool
-stays names t = not (option_map_or (is_left_out names) (entry_of t) false)
+abbrev pub stays : Bool → List (List ℕ) → Tree → Bool
+stays images names t = not (option_map_or (is_left_out images names t) (entry_of t) false)
 
 -- the set with those children of `Services` that stay, and all else as it was
-abbrev pub reduced_of : Tree → SafeMode → Tree
-reduced_of set mode = at_key (codes "Services" ∷ []) (of_children (filter (stays (listed_names set mode)))) set
+abbrev pub reduced_of : Tree → SafeMode → Bool → Tree
+reduced_of set mode images = at_key (codes "Services" ∷ []) (of_children (filter (stays images (listed_names set mode)))) set

@@ -1,7 +1,7 @@
 -- What does a start say in which each attempt goes well? (this project's own)
 --
 -- Phases, plans, which entry is next and what is unmet are those of the book of startup.
-use Rattle.std.specs.Prelude.{◌≡◌, ℕ, zero, suc, false, true, List, [], ◌∷◌, ◌++◌, map, length, slice_get, Option, Some, None, option_map, option_and_then}
+use Rattle.std.specs.Prelude.{◌≡◌, ℕ, zero, suc, Bool, false, true, List, [], ◌∷◌, ◌++◌, map, length, slice_get, Option, Some, None, option_map, option_and_then}
 use Rattle.std.specs.Option.{option_map_or}
 use Rattle.hive_model.specs.Tree.{Tree}
 use Rattle.start_model.specs.Entries.{Entry, Boot}
@@ -58,10 +58,14 @@ course_begun set = record { lines = phase_line Boot ∷ []; start = begun_with s
 abbrev pub start_lines_of : Tree → List Line
 start_lines_of set = (phase_played set (phase_played set (phase_played set (course_begun set)))).lines
 
--- the lines of a start in a safe mode, or in none
+-- the lines of a start in a safe mode, in which images count or don't, or in none
+abbrev pub safe_lines_by : Tree → Option SafeMode → Bool → List Line
+safe_lines_by set None images = start_lines_of set
+safe_lines_by set (Some mode) images = start_lines_of (reduced_of set mode images)
+
+-- the same where images don't count
 abbrev pub safe_lines_of : Tree → Option SafeMode → List Line
-safe_lines_of set None = start_lines_of set
-safe_lines_of set (Some mode) = start_lines_of (reduced_of set mode)
+safe_lines_of set mode = safe_lines_by set mode false
 
 -- ---- the machine that plays it
 

@@ -6,7 +6,7 @@ ghost use Rattle.boot_machine.specs.Steps.{is_at_end};
 ghost use Rattle.start_model.specs.Lines.{UnmetLine};
 ghost use Rattle.start_model.specs.Machine.{off_machine};
 ghost use Rattle.safe_boot.specs.Lines.{line_of};
-ghost use Rattle.safe_boot.specs.Played.{Course, attempts_of, phase_ended, phase_played, start_lines_of, safe_lines_of, IsAt, AttemptsNext, waiting_count};
+ghost use Rattle.safe_boot.specs.Played.{Course, attempts_of, phase_ended, phase_played, start_lines_of, safe_lines_by, safe_lines_of, IsAt, AttemptsNext, waiting_count};
 
 use crate::lines::{SafeLine, SafeLines};
 use crate::mode::SafeMode;
@@ -18,23 +18,42 @@ use reg_tree::Key;
 use std::alloc::{AllocError, Global};
 
 /// The lines of the three phases of a start on this set, where each attempt goes well; in a safe mode, on what that leaves of the
-/// set. The keys of the set must be those that a hive can hold. Takes n log n time in the services and the names of the list.
-pub fn safe_start(alloc: Global, set: &Key, mode: Option<SafeMode>) -> Result<SafeLines, AllocError>
+/// set, where drivers may be listed by their images too. The keys of the set must be those that a hive can hold. Takes n log n time in
+/// the services and the names of the list.
+pub fn safe_start_by(
+    alloc: Global,
+    set: &Key,
+    mode: Option<SafeMode>,
+    images: bool,
+) -> Result<SafeLines, AllocError>
     requires { HoldsKeys set.now }
-    ensures { IfOk result (λ lines. map line_of lines ≡ safe_lines_of set.now mode) }
+    ensures { IfOk result (λ lines. map line_of lines ≡ safe_lines_by set.now mode images) }
 {
     match mode {
-        Some(mode) => reduced_lines(alloc, set, mode),
+        Some(mode) => reduced_lines(alloc, set, mode, images),
         None => start_lines(alloc, set),
     }
 }
 
-/// The lines on what a safe mode leaves of the set.
-fn reduced_lines(alloc: Global, set: &Key, mode: SafeMode) -> Result<SafeLines, AllocError>
+/// The same where images don't count.
+pub fn safe_start(alloc: Global, set: &Key, mode: Option<SafeMode>) -> Result<SafeLines, AllocError>
     requires { HoldsKeys set.now }
-    ensures { IfOk result (λ lines. map line_of lines ≡ safe_lines_of set.now (Some mode)) }
+    ensures { IfOk result (λ lines. map line_of lines ≡ safe_lines_of set.now mode) }
 {
-    let reduced = reduce(alloc, set, mode)?;
+    safe_start_by(alloc, set, mode, false)
+}
+
+/// The lines on what a safe mode leaves of the set.
+fn reduced_lines(
+    alloc: Global,
+    set: &Key,
+    mode: SafeMode,
+    images: bool,
+) -> Result<SafeLines, AllocError>
+    requires { HoldsKeys set.now }
+    ensures { IfOk result (λ lines. map line_of lines ≡ safe_lines_by set.now (Some mode) images) }
+{
+    let reduced = reduce(alloc, set, mode, images)?;
     start_lines(alloc, &reduced)
 }
 

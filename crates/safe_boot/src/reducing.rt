@@ -1,12 +1,14 @@
 //! What a safe mode leaves of a control set.
 
-ghost use Rattle.std.specs.Prelude.{◌≡◌, ◌&&◌, ◌==◌, false, not, filter, codes, IfOk, if◌then◌else◌};
+ghost use Rattle.std.specs.Prelude.{◌≡◌, ◌&&◌, ◌||◌, ◌==◌, false, not, filter, codes, IfOk, if◌then◌else◌};
 ghost use Rattle.std.specs.Option.{option_map_or};
-ghost use Rattle.hive_model.specs.Tree.{head, find_string, is_named};
+ghost use Rattle.hive_model.specs.Tree.{head, find_dword, find_string, is_named};
 ghost use Rattle.hive_model.specs.Edit.{of_children, at_first};
-ghost use Rattle.start_model.specs.Entries.{entry_of, named_group};
-ghost use Rattle.safe_boot.specs.Listed.{has_name, is_among, stays, reduced_of};
+ghost use Rattle.start_model.specs.Entries.{entry_of, is_driver, named_group};
+ghost use Rattle.safe_boot.specs.Images.{image_of};
+ghost use Rattle.safe_boot.specs.Listed.{has_name, has_file, is_among, stays, reduced_of};
 
+use crate::images::{image_of, is_driver_key};
 use crate::listing::read_list;
 use crate::mode::SafeMode;
 use name_places::NamePlaces;
@@ -23,24 +25,30 @@ const TYPE: [u16; 4] = [0x54, 0x79, 0x70, 0x65];
 const GROUP: [u16; 5] = [0x47, 0x72, 0x6f, 0x75, 0x70];
 
 /// The control set without the services that the mode leaves out: the children of `Services` that are entries with a
-/// Start other than 0 and are not listed. Takes n log n time in the services and the names of the list.
-pub fn reduce(alloc: Global, set: &Key, mode: SafeMode) -> Result<Key, AllocError>
-    ensures { IfOk result (λ k. k ≡ reduced_of set.now mode) }
+/// Start other than 0 and are not listed, a driver by its image too where images count. Takes n log n time in the services and the
+/// names of the list.
+pub fn reduce(alloc: Global, set: &Key, mode: SafeMode, images: bool) -> Result<Key, AllocError>
+    ensures { IfOk result (λ k. k ≡ reduced_of set.now mode images) }
 {
     let names = read_list(alloc, set, mode)?;
-    let children = reduced_children(alloc, set.subkeys(), &names)?;
+    let children = reduced_children(alloc, set.subkeys(), &names, images)?;
     with_children(alloc, set, children)
 }
 
 /// The children of a set, of which the first that is named `Services` is reduced.
-fn reduced_children(alloc: Global, keys: &[Key], names: &NamePlaces) -> Result<Keys, AllocError>
-    ensures { IfOk result (λ ks. ks ≡ at_first (is_named (codes "Services")) (of_children (filter (stays names.now))) keys.now) }
+fn reduced_children(
+    alloc: Global,
+    keys: &[Key],
+    names: &NamePlaces,
+    images: bool,
+) -> Result<Keys, AllocError>
+    ensures { IfOk result (λ ks. ks ≡ at_first (is_named (codes "Services")) (of_children (filter (stays images names.now))) keys.now) }
 {
     let mut made = Keys::new(alloc);
     let mut found = false;
     for key in keys {
         let reduces = reduces_at(found, key);
-        made.push(reduced_where(alloc, key, names, reduces)?)?;
+        made.push(reduced_where(alloc, key, names, images, reduces)?)?;
         found |= reduces;
     }
     Ok(made)
@@ -64,12 +72,13 @@ fn reduced_where(
     alloc: Global,
     key: &Key,
     names: &NamePlaces,
+    images: bool,
     reduces: bool,
 ) -> Result<Key, AllocError>
-    ensures { IfOk result (λ k. k ≡ (if reduces then of_children (filter (stays names.now)) key.now else key.now)) }
+    ensures { IfOk result (λ k. k ≡ (if reduces then of_children (filter (stays images names.now)) key.now else key.now)) }
 {
     if reduces {
-        let children = staying(alloc, key.subkeys(), names)?;
+        let children = staying(alloc, key.subkeys(), names, images)?;
         with_children(alloc, key, children)
     } else {
         key.copy(alloc)
@@ -77,12 +86,17 @@ fn reduced_where(
 }
 
 /// Copies of the keys that stay, in their order.
-fn staying(alloc: Global, keys: &[Key], names: &NamePlaces) -> Result<Keys, AllocError>
-    ensures { IfOk result (λ ks. ks ≡ filter (stays names.now) keys.now) }
+fn staying(
+    alloc: Global,
+    keys: &[Key],
+    names: &NamePlaces,
+    images: bool,
+) -> Result<Keys, AllocError>
+    ensures { IfOk result (λ ks. ks ≡ filter (stays images names.now) keys.now) }
 {
     let mut made = Keys::new(alloc);
     for key in keys {
-        if stays(alloc, key, names)? {
+        if stays(alloc, key, names, images)? {
             made.push(key.copy(alloc)?)?;
         }
     }
@@ -90,11 +104,11 @@ fn staying(alloc: Global, keys: &[Key], names: &NamePlaces) -> Result<Keys, Allo
 }
 
 /// Whether a child of `Services` stays: it is no entry, its Start is 0, or it is listed.
-fn stays(alloc: Global, key: &Key, names: &NamePlaces) -> Result<bool, AllocError>
-    ensures { IfOk result (λ b. b ≡ stays names.now key.now) }
+fn stays(alloc: Global, key: &Key, names: &NamePlaces, images: bool) -> Result<bool, AllocError>
+    ensures { IfOk result (λ b. b ≡ stays images names.now key.now) }
 {
     match late_start(key) {
-        true => is_key_listed(alloc, key, names),
+        true => is_key_listed(alloc, key, names, images),
         false => Ok(true),
     }
 }
@@ -109,8 +123,36 @@ fn late_start(key: &Key) -> bool
     }
 }
 
+/// Whether the names have the key, by its image where images count, or by its own name or that of its group.
+fn is_key_listed(
+    alloc: Global,
+    key: &Key,
+    names: &NamePlaces,
+    images: bool,
+) -> Result<bool, AllocError>
+    ensures { IfOk result (λ b. b ≡ ((images && (option_map_or is_driver (find_dword (codes "Type") key.now) false && has_file names.now (image_of key.now)))
+        || is_among names.now (head key.now).name (named_group (find_string (codes "Group") key.now)))) }
+{
+    match images && is_driver_key(key) {
+        true => is_driver_listed(alloc, key, names),
+        false => is_plainly_listed(alloc, key, names),
+    }
+}
+
+/// Whether the names have the image of a driver's key, or the key's own name or that of its group.
+fn is_driver_listed(alloc: Global, key: &Key, names: &NamePlaces) -> Result<bool, AllocError>
+    ensures { IfOk result (λ b. b ≡ (has_file names.now (image_of key.now)
+        || is_among names.now (head key.now).name (named_group (find_string (codes "Group") key.now)))) }
+{
+    let image = image_of(alloc, key)?;
+    match has_file(names, &image) {
+        true => Ok(true),
+        false => is_plainly_listed(alloc, key, names),
+    }
+}
+
 /// Whether the names have the key's own name, or that of the group that it has as an entry.
-fn is_key_listed(alloc: Global, key: &Key, names: &NamePlaces) -> Result<bool, AllocError>
+fn is_plainly_listed(alloc: Global, key: &Key, names: &NamePlaces) -> Result<bool, AllocError>
     ensures { IfOk result (λ b. b ≡ is_among names.now (head key.now).name (named_group (find_string (codes "Group") key.now))) }
 {
     let group = key.text(alloc, &GROUP)?;
@@ -128,6 +170,13 @@ fn has_name(names: &NamePlaces, name: &[u16]) -> bool
     ensures { result ≡ has_name names.now name.now }
 {
     names.place_of(name).is_some()
+}
+
+/// Whether the names have this file. An empty one they don't.
+fn has_file(names: &NamePlaces, file: &Units) -> bool
+    ensures { result ≡ has_file names.now file.now }
+{
+    !file.is_empty() && has_name(names, file.as_slice())
 }
 
 /// Whether the names have that of the group. A group with an empty name is none.

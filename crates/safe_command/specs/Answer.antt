@@ -9,6 +9,7 @@ use Rattle.nt_edge.specs.declared.host.HostStop.TheVariants.{Memory as NoMemory}
 use Rattle.hive_model.specs.Load.{Loads, LoadFault}
 use Rattle.start_model.specs.Possible.{Woken}
 use Rattle.command_words.specs.Words.{SafeAsked}
+use Rattle.line_text.specs.declared.form.ReportForm.{ReportForm}
 use Rattle.command_parts.specs.declared.status.Status.{Status}
 use Rattle.command_parts.specs.declared.status.Status.TheVariants as statuses
 use Rattle.command_parts.specs.declared.refusal.Refusal.{Refusal}
@@ -24,28 +25,28 @@ use Rattle.safe_command.specs.Inputs.{inputs_in}
 use Rattle.safe_command.specs.Report.{report_of}
 
 -- the answer with the report on what a hive loads as
-abbrev pub reported : SafeInputs → Woken → Answer
-reported inputs placed = record { status = statuses.Done; text = report_of inputs.ini inputs.system placed.state.tree }
+abbrev pub reported : ReportForm → SafeInputs → Woken → Answer
+reported form inputs placed = record { status = statuses.Done; text = report_of form inputs.mode inputs.images inputs.ini inputs.system placed.state.tree }
 
 -- The hive has a first fault, and that is printed; or it loads as a state, and the report on its tree is printed; or there was no memory
 -- or a read fault before anything was printed.
-abbrev pub EndsSafe : Result SafeInputs Refusal → Status → List ℕ → List ℕ → Type 0
-EndsSafe (Err r) status old new = Ends (refusal r) status old new
-EndsSafe (Ok inputs) status old new =
+abbrev pub EndsSafe : ReportForm → Result SafeInputs Refusal → Status → List ℕ → List ℕ → Type 0
+EndsSafe form (Err r) status old new = Ends (refusal r) status old new
+EndsSafe form (Ok inputs) status old new =
     ((fault : HiveFault) × (LoadFault (image_in inputs.hive) fault) × Ends (refusal (BadHive fault)) status old new)
-    ⊎ (((placed : Woken) × (Loads (image_in inputs.hive) placed.state placed.dirty) × Ends (reported inputs placed) status old new)
+    ⊎ (((placed : Woken) × (Loads (image_in inputs.hive) placed.state placed.dirty) × Ends (reported form inputs placed) status old new)
     ⊎ (((status ≡ statuses.Memory) ⊎ (status ≡ statuses.ReadFault)) × (new ≡ old)))
 
 -- the report on a hive, or its first fault, or there was no memory
-abbrev pub ReportsAs : SafeInputs → Result (List ℕ) Obstacle → Type 0
-ReportsAs inputs (Ok text) = (placed : Woken) × (Loads (image_in inputs.hive) placed.state placed.dirty) × (text ≡ (reported inputs placed).text)
-ReportsAs inputs (Err (Refused r)) = (fault : HiveFault) × (LoadFault (image_in inputs.hive) fault) × (r ≡ BadHive fault)
-ReportsAs inputs (Err (Stopped stop)) = stop ≡ NoMemory
+abbrev pub ReportsAs : ReportForm → SafeInputs → Result (List ℕ) Obstacle → Type 0
+ReportsAs form inputs (Ok text) = (placed : Woken) × (Loads (image_in inputs.hive) placed.state placed.dirty) × (text ≡ (reported form inputs placed).text)
+ReportsAs form inputs (Err (Refused r)) = (fault : HiveFault) × (LoadFault (image_in inputs.hive) fault) × (r ≡ BadHive fault)
+ReportsAs form inputs (Err (Stopped stop)) = stop ≡ NoMemory
 
 -- of inputs without an obstacle: no file is changed, and no disk is there
-abbrev pub DecidesReport : SafeInputs → Status → HostState → HostState → Type 0
-DecidesReport inputs status old new = DecidesAlone (EndsSafe (Ok inputs)) no_saves status old new new_state
+abbrev pub DecidesReport : ReportForm → SafeInputs → Status → HostState → HostState → Type 0
+DecidesReport form inputs status old new = DecidesAlone (EndsSafe form (Ok inputs)) no_saves status old new new_state
 
 -- of the whole command
-abbrev pub DecidesSafe : SafeAsked → Status → HostState → HostState → Type 0
-DecidesSafe words status old new = Decides (EndsSafe (inputs_in words old.files)) no_saves status old new new_state
+abbrev pub DecidesSafe : ReportForm → SafeAsked → Status → HostState → HostState → Type 0
+DecidesSafe form words status old new = Decides (EndsSafe form (inputs_in words old.files)) no_saves status old new new_state

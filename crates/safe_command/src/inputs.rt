@@ -4,22 +4,36 @@ ghost use Rattle.std.specs.Prelude.{◌≡◌, Err};
 ghost use Rattle.command_parts.specs.Inputs.{bytes_in};
 ghost use Rattle.command_parts.specs.Leaves.{Looks, IsBadUsage};
 ghost use Rattle.command_words.specs.Views.{safe_seen};
-ghost use Rattle.safe_command.specs.Inputs.{arguments_in, inputs_in, AsksSafe};
+ghost use Rattle.safe_command.specs.Inputs.{arguments_in, inputs_in, named_mode, AsksSafe};
 
 use arc_path::Arc;
 use boot_ini::BootIni;
 use command_parts::{HiveFiles, Obstacle, Refusal, bytes_in, hive_in, ini_in, system_in};
-use command_words::SafeWords;
+use command_words::{AskedMode, SafeWords};
 use nt_bytes::Bytes;
 use nt_edge::Host;
+use safe_boot::SafeMode;
 use std::alloc::Global;
 
-/// All that `safe` reads.
+/// All that `safe` reads, the mode that the words name, and whether images count.
 #[derive(Drop)]
 pub struct SafeInputs {
     pub system: Arc,
     pub ini: BootIni,
     pub hive: HiveFiles,
+    pub mode: Option<SafeMode>,
+    pub images: bool,
+}
+
+/// The mode that the words name, if any.
+fn named_mode(asked: Option<AskedMode>) -> Option<SafeMode>
+    ensures { result ≡ named_mode asked }
+{
+    match asked {
+        Some(AskedMode::Minimal) => Some(SafeMode::Minimal),
+        Some(AskedMode::Network) => Some(SafeMode::Network),
+        None => None,
+    }
 }
 
 /// What the words and files have, or the first obstacle. Nothing is printed.
@@ -37,5 +51,11 @@ pub(crate) fn inputs_in<H: Host>(
     let text = bytes_in(alloc, host, words.boot_ini)?;
     let ini = ini_in(alloc, text.as_slice(), words.system.as_bytes())?;
     let hive = hive_in(alloc, host, words.hive, words.log)?;
-    Ok(SafeInputs { system, ini, hive })
+    Ok(SafeInputs {
+        system,
+        ini,
+        hive,
+        mode: named_mode(words.mode),
+        images: words.images,
+    })
 }

@@ -1,78 +1,96 @@
 //! The report of `safe`, line by line.
 
-ghost use Rattle.std.specs.Prelude.{◌≡◌, ◌++◌, [], map, IfOk, OnOk};
+ghost use Rattle.std.specs.Prelude.{◌≡◌, ◌++◌, [], false, map, None, IfOk, OnOk};
 ghost use Rattle.hive_model.specs.Valid.{HoldsKeys};
 ghost use Rattle.boot_ini.specs.Choice.{path_at};
 ghost use Rattle.boot_report.specs.Report.{line_of, verdict_of};
+ghost use Rattle.line_objects.specs.Objects.{line_json, printed, printed_lines};
 ghost use Rattle.safe_boot.specs.Lines as safe;
-ghost use Rattle.start_model.specs.Lines.{EntryLine, line_text, text_of};
-ghost use Rattle.safe_command.specs.Report.{mode_at, mode_text, verdict_lines, set_lines, default_lines, system_text, other_text, report_of};
+ghost use Rattle.start_model.specs.Lines.{EntryLine, SetLine, VerdictLine, EndLine, line_text};
+ghost use Rattle.safe_command.specs.Report.{mode_at, mode_word, mode_text, verdict_lines, set_lines, default_lines, system_text, other_text, report_of};
 
-use arc_path::Arc;
+use crate::inputs::SafeInputs;
 use boot_ini::{BootIni, Chosen, choose};
 use boot_machine::phase_word;
 use boot_report::{Line, TryWord, Verdict, line_bytes};
+use line_objects::{
+    push_end_object, push_entry_object, push_ok_object, push_phase_object, push_set_object,
+    push_unmet_object, push_verdict_object, push_word_object,
+};
+use line_text::ReportForm;
 use nt_bytes::Bytes;
 use reg_tree::Key;
-use safe_boot::{SafeLine, SafeMode, safe_mode, safe_start};
+use safe_boot::{SafeLine, SafeMode, safe_mode, safe_start_by};
 use select_keys::{select_numbers, set_of};
 use std::alloc::{AllocError, Global};
 
 /// The report on a system, its boot.ini and the tree of its hive, of which each key must be one that a hive can hold.
 pub(crate) fn report_text(
     alloc: Global,
-    ini: &BootIni,
-    system: &Arc,
+    inputs: &SafeInputs,
+    form: ReportForm,
     root: &Key,
 ) -> Result<Bytes, AllocError>
     requires { HoldsKeys root.now }
-    ensures { IfOk result (λ text. text ≡ report_of ini.now system.now root.now) }
+    ensures { IfOk result (λ text. text ≡ report_of form inputs.now.mode inputs.now.images inputs.now.ini inputs.now.system root.now) }
 {
-    match choose(alloc, ini, None, system)? {
-        Chosen::Entry(number) => system_text(alloc, ini, number, root),
-        Chosen::NoEntry => verdict_text(alloc, Verdict::NoEntry),
-        Chosen::OtherLoader(number) => other_text(alloc, ini, number, Verdict::OtherLoader),
-        Chosen::NoSystem(number) => other_text(alloc, ini, number, Verdict::NoSystem),
+    let ini = &inputs.ini;
+    match choose(alloc, ini, None, &inputs.system)? {
+        Chosen::Entry(number) => {
+            system_text(alloc, form, inputs.mode, inputs.images, ini, number, root)
+        }
+        Chosen::NoEntry => verdict_text(alloc, form, Verdict::NoEntry),
+        Chosen::OtherLoader(number) => other_text(alloc, form, ini, number, Verdict::OtherLoader),
+        Chosen::NoSystem(number) => other_text(alloc, form, ini, number, Verdict::NoSystem),
     }
 }
 
 // ---- by what the start takes
 
 /// The entry, the mode and the start.
-fn system_text(alloc: Global, ini: &BootIni, number: u32, root: &Key) -> Result<Bytes, AllocError>
+fn system_text(
+    alloc: Global,
+    form: ReportForm,
+    named: Option<SafeMode>,
+    images: bool,
+    ini: &BootIni,
+    number: u32,
+    root: &Key,
+) -> Result<Bytes, AllocError>
     requires { HoldsKeys root.now }
-    ensures { IfOk result (λ text. text ≡ system_text ini.now number root.now) }
+    ensures { IfOk result (λ text. text ≡ system_text form named images ini.now number root.now) }
 {
-    let mode = mode_of(ini, number);
-    let mut text = Bytes::new(alloc);
-    put_entry(alloc, &mut text, ini, number)?;
-    text.append(mode_text(mode))?;
-    put_default(alloc, &mut text, root, mode)?;
-    Ok(text)
+    let mode = mode_of(named, ini, number);
+    let mut text = Vec::new(alloc);
+    put_entry(alloc, &mut text, form, ini, number)?;
+    put_mode(&mut text, form, mode)?;
+    put_default(alloc, &mut text, form, root, mode, images)?;
+    Ok(Bytes::from_vec(text))
 }
 
 /// The entry, and the verdict that the start ends with.
 fn other_text(
     alloc: Global,
+    form: ReportForm,
     ini: &BootIni,
     number: u32,
     verdict: Verdict,
 ) -> Result<Bytes, AllocError>
-    ensures { IfOk result (λ text. text ≡ other_text ini.now number (verdict_of verdict)) }
+    ensures { IfOk result (λ text. text ≡ other_text form ini.now number (verdict_of verdict)) }
 {
-    let mut text = Bytes::new(alloc);
-    put_entry(alloc, &mut text, ini, number)?;
-    put_verdict(alloc, &mut text, verdict)?;
-    Ok(text)
+    let mut text = Vec::new(alloc);
+    put_entry(alloc, &mut text, form, ini, number)?;
+    put_verdict(alloc, &mut text, form, verdict)?;
+    Ok(Bytes::from_vec(text))
 }
 
 /// The verdict alone.
-fn verdict_text(alloc: Global, verdict: Verdict) -> Result<Bytes, AllocError>
-    ensures { IfOk result (λ text. text ≡ text_of (verdict_lines (verdict_of verdict))) }
+fn verdict_text(alloc: Global, form: ReportForm, verdict: Verdict) -> Result<Bytes, AllocError>
+    ensures { IfOk result (λ text. text ≡ printed_lines form (verdict_lines (verdict_of verdict))) }
 {
-    let mut text = Bytes::new(alloc);
-    put_verdict(alloc, &mut text, verdict)?;
-    Ok(text)
+    let mut text = Vec::new(alloc);
+    put_verdict(alloc, &mut text, form, verdict)?;
+    Ok(Bytes::from_vec(text))
 }
 
 // ---- the entry
@@ -87,9 +105,19 @@ fn path_of(ini: &BootIni, number: u32) -> &[u8]
     }
 }
 
-/// The safe mode that its switches ask for.
-fn mode_of(ini: &BootIni, number: u32) -> Option<SafeMode>
-    ensures { result ≡ mode_at ini.now number }
+/// The safe mode that is named, else the one that the switches of the entry ask for.
+fn mode_of(named: Option<SafeMode>, ini: &BootIni, number: u32) -> Option<SafeMode>
+    ensures { result ≡ mode_at named ini.now number }
+{
+    match named {
+        Some(mode) => Some(mode),
+        None => asked_mode(ini, number),
+    }
+}
+
+/// The safe mode that the switches of the entry ask for.
+fn asked_mode(ini: &BootIni, number: u32) -> Option<SafeMode>
+    ensures { result ≡ mode_at None ini.now number }
 {
     match ini.entry(number) {
         Some(entry) => safe_mode(&entry.switches),
@@ -97,87 +125,202 @@ fn mode_of(ini: &BootIni, number: u32) -> Option<SafeMode>
     }
 }
 
-fn mode_text(mode: Option<SafeMode>) -> &'static [u8]
-    ensures { result.now ≡ mode_text mode }
+fn mode_word(mode: Option<SafeMode>) -> &'static [u8]
+    ensures { result.now ≡ mode_word mode }
 {
     match mode {
-        Some(SafeMode::Minimal) => b"mode minimal\n",
-        Some(SafeMode::Network) => b"mode network\n",
-        None => b"mode none\n",
+        Some(SafeMode::Minimal) => b"minimal",
+        Some(SafeMode::Network) => b"network",
+        None => b"none",
     }
 }
 
 // ---- lines
 
-fn put_line(alloc: Global, text: &mut Bytes, line: Line) -> Result<(), AllocError>
-    ensures { OnOk result (text.new ≡ text.old ++ line_text (line_of line)) }
+/// Puts a line as a text.
+fn put_line(alloc: Global, text: &mut Vec<u8>, line: Line) -> Result<(), AllocError>
+    ensures { OnOk result (text.new.items ≡ text.old.items ++ line_text (line_of line)) }
 {
     let bytes = line_bytes(alloc, &line)?;
-    text.append(bytes.as_slice())
+    text.extend_from_slice(bytes.as_slice())
 }
 
-fn put_entry(alloc: Global, text: &mut Bytes, ini: &BootIni, number: u32) -> Result<(), AllocError>
-    ensures { OnOk result (text.new ≡ text.old ++ line_text (EntryLine number (path_at ini.now number))) }
+fn put_entry_text(
+    alloc: Global,
+    text: &mut Vec<u8>,
+    number: u32,
+    path: &[u8],
+) -> Result<(), AllocError>
+    ensures { OnOk result (text.new.items ≡ text.old.items ++ line_text (EntryLine number path.now)) }
 {
-    let path = Bytes::from_slice(alloc, path_of(ini, number))?;
+    let path = Bytes::from_slice(alloc, path)?;
     put_line(alloc, text, Line::Entry { number, path })
 }
 
-fn put_verdict(alloc: Global, text: &mut Bytes, verdict: Verdict) -> Result<(), AllocError>
-    ensures { OnOk result (text.new ≡ text.old ++ text_of (verdict_lines (verdict_of verdict))) }
+fn put_entry(
+    alloc: Global,
+    text: &mut Vec<u8>,
+    form: ReportForm,
+    ini: &BootIni,
+    number: u32,
+) -> Result<(), AllocError>
+    ensures { OnOk result (text.new.items ≡ text.old.items ++ printed form (EntryLine number (path_at ini.now number))) }
 {
-    put_line(alloc, text, Line::Verdict { word: verdict })?;
-    put_line(alloc, text, Line::End)
+    match form {
+        ReportForm::Text => put_entry_text(alloc, text, number, path_of(ini, number)),
+        ReportForm::Json => push_entry_object(text, number, path_of(ini, number)),
+    }
+}
+
+fn put_mode(text: &mut Vec<u8>, form: ReportForm, mode: Option<SafeMode>) -> Result<(), AllocError>
+    ensures { OnOk result (text.new.items ≡ text.old.items ++ mode_text form mode) }
+{
+    match form {
+        ReportForm::Text => {
+            text.extend_from_slice(b"mode ")?;
+            text.extend_from_slice(mode_word(mode))?;
+            text.extend_from_slice(b"\n")
+        }
+        ReportForm::Json => push_word_object(text, b"mode", b"word", mode_word(mode)),
+    }
+}
+
+fn put_set(
+    alloc: Global,
+    text: &mut Vec<u8>,
+    form: ReportForm,
+    number: u32,
+) -> Result<(), AllocError>
+    ensures { OnOk result (text.new.items ≡ text.old.items ++ printed form (SetLine number false)) }
+{
+    match form {
+        ReportForm::Text => put_line(
+            alloc,
+            text,
+            Line::Set {
+                number,
+                last_known_good: false,
+            },
+        ),
+        ReportForm::Json => push_set_object(text, number),
+    }
+}
+
+fn put_verdict_line(
+    alloc: Global,
+    text: &mut Vec<u8>,
+    form: ReportForm,
+    verdict: Verdict,
+) -> Result<(), AllocError>
+    ensures { OnOk result (text.new.items ≡ text.old.items ++ printed form (VerdictLine (verdict_of verdict))) }
+{
+    match form {
+        ReportForm::Text => put_line(alloc, text, Line::Verdict { word: verdict }),
+        ReportForm::Json => push_verdict_object(text, verdict),
+    }
+}
+
+fn put_end(alloc: Global, text: &mut Vec<u8>, form: ReportForm) -> Result<(), AllocError>
+    ensures { OnOk result (text.new.items ≡ text.old.items ++ printed form EndLine) }
+{
+    match form {
+        ReportForm::Text => put_line(alloc, text, Line::End),
+        ReportForm::Json => push_end_object(text),
+    }
+}
+
+fn put_verdict(
+    alloc: Global,
+    text: &mut Vec<u8>,
+    form: ReportForm,
+    verdict: Verdict,
+) -> Result<(), AllocError>
+    ensures { OnOk result (text.new.items ≡ text.old.items ++ printed_lines form (verdict_lines (verdict_of verdict))) }
+{
+    put_verdict_line(alloc, text, form, verdict)?;
+    put_end(alloc, text, form)
 }
 
 /// The start on the set that Default names, or the verdict that there is none.
 fn put_default(
     alloc: Global,
-    text: &mut Bytes,
+    text: &mut Vec<u8>,
+    form: ReportForm,
     root: &Key,
     mode: Option<SafeMode>,
+    images: bool,
 ) -> Result<(), AllocError>
     requires { HoldsKeys root.now }
-    ensures { OnOk result (text.new ≡ text.old ++ text_of (default_lines root.now mode)) }
+    ensures { OnOk result (text.new.items ≡ text.old.items ++ printed_lines form (default_lines root.now mode images)) }
 {
     let number = select_numbers(root).default;
     match set_of(root, number) {
-        Some(set) => put_start(alloc, text, number, set, mode),
-        None => put_verdict(alloc, text, Verdict::NoControlSet),
+        Some(set) => put_start(alloc, text, form, number, set, mode, images),
+        None => put_verdict(alloc, text, form, Verdict::NoControlSet),
     }
 }
 
 /// The start on a set of this number.
 fn put_start(
     alloc: Global,
-    text: &mut Bytes,
+    text: &mut Vec<u8>,
+    form: ReportForm,
     number: u32,
     set: &Key,
     mode: Option<SafeMode>,
+    images: bool,
 ) -> Result<(), AllocError>
     requires { HoldsKeys set.now }
-    ensures { OnOk result (text.new ≡ text.old ++ text_of (set_lines number mode set.now)) }
+    ensures { OnOk result (text.new.items ≡ text.old.items ++ printed_lines form (set_lines number mode images set.now)) }
 {
-    let lines = safe_start(alloc, set, mode)?;
-    put_line(
-        alloc,
-        text,
-        Line::Set {
-            number,
-            last_known_good: false,
-        },
-    )?;
-    put_lines(alloc, text, lines.as_slice())?;
-    put_line(alloc, text, Line::End)
+    let lines = safe_start_by(alloc, set, mode, images)?;
+    put_set(alloc, text, form, number)?;
+    put_lines(alloc, text, form, lines.as_slice())?;
+    put_end(alloc, text, form)
 }
 
-fn put_lines(alloc: Global, text: &mut Bytes, lines: &[SafeLine]) -> Result<(), AllocError>
-    ensures { OnOk result (text.new ≡ text.old ++ text_of (map safe.line_of lines.now)) }
+fn put_lines(
+    alloc: Global,
+    text: &mut Vec<u8>,
+    form: ReportForm,
+    lines: &[SafeLine],
+) -> Result<(), AllocError>
+    ensures { OnOk result (text.new.items ≡ text.old.items ++ printed_lines form (map safe.line_of lines.now)) }
 {
     for line in lines {
-        put_line(alloc, text, reported(alloc, line)?)?;
+        put_safe_line(alloc, text, form, line)?;
     }
     Ok(())
+}
+
+fn put_safe_line(
+    alloc: Global,
+    text: &mut Vec<u8>,
+    form: ReportForm,
+    line: &SafeLine,
+) -> Result<(), AllocError>
+    ensures { OnOk result (text.new.items ≡ text.old.items ++ printed form (safe.line_of line.now)) }
+{
+    match form {
+        ReportForm::Text => put_safe_text(alloc, text, line),
+        ReportForm::Json => put_safe_object(text, line),
+    }
+}
+
+fn put_safe_text(alloc: Global, text: &mut Vec<u8>, line: &SafeLine) -> Result<(), AllocError>
+    ensures { OnOk result (text.new.items ≡ text.old.items ++ line_text (safe.line_of line.now)) }
+{
+    put_line(alloc, text, reported(alloc, line)?)
+}
+
+fn put_safe_object(text: &mut Vec<u8>, line: &SafeLine) -> Result<(), AllocError>
+    ensures { OnOk result (text.new.items ≡ text.old.items ++ line_json (safe.line_of line.now)) }
+{
+    match line {
+        SafeLine::Phase(phase) => push_phase_object(text, phase_word(*phase)),
+        SafeLine::Started(name) => push_ok_object(text, name.as_slice()),
+        SafeLine::Unmet(name) => push_unmet_object(text, name.as_slice()),
+    }
 }
 
 /// The line of the report that a line of a start is.

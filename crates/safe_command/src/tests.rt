@@ -4,6 +4,7 @@ use super::*;
 use command_parts::Status;
 use command_words::SafeWords;
 use generated_hive::generated_hive;
+use line_text::ReportForm;
 use mem_edge::MemHost;
 use std::alloc::{AllocError, Global};
 use std::process::Abort;
@@ -71,8 +72,10 @@ fn says(
         log: None,
         boot_ini,
         system: SYSTEM,
+        mode: None,
+        images: false,
     };
-    assert_eq!(rt; safe(alloc, words, &mut host), status);
+    assert_eq!(rt; safe(alloc, words, ReportForm::Text, &mut host), status);
     assert_eq!(rt; host.said(), text.as_bytes());
     Ok(())
 }

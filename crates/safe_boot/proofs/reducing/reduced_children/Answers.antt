@@ -8,7 +8,7 @@ use Rattle.safe_boot.proofs.reducing.reduced_children.Goals as goal
 
 pub loop-key-preserved : goal.loop-key-preserved
 loop-key-preserved c =
-    let change : Tree → Tree = of_children (filter (stays c.args.names.now)) in
+    let change : Tree → Tree = of_children (filter (stays c.args.images c.args.names.now)) in
     let keys = c.args.keys.now in
     let reduces = c.reduces_at-reduces.result in
     one_more (is_named (codes "Services"))
@@ -20,7 +20,7 @@ loop-key-preserved c =
 
 pub returns : goal.returns
 returns c =
-    let change : Tree → Tree = of_children (filter (stays c.args.names.now)) in
+    let change : Tree → Tree = of_children (filter (stays c.args.images c.args.names.now)) in
     let keys = c.args.keys.now in
     let whole = at_first (is_named (codes "Services")) change keys in
     let all : c.loop-key.key-index ≡ length keys = omega arith in

@@ -8,6 +8,6 @@ use Rattle.safe_boot.proofs.reducing.reduced_children.Given as goal
 
 abbrev pub invariant-loop-key : goal.invariant-loop-key
 invariant-loop-key l =
-    l.made ++ rest_of l.found (is_named (codes "Services")) (of_children (filter (stays l.names)))
+    l.made ++ rest_of l.found (is_named (codes "Services")) (of_children (filter (stays l.images l.names)))
     (drop l.key-index l.keys)
-    ≡ at_first (is_named (codes "Services")) (of_children (filter (stays l.names))) l.keys
+    ≡ at_first (is_named (codes "Services")) (of_children (filter (stays l.images l.names))) l.keys

@@ -14,5 +14,5 @@ returns-in-Err-Stopped-clause-decides g c =
     let words = safe_seen c.args.words in
     let looks = subst (λ (o : Obstacle). Looks (inputs_in words old.files) (Err o) old new)
     c.in-Err-Stopped.field-0-is c.in-Err-Stopped.ensures.looks in
-    unread words c.in-Err-Stopped.stop c.stopped.result old new
+    unread c.args.form words c.in-Err-Stopped.stop c.stopped.result old new
     (c.stopped.ensures ∙ ap stopped_as c.in-Err-Stopped.stop-is) looks

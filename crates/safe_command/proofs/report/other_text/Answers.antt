@@ -1,3 +1,4 @@
+use Rattle.std.proofs.Common.{◌∙◌}
 use Rattle.boot_report.specs.Report.{verdict_of}
 use Rattle.start_model.specs.Lines.{EntryLine}
 use Rattle.boot_ini.specs.Choice.{path_at}
@@ -7,7 +8,8 @@ use Rattle.safe_command.proofs.report.other_text.Goals as goal
 
 pub returns : goal.returns
 returns c =
-    two_parts c.new-text.result c.put_entry.new.text c.put_verdict.new.text
+    c.from_vec.ensures
+    ∙ two_parts c.args.form c.new-text.result.items c.put_entry.new.text.items c.put_verdict.new.text.items
     (EntryLine c.args.number (path_at c.args.ini.now c.args.number)) (verdict_lines (verdict_of c.args.verdict))
-    c.new-text.ensures
+    c.new-text.ensures.items
     c.in_ok-put_entry.ensures c.in_ok-put_verdict.ensures

@@ -5,5 +5,6 @@ use Rattle.safe_command.proofs.report.put_verdict.Goals as goal
 
 pub returns : goal.returns
 returns c =
-    two_lines c.put_line-2.result c.args.text.now c.put_line.new.text c.put_line-2.new.text
-    (VerdictLine (verdict_of c.args.verdict)) EndLine c.in_ok-put_line.ensures c.put_line-2.ensures
+    two_lines c.args.form c.put_end.result c.args.text.now.items c.put_verdict_line.new.text.items
+    c.put_end.new.text.items
+    (VerdictLine (verdict_of c.args.verdict)) EndLine c.in_ok-put_verdict_line.ensures c.put_end.ensures

@@ -1,6 +1,7 @@
 use Rattle.std.proofs.Common.{[], ◌∷◌, ◌++◌, ap, ◌∙◌}
-use Rattle.start_model.specs.Lines.{EntryLine, text_of}
+use Rattle.start_model.specs.Lines.{EntryLine}
 use Rattle.boot_ini.specs.Choice.{path_at}
+use Rattle.line_objects.specs.Objects.{printed_lines}
 use Rattle.safe_command.specs.Report.{mode_text, default_lines}
 use Rattle.safe_command.proofs.TextLemmas.{three_parts}
 use Rattle.safe_command.proofs.report.system_text.Goals as goal
@@ -8,10 +9,13 @@ use Rattle.safe_command.proofs.report.system_text.Goals as goal
 pub returns : goal.returns
 returns c =
     let root = c.args.root.now in
+    let form = c.args.form in
     let entry = EntryLine c.args.number (path_at c.args.ini.now c.args.number) in
     let mode = c.mode_of-mode.ensures in
-    let said = c.mode_text.ensures ∙ ap mode_text mode in
-    three_parts c.new-text.result c.put_entry.new.text c.append.new.self c.put_default.new.text c.mode_text.result.now
-    entry (default_lines root c.mode_of-mode.result) c.new-text.ensures
-    c.in_ok-put_entry.ensures c.in_ok-append.ensures.ok c.in_ok-put_default.ensures
-    ∙ (λ i. text_of (entry ∷ []) ++ said i ++ text_of (default_lines root (mode i)))
+    c.from_vec.ensures
+    ∙ three_parts form c.new-text.result.items c.put_entry.new.text.items c.put_mode.new.text.items
+    c.put_default.new.text.items (mode_text form c.mode_of-mode.result)
+    entry (default_lines root c.mode_of-mode.result c.args.images) c.new-text.ensures.items
+    c.in_ok-put_entry.ensures c.in_ok-put_mode.ensures c.in_ok-put_default.ensures
+    ∙ (λ i. printed_lines form (entry ∷ []) ++ mode_text form (mode i)
+    ++ printed_lines form (default_lines root (mode i) c.args.images))
