@@ -7,9 +7,11 @@
 mod clean_hive;
 
 use clean_hive::clean_hive;
+use command_words::texts;
 use mem_edge::MemDisk;
 use nt_edge::HostStop;
 use ntboot_cli::{Status, ntboot};
+use refusal_reason::{Noted, explain};
 use standard_host::{StandardHost, SystemFiles, take_standard_descriptors};
 use std::alloc::Global;
 use std::env;
@@ -76,18 +78,35 @@ fn settle(
     done
 }
 
+/// Plays what the words ask for over real files; then prints the reason of a refusal, where they ask for it.
+fn obey(rt: &HostRuntime, words: &[String], texts: &[&str]) -> Status {
+    let alloc = rt.alloc();
+    let mut host = Noted::new(StandardHost::new(rt, SystemFiles::new(alloc)), texts);
+    let mut disk = MemDisk::new(alloc);
+    let answered = ntboot(alloc, words, &mut host, &mut disk);
+    let status = settle(alloc, &mut host.host, &mut disk, answered);
+    let notes = host.notes_at(answered, status);
+    explain(alloc, texts, status, &notes, &mut host.host);
+    status
+}
+
+/// The status of the words, or that there is no memory for them.
+fn read_and_obey(rt: &HostRuntime, words: &[String]) -> Status {
+    match texts(rt.alloc(), words) {
+        Ok(texts) => obey(rt, words, texts.as_slice()),
+        Err(_) => Status::Memory,
+    }
+}
+
 fn main(rt: HostRuntime) -> ExitCode {
     if take_standard_descriptors(&rt).is_err() {
         return ExitCode::from(Status::WriteFault.code());
     }
-    let alloc = rt.alloc();
-    let mut host = StandardHost::new(&rt, SystemFiles::new(alloc));
-    let mut disk = MemDisk::new(alloc);
     let status = match words(&rt) {
-        Ok(words) => ntboot(alloc, &words, &mut host, &mut disk),
+        Ok(words) => read_and_obey(&rt, &words),
         // They cannot be parsed, as no words have none.
-        Err(NoWords::Unread) => ntboot(alloc, &[], &mut host, &mut disk),
+        Err(NoWords::Unread) => read_and_obey(&rt, &[]),
         Err(NoWords::Memory) => Status::Memory,
     };
-    ExitCode::from(settle(alloc, &mut host, &mut disk, status).code())
+    ExitCode::from(status.code())
 }

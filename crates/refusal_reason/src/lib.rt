@@ -1,0 +1,20 @@
+//! Why a command was refused, in one line for standard error.
+//!
+//! `Noted` is a host that does what another host does, and notes what a refusal was about: the file that was asked for, the file that
+//! could not be read or written, and the line that was printed. After the command `explain` says the reason on standard error, where
+//! the command line asks for that with `--verbose`.
+#![tactic(auto)]
+
+mod explaining;
+mod files;
+mod heard;
+mod kinds;
+mod line;
+mod noted;
+mod notes;
+
+pub use explaining::explain;
+pub use heard::{Heard, heard_in};
+pub use line::reason_line;
+pub use noted::Noted;
+pub use notes::Notes;
