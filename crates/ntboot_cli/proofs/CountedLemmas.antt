@@ -1,6 +1,6 @@
 -- The number of services that words ask for is from 1 to 10000.
 use Rattle.std.proofs.Common.{◌≡◌, ◌≤◌, ◌&&◌, ℕ, Bool, true, false, List, [], ◌∷◌, Option, Some, None, Result, Ok, Err, if◌then◌else◌, subst, refl}
-use Rattle.std.specs.Prelude.{IfOk, IfSome, bytes_eq, nat_le, length, codes}
+use Rattle.std.specs.Prelude.{IfOk, IfSome, bytes_eq, nat_le, length, codes, option_and_then}
 use Rattle.std.proofs.lemmas.Bool.{leb-true, and_parts}
 use Rattle.std.specs.Str.Parse.{digits_value}
 use Rattle.nt_bytes.specs.Text.{is_digits}
@@ -9,8 +9,8 @@ use Rattle.command_words.specs.declared.asked.CommandName.TheVariants as names
 use Rattle.command_words.specs.declared.asked.Page.{Page}
 use Rattle.command_words.specs.declared.asked.Page.TheVariants as pages
 use Rattle.command_words.specs.Words.{Text, Asked, Reading, Reason, asks, help, version, refused}
-use Rattle.command_words.specs.Words.{run, show, make, safe, control, twin, export, import, key, replay}
-use Rattle.command_words.specs.Table.{count_of}
+use Rattle.command_words.specs.Words.{run, show, make, safe, control, twin, export, import, key, replay, check, whatif, salvage}
+use Rattle.command_words.specs.Table.{count_of, mode_of}
 use Rattle.command_words.specs.Walk.{Values, and_then, no_values, value_named, walked}
 use Rattle.command_words.specs.Commands.{CommandRow, Look, asks_of, counted as counted_in, row_named}
 use Rattle.command_words.specs.Commands.{flag_in, levels_in, needed_in, scheme_of, set_in, system_in}
@@ -108,6 +108,8 @@ asks_counted names.Safe look = by_one look (codes "--hive") (λ hive. safe recor
   log = look (codes "--log");
   boot_ini = look (codes "--boot-ini");
   system = system_in look;
+  mode = option_and_then mode_of (look (codes "--mode"));
+  images = flag_in look (codes "--images");
 }) (λ hive. tt)
 asks_counted names.Control look = by_two look (codes "--hive") (codes "--commands")
     (λ hive commands. control record { hive = hive; log = look (codes "--log"); commands = commands })
@@ -142,6 +144,24 @@ asks_counted names.Replay look = by_one look (codes "--hive") (λ hive. replay r
   log = look (codes "--log");
   log1 = look (codes "--log1");
   log2 = look (codes "--log2");
+  save_hive = look (codes "--save-hive");
+}) (λ hive. tt)
+asks_counted names.Check look = by_one look (codes "--hive") (λ hive. check record {
+  hive = hive;
+  log = look (codes "--log");
+  set = set_in look (codes "--set");
+  order = flag_in look (codes "--order");
+}) (λ hive. tt)
+asks_counted names.Whatif look = by_one look (codes "--hive") (λ hive. whatif record {
+  hive = hive;
+  log = look (codes "--log");
+  boot_ini = look (codes "--boot-ini");
+  system = system_in look;
+  of = look (codes "--of");
+}) (λ hive. tt)
+asks_counted names.Salvage look = by_one look (codes "--hive") (λ hive. salvage record {
+  hive = hive;
+  log = look (codes "--log");
   save_hive = look (codes "--save-hive");
 }) (λ hive. tt)
 

@@ -5,7 +5,7 @@ use Rattle.std.proofs.lemmas.Bool.{false_from_ne_true}
 use Rattle.std.proofs.lemmas.Slice.Eq.{bytes_eq-Decides}
 use Rattle.nt_edge.specs.Disk.{DiskState, new_state}
 use Rattle.nt_edge.specs.Host.{Files, HostState, KeepsOthers, Puts}
-use Rattle.command_words.specs.Words.{Reading, ExportAsked, ReplayAsked, asks, export, replay}
+use Rattle.command_words.specs.Words.{Reading, ExportAsked, ReplayAsked, SalvageAsked, asks, export, replay, salvage}
 use Rattle.command_parts.specs.declared.inputs.HiveFiles.{HiveFiles}
 use Rattle.command_parts.specs.declared.refusal.Refusal.{Refusal}
 use Rattle.command_parts.specs.declared.status.Status.{Status}
@@ -19,6 +19,9 @@ use Rattle.text_commands.specs.Exported.{DecidesExport, EndsExported, PutsAs, as
 use Rattle.replay_text.specs.declared.reporting.Report.{Report}
 use Rattle.replay_command.specs.Answer.{DecidesReplay, EndsPut, EndsReplay, EndsReport, report_answer, report_in}
 use Rattle.replay_command.specs.Inputs.{asks_replay}
+use Rattle.salvage_text.specs.declared.reporting.Report.{Report as SalvageReport}
+use Rattle.salvage_command.specs.Answer as salvaging
+use Rattle.salvage_command.specs.Answer.{DecidesSalvage, EndsSalvage, asks_salvage}
 use Rattle.ntboot_cli.specs.Answer.{TopDecides, form_of}
 
 -- an export changes no file but the one that it puts
@@ -91,6 +94,33 @@ replay_unsaved (Err r) name before after status old new (ends, same) = same_unsa
 replay_unsaved (Ok report) name before after status old new ends =
     report_unsaved report.saved name (report_answer report) report.file before after status old new ends
 
+-- ---- nor does a salvage
+
+salvaged_put : (told : Status) (name file : List ℕ) (old new : Files) (status : Status)
+    → salvaging.EndsPut told name file old new status → KeepsUnsaved (record { hive = Some name; log = None }) old new
+salvaged_put told name file old new status (inl (is, puts)) =
+    others_unsaved old new name (put_kept old new name file puts)
+salvaged_put told name file old new status (inr (stop, kept)) = others_unsaved old new name kept
+
+salvaged_unsaved : (saved : Bool) (name : Option (List ℕ)) (answer : Answer) (file : List ℕ) (before after : Files)
+    (status : Status) (old new : List ℕ) → salvaging.EndsReport saved name answer file before after status old new
+    → KeepsUnsaved (record { hive = name; log = None }) before after
+salvaged_unsaved true (Some name) answer file before after status old new (inl (said, put)) =
+    salvaged_put answer.status name file before after status put
+salvaged_unsaved true (Some name) answer file before after status old new (inr (stop, same)) =
+    same_unsaved before after (Some name) same
+salvaged_unsaved false (Some name) answer file before after status old new (ends, same) =
+    same_unsaved before after (Some name) same
+salvaged_unsaved true None answer file before after status old new (ends, same) = same_unsaved before after None same
+salvaged_unsaved false None answer file before after status old new (ends, same) = same_unsaved before after None same
+
+salvage_unsaved : (wanted : Result SalvageReport Refusal) (name : Option (List ℕ)) (before after : Files) (status : Status)
+    (old new : List ℕ) → EndsSalvage wanted name before after status old new
+    → KeepsUnsaved (record { hive = name; log = None }) before after
+salvage_unsaved (Err r) name before after status old new (ends, same) = same_unsaved before after name same
+salvage_unsaved (Ok report) name before after status old new ends =
+    salvaged_unsaved report.saved name (salvaging.report_answer report) report.file before after status old new ends
+
 -- ---- the whole call
 
 module _ (asked : Reading) (json : Bool) (status : Status) (old new : HostState) (disk : DiskState) where
@@ -119,6 +149,22 @@ module _ (asked : Reading) (json : Bool) (status : Status) (old new : HostState)
       subst (λ (a : Reading). TopDecides a status old new disk) (sym is) (record {
         leaves = record { keeps = decides.keeps; counts = decides.counts; said = λ tells. (decides.said tells, fresh) };
         files = λ tells. replay_unsaved (report_in (form_of json) words old.files) words.save_hive
+            old.files new.files status old.said new.said (decides.said tells);
+        off = new_off disk fresh;
+        untouched = untouched_by status disk fresh;
+        asks = gets;
+        usage = λ e. absurd (unused e);
+        refused = λ e. absurd cc;
+      })
+
+  pub by_salvage : (words : SalvageAsked) → asked ≡ asks (salvage words) json → disk ≡ new_state
+      → DecidesSalvage (form_of json) words status old new
+      → AsksSoMany (asks_salvage words) status old new → (status ≡ statuses.Usage → ⊥)
+      → TopDecides asked status old new disk
+  by_salvage words is fresh decides gets unused =
+      subst (λ (a : Reading). TopDecides a status old new disk) (sym is) (record {
+        leaves = record { keeps = decides.keeps; counts = decides.counts; said = λ tells. (decides.said tells, fresh) };
+        files = λ tells. salvage_unsaved (salvaging.report_in (form_of json) words old.files) words.save_hive
             old.files new.files status old.said new.said (decides.said tells);
         off = new_off disk fresh;
         untouched = untouched_by status disk fresh;

@@ -3,7 +3,7 @@ use Rattle.std.proofs.Common.{◌≡◌, inl, inr, ℕ, Bool, true, false, List,
 use Rattle.std.specs.Prelude.{Result, Ok, Err}
 use Rattle.nt_edge.specs.Disk.{DiskState, new_state}
 use Rattle.nt_edge.specs.Host.{Files, HostState}
-use Rattle.command_words.specs.Words.{Reading, asks, help, refused, version, key, replay, export, import, twin, control, safe, run, show, make}
+use Rattle.command_words.specs.Words.{Reading, asks, help, refused, version, salvage, whatif, check, key, replay, export, import, twin, control, safe, run, show, make}
 use Rattle.command_words.specs.Words.{MakeAsked}
 use Rattle.command_parts.specs.declared.inputs.HiveFiles.{HiveFiles}
 use Rattle.command_parts.specs.declared.refusal.Refusal.{Refusal}
@@ -16,10 +16,15 @@ use Rattle.command_parts.specs.Saves.{Saves, no_saves}
 use Rattle.command_parts.proofs.DecideLemmas.{memory_decides, new_off, unrun}
 use Rattle.command_parts.proofs.LeaveLemmas.{no_front}
 use Rattle.hive_alt.specs.Schemes.{Standing}
+use Rattle.line_text.specs.declared.form.ReportForm.{ReportForm}
 use Rattle.key_text.specs.Words.{path_in}
 use Rattle.key_command.specs.Answer.{question_in as key_question_in}
 use Rattle.replay_command.specs.Answer.{EndsReplay, EndsReport, report_answer, report_in}
 use Rattle.replay_text.specs.declared.reporting.Report.{Report}
+use Rattle.check_command.specs.Answer.{question_in as check_question_in}
+use Rattle.whatif_command.specs.Answer.{question_in as whatif_question_in}
+use Rattle.salvage_text.specs.declared.reporting.Report.{Report as SalvageReport}
+use Rattle.salvage_command.specs.Answer.{EndsSalvage, EndsReport as EndsSalvaged, report_answer as salvage_answer, report_in as salvage_report_in}
 use Rattle.safe_command.specs.declared.inputs.SafeInputs.{SafeInputs}
 use Rattle.safe_command.specs.Answer.{EndsSafe}
 use Rattle.safe_command.specs.Inputs.{inputs_in as safe_inputs_in}
@@ -45,9 +50,10 @@ unread_shown : (wanted : Result HiveFiles Refusal) (said : List ℕ) → EndsSho
 unread_shown (Err r) said = inr (no_front (refusal_text r) said said refl)
 unread_shown (Ok files) said = inr (inr (inl refl, refl))
 
-unread_safe : (wanted : Result SafeInputs Refusal) (said : List ℕ) → EndsSafe wanted statuses.Memory said said
-unread_safe (Err r) said = inr (no_front (refusal_text r) said said refl)
-unread_safe (Ok inputs) said = inr (inr (inl refl, refl))
+unread_safe : (form : ReportForm) (wanted : Result SafeInputs Refusal) (said : List ℕ)
+    → EndsSafe form wanted statuses.Memory said said
+unread_safe form (Err r) said = inr (no_front (refusal_text r) said said refl)
+unread_safe form (Ok inputs) said = inr (inr (inl refl, refl))
 
 unread_control : (wanted : Result ControlInputs Refusal) (said : List ℕ) → EndsControl wanted statuses.Memory said said
 unread_control (Err r) said = inr (no_front (refusal_text r) said said refl)
@@ -92,6 +98,19 @@ unread_replay (Err r) name files said = (inr (no_front (refusal_text r) said sai
 unread_replay (Ok report) name files said =
     unread_report report.saved name (report_answer report) report.file files said
 
+unread_salvaged : (saved : Bool) (name : Option (List ℕ)) (answer : Answer) (file : List ℕ) (files : Files) (said : List ℕ)
+    → EndsSalvaged saved name answer file files files statuses.Memory said said
+unread_salvaged true (Some name) answer file files said = inr (no_front answer.text said said refl, refl)
+unread_salvaged false (Some name) answer file files said = (inr (no_front answer.text said said refl), refl)
+unread_salvaged true None answer file files said = (inr (no_front answer.text said said refl), refl)
+unread_salvaged false None answer file files said = (inr (no_front answer.text said said refl), refl)
+
+unread_salvage : (wanted : Result SalvageReport Refusal) (name : Option (List ℕ)) (files : Files) (said : List ℕ)
+    → EndsSalvage wanted name files files statuses.Memory said said
+unread_salvage (Err r) name files said = (inr (no_front (refusal_text r) said said refl), refl)
+unread_salvage (Ok report) name files said =
+    unread_salvaged report.saved name (salvage_answer report) report.file files said
+
 unread_made : (wanted : Result Usual Refusal) (words : MakeAsked) (saves : Saves) (disk : DiskState) (said : List ℕ)
     → disk ≡ new_state → EndsMade wanted words.count saves disk statuses.Memory said said
 unread_made (Err r) words saves disk said fresh = (inr (no_front (refusal_text r) said said refl), fresh)
@@ -109,7 +128,8 @@ unread_words (asks (show words) json) host disk fresh =
     (unread_shown (hive_in host.files words.hive words.log) host.said, fresh)
 unread_words (asks (make words) json) host disk fresh =
     unread_made usual_in words (saves_of (asks (make words) json)) disk host.said fresh
-unread_words (asks (safe words) json) host disk fresh = (unread_safe (safe_inputs_in words host.files) host.said, fresh)
+unread_words (asks (safe words) json) host disk fresh =
+    (unread_safe (form_of json) (safe_inputs_in words host.files) host.said, fresh)
 unread_words (asks (control words) json) host disk fresh =
     (unread_control (control_inputs_in words host.files) host.said, fresh)
 unread_words (asks (twin words) json) host disk fresh =
@@ -124,6 +144,12 @@ unread_words (asks (key words) json) host disk fresh =
     (unread_hive (key_question_in (form_of json) words host.files) host.said, fresh)
 unread_words (asks (replay words) json) host disk fresh =
     (unread_replay (report_in (form_of json) words host.files) words.save_hive host.files host.said, fresh)
+unread_words (asks (check words) json) host disk fresh =
+    (unread_hive (check_question_in (form_of json) words host.files) host.said, fresh)
+unread_words (asks (whatif words) json) host disk fresh =
+    (unread_hive (whatif_question_in (form_of json) words host.files) host.said, fresh)
+unread_words (asks (salvage words) json) host disk fresh =
+    (unread_salvage (salvage_report_in (form_of json) words host.files) words.save_hive host.files host.said, fresh)
 
 pub unread_leaves : (asked : Reading) (host : HostState) (disk : DiskState) → disk ≡ new_state
     → Leaves (EndsWords asked host.files host.files disk) statuses.Memory host host

@@ -25,7 +25,7 @@ use Rattle.boot_run.specs.Agrees.{LoadsAny}
 use Rattle.boot_run.specs.Choices.{choices}
 use Rattle.help_text.specs.Pages.{page_text}
 use Rattle.tree_text.specs.TreeText.{shown_text}
-use Rattle.command_words.specs.Words.{Reading, asks, help, refused, version, key, replay, export, import, twin, control, safe, run, show, make, RunAsked, ShowAsked, MakeAsked}
+use Rattle.command_words.specs.Words.{Reading, asks, help, refused, version, salvage, whatif, check, key, replay, export, import, twin, control, safe, run, show, make, RunAsked, ShowAsked, MakeAsked}
 use Rattle.command_parts.specs.declared.status.Status.{Status}
 use Rattle.command_parts.specs.declared.status.Status.TheVariants as statuses
 use Rattle.command_parts.specs.declared.refusal.Refusal.{Refusal}
@@ -54,6 +54,9 @@ use Rattle.line_text.specs.declared.form.ReportForm.{ReportForm}
 use Rattle.line_text.specs.declared.form.ReportForm.TheVariants.{Text, Json}
 use Rattle.key_command.specs.Answer.{question_in as key_question_in}
 use Rattle.replay_command.specs.Answer.{EndsReplay, report_in}
+use Rattle.check_command.specs.Answer.{question_in as check_question_in}
+use Rattle.whatif_command.specs.Answer.{question_in as whatif_question_in}
+use Rattle.salvage_command.specs.Answer.{EndsSalvage, report_in as salvage_report_in}
 use Rattle.command_parts.specs.Placed.{image_in, placed_disk, IsUnrun, IsUntouchedBy}
 use Rattle.command_parts.specs.Refusals.{Answer, Ends, IsToldAs, refusal}
 use Rattle.command_parts.specs.Saves.{Saves, no_saves, saved_count, FilesAs, KeepsUnsaved, Settles}
@@ -179,6 +182,9 @@ saves_of (asks (import words) json) = import_saves words
 saves_of (asks (export words) json) = no_saves
 saves_of (asks (key words) json) = no_saves
 saves_of (asks (replay words) json) = no_saves
+saves_of (asks (check words) json) = no_saves
+saves_of (asks (whatif words) json) = no_saves
+saves_of (asks (salvage words) json) = no_saves
 
 -- the answer with a page of help, or the version
 abbrev pub about : List ℕ → Answer
@@ -199,7 +205,7 @@ EndsWords (asks (show words) json) files after disk status old new =
     EndsShown (hive_in files words.hive words.log) status old new × (disk ≡ new_state)
 EndsWords (asks (make words) json) files after disk status old new =
     EndsMade usual_in words.count (saves_of (asks (make words) json)) disk status old new
-EndsWords (asks (safe words) json) files after disk status old new = EndsSafe (safe_inputs_in words files) status old new × (disk ≡ new_state)
+EndsWords (asks (safe words) json) files after disk status old new = EndsSafe (form_of json) (safe_inputs_in words files) status old new × (disk ≡ new_state)
 EndsWords (asks (control words) json) files after disk status old new = EndsControl (control_inputs_in words files) status old new × (disk ≡ new_state)
 EndsWords (asks (twin words) json) files after disk status old new =
     EndsTwin (hive_in files words.hive words.alt) (stands_by words.scheme) words.default (twin_saves words) disk status old new
@@ -211,17 +217,24 @@ EndsWords (asks (key words) json) files after disk status old new =
     EndsOnHive (key_question_in (form_of json) words files) status old new × (disk ≡ new_state)
 EndsWords (asks (replay words) json) files after disk status old new =
     EndsReplay (report_in (form_of json) words files) words.save_hive files after status old new × (disk ≡ new_state)
+EndsWords (asks (check words) json) files after disk status old new =
+    EndsOnHive (check_question_in (form_of json) words files) status old new × (disk ≡ new_state)
+EndsWords (asks (whatif words) json) files after disk status old new =
+    EndsOnHive (whatif_question_in (form_of json) words files) status old new × (disk ≡ new_state)
+EndsWords (asks (salvage words) json) files after disk status old new =
+    EndsSalvage (salvage_report_in (form_of json) words files) words.save_hive files after status old new × (disk ≡ new_state)
 
 -- the same number of files are asked for as are in the written order, up to the first obstacle; for `import` one more, where the hive has no fault
 abbrev pub AsksAs : Reading → Status → HostState → HostState → Type 0
 AsksAs (asks (import words) json) status old new = AsksImport words status old new
 AsksAs asked status old new = AsksSoMany (asks_in asked) status old new
 
--- what becomes of the files: `export` changes the one that it puts alone, `replay` the one that it saves alone, every other command
+-- what becomes of the files: `export` changes the one that it puts alone, `replay` and `salvage` the one that they save alone, every other command
 -- those that it saves
 abbrev pub LeavesFiles : Reading → Status → Image → Files → Files → Type 0
 LeavesFiles (asks (export words) json) status held old new = KeepsOthers old new words.reg
 LeavesFiles (asks (replay words) json) status held old new = KeepsUnsaved (record { hive = words.save_hive; log = None }) old new
+LeavesFiles (asks (salvage words) json) status held old new = KeepsUnsaved (record { hive = words.save_hive; log = None }) old new
 LeavesFiles asked status held old new = FilesAs (saves_of asked) status held old new
 
 -- ---- what a part of the program leaves

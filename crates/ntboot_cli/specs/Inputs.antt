@@ -9,7 +9,7 @@ use Rattle.arc_path.specs.Reading.{arc_of}
 use Rattle.boot_script.specs.declared.event.Event.{Event}
 use Rattle.boot_script.specs.declared.stop.ScriptFault.{ScriptFault}
 use Rattle.boot_script.specs.Script.{script_of}
-use Rattle.command_words.specs.Words.{Reading, asks, help, refused, version, key, replay, export, import, twin, control, safe, run, show, make, RunAsked, ShowAsked}
+use Rattle.command_words.specs.Words.{Reading, asks, help, refused, version, salvage, whatif, check, key, replay, export, import, twin, control, safe, run, show, make, RunAsked, ShowAsked}
 use Rattle.command_parts.specs.declared.refusal.Refusal.{Refusal}
 use Rattle.command_parts.specs.declared.refusal.Refusal.TheVariants.{Usage, ScriptFault as BadScript}
 use Rattle.command_parts.specs.declared.refusal.Obstacle.{Obstacle}
@@ -21,6 +21,9 @@ use Rattle.twin_command.specs.Twinned.{asks_twin}
 use Rattle.text_commands.specs.Exported.{asks_export}
 use Rattle.key_command.specs.Answer.{asks_key}
 use Rattle.replay_command.specs.Inputs.{asks_replay}
+use Rattle.check_command.specs.Answer.{asks_check}
+use Rattle.whatif_command.specs.Inputs.{asks_whatif, arguments_in as whatif_arguments_in}
+use Rattle.salvage_command.specs.Answer.{asks_salvage}
 use Rattle.ntboot_cli.specs.declared.inputs.Inputs.{Inputs}
 
 abbrev pub events_in : Result (List Event) ScriptFault → Result (List Event) Refusal
@@ -55,6 +58,9 @@ arguments_in (asks (import words) json) = Ok tt
 arguments_in (asks (export words) json) = Ok tt
 arguments_in (asks (key words) json) = Ok tt
 arguments_in (asks (replay words) json) = Ok tt
+arguments_in (asks (check words) json) = Ok tt
+arguments_in (asks (whatif words) json) = whatif_arguments_in words
+arguments_in (asks (salvage words) json) = Ok tt
 
 -- ---- how many files are asked for, up to the first obstacle
 
@@ -87,6 +93,9 @@ asks_in (asks (import words) json) files = asks_hive files words.hive words.log
 asks_in (asks (export words) json) files = asks_export words files
 asks_in (asks (key words) json) files = asks_key words files
 asks_in (asks (replay words) json) files = asks_replay words files
+asks_in (asks (check words) json) files = asks_check words files
+asks_in (asks (whatif words) json) files = asks_whatif words files
+asks_in (asks (salvage words) json) files = asks_salvage words files
 
 -- a search for the inputs of a run asked for these files, each once and in their order, up to the first obstacle or stop
 abbrev pub AsksRun : {A : Type 0} → RunAsked → Result A Obstacle → HostState → HostState → Type 0

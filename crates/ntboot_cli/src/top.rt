@@ -12,6 +12,7 @@ ghost use Rattle.command_parts.specs.Refusals.{IsToldAs};
 use crate::making::make;
 use crate::running::run;
 use crate::showing::show;
+use check_command::check;
 use command_parts::{Refusal, Status, refuse, tell};
 use command_words::{Command, Reading, read_words, texts};
 use control_command::control;
@@ -21,9 +22,11 @@ use line_text::ReportForm;
 use nt_edge::{Bench, Host};
 use replay_command::replay;
 use safe_command::safe;
+use salvage_command::salvage;
 use std::alloc::Global;
 use text_commands::{export, import};
 use twin_command::twin;
+use whatif_command::whatif;
 
 /// The form of a report, by whether its lines are to be JSON.
 fn form(json: bool) -> ReportForm
@@ -47,13 +50,18 @@ fn obey<H: Host, B: Bench>(alloc: Global, words: &[&str], host: &mut H, bench: &
         Reading::Command(Command::Run(words), _) => run(alloc, words, host, bench),
         Reading::Command(Command::Show(words), _) => show(alloc, words, host),
         Reading::Command(Command::Make(words), _) => make(alloc, words, host, bench),
-        Reading::Command(Command::Safe(words), _) => safe(alloc, words, host),
+        Reading::Command(Command::Safe(words), json) => safe(alloc, words, form(json), host),
         Reading::Command(Command::Control(words), _) => control(alloc, words, host),
         Reading::Command(Command::Twin(words), _) => twin(alloc, words, host, bench),
         Reading::Command(Command::Import(words), _) => import(alloc, words, host, bench),
         Reading::Command(Command::Export(words), _) => export(alloc, words, host),
         Reading::Command(Command::Key(words), json) => key(alloc, words, form(json), host),
         Reading::Command(Command::Replay(words), json) => replay(alloc, words, form(json), host),
+        Reading::Command(Command::Check(words), json) => check(alloc, words, form(json), host),
+        Reading::Command(Command::Whatif(words), json) => whatif(alloc, words, form(json), host),
+        Reading::Command(Command::Salvage(words), json) => {
+            salvage(alloc, words, form(json), host)
+        }
         Reading::Refused(_) => refuse(alloc, host, &Refusal::Usage),
     }
 }

@@ -1,12 +1,13 @@
 use Rattle.std.proofs.Common.{map, ap, sym, subst, ◌∙◌}
-use Rattle.command_words.specs.Views.{command_seen, export_seen, replay_seen}
+use Rattle.command_words.specs.Views.{command_seen, export_seen, replay_seen, salvage_seen}
 use Rattle.command_words.specs.Words.{asks}
 use Rattle.command_words.specs.Reading.{reading_of}
 use Rattle.command_words.specs.declared.asked.Command.{Command}
 use Rattle.line_text.specs.declared.form.ReportForm.{ReportForm}
 use Rattle.replay_command.specs.Answer.{DecidesReplay}
+use Rattle.salvage_command.specs.Answer.{DecidesSalvage}
 use Rattle.ntboot_cli.proofs.CountedLemmas.{counted}
-use Rattle.ntboot_cli.proofs.TopLemmas.{by_export, by_replay}
+use Rattle.ntboot_cli.proofs.TopLemmas.{by_export, by_replay, by_salvage}
 use Rattle.ntboot_cli.proofs.top.obey.Goals as goal
 
 pub make-requires-clause-some : goal.make-requires-clause-some
@@ -43,3 +44,15 @@ returns-in-Command-Replay-default g c =
     c.form-in-Command-Replay-default.ensures c.replay.ensures.decides in
     by_replay (reading_of words) arm.json c.replay.result old new (g.B.Disk.state c.args.bench.now)
     (replay_seen arm.words) is c.requires.fresh decides c.replay.ensures.asked c.replay.ensures.kept
+
+pub returns-in-Command-Salvage-default : goal.returns-in-Command-Salvage-default
+returns-in-Command-Salvage-default g c =
+    let words = map (λ w. w.now) c.args.words.now in
+    let arm = c.in-Command-Salvage-default in
+    let is = sym arm.ensures ∙ ap (λ (x : Command). asks (command_seen x) arm.json) arm.field-0-is in
+    let old = g.H.Host.state c.args.host.now in
+    let new = g.H.Host.state c.salvage.new.host in
+    let decides = subst (λ (f : ReportForm). DecidesSalvage f (salvage_seen arm.words) c.salvage.result old new)
+    c.form-in-Command-Salvage-default.ensures c.salvage.ensures.decides in
+    by_salvage (reading_of words) arm.json c.salvage.result old new (g.B.Disk.state c.args.bench.now)
+    (salvage_seen arm.words) is c.requires.fresh decides c.salvage.ensures.asked c.salvage.ensures.kept
