@@ -1,0 +1,85 @@
+# Completions of ntboot's words for fish. Made by tests/completions.py from crates/command_words/src/table.rt; edit neither by hand.
+# To use it: put it as ntboot.fish into ~/.config/fish/completions.
+# The words begin with this command, and the option was not given, but perhaps as the word just before.
+function __ntboot_can
+    set -l words (commandline -opc)
+    test (count $words) -gt 1; and test $words[2] = $argv[1]; or return 1
+    not contains -- --$argv[2] $words[3..-2]
+end
+complete -c ntboot -f
+complete -c ntboot -n 'test (count (commandline -opc)) -eq 1' -a 'run show make safe control twin export import key replay check whatif salvage'
+complete -c ntboot -n '__ntboot_can run hive' -l hive -r -F
+complete -c ntboot -n '__ntboot_can run script' -l script -r -F
+complete -c ntboot -n '__ntboot_can run log' -l log -r -F
+complete -c ntboot -n '__ntboot_can run boot-ini' -l boot-ini -r -F
+complete -c ntboot -n '__ntboot_can run system' -l system -x
+complete -c ntboot -n '__ntboot_can run save-hive' -l save-hive -r -F
+complete -c ntboot -n '__ntboot_can run save-log' -l save-log -r -F
+complete -c ntboot -n '__ntboot_can run verbose' -l verbose
+complete -c ntboot -n '__ntboot_can show hive' -l hive -r -F
+complete -c ntboot -n '__ntboot_can show log' -l log -r -F
+complete -c ntboot -n '__ntboot_can show verbose' -l verbose
+complete -c ntboot -n '__ntboot_can make save-hive' -l save-hive -r -F
+complete -c ntboot -n '__ntboot_can make verbose' -l verbose
+complete -c ntboot -n '__ntboot_can safe hive' -l hive -r -F
+complete -c ntboot -n '__ntboot_can safe log' -l log -r -F
+complete -c ntboot -n '__ntboot_can safe boot-ini' -l boot-ini -r -F
+complete -c ntboot -n '__ntboot_can safe system' -l system -x
+complete -c ntboot -n '__ntboot_can safe mode' -l mode -x -a 'minimal network'
+complete -c ntboot -n '__ntboot_can safe images' -l images
+complete -c ntboot -n '__ntboot_can safe json' -l json
+complete -c ntboot -n '__ntboot_can safe verbose' -l verbose
+complete -c ntboot -n '__ntboot_can control hive' -l hive -r -F
+complete -c ntboot -n '__ntboot_can control log' -l log -r -F
+complete -c ntboot -n '__ntboot_can control commands' -l commands -r -F
+complete -c ntboot -n '__ntboot_can control verbose' -l verbose
+complete -c ntboot -n '__ntboot_can twin hive' -l hive -r -F
+complete -c ntboot -n '__ntboot_can twin alt' -l alt -r -F
+complete -c ntboot -n '__ntboot_can twin scheme' -l scheme -x -a 'alt log'
+complete -c ntboot -n '__ntboot_can twin default' -l default -x
+complete -c ntboot -n '__ntboot_can twin save-hive' -l save-hive -r -F
+complete -c ntboot -n '__ntboot_can twin save-alt' -l save-alt -r -F
+complete -c ntboot -n '__ntboot_can twin verbose' -l verbose
+complete -c ntboot -n '__ntboot_can export hive' -l hive -r -F
+complete -c ntboot -n '__ntboot_can export log' -l log -r -F
+complete -c ntboot -n '__ntboot_can export reg' -l reg -r -F
+complete -c ntboot -n '__ntboot_can export key' -l key -x
+complete -c ntboot -n '__ntboot_can export verbose' -l verbose
+complete -c ntboot -n '__ntboot_can import hive' -l hive -r -F
+complete -c ntboot -n '__ntboot_can import log' -l log -r -F
+complete -c ntboot -n '__ntboot_can import reg' -l reg -r -F
+complete -c ntboot -n '__ntboot_can import save-hive' -l save-hive -r -F
+complete -c ntboot -n '__ntboot_can import save-log' -l save-log -r -F
+complete -c ntboot -n '__ntboot_can import verbose' -l verbose
+complete -c ntboot -n '__ntboot_can key hive' -l hive -r -F
+complete -c ntboot -n '__ntboot_can key log' -l log -r -F
+complete -c ntboot -n '__ntboot_can key key' -l key -x
+complete -c ntboot -n '__ntboot_can key depth' -l depth -x
+complete -c ntboot -n '__ntboot_can key security' -l security
+complete -c ntboot -n '__ntboot_can key json' -l json
+complete -c ntboot -n '__ntboot_can key verbose' -l verbose
+complete -c ntboot -n '__ntboot_can replay hive' -l hive -r -F
+complete -c ntboot -n '__ntboot_can replay log' -l log -r -F
+complete -c ntboot -n '__ntboot_can replay log1' -l log1 -r -F
+complete -c ntboot -n '__ntboot_can replay log2' -l log2 -r -F
+complete -c ntboot -n '__ntboot_can replay save-hive' -l save-hive -r -F
+complete -c ntboot -n '__ntboot_can replay json' -l json
+complete -c ntboot -n '__ntboot_can replay verbose' -l verbose
+complete -c ntboot -n '__ntboot_can check hive' -l hive -r -F
+complete -c ntboot -n '__ntboot_can check log' -l log -r -F
+complete -c ntboot -n '__ntboot_can check set' -l set -x
+complete -c ntboot -n '__ntboot_can check order' -l order
+complete -c ntboot -n '__ntboot_can check json' -l json
+complete -c ntboot -n '__ntboot_can check verbose' -l verbose
+complete -c ntboot -n '__ntboot_can whatif hive' -l hive -r -F
+complete -c ntboot -n '__ntboot_can whatif log' -l log -r -F
+complete -c ntboot -n '__ntboot_can whatif boot-ini' -l boot-ini -r -F
+complete -c ntboot -n '__ntboot_can whatif system' -l system -x
+complete -c ntboot -n '__ntboot_can whatif of' -l of -x
+complete -c ntboot -n '__ntboot_can whatif json' -l json
+complete -c ntboot -n '__ntboot_can whatif verbose' -l verbose
+complete -c ntboot -n '__ntboot_can salvage hive' -l hive -r -F
+complete -c ntboot -n '__ntboot_can salvage log' -l log -r -F
+complete -c ntboot -n '__ntboot_can salvage save-hive' -l save-hive -r -F
+complete -c ntboot -n '__ntboot_can salvage json' -l json
+complete -c ntboot -n '__ntboot_can salvage verbose' -l verbose
