@@ -8,7 +8,7 @@ Each case is a run that saves a hive and its log over its own input, or a mendin
    any subset. Where there are over 512 subsets of sectors, none, all, each one alone, each one missing and 64 at random are taken. In each state `show`
    has to tell the tree from before the run or the one after it; the run is then made again on a sample of the states, and has to end.
 2. Faults. Each call that the program makes fails in turn, with each of EIO, ENOSPC, EDQUOT and EINTR: the tree is then the old or the new one, the new
-   one where the exit is 0, no new file is left behind but where its removal failed, and the run made again ends its work.
+   one where the exit is 0, no new file is left over but where its removal failed, and the run made again ends its work.
 3. Kills. The run is killed at each call: the same, but that a new file may be left, and does not stop the run that follows.
 Prints the counts. --few takes each third fault and kill.
 """
@@ -301,7 +301,7 @@ def kills(case, room, shown, trees, step):
 # ---- the cases
 
 def grown(count):
-    """A hive of so many keys in which a free cell of three pages stands before the root, and another bin of one page behind all."""
+    """A hive of that many keys in which a free cell of three pages stands before the root, and another bin of one page after all."""
     free = struct.pack("<i", 12_288) + bytes(12_284)
     cells, _ = hives.layout((b"ROOT", [], [(b"K%06d" % i, [hives.dword(b"V", i)], []) for i in range(count)]), 32 + len(free))
     packed = hives.hive(free + cells)

@@ -30,7 +30,7 @@ def lines(size):
 
 
 def with_a_key(count):
-    """A hive of so many services whose root has a key `A` with a value `V` that has a cell for its data."""
+    """A hive of that many services whose root has a key `A` with a value `V` that has a cell for its data."""
     services = [hives.service(i, 1, 0, []) for i in range(count)]
     control_set = hives.control_set(b"ControlSet001", services, ["G0"], {"G0": list(range(20, 0, -1))})
     key = (b"A", [(b"V", 3, bytes(9))], [])
@@ -38,7 +38,7 @@ def with_a_key(count):
 
 
 def comparisons():
-    """The seconds that so many comparisons of 16 MiB take. Both are written first: of zeros that never were, one page would be read again and again."""
+    """The seconds that that many comparisons of 16 MiB take. Both are written first: of zeros that never were, one page would be read again and again."""
     one = os.urandom(16 << 20)
     other = bytearray(one)
     began = time.process_time()

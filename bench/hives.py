@@ -1,4 +1,4 @@
-"""Makes hives of version 1.3 for the scripts beside it: keys and values out of Python, cells one behind another in one bin."""
+"""Makes hives of version 1.3 for the scripts beside it: keys and values out of Python, cells in sequence in one bin."""
 import struct
 
 NONE = 0xFFFFFFFF
@@ -19,7 +19,7 @@ def node(name, children, child_list, values, value_list):
 
 
 def base_block(size, root=32, first=5, second=5, minor=3, kind=0):
-    """The first 4096 bytes of a primary file, or of the kind 1 the base block of a log with zeros behind it."""
+    """The first 4096 bytes of a primary file, or of the kind 1 the base block of a log with zeros after it."""
     block = bytearray(512)
     block[0:4] = b"regf"
     struct.pack_into("<II", block, 4, first, second)
@@ -44,7 +44,7 @@ def hive(cells):
 
 
 def with_children(count):
-    """A root with so many keys, in lists of 500 below a list of lists."""
+    """A root with that many keys, in lists of 500 below a list of lists."""
     root_size = len(cell(node(b"ROOT", 0, 0, 0, NONE)))
     parts = [range(i, min(i + 500, count)) for i in range(0, count, 500)]
     at = 32 + root_size
@@ -67,7 +67,7 @@ def with_children(count):
 
 
 def with_values(count):
-    """A root with so many values of four bytes in place."""
+    """A root with that many values of four bytes in place."""
     root_size = len(cell(node(b"ROOT", 0, NONE, 0, 0)))
     list_at = 32 + root_size
     at = list_at + len(cell(bytes(4 * count)))
@@ -160,7 +160,7 @@ def machine(sets, numbers):
 
 
 def system(services, groups=10, tags=20):
-    """A SYSTEM hive of one control set with these services, in so many groups with so many tags each, the greatest tag first."""
+    """A SYSTEM hive of one control set with these services, in that many groups with that many tags each, the greatest tag first."""
     names = [f"G{i}" for i in range(groups)]
     order = list(range(tags, 0, -1))
     return machine([control_set(b"ControlSet001", services, names, {name: order for name in names})], (1, 1, 0, 0))

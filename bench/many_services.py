@@ -1,5 +1,5 @@
 #!/usr/bin/env python3
-"""Times whole starts of the built program: bench/many_services.py PROGRAM. Prints the seconds for so many services that each need one
+"""Times whole starts of the built program: bench/many_services.py PROGRAM. Prints the seconds for that many services that each need one
 that goes before them; where one half pulls in the other, or each one the one before it; with ten names each; in as many groups, and with
 as many tags. Of services of which each needs the next in the registry, the worst order, it prints the time of 10,000 and of 20,000 beside
 that of 1,000, and what n log n would come to. No gate runs it."""
@@ -23,7 +23,7 @@ WORST = [1_000, 10_000, 20_000]
 
 
 def timed(program, what, make, count):
-    """The seconds of a start of so many services, which it prints."""
+    """The seconds of a start of that many services, which it prints."""
     took, said, status = seconds(program, make(count), b"boot\ngo\n")
     tried = sum(line.startswith("try ") for line in said)
     print(f"{count} {what}: {took:.3f} s; {tried} attempts, exit {status}")

@@ -13,7 +13,7 @@ TRIES = 3
 
 
 def script(starts):
-    """So many starts, in each of which the tag of one service is changed and flushed."""
+    """That many starts, in each of which the tag of one service is changed and flushed."""
     one = "boot\ngo\nset CurrentControlSet\\Services\\S000000 Tag dword {}\nflush\noff\n"
     return "".join(one.format(1_000 + i) for i in range(starts)).encode()
 

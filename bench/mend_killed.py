@@ -2,7 +2,7 @@
 """Kills a mending at random moments: bench/mend_killed.py NTMEND [COUNT] [--show PROGRAM]. No gate runs it.
 
 A hive of 15 MiB, whose packed form is shorter by some pages and differs in nearly every sector, lies on a file beside an empty log.
-`ntmend` is killed with -9 at a random moment of its run, three times of four at one behind its first write; 1,000 times. Each time the
+`ntmend` is killed with -9 at a random moment of its run, three times of four at one after its first write; 1,000 times. Each time the
 next run has to end its work: the hive's file is then byte by byte the one that a run leaves which nobody kills. A packed form is that of
 one tree alone, so the hive that was left loads as before. With --show `show` of PROGRAM has to tell the same tree too, under the number
 from before or the next one. Prints how often the hive's file was as before, unfinished, and done. The files lie in the folder for
@@ -19,12 +19,12 @@ import time
 sys.path.insert(0, os.path.dirname(os.path.abspath(__file__)))
 import hives
 
-# so many keys make some 15 MiB of cells
+# that many keys make some 15 MiB of cells
 KEYS = 115_000
 
 
 def grown():
-    """A hive in which a free cell of three pages stands before the root, and another bin of one page behind all."""
+    """A hive in which a free cell of three pages stands before the root, and another bin of one page after all."""
     free = struct.pack("<i", 12_288) + bytes(12_284)
     key = (b"ROOT", [], [(b"K%06d" % i, [hives.dword(b"V", i)], []) for i in range(KEYS)])
     cells, _ = hives.layout(key, 32 + len(free))

@@ -279,7 +279,7 @@ def as_read_by_tools(hive, minor):
 
 
 def widened(hive, name, wide):
-    """The hive with a name of so many bytes in place of each narrow one of as many, of a key or a value."""
+    """The hive with a name of that many bytes in place of each narrow one of as many, of a key or a value."""
     data = bytearray(hive)
     for found in re.finditer(re.escape(name), hive):
         for sign, ahead, flags, narrow in ((b"nk", 76, 2, 0x20), (b"vk", 20, 16, 1)):
@@ -364,7 +364,7 @@ def long_scripts():
 
 
 class Edits:
-    """Random edits, each of which is accepted, and the tree behind them."""
+    """Random edits, each of which is accepted, and the tree after them."""
 
     def __init__(self, tree, seed):
         self.tree = {path: dict(values) for path, values in tree.items()}
@@ -376,7 +376,7 @@ class Edits:
         return self.random.choice(letters[:26]) + "".join(self.random.choice(letters) for _ in range(self.random.randrange(8))) + "."
 
     def key(self, level=2):
-        """A key of the set, from so many levels on."""
+        """A key of the set, from that many levels on."""
         return self.random.choice([path for path in self.tree if path[:2] == self.set and len(path) >= level])
 
     def path(self, path):

@@ -17,7 +17,7 @@ from peers import as_read_by_tools
 from timing import used
 
 TRIES = 3
-# A peer is stopped after so many seconds.
+# A peer is stopped after that many seconds.
 PATIENCE = 60
 PREFIX = "HKEY_LOCAL_MACHINE\\SYSTEM"
 HEADER = "Windows Registry Editor Version 5.00"
@@ -109,7 +109,7 @@ def export_times(program, room):
 
 
 def by_peer(words, room):
-    """The processor seconds that a peer takes, or that it was stopped after so many."""
+    """The processor seconds that a peer takes, or that it was stopped after that many."""
     before = used()
     try:
         done = subprocess.run(words, cwd=room, capture_output=True, timeout=PATIENCE)
@@ -144,7 +144,7 @@ def import_times(program, room):
 
 
 def numbers(count, order):
-    """So many numbers, rising, falling or mixed."""
+    """That many numbers, rising, falling or mixed."""
     if order == "mixed":
         return random.Random(count).sample(range(count), count)
     return range(count) if order == "rising" else range(count - 1, -1, -1)

@@ -13,7 +13,7 @@ BOOT, SYSTEM, AUTOMATIC, DISABLED = 0, 1, 2, 4
 
 
 def junk(size):
-    """So many bytes that look like parts of a hive."""
+    """That many bytes that look like parts of a hive."""
     return (JUNK * (size // len(JUNK) + 1))[:size]
 
 
@@ -30,7 +30,7 @@ class Bins:
         self.left -= size
 
     def put(self, payload):
-        """Puts a cell with this payload, and behind every fifth one a free cell. The answer is where it stands."""
+        """Puts a cell with this payload, and after every fifth one a free cell. The answer is where it stands."""
         size = (4 + len(payload) + 7) // 8 * 8
         if size > self.left:
             if self.left:
@@ -64,7 +64,7 @@ class Bins:
         return lists[0] if len(lists) == 1 else self.put(b"ri" + struct.pack(f"<H{len(lists)}I", len(lists), *lists))
 
     def put_key(self, name, values, children):
-        """Puts a key behind all below it."""
+        """Puts a key after all below it."""
         payload = bytearray(hives.node(name, len(children), self.put_children(children), len(values), self.put_values(values)))
         for at, size in ((12, 8), (24, 4), (32, 4), (52, 20)):
             payload[at:at + size] = junk(size)

@@ -1,6 +1,6 @@
 #!/usr/bin/env python3
 """Runs the built programs: ntboot over each folder of tests/runs, and ntmend over those whose name begins with `ntmend_`. A folder has `words`
-(one a line), the input files, what must be said (`stdout`), the exit status (`status`), and files that must be there then (`after`). Then
+(one a line), the input files, what must be printed (`stdout`, and `stderr` on standard error), the exit status (`status`), and files that must be there then (`after`). Then
 ntboot over each example, and over files and an output that no folder can hold. Prints each run that differs, then 'N passed, N failed'.
 tests/run_all.py [PROGRAM [NTMEND]]"""
 import os
@@ -22,7 +22,7 @@ EXAMPLES = os.path.join(TOP, "examples")
 ONE_DRIVER = os.path.join(RUNS, "starts_one_boot_driver")
 DIRTY = os.path.join(RUNS, "hive_recovered_by_its_log")
 WORDS = ["run", "--hive", "hive", "--script", "script"]
-# So many bytes of a hive or a log count.
+# That many bytes of a hive or a log count.
 COUNTED = 32 * 1024 * 1024
 UMASK = os.umask(0o022)
 os.umask(UMASK)
@@ -34,16 +34,22 @@ def read(*path):
 
 
 def said(program, words, room, **more):
-    """What the program says in a folder, and its exit status."""
-    done = subprocess.run([program, *words], cwd=room, stdout=subprocess.PIPE, stderr=subprocess.STDOUT, timeout=120, **more)
-    return done.stdout, done.returncode
+    """What the program prints in a folder, standard error after standard output, and its exit status."""
+    done = subprocess.run([program, *words], cwd=room, stdout=subprocess.PIPE, stderr=subprocess.PIPE, timeout=120, **more)
+    return done.stdout + done.stderr, done.returncode
+
+
+def wanted(folder):
+    """What a run of tests/runs must print: `stdout`, then `stderr` where there is one."""
+    errors = os.path.join(folder, "stderr")
+    return read(folder, "stdout") + (read(errors) if os.path.exists(errors) else b"")
 
 
 def of_folder(program, folder):
     """A run of tests/runs in a fresh folder with its inputs."""
     with tempfile.TemporaryDirectory() as room:
         for part in os.listdir(folder):
-            if part not in ("words", "stdout", "status", "after"):
+            if part not in ("words", "stdout", "stderr", "status", "after"):
                 shutil.copy(os.path.join(folder, part), room)
         text, status = said(program, read(folder, "words").decode().split("\n")[:-1], room)
         after = os.path.join(folder, "after")
@@ -54,7 +60,7 @@ def of_folder(program, folder):
 
 
 def of_example(program, folder):
-    """The runs of an example: each line of its `command` has the program's name, its words and, behind `>`, the file with its report."""
+    """The runs of an example: each line of its `command` has the program's name, its words and, after `>`, the file with its report."""
     for line in read(folder, "command").decode().splitlines():
         command, _, report = line.partition(" > ")
         with tempfile.TemporaryDirectory() as room:
@@ -63,7 +69,7 @@ def of_example(program, folder):
 
 
 def in_room(program, change, words=WORDS, **more):
-    """A run over the hive and script of one driver, behind a change of their folder."""
+    """A run over the hive and script of one driver, after a change of their folder."""
     with tempfile.TemporaryDirectory() as room:
         for part in ("hive", "script"):
             shutil.copy(os.path.join(ONE_DRIVER, part), room)
@@ -77,7 +83,7 @@ def becomes_a_folder(room):
 
 
 def padded(room, name, size):
-    """A file with zeros behind it up to so many bytes, the last byte behind the first 32 MiB another one."""
+    """A file with zeros after it up to that many bytes, the last byte after the first 32 MiB another one."""
     path = os.path.join(room, name)
     os.truncate(path, size)
     if size > COUNTED:
@@ -87,7 +93,7 @@ def padded(room, name, size):
 
 
 def saved_of_long(program, size):
-    """A run that saves a hive of so many bytes: what was said, the exit status, and whether the saved file has its first 32 MiB."""
+    """A run that saves a hive of that many bytes: what was said, the exit status, and whether the saved file has its first 32 MiB."""
     with tempfile.TemporaryDirectory() as room:
         for part in ("hive", "script"):
             shutil.copy(os.path.join(ONE_DRIVER, part), room)
@@ -97,7 +103,7 @@ def saved_of_long(program, size):
 
 
 def with_a_long_log(program, size):
-    """A dirty hive with its log, which has so many bytes."""
+    """A dirty hive with its log, which has that many bytes."""
     with tempfile.TemporaryDirectory() as room:
         for part in ("hive", "script", "log"):
             shutil.copy(os.path.join(DIRTY, part), room)
@@ -106,7 +112,7 @@ def with_a_long_log(program, size):
 
 
 def becomes_as_long_as_is_read(room):
-    """The hive with zeros behind it up to 256 MiB. Its first 32 MiB count."""
+    """The hive with zeros after it up to 256 MiB. Its first 32 MiB count."""
     os.truncate(os.path.join(room, "hive"), 256 * 1024 * 1024)
 
 
@@ -233,7 +239,7 @@ def cases(program, mender):
     """Each run: its name, what was said with the exit status, and what both must be."""
     for name in sorted(os.listdir(RUNS)):
         folder = os.path.join(RUNS, name)
-        yield name, of_folder(mender if name.startswith("ntmend_") else program, folder), (read(folder, "stdout"), int(read(folder, "status")))
+        yield name, of_folder(mender if name.startswith("ntmend_") else program, folder), (wanted(folder), int(read(folder, "status")))
     for name in sorted(os.listdir(EXAMPLES)):
         folder = os.path.join(EXAMPLES, name)
         for line, found, want in of_example(program, folder):
