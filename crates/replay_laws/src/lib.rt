@@ -7,5 +7,6 @@
 mod laws;
 
 pub use laws::{
-    a_changed_hive_is_clean, entries_are_applied_as_far_as_they_go, whole_entries_are_folded,
+    a_changed_hive_is_clean, entries_are_applied_as_far_as_they_go, pages_change_no_other_byte,
+    whole_entries_are_folded,
 };
