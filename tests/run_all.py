@@ -60,12 +60,14 @@ def of_folder(program, folder):
 
 
 def of_example(program, folder):
-    """The runs of an example: each line of its `command` has the program's name, its words and, after `>`, the file with its report."""
+    """The runs of an example: each line of its `command` has the program's name, its words and, after `>`, the file with its report. The exit is 0, or
+    what `status` says."""
     for line in read(folder, "command").decode().splitlines():
         command, _, report = line.partition(" > ")
         with tempfile.TemporaryDirectory() as room:
             shutil.copytree(folder, room, dirs_exist_ok=True)
-            yield line, said(program, command.split()[1:], room), (read(folder, report or "report.txt"), 0)
+            status = os.path.join(folder, "status")
+            yield line, said(program, command.split()[1:], room), (read(folder, report or "report.txt"), int(read(status)) if os.path.exists(status) else 0)
 
 
 def in_room(program, change, words=WORDS, **more):
