@@ -1,4 +1,4 @@
-//! The words of the commands that judge a hive or a start, the options with named values, and the lines of reasons.
+//! The command lines of the commands that judge a hive or a start, the options with named values, and the lines of reasons.
 
 use crate::words::{Case, check};
 use command_words::{
