@@ -80,6 +80,7 @@ fn accepts(alloc: Global, takes: Takes, value: &str) -> bool
         Takes::Mode => mode_named(value).is_some(),
         Takes::Encoding => encoding_named(value).is_some(),
         Takes::Set => set_named(value).is_some(),
+        Takes::Name => true,
     }
 }
 
