@@ -1,2 +1,4 @@
 pub mod Applied
 pub mod Outside
+pub mod Results
+pub mod Runs

@@ -1,6 +1,6 @@
 //! The laws.
 
-ghost use Rattle.std.specs.Prelude.{◌≡◌, ◌⊎◌, ℕ, List, length, get_or, Ok, IfOk};
+ghost use Rattle.std.specs.Prelude.{◌≡◌, ◌⊎◌, true, ℕ, List, length, get_or, None, Ok, IfOk};
 ghost use Rattle.log_parts.specs.Filled.{filled};
 ghost use Rattle.log_parts.specs.Pages.{Page, put_pages};
 ghost use Rattle.hive_model.specs.Base.{Base};
@@ -10,7 +10,14 @@ ghost use Rattle.log_replay.specs.declared.replaying.LogFile.{LogFile};
 ghost use Rattle.log_replay.specs.Entries.{replay_by};
 ghost use Rattle.log_replay.specs.Replay.{hive_base_of, replay_of};
 ghost use Rattle.replay_laws.specs.Applied.{EndsSo, IsFold};
+ghost use Rattle.regf_base.specs.Fitting.{NumbersFit, TextsFit};
+ghost use Rattle.hive_model.specs.Base.{base_text, is_minor};
+ghost use Rattle.log_parts.specs.Wide.{is_wide_size, wide_base_of};
+ghost use Rattle.log_parts.specs.declared.base.FileRole.TheVariants as roles;
 ghost use Rattle.replay_laws.specs.Outside.{AreWithin, IsOutside};
+ghost use Rattle.replay_laws.specs.Results.{AreBytes, AreByteFiles, IsAgain, IsMade, IsTold, stayed};
+ghost use Rattle.replay_laws.specs.Runs.{RunsSo};
+ghost use Rattle.entry_log.specs.Runs.{run_of};
 
 /// The hive after the entries is the fold of entries over the hive before: each is the one that has the next number, of the first log that has
 /// one, and its new sectors are in its pages.
@@ -34,4 +41,40 @@ pub fn pages_change_no_other_byte()
 pub fn a_changed_hive_is_clean()
     ensures { (file : List ℕ) (files : List LogFile) (hive : Base) → hive_base_of (filled file) ≡ Ok hive
         → IfOk (replay_of file files) (λ o. ((o.file ≡ file) × ((o.first ≡ hive.first) × (o.second ≡ hive.second))) ⊎ (o.first ≡ o.second)) }
+{}
+
+/// The result is the hive's file as it was; or the fold of entries, each one of a log's run and whole, with the hive's second number and
+/// the numbers after it; or, where no entry was applied, an old log's sectors. But for the first sector and the pages that were applied, no
+/// byte of the hive's file is another.
+pub fn a_result_is_made_of_whole_entries()
+    ensures { (file : List ℕ) (files : List LogFile) (hive : Base) → AreBytes file → AreByteFiles files → hive_base_of (filled file) ≡ Ok hive
+        → IfOk (replay_of file files) (IsMade file files hive) }
+{}
+
+/// The last line has how many were applied, and the result's numbers. Where it is none, the hive comes out byte for byte with its own
+/// numbers; else the result is clean.
+pub fn the_last_line_is_what_was_done()
+    ensures { (file : List ℕ) (files : List LogFile) (hive : Base) → hive_base_of (filled file) ≡ Ok hive
+        → IfOk (replay_of file files) (IsTold file hive) }
+{}
+
+/// A base block whose fields fit, as one of a large hive may be, is read back from its spelling.
+pub fn a_large_base_block_is_read_back()
+    ensures { (base : Base) → NumbersFit base → TextsFit base → base.kind ≡ 0 → is_minor base.minor ≡ true → is_wide_size base.size ≡ true
+        → wide_base_of (base_text base) roles.Hive ≡ Ok base }
+{}
+
+/// To replay twice is to replay once: with the same logs a result is answered again, with the same numbers (`again`). One that is clean
+/// stays with any logs: nothing is applied (`clean`).
+pub fn a_replayed_hive_stays()
+    ensures again { (file : List ℕ) (files : List LogFile) → AreBytes file → AreByteFiles files
+        → IfOk (replay_of file files) (λ o. IsAgain o (replay_of o.file files)) }
+    ensures clean { (file : List ℕ) (files others : List LogFile) → AreBytes file → AreByteFiles files
+        → IfOk (replay_of file files) (λ o. o.first ≡ o.second → replay_of o.file others ≡ Ok (stayed o)) }
+{}
+
+/// A run has the whole entries from sector 1 on, each where the one before ends, up to the first place where no entry goes on, or where one
+/// is broken, which is its fault: neither that one nor anything after it is in the run.
+pub fn a_broken_entry_ends_its_run()
+    ensures { (log : List ℕ) → RunsSo log 1 None (run_of log).entries (run_of log).fault }
 {}
