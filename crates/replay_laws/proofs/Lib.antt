@@ -8,3 +8,7 @@ pub mod Folds
 pub mod Sources
 pub mod Making
 pub mod Ends
+pub mod Sectors
+pub mod Taking
+pub mod Belonging
+pub mod Recovering

@@ -163,7 +163,7 @@ module _ (file : List ℕ) (hive : Base) (bytes : AreBytes file) (reads : hive_b
       old_texts : TextsFit c.whole.base
       old_texts = texts_fit log Log c.whole.base log_bytes log_long old_read
 
-      old_good : IsGood old_base
+      pub old_good : IsGood old_base
       old_good = record {
         numbers = record {
           first_fits = numbers.first_fits;
@@ -224,7 +224,7 @@ module _ (file : List ℕ) (hive : Base) (bytes : AreBytes file) (reads : hive_b
       old_again said =
           ap (λ (l : List ℕ). hive_base_of (filled (with_base l old_base))) file_same ∙ read_again old_file old_base old_good old_room
 
-    old_source : (c : ChosenOld) → chosen_old (logs_of file files hive) hive.first ≡ Some c
+    pub old_source : (c : ChosenOld) → chosen_old (logs_of file files hive) hive.first ≡ Some c
         → IsOldFrom files hive (length (filled file)) c × IsLong c.log.bytes c.whole.base.size
     old_source c e = (
       old_from files hive (length (filled file)) hive.first c e,

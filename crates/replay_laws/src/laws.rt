@@ -1,14 +1,19 @@
 //! The laws.
 
-ghost use Rattle.std.specs.Prelude.{◌≡◌, ◌⊎◌, true, ℕ, List, length, get_or, None, Ok, IfOk};
+ghost use Rattle.std.specs.Prelude.{◌≡◌, ◌⊎◌, ℕ, List, length, map, get_or, true, false, [], ◌∷◌, None, Ok, IfOk};
 ghost use Rattle.log_parts.specs.Filled.{filled};
 ghost use Rattle.log_parts.specs.Pages.{Page, put_pages};
 ghost use Rattle.hive_model.specs.Base.{Base};
 ghost use Rattle.log_replay.specs.declared.entries.HiveNow.{HiveNow};
 ghost use Rattle.log_replay.specs.declared.reading.GivenLog.{GivenLog};
 ghost use Rattle.log_replay.specs.declared.replaying.LogFile.{LogFile};
-ghost use Rattle.log_replay.specs.Entries.{replay_by};
-ghost use Rattle.log_replay.specs.Replay.{hive_base_of, replay_of};
+ghost use Rattle.hive_model.specs.Image.{image_of};
+ghost use Rattle.hive_model.specs.Load.{Loads};
+ghost use Rattle.hive_model.specs.Recovery.{Recovered, recovered_of};
+ghost use Rattle.hive_model.specs.State.{HiveState};
+ghost use Rattle.log_replay.specs.declared.line.LogName.{LogName};
+ghost use Rattle.log_replay.specs.Entries.{chosen, replay_by};
+ghost use Rattle.log_replay.specs.Replay.{given, hive_base_of, replay_of};
 ghost use Rattle.replay_laws.specs.Applied.{EndsSo, IsFold};
 ghost use Rattle.regf_base.specs.Fitting.{NumbersFit, TextsFit};
 ghost use Rattle.hive_model.specs.Base.{base_text, is_minor};
@@ -77,4 +82,21 @@ pub fn a_replayed_hive_stays()
 /// is broken, which is its fault: neither that one nor anything after it is in the run.
 pub fn a_broken_entry_ends_its_run()
     ensures { (log : List ℕ) → RunsSo log 1 None (run_of log).entries (run_of log).fault }
+{}
+
+/// An old log as this project writes it gives what a load takes of hive and log: where the two load by the log, the log has the hive's
+/// stamp, and no other log has an entry that comes next, the result has the base block and the bins data that the load recovers, clean and by
+/// itself (`recovers`), and loads as the same state (`loads`).
+pub fn an_old_log_gives_what_a_load_recovers()
+    ensures recovers { (file log : List ℕ) (name : LogName) (others : List LogFile) (hive : Base) (r : Recovered) → AreBytes file
+        → AreByteFiles (record { name = name; bytes = log } ∷ others) → hive_base_of (filled file) ≡ Ok hive
+        → recovered_of (image_of file log) ≡ Ok r → r.dirty ≡ true → r.base.stamp ≡ hive.stamp
+        → chosen (map (given hive (length (filled file))) others) hive.second ≡ None
+        → IfOk (replay_of file (record { name = name; bytes = log } ∷ others))
+        (λ o. recovered_of (image_of o.file []) ≡ Ok (record { base = r.base; bins = r.bins; dirty = false })) }
+    ensures loads { (file log : List ℕ) (name : LogName) (others : List LogFile) (hive : Base) (state : HiveState)
+        (loads : Loads (image_of file log) state true) → AreBytes file → AreByteFiles (record { name = name; bytes = log } ∷ others)
+        → hive_base_of (filled file) ≡ Ok hive → loads.recovered.base.stamp ≡ hive.stamp
+        → chosen (map (given hive (length (filled file))) others) hive.second ≡ None
+        → IfOk (replay_of file (record { name = name; bytes = log } ∷ others)) (λ o. Loads (image_of o.file []) state false) }
 {}
