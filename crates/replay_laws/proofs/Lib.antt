@@ -12,3 +12,4 @@ pub mod Sectors
 pub mod Taking
 pub mod Belonging
 pub mod Recovering
+pub mod Counting

@@ -70,6 +70,9 @@ module _ (file : List ℕ) (hive : Base) (bytes : AreBytes file) (reads : hive_b
   texts : TextsFit hive
   texts = texts_fit (filled file) Hive hive (filled_bytes file bytes) (omega (arith, is.room)) is.read
 
+  pub second_fits : hive.second < 2 ^ 32
+  second_fits = numbers.second_fits
+
   begun_holds : Holds (begun (filled file) hive)
   begun_holds = record { room = is.room; sized = is.read.size_is; fits = numbers.second_fits }
 

@@ -22,3 +22,7 @@ IsHeldUp logs hive = (c : Chosen) × ((chosen logs hive.next ≡ Some c) × (gro
 -- no log has the next entry, or it is held up; or n entries more were applied
 abbrev pub EndsSo : ℕ → List GivenLog → HiveNow → HiveNow → Type 0
 EndsSo n logs old new = (chosen logs new.next ≡ None) ⊎ (IsHeldUp logs new ⊎ (new.applied ≡ old.applied + n))
+
+-- no log has the next entry, or it is held up
+abbrev pub EndsForGood : List GivenLog → HiveNow → Type 0
+EndsForGood logs new = (chosen logs new.next ≡ None) ⊎ IsHeldUp logs new

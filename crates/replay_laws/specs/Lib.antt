@@ -2,3 +2,4 @@ pub mod Applied
 pub mod Outside
 pub mod Results
 pub mod Runs
+pub mod Sectors

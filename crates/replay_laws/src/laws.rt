@@ -1,6 +1,6 @@
 //! The laws.
 
-ghost use Rattle.std.specs.Prelude.{◌≡◌, ◌⊎◌, ℕ, List, length, map, get_or, true, false, [], ◌∷◌, None, Ok, IfOk};
+ghost use Rattle.std.specs.Prelude.{◌≡◌, ◌⊎◌, ◌<◌, ℕ, List, length, map, get_or, true, false, [], ◌∷◌, None, Ok, IfOk};
 ghost use Rattle.log_parts.specs.Filled.{filled};
 ghost use Rattle.log_parts.specs.Pages.{Page, put_pages};
 ghost use Rattle.hive_model.specs.Base.{Base};
@@ -12,9 +12,9 @@ ghost use Rattle.hive_model.specs.Load.{Loads};
 ghost use Rattle.hive_model.specs.Recovery.{Recovered, recovered_of};
 ghost use Rattle.hive_model.specs.State.{HiveState};
 ghost use Rattle.log_replay.specs.declared.line.LogName.{LogName};
-ghost use Rattle.log_replay.specs.Entries.{chosen, replay_by};
-ghost use Rattle.log_replay.specs.Replay.{given, hive_base_of, replay_of};
-ghost use Rattle.replay_laws.specs.Applied.{EndsSo, IsFold};
+ghost use Rattle.log_replay.specs.Entries.{chosen, replay_by, replayed_by};
+ghost use Rattle.log_replay.specs.Replay.{begun, given, hive_base_of, replay_of};
+ghost use Rattle.replay_laws.specs.Applied.{EndsForGood, EndsSo, IsFold};
 ghost use Rattle.regf_base.specs.Fitting.{NumbersFit, TextsFit};
 ghost use Rattle.hive_model.specs.Base.{base_text, is_minor};
 ghost use Rattle.log_parts.specs.Wide.{is_wide_size, wide_base_of};
@@ -22,6 +22,7 @@ ghost use Rattle.log_parts.specs.declared.base.FileRole.TheVariants as roles;
 ghost use Rattle.replay_laws.specs.Outside.{AreWithin, IsOutside};
 ghost use Rattle.replay_laws.specs.Results.{AreBytes, AreByteFiles, IsAgain, IsMade, IsTold, stayed};
 ghost use Rattle.replay_laws.specs.Runs.{RunsSo};
+ghost use Rattle.replay_laws.specs.Sectors.{sectors_of};
 ghost use Rattle.entry_log.specs.Runs.{run_of};
 
 /// The hive after the entries is the fold of entries over the hive before: each is the one that has the next number, of the first log that has
@@ -99,4 +100,13 @@ pub fn an_old_log_gives_what_a_load_recovers()
         → hive_base_of (filled file) ≡ Ok hive → loads.recovered.base.stamp ≡ hive.stamp
         → chosen (map (given hive (length (filled file))) others) hive.second ≡ None
         → IfOk (replay_of file (record { name = name; bytes = log } ∷ others)) (λ o. Loads (image_of o.file []) state false) }
+{}
+
+/// The same of logs of fewer than 2^32 sectors: no log has an entry of the next number, or the one that has it makes a sector that is not in
+/// its pages.
+pub fn entries_are_applied_to_the_last()
+    ensures { (file : List ℕ) (files : List LogFile) (hive : Base) → AreBytes file → AreByteFiles files → hive_base_of (filled file) ≡ Ok hive
+        → sectors_of files < 4294967296
+        → EndsForGood (map (given hive (length (filled file))) files)
+        (replayed_by (map (given hive (length (filled file))) files) (begun (filled file) hive)).hive }
 {}
