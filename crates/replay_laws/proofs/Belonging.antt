@@ -1,6 +1,6 @@
 -- A log that a load takes belongs to the hive and is whole, as Windows's is.
-use Rattle.std.proofs.Common.{◌≡◌, ◌⊎◌, ◌<◌, ◌≤◌, ◌+◌, ◌-◌, ◌*◌, ◌/◌, ◌%◌, ◌^◌, ◌==◌, ◌&&◌, ◌||◌, ◌++◌, ℕ, zero, suc, Bool, true, false, cond, List, [], ◌∷◌, length, take, drop, get_or, Option, Some, None, Result, Ok, Err, refl, sym, ◌∙◌, ap, subst, inl, inr, arith}
-use Rattle.std.specs.Prelude.{nat_eq, nat_le, nat_lt, codes}
+use Rattle.std.proofs.Common.{◌≡◌, ◌⊎◌, ◌<◌, ◌≤◌, ◌+◌, ◌-◌, ◌*◌, ◌/◌, ◌%◌, ◌^◌, ◌==◌, ◌&&◌, ◌||◌, ◌++◌, ℕ, zero, suc, Bool, true, false, cond, List, [], ◌∷◌, length, take, drop, get_or, Some, None, Result, Ok, Err, refl, sym, ◌∙◌, ap, subst, inl, inr, arith}
+use Rattle.std.specs.Prelude.{nat_eq, nat_lt, codes}
 use Rattle.std.specs.List.{starts_with}
 use Rattle.std.proofs.lemmas.Bool.{cases_lt, eq-eqb, ne_eqb, le-leb, lt-ltb}
 use Rattle.std.proofs.lemmas.List.{get_or-take, get_or-drop, drop-drop}
@@ -8,9 +8,8 @@ use Rattle.std.proofs.Math.Seq.{take-add}
 use Rattle.nt_bytes.specs.declared.fault.HiveFault.{HiveFault}
 use Rattle.nt_bytes.specs.declared.fault.HiveFaultKind.TheVariants as kinds
 use Rattle.hive_model.specs.Base.{Base, base_of, fault_at}
-use Rattle.hive_model.specs.Forms.{◌>>=◌}
 use Rattle.hive_model.specs.Image.{Image, image_of}
-use Rattle.hive_model.specs.Recovery.{Recovered, log_in, sector, bytes_or, read_bin, read_log, joined, gathered, bit, rank, bitmap_sectors, first_dirty, picked, front_in, bitmap_in, as_log_base, logged_in}
+use Rattle.hive_model.specs.Recovery.{Recovered, log_in, sector, bytes_or, read_bin, read_log, gathered, bit, rank, bitmap_sectors, first_dirty, picked, front_in, as_log_base}
 use Rattle.hive_model.proofs.BaseLemmas.{IsChecked, base_checked, log_base_back}
 use Rattle.hive_log.proofs.Appending.{IsSized, sized}
 use Rattle.hive_log.proofs.Ranks.{rank_same}
@@ -24,7 +23,6 @@ use Rattle.dirt_log.specs.declared.reading.OldReading.{OldReading}
 use Rattle.dirt_log.specs.declared.reading.OldReading.TheVariants as olds
 use Rattle.dirt_log.specs.Dirt.{bits_of, has_rest, needed, first_failing, dirt_checks, whole_or, old_reading_of, fault_at as log_fault}
 use Rattle.log_parts.specs.declared.fault.LogFaultKind.TheVariants.{LogSequence}
-use Rattle.log_replay.specs.declared.reading.LogReading.{LogReading}
 use Rattle.log_replay.specs.declared.reading.LogReading.TheVariants as readings
 use Rattle.log_replay.specs.Reading.{based, reading_of}
 use Rattle.replay_laws.proofs.Hives.{filled_long, filled_whole}
@@ -258,6 +256,7 @@ module _ (file log : List ℕ) (hive : Base) (r : Recovered) (t : IsTaken file l
       ),
     ),
   )
+
   -- ---- what the log is
 
   old_is : t.logged.stamp ≡ hive.stamp

@@ -1,10 +1,10 @@
 -- Bytes, and the fields of a base block that is read from them.
-use Rattle.std.proofs.Common.{◌≡◌, ◌<◌, ◌≤◌, ◌+◌, ◌-◌, ◌*◌, ◌^◌, ◌%◌, ℕ, zero, suc, List, [], ◌∷◌, ◌++◌, length, take, drop, replicate, arith, length-take, length-drop}
-use Rattle.std.specs.Prelude.{slice_index, slice_range}
+use Rattle.std.proofs.Common.{◌≡◌, ◌<◌, ◌+◌, ◌-◌, ◌^◌, ℕ, zero, suc, List, [], ◌∷◌, ◌++◌, length, take, drop, replicate, arith, length-take, length-drop}
+use Rattle.std.specs.Prelude.{slice_range}
 use Rattle.std.specs.Int.{w32, w64, from_le_bytes, bytes_low_first, byte_at}
 use Rattle.std.proofs.Math.Nat.{mod-lt}
 use Rattle.nt_bytes.specs.Fields.{u32_in, u64_in}
-use Rattle.hive_model.specs.Base.{Base, fields_of}
+use Rattle.hive_model.specs.Base.{fields_of}
 use Rattle.log_parts.specs.Filled.{filled}
 use Rattle.regf_base.specs.Fitting.{NumbersFit, TextsFit}
 use Rattle.replay_laws.specs.Results.{AreBytes}
@@ -51,16 +51,16 @@ word_small bytes is = omega (arith, is.each 0, is.each 1, is.each 2, is.each 3)
 
 double_small : (bytes : List ℕ) → AreBytes bytes → from_le_bytes w64 bytes < 2 ^ 64
 double_small bytes is = omega (
-      arith,
-      is.each 0,
-      is.each 1,
-      is.each 2,
-      is.each 3,
-      is.each 4,
-      is.each 5,
-      is.each 6,
-      is.each 7,
-    )
+  arith,
+  is.each 0,
+  is.each 1,
+  is.each 2,
+  is.each 3,
+  is.each 4,
+  is.each 5,
+  is.each 6,
+  is.each 7,
+)
 
 pub range_bytes : (bytes : List ℕ) (from to : ℕ) → AreBytes bytes → AreBytes (slice_range bytes from to)
 range_bytes bytes from to is = take_bytes (to - from) (drop from bytes) (drop_bytes from bytes is)

@@ -1,5 +1,5 @@
 -- No more entries are applied than the logs have.
-use Rattle.std.proofs.Common.{◌≡◌, ◌⊎◌, ◌<◌, ◌≤◌, ◌+◌, ◌*◌, ◌/◌, ◌%◌, ◌^◌, ◌++◌, ℕ, zero, suc, map, List, [], ◌∷◌, length, Option, Some, None, Ok, refl, sym, ◌∙◌, ap, subst, inl, inr, arith, length-append}
+use Rattle.std.proofs.Common.{◌≡◌, ◌⊎◌, ◌<◌, ◌≤◌, ◌+◌, ◌/◌, ◌%◌, ◌^◌, ◌++◌, ℕ, zero, suc, map, List, [], ◌∷◌, length, Option, Some, None, Ok, sym, ◌∙◌, ap, subst, inl, inr, arith, length-append}
 use Rattle.std.proofs.lemmas.List.{length-map}
 use Rattle.hive_model.specs.Base.{Base}
 use Rattle.log_parts.specs.Filled.{filled}
@@ -7,13 +7,12 @@ use Rattle.entry_log.specs.declared.entry.Entry.{Entry}
 use Rattle.entry_log.specs.declared.entry.Found.{Found}
 use Rattle.entry_log.specs.declared.entry.Found.TheVariants.{NoEntry, Broken, Whole}
 use Rattle.entry_log.specs.Runs.{found_at, run_by, run_from, run_of}
-use Rattle.log_replay.specs.declared.entries.HiveNow.{HiveNow}
 use Rattle.log_replay.specs.declared.replaying.LogFile.{LogFile}
 use Rattle.log_replay.specs.Entries.{Chosen, chosen, most}
 use Rattle.log_replay.specs.Replay.{begun, hive_base_of}
 use Rattle.log_replay.proofs.Wholes.{given_whole}
 use Rattle.replay_laws.specs.Applied.{EndsSo, IsFoldOf, IsHeldUp}
-use Rattle.replay_laws.specs.Results.{AreBytes, AreByteFiles, IsOneOf, IsFrom, AreFrom}
+use Rattle.replay_laws.specs.Results.{AreBytes, AreByteFiles, IsOneOf, AreFrom}
 use Rattle.replay_laws.specs.Sectors.{sectors_of}
 use Rattle.replay_laws.proofs.Ending.{logs_of, now_of}
 use Rattle.replay_laws.proofs.Folding.{folded, ends}

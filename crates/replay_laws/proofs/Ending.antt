@@ -1,7 +1,7 @@
 -- How a replay ends: with the hive as it was, after entries, or after an old log.
-use Rattle.std.proofs.Common.{◌≡◌, ◌⊎◌, ◌++◌, ◌==◌, ℕ, Bool, true, false, map, Option, Some, None, Result, Ok, Err, cond, List, [], ◌∷◌, length, refl, sym, ◌∙◌, ap, subst, inl, inr}
+use Rattle.std.proofs.Common.{◌≡◌, ◌⊎◌, ◌++◌, ◌==◌, ℕ, Bool, true, false, map, Option, Some, None, Result, Ok, Err, cond, List, [], ◌∷◌, length, refl, sym, subst, inl, inr}
 use Rattle.std.specs.Prelude.{IfOk}
-use Rattle.std.proofs.lemmas.Bool.{eq-eqb, eqb-true, eqb-false}
+use Rattle.std.proofs.lemmas.Bool.{eqb-true, eqb-false}
 use Rattle.hive_model.specs.Base.{Base}
 use Rattle.nt_bytes.specs.declared.fault.HiveFault.{HiveFault}
 use Rattle.log_parts.specs.Filled.{filled}
@@ -15,7 +15,7 @@ use Rattle.log_replay.specs.Reading.{readings_lines}
 use Rattle.log_replay.specs.Entries.{replayed_by}
 use Rattle.log_replay.specs.Old.{ChosenOld, chosen_old}
 use Rattle.log_replay.specs.Replay.{after_old, begun, by_entries, by_old, dirty_of, given, hive_base_of, kept, outcome_of, replayed_as, replay_of}
-use Rattle.replay_laws.specs.Results.{IsLeft, IsTold}
+use Rattle.replay_laws.specs.Results.{IsTold}
 
 -- the logs as they are given, and the hive after the entries
 abbrev pub logs_of : List ℕ → List LogFile → Base → List GivenLog
@@ -29,7 +29,7 @@ module _ (file : List ℕ) (files : List LogFile) (hive : Base) (P : Outcome →
     (by_none : (said : List ReplayLine) → P (kept file hive said))
     (by_some : (said : List ReplayLine) → ((now_of file files hive).applied ≡ 0 → ⊥) → P (by_entries hive said (now_of file files hive)))
     (by_one : (said : List ReplayLine) (c : ChosenOld) → (now_of file files hive).applied ≡ 0
-        → chosen_old (logs_of file files hive) hive.first ≡ Some c → P (after_old (filled file) hive said c)) where
+    → chosen_old (logs_of file files hive) hive.first ≡ Some c → P (after_old (filled file) hive said c)) where
   olds : (said : List ReplayLine) → (now_of file files hive).applied ≡ 0 → (c : Option ChosenOld)
       → chosen_old (logs_of file files hive) hive.first ≡ c → P (by_old file hive said c)
   olds said none None is = by_none said
@@ -62,7 +62,6 @@ replay_is file files P each = here (hive_base_of (filled file)) refl
     here : (r : Result Base HiveFault) → hive_base_of (filled file) ≡ r → IfOk (replayed_as file files r) P
     here (Err fault) is = tt
     here (Ok hive) is = each hive is
-
 
 -- the same of a hive whose base block is known
 pub replay_of_hive : (file : List ℕ) (files : List LogFile) (hive : Base) (P : Outcome → Type 0) → hive_base_of (filled file) ≡ Ok hive

@@ -1,5 +1,5 @@
 -- The fold of the entries, and where it ends.
-use Rattle.std.proofs.Common.{◌≡◌, ◌+◌, ◌*◌, ℕ, zero, suc, Option, Some, None, Bool, true, false, cond, List, [], ◌∷◌, refl, sym, ◌∙◌, ap, inl, inr, arith}
+use Rattle.std.proofs.Common.{◌≡◌, ◌*◌, ℕ, zero, suc, Option, Some, None, Bool, true, false, cond, List, [], ◌∷◌, refl, inl, inr, arith}
 use Rattle.entry_log.specs.Growing.{grows_whole, page_bytes}
 use Rattle.log_parts.specs.declared.fault.LogFaultKind.TheVariants.{EntryGrow}
 use Rattle.log_replay.specs.declared.line.ReplayLine.TheVariants.{Fault, Apply}

@@ -1,6 +1,6 @@
 -- What entries leave of a hive.
-use Rattle.std.proofs.Common.{◌≡◌, ◌<◌, ◌≤◌, ◌+◌, ◌-◌, ◌*◌, ◌^◌, ◌%◌, ◌==◌, ◌&&◌, ℕ, zero, suc, Bool, true, List, [], ◌∷◌, ◌++◌, length, take, drop, get_or, replicate, refl, sym, ◌∙◌, ap, subst, arith, length-append, length-take}
-use Rattle.std.specs.Prelude.{nat_le, not, slice_range, Some}
+use Rattle.std.proofs.Common.{◌≡◌, ◌<◌, ◌≤◌, ◌+◌, ◌-◌, ◌*◌, ◌^◌, ◌&&◌, ℕ, zero, suc, true, List, [], ◌∷◌, length, drop, get_or, replicate, refl, sym, ◌∙◌, ap, subst, arith, length-append, length-take}
+use Rattle.std.specs.Prelude.{nat_le}
 use Rattle.std.proofs.lemmas.Bool.{and_parts}
 use Rattle.std.proofs.lemmas.List.{get_or_append_left, length-replicate}
 use Rattle.nt_bytes.specs.Fields.{u32_in}
@@ -13,11 +13,11 @@ use Rattle.entry_log.specs.Entries.{bytes_of, is_page, are_pages, pages_from, pa
 use Rattle.entry_log.proofs.Steps.{page_fits, known}
 use Rattle.log_replay.specs.declared.entries.HiveNow.{HiveNow}
 use Rattle.log_replay.specs.declared.reading.GivenLog.{GivenLog}
-use Rattle.log_replay.specs.Entries.{Chosen, chosen, roomy, with_entry}
+use Rattle.log_replay.specs.Entries.{Chosen, roomy, with_entry}
 use Rattle.log_replay.specs.Reading.{AreWholeLogs}
 use Rattle.log_replay.proofs.Wholes.{chosen_whole}
 use Rattle.replay_laws.specs.Applied.{IsFoldOf}
-use Rattle.replay_laws.specs.Outside.{end_of, AreWithin, IsOutside}
+use Rattle.replay_laws.specs.Outside.{AreWithin, IsOutside}
 use Rattle.replay_laws.specs.Results.{IsOutsideAll}
 use Rattle.replay_laws.proofs.Hives.{filled_long}
 use Rattle.replay_laws.proofs.Writing.{left}
@@ -36,8 +36,7 @@ pages_within bytes size field start (suc n) are =
     let place = u32_in bytes field in
     let long = u32_in bytes (field + 4) in
     let parts = and_parts (is_page bytes size start place long) (are_pages bytes size (field + 8) (start + long) n) are in
-    let fits = page_fits bytes size start place long parts.0 in
-    (
+    let fits = page_fits bytes size start place long parts.0 in (
       omega (arith, fits.inside, length-take (start + long - start) (drop start bytes)),
       pages_within bytes size (field + 8) (start + long) n parts.1,
     )

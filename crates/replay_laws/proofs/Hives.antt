@@ -1,16 +1,15 @@
 -- What is known of a hive that is replayed, and of the file that is left with another base block.
-use Rattle.std.proofs.Common.{◌≡◌, ◌<◌, ◌≤◌, ◌+◌, ◌-◌, ◌*◌, ◌/◌, ◌%◌, ◌==◌, ℕ, Bool, true, false, cond, List, [], ◌∷◌, ◌++◌, length, take, drop, replicate, Result, Ok, Err, refl, sym, ◌∙◌, ap, subst, arith, length-append, length-take, append_assoc}
+use Rattle.std.proofs.Common.{◌≡◌, ◌≤◌, ◌+◌, ◌-◌, ◌*◌, ◌/◌, ◌%◌, ◌==◌, ℕ, Bool, true, false, cond, List, ◌++◌, length, take, drop, replicate, Result, Ok, Err, refl, ◌∙◌, ap, subst, arith, length-append, length-take, append_assoc}
 use Rattle.std.specs.Prelude.{nat_le}
 use Rattle.std.proofs.lemmas.Bool.{leb-true, le-leb, ne_eqb}
 use Rattle.std.proofs.lemmas.List.{length-replicate, take_at}
 use Rattle.nt_bytes.specs.declared.fault.HiveFault.{HiveFault}
 use Rattle.nt_bytes.specs.declared.fault.HiveFaultKind.TheVariants.{NotRegf, Size}
-use Rattle.hive_model.specs.Base.{Base, base_text, fault_at, fields_of, is_minor}
+use Rattle.hive_model.specs.Base.{Base, base_text, fault_at, is_minor}
 use Rattle.regf_base.specs.Fitting.{NumbersFit, TextsFit}
 use Rattle.log_parts.specs.declared.base.FileRole.{FileRole}
 use Rattle.log_parts.specs.declared.base.FileRole.TheVariants.{Hive}
 use Rattle.log_parts.specs.Filled.{filled}
-use Rattle.log_parts.specs.Pages.{put_at}
 use Rattle.log_parts.specs.Wide.{is_wide_size, wide_base_of}
 use Rattle.log_parts.proofs.Puts.{put_long}
 use Rattle.log_replay.specs.Replay.{with_base, with_bins, hive_base_of}

@@ -1,5 +1,5 @@
 -- What a result is made of, and that it is read again as it was written.
-use Rattle.std.proofs.Common.{◌≡◌, ◌⊎◌, ◌<◌, ◌≤◌, ◌+◌, ◌-◌, ◌*◌, ◌/◌, ◌^◌, ◌==◌, ◌++◌, ℕ, zero, suc, Bool, true, false, cond, map, Option, Some, None, Result, Ok, Err, List, [], ◌∷◌, length, take, drop, get_or, refl, sym, ◌∙◌, ap, subst, inl, inr, arith, length-take}
+use Rattle.std.proofs.Common.{◌≡◌, ◌<◌, ◌≤◌, ◌+◌, ◌*◌, ◌/◌, ◌^◌, ℕ, zero, suc, Bool, true, false, cond, map, Some, Result, Ok, List, [], ◌∷◌, length, take, drop, get_or, refl, sym, ◌∙◌, ap, subst, inl, inr, arith, length-take}
 use Rattle.std.specs.Prelude.{IfOk}
 use Rattle.std.proofs.lemmas.Bool.{eq-eqb, eqb-true}
 use Rattle.nt_bytes.specs.declared.fault.HiveFault.{HiveFault}
@@ -8,11 +8,10 @@ use Rattle.hive_model.specs.Recovery.{sector, first_dirty}
 use Rattle.regf_base.specs.Fitting.{NumbersFit, TextsFit}
 use Rattle.log_parts.specs.declared.base.FileRole.TheVariants.{Hive, Log}
 use Rattle.log_parts.specs.Filled.{filled}
-use Rattle.log_parts.specs.Pages.{Page, put_at, put_pages}
+use Rattle.log_parts.specs.Pages.{put_pages}
 use Rattle.dirt_log.specs.Dirt.{bits_of, marked_pages, old_pages_of, IsLong}
 use Rattle.log_replay.specs.declared.line.ReplayLine.{ReplayLine}
 use Rattle.log_replay.specs.declared.line.ReplayLine.TheVariants.{Sequence}
-use Rattle.log_replay.specs.declared.entries.HiveNow.{HiveNow}
 use Rattle.log_replay.specs.declared.replaying.LogFile.{LogFile}
 use Rattle.log_replay.specs.declared.replaying.Outcome.{Outcome}
 use Rattle.log_replay.specs.Entries.{Chosen, most, roomy}
@@ -20,14 +19,14 @@ use Rattle.log_replay.specs.Old.{ChosenOld, chosen_old, with_old}
 use Rattle.log_replay.specs.Replay.{after_old, begun, by_entries, dirty_of, given, hive_base_of, kept, outcome_of, replayed_as, replay_of, with_base}
 use Rattle.log_replay.proofs.Wholes.{chosen_long, given_whole}
 use Rattle.replay_laws.specs.Applied.{IsFoldOf}
-use Rattle.replay_laws.specs.Outside.{AreWithin, IsOutside}
-use Rattle.replay_laws.specs.Results.{AreBytes, AreByteFiles, IsOutsideAll, IsLeft, IsByEntries, IsByOld, IsMade, stayed, IsAgain}
+use Rattle.replay_laws.specs.Outside.{AreWithin}
+use Rattle.replay_laws.specs.Results.{AreBytes, AreByteFiles, IsByEntries, IsByOld, IsMade, stayed, IsAgain}
 use Rattle.log_replay.specs.declared.line.ReplayLine.TheVariants as lines
 use Rattle.replay_laws.proofs.Bases.{IsRead, read_is, text_long}
 use Rattle.replay_laws.proofs.Bytes.{filled_bytes}
 use Rattle.replay_laws.proofs.Ending.{Leaves, logs_of, now_of, outcome_is, replay_is, replay_of_hive}
 use Rattle.replay_laws.proofs.Folding.{folded}
-use Rattle.replay_laws.proofs.Folds.{Holds, within_more, pages_long, roomy_long, roomy_more, roomy_at, filled_at, fold_holds, fold_left, fold_count}
+use Rattle.replay_laws.proofs.Folds.{Holds, within_more, pages_long, roomy_long, roomy_at, filled_at, fold_holds, fold_left, fold_count}
 use Rattle.replay_laws.proofs.Hives.{IsHive, hive_is, numbers_fit, texts_fit, IsGood, read_again, filled_long}
 use Rattle.replay_laws.proofs.Sources.{one_bytes, fold_from, IsOldFrom, old_from}
 use Rattle.replay_laws.proofs.Writing.{elsewhere, left}

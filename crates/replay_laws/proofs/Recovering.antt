@@ -1,16 +1,16 @@
 -- What a replay makes of a hive by an old log of this project is what a load recovers.
-use Rattle.std.proofs.Common.{◌≡◌, ◌⊎◌, ◌<◌, ◌≤◌, ◌+◌, ◌-◌, ◌*◌, ◌/◌, ◌%◌, ◌^◌, ◌==◌, ◌++◌, ℕ, zero, suc, Bool, true, false, cond, map, List, [], ◌∷◌, length, take, drop, replicate, Option, Some, None, Result, Ok, Err, refl, sym, ◌∙◌, ap, subst, inl, inr, arith, length-take, length-append}
+use Rattle.std.proofs.Common.{◌≡◌, ◌<◌, ◌≤◌, ◌+◌, ◌-◌, ◌*◌, ◌/◌, ◌++◌, ℕ, zero, suc, Bool, true, false, cond, map, List, [], ◌∷◌, length, take, drop, replicate, Some, None, Result, Ok, Err, refl, sym, ◌∙◌, ap, inr, arith, length-take}
 use Rattle.std.specs.Prelude.{IfOk}
 use Rattle.std.proofs.lemmas.Bool.{eq-eqb, ne_eqb}
 use Rattle.std.proofs.lemmas.List.{take-append-drop}
 use Rattle.nt_bytes.specs.declared.fault.HiveFault.{HiveFault}
 use Rattle.nt_bytes.specs.declared.fault.HiveFaultKind.TheVariants as kinds
-use Rattle.hive_model.specs.Base.{Base, IsBase, base_of, base_text, fault_at, is_bins_size}
+use Rattle.hive_model.specs.Base.{Base, IsBase, base_of, base_text, fault_at}
 use Rattle.hive_model.specs.Carries.{HasBase}
 use Rattle.hive_model.specs.Forms.{◌>>=◌}
 use Rattle.hive_model.specs.Image.{Image, Bytes, image_of}
 use Rattle.hive_model.specs.Load.{Loads}
-use Rattle.hive_model.specs.Recovery.{Recovered, sector, bytes_or, read_bin, read_log, gathered, recovered_with, bit, rank, first_dirty, picked, closed_by, base_at, base_in, recovered_of}
+use Rattle.hive_model.specs.Recovery.{Recovered, sector, bytes_or, read_bin, read_log, gathered, recovered_with, bit, rank, first_dirty, picked, closed_by, base_at, recovered_of}
 use Rattle.hive_model.specs.State.{HiveState}
 use Rattle.hive_model.proofs.BaseLemmas.{base_back}
 use Rattle.hive_log.proofs.Finding.{by_clean}
@@ -19,7 +19,6 @@ use Rattle.log_parts.specs.Filled.{filled}
 use Rattle.log_parts.specs.Pages.{put_pages}
 use Rattle.dirt_log.specs.declared.reading.OldReading.TheVariants as olds
 use Rattle.dirt_log.specs.Dirt.{bits_of, old_pages_of, IsLong}
-use Rattle.entry_log.specs.declared.entry.Entry.{Entry}
 use Rattle.log_replay.specs.declared.line.LogName.{LogName}
 use Rattle.log_replay.specs.declared.line.ReplayLine.{ReplayLine}
 use Rattle.log_replay.specs.declared.line.ReplayLine.TheVariants.{Sequence}
@@ -43,7 +42,7 @@ use Rattle.replay_laws.proofs.Folds.{pages_long, roomy_long, within_more}
 use Rattle.replay_laws.specs.Outside.{AreWithin}
 use Rattle.replay_laws.proofs.Hives.{IsGood, based_long, filled_long, first_sector}
 use Rattle.replay_laws.proofs.Making.{old_good, old_source, old_within}
-use Rattle.replay_laws.proofs.Sectors.{IsThere, there, marked_others, marked_here}
+use Rattle.replay_laws.proofs.Sectors.{there, marked_others, marked_here}
 use Rattle.replay_laws.proofs.Sources.{IsOldFrom}
 use Rattle.replay_laws.proofs.Taking.{IsTaken, taken}
 

@@ -1,11 +1,11 @@
 -- Sectors of files: as an image has them, and as pages of whole sectors leave them.
-use Rattle.std.proofs.Common.{◌≡◌, ◌≢◌, ◌⊎◌, ◌<◌, ◌≤◌, ◌+◌, ◌-◌, ◌*◌, ◌/◌, ◌%◌, ◌++◌, ℕ, zero, suc, Bool, true, false, cond, List, [], ◌∷◌, length, take, drop, get_or, replicate, Option, Some, None, Result, Ok, Err, refl, sym, ◌∙◌, ap, subst, inl, inr, arith, append-nil, length-append, length-take, length-drop}
+use Rattle.std.proofs.Common.{◌≡◌, ◌≢◌, ◌⊎◌, ◌<◌, ◌≤◌, ◌+◌, ◌-◌, ◌*◌, ◌%◌, ◌++◌, ℕ, zero, suc, Bool, true, false, cond, List, ◌∷◌, length, take, drop, replicate, Some, None, Result, Ok, Err, refl, sym, ◌∙◌, ap, inl, inr, arith, append-nil, length-append, length-take, length-drop}
 use Rattle.std.specs.Prelude.{nat_lt}
 use Rattle.std.proofs.lemmas.Bool.{cases_lt, lt-ltb, ltb-true}
-use Rattle.std.proofs.lemmas.List.{length-replicate, take-append-drop, take-append-le, drop-append-le, take_all, drop-drop}
+use Rattle.std.proofs.lemmas.List.{length-replicate, take-append-drop, take-append-le, drop-append-le, take_all}
 use Rattle.nt_bytes.specs.declared.fault.HiveFault.{HiveFault}
-use Rattle.hive_model.specs.Image.{Content, Bytes, padded, sector_of, image_of}
-use Rattle.hive_model.specs.Recovery.{Sectors, primary_in, log_in, bytes_or, sector, rank, joined, gathered}
+use Rattle.hive_model.specs.Image.{Bytes, padded, sector_of}
+use Rattle.hive_model.specs.Recovery.{Sectors, bytes_or, sector, rank, joined, gathered}
 use Rattle.hive_log.proofs.Ranks.{rank_on, rank_off, rank_below}
 use Rattle.hive_log.proofs.Runs.{sector_front, sector_back, sector_long, sector_whole}
 use Rattle.log_parts.specs.Filled.{filled}

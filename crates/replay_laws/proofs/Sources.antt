@@ -1,6 +1,7 @@
 -- Where what is applied comes from: which log, and what stands there.
-use Rattle.std.proofs.Common.{◌≡◌, ◌⊎◌, ◌<◌, ◌≤◌, ◌+◌, ◌-◌, ◌*◌, ◌/◌, ◌%◌, ◌^◌, ◌==◌, ℕ, zero, suc, Bool, true, false, cond, map, List, [], ◌∷◌, length, take, Option, Some, None, Result, Ok, Err, refl, sym, ◌∙◌, ap, subst, arith, inl, inr}
+use Rattle.std.proofs.Common.{◌≡◌, ◌⊎◌, ◌<◌, ◌+◌, ◌*◌, ◌/◌, ◌%◌, ◌^◌, ◌==◌, ℕ, zero, suc, Bool, true, false, cond, map, List, [], ◌∷◌, length, take, Option, Some, None, Result, Ok, Err, refl, sym, ◌∙◌, ap, subst, arith, inl, inr}
 use Rattle.std.specs.Prelude.{slice_get}
+use Rattle.std.proofs.lemmas.Bool.{eqb-true}
 use Rattle.nt_bytes.specs.declared.fault.HiveFault.{HiveFault}
 use Rattle.hive_model.specs.Base.{Base}
 use Rattle.log_parts.specs.declared.base.FileRole.TheVariants as roles
@@ -15,9 +16,7 @@ use Rattle.entry_log.proofs.Going.{found_whole}
 use Rattle.dirt_log.specs.declared.reading.OldReading.{OldReading}
 use Rattle.dirt_log.specs.declared.reading.OldReading.TheVariants as olds
 use Rattle.dirt_log.specs.Dirt.{old_reading_of}
-use Rattle.log_replay.specs.declared.reading.LogReading.{LogReading}
 use Rattle.log_replay.specs.declared.reading.LogReading.TheVariants as readings
-use Rattle.log_replay.specs.declared.reading.GivenLog.{GivenLog}
 use Rattle.log_replay.specs.declared.entries.HiveNow.{HiveNow}
 use Rattle.log_replay.specs.declared.old.WholeOld.{WholeOld}
 use Rattle.log_replay.specs.declared.replaying.LogFile.{LogFile}
@@ -39,28 +38,35 @@ one_bytes file (f ∷ fs) (inr later) are = one_bytes file fs later are.1
 
 -- ---- entries
 
+-- the entries of the run of a new log
+record IsNewRun (log : List ℕ) (entries : List Entry) : Type 0 where
+  pub base : Base
+  pub base_is : wide_base_of (take 512 log) roles.Log ≡ Ok base
+  pub is_new : base.kind ≡ 6
+  pub entries_are : entries ≡ (run_of log).entries
+
 -- a new log has the entries of its run, and any other log none
 entries_of : (log : List ℕ) (hive : Base) (have : ℕ)
-    → (entries_in (reading_of log hive have) ≡ []) ⊎ (entries_in (reading_of log hive have) ≡ (run_of log).entries)
+    → (entries_in (reading_of log hive have) ≡ []) ⊎ IsNewRun log (entries_in (reading_of log hive have))
 unfolding reading_of
 entries_of log hive have = here (length log == 0)
   where
-    kind : (base : Base) (new : Bool)
+    kind : (base : Base) → wide_base_of (take 512 log) roles.Log ≡ Ok base → (new : Bool) → (base.kind == 6) ≡ new
         → (entries_in (cond new (readings.New (run_of log)) (readings.Old base (old_reading_of log base hive have))) ≡ [])
-        ⊎ (entries_in (cond new (readings.New (run_of log)) (readings.Old base (old_reading_of log base hive have))) ≡ (run_of log).entries)
-    kind base true = inr refl
-    kind base false = inl refl
+        ⊎ IsNewRun log (entries_in (cond new (readings.New (run_of log)) (readings.Old base (old_reading_of log base hive have))))
+    kind base reads true is = inr (record { base = base; base_is = reads; is_new = eqb-true base.kind 6 is; entries_are = refl })
+    kind base reads false is = inl refl
 
-    there : (r : Result Base HiveFault)
-        → (entries_in (based r log hive have) ≡ []) ⊎ (entries_in (based r log hive have) ≡ (run_of log).entries)
-    there (Err fault) = inl refl
-    there (Ok base) = kind base (base.kind == 6)
+    there : (r : Result Base HiveFault) → wide_base_of (take 512 log) roles.Log ≡ r
+        → (entries_in (based r log hive have) ≡ []) ⊎ IsNewRun log (entries_in (based r log hive have))
+    there (Err fault) reads = inl refl
+    there (Ok base) reads = kind base reads (base.kind == 6) refl
 
     here : (empty : Bool)
         → (entries_in (cond empty readings.Empty (based (wide_base_of (take 512 log) roles.Log) log hive have)) ≡ [])
-        ⊎ (entries_in (cond empty readings.Empty (based (wide_base_of (take 512 log) roles.Log) log hive have)) ≡ (run_of log).entries)
+        ⊎ IsNewRun log (entries_in (cond empty readings.Empty (based (wide_base_of (take 512 log) roles.Log) log hive have)))
     here true = inl refl
-    here false = there (wide_base_of (take 512 log) roles.Log)
+    here false = there (wide_base_of (take 512 log) roles.Log) refl
 
 -- the number of the first entry of a run
 first_fits : (n : ℕ) (log : List ℕ) → AreBytes log → FirstFits (run_from n log 1 None).entries
@@ -86,24 +92,31 @@ numbered_one [] n e is = absurd cc
 numbered_one (x ∷ xs) n e is = got_one (x ∷ xs) _ e is
 
 -- an entry of a log by its number
+record IsNumbered (log : List ℕ) (n : ℕ) (e : Entry) : Type 0 where
+  pub run : IsNewRun log (run_of log).entries
+  pub in_run : IsOneOf e (run_of log).entries
+  pub number : e.number ≡ n
+
 entry_from : (log : List ℕ) (hive : Base) (have n : ℕ) (e : Entry) → AreBytes log → n < 2 ^ 32
-    → numbered (entries_in (reading_of log hive have)) n ≡ Some e → IsOneOf e (run_of log).entries × (e.number ≡ n)
+    → numbered (entries_in (reading_of log hive have)) n ≡ Some e → IsNumbered log n e
 entry_from log hive have n e bytes fits is = here (entries_of log hive have)
   where
-    here : (entries_in (reading_of log hive have) ≡ []) ⊎ (entries_in (reading_of log hive have) ≡ (run_of log).entries)
-        → IsOneOf e (run_of log).entries × (e.number ≡ n)
+    here : (entries_in (reading_of log hive have) ≡ []) ⊎ IsNewRun log (entries_in (reading_of log hive have)) → IsNumbered log n e
     here (inl none) = absurd (numbered_one [] n e (sym (ap (λ (l : List Entry). numbered l n) none) ∙ is))
     here (inr run) =
-        let got : numbered (run_of log).entries n ≡ Some e = sym (ap (λ (l : List Entry). numbered l n) run) ∙ is in
-        (numbered_one (run_of log).entries n e got, numbered_is log n e fits (first_fits (length log / 512) log bytes) got)
+        let got : numbered (run_of log).entries n ≡ Some e = sym (ap (λ (l : List Entry). numbered l n) run.entries_are) ∙ is in
+        record {
+          run = record { base = run.base; base_is = run.base_is; is_new = run.is_new; entries_are = refl };
+          in_run = numbered_one (run_of log).entries n e got;
+          number = numbered_is log n e fits (first_fits (length log / 512) log bytes) got;
+        }
 
 -- what is known of the entry that was chosen, but that it is whole
 record IsFound (files : List LogFile) (n : ℕ) (c : Chosen) : Type 0 where
   pub file : LogFile
   pub listed : IsOneOf file files
   pub bytes_are : c.log.bytes ≡ filled file.bytes
-  pub in_run : IsOneOf c.entry (run_of (filled file.bytes)).entries
-  pub number : c.entry.number ≡ n
+  pub numbered : IsNumbered (filled file.bytes) n c.entry
 
 chosen_found : (files : List LogFile) (hive : Base) (have n : ℕ) (c : Chosen) → AreByteFiles files → n < 2 ^ 32
     → chosen (map (given hive have) files) n ≡ Some c → IsFound files n c
@@ -115,7 +128,7 @@ chosen_found (f ∷ fs) hive have n c are fits is =
         → chosen_or (given hive have f) found (chosen (map (given hive have) fs) n) ≡ Some c → IsFound (f ∷ fs) n c
     here later None none h =
         let rest = later h in
-        record { file = rest.file; listed = inr rest.listed; bytes_are = rest.bytes_are; in_run = rest.in_run; number = rest.number }
+        record { file = rest.file; listed = inr rest.listed; bytes_are = rest.bytes_are; numbered = rest.numbered }
     here later (Some e) some h =
         let same : record { log = given hive have f; entry = e } ≡ c = cc in
         let from = entry_from (filled f.bytes) hive have n e (filled_bytes f.bytes are.0) fits some in
@@ -123,8 +136,7 @@ chosen_found (f ∷ fs) hive have n c are fits is =
           file = f;
           listed = inl refl;
           bytes_are = sym (ap (λ (x : Chosen). x.log.bytes) same);
-          in_run = subst (λ (x : Chosen). IsOneOf x.entry (run_of (filled f.bytes)).entries) same from.0;
-          number = sym (ap (λ (x : Chosen). x.entry.number) same) ∙ from.1;
+          numbered = subst (λ (x : Chosen). IsNumbered (filled f.bytes) n x.entry) same from;
         }
 
 pub chosen_from : (files : List LogFile) (hive : Base) (have n : ℕ) (c : Chosen) → AreByteFiles files → n < 2 ^ 32
@@ -134,11 +146,14 @@ chosen_from files hive have n c are fits is =
     record {
       file = found.file;
       listed = found.listed;
+      base = found.numbered.run.base;
+      base_is = found.numbered.run.base_is;
+      is_new = found.numbered.run.is_new;
       bytes_are = found.bytes_are;
-      in_run = found.in_run;
+      in_run = found.numbered.in_run;
       whole = subst (λ (l : List ℕ). IsWhole l c.entry) found.bytes_are
           (chosen_whole (map (given hive have) files) n c (given_whole hive have files) is);
-      number = found.number;
+      number = found.numbered.number;
     }
 
 pub fold_from : (files : List LogFile) (hive : Base) (have : ℕ) (cs : List Chosen) (old new : HiveNow) → AreByteFiles files
@@ -146,8 +161,7 @@ pub fold_from : (files : List LogFile) (hive : Base) (have : ℕ) (cs : List Cho
 fold_from files hive have [] old new are fits is = tt
 fold_from files hive have (c ∷ cs) old new are fits is =
     let from = chosen_from files hive have old.next c are fits is.0 in
-    let next : (c.entry.number + 1) % 2 ^ 32 ≡ (old.next + 1) % 2 ^ 32 = ap (λ k. (k + 1) % 2 ^ 32) from.number in
-    (
+    let next : (c.entry.number + 1) % 2 ^ 32 ≡ (old.next + 1) % 2 ^ 32 = ap (λ k. (k + 1) % 2 ^ 32) from.number in (
       from,
       subst (λ k. AreFrom files k cs) next (fold_from files hive have cs (with_entry old c) new are (omega arith) is.1.1),
     )
@@ -213,8 +227,7 @@ wanted_from file hive have wanted c is = here (whole_old (reading_of (filled fil
         → (c.log.bytes ≡ filled file.bytes) × IsWholeBy (filled file.bytes) hive have c.whole
     there w some false h = absurd cc
     there w some true h =
-        let same : record { log = given hive have file; whole = w } ≡ c = cc in
-        (
+        let same : record { log = given hive have file; whole = w } ≡ c = cc in (
           sym (ap (λ (x : ChosenOld). x.log.bytes) same),
           subst (λ (x : ChosenOld). IsWholeBy (filled file.bytes) hive have x.whole) same (whole_by (filled file.bytes) hive have w some),
         )

@@ -1,33 +1,24 @@
 -- What is known of a hive that a load recovers by its log.
-use Rattle.std.proofs.Common.{◌≡◌, ◌⊎◌, ◌<◌, ◌≤◌, ◌+◌, ◌-◌, ◌*◌, ◌/◌, ◌%◌, ◌^◌, ◌==◌, ◌&&◌, ◌||◌, ◌++◌, ℕ, zero, suc, Bool, true, false, cond, List, [], ◌∷◌, length, take, drop, get_or, Option, Some, None, Result, Ok, Err, refl, sym, ◌∙◌, ap, subst, inl, inr, arith}
-use Rattle.std.specs.Prelude.{nat_eq, nat_le, nat_lt, codes}
-use Rattle.std.specs.List.{starts_with}
-use Rattle.std.proofs.lemmas.Bool.{cases_lt, eq-eqb, eqb-true, ne_eqb, le-leb, lt-ltb, ltb-true, and_parts, eqb-false}
-use Rattle.std.proofs.lemmas.List.{get_or-take, get_or-drop, drop-drop}
-use Rattle.std.proofs.Math.Seq.{take-add}
+use Rattle.std.proofs.Common.{◌≡◌, ◌/◌, ◌%◌, ◌==◌, ◌&&◌, ◌||◌, ◌++◌, ℕ, Bool, true, false, cond, List, length, take, drop, Option, Some, None, Result, Ok, Err, refl, sym, ◌∙◌, ap, arith}
+use Rattle.std.specs.Prelude.{nat_le, nat_lt}
+use Rattle.std.proofs.lemmas.Bool.{eq-eqb, eqb-true, le-leb, ltb-true, and_parts, eqb-false}
 use Rattle.nt_bytes.specs.declared.fault.HiveFault.{HiveFault}
 use Rattle.nt_bytes.specs.declared.fault.HiveFaultKind.TheVariants as kinds
 use Rattle.nt_bytes.specs.Fields.{u32_in}
 use Rattle.hive_model.specs.Base.{Base, base_of, base_checks, fault_at, fields_of, first_failing, is_bins_size, unless_fault}
 use Rattle.hive_model.specs.Forms.{◌>>=◌}
 use Rattle.hive_model.specs.Image.{Image, Bytes, padded, image_of}
-use Rattle.hive_model.specs.Recovery.{Recovered, Sectors, primary_in, log_in, sector, bytes_or, read_bin, read_log, joined, gathered, recovered_with, by_primary, bit, rank, bitmap_sectors, first_dirty, picked, by_bits, front_in, bitmap_in, closed_by, goes_with, by_logged, as_log_base, logged_in, by_log, base_at, base_in, by_base, recovered_of}
-use Rattle.hive_model.proofs.BaseLemmas.{IsChecked, base_checked, log_base_back}
+use Rattle.hive_model.specs.Recovery.{Recovered, sector, read_bin, read_log, joined, gathered, recovered_with, by_primary, bit, rank, first_dirty, picked, by_bits, bitmap_in, closed_by, goes_with, by_logged, logged_in, by_log, base_at, base_in, by_base, recovered_of}
 use Rattle.hive_log.specs.Found.{bins_by}
 use Rattle.hive_log.proofs.Appending.{sized}
 use Rattle.hive_log.proofs.Finding.{by_bins}
-use Rattle.hive_log.proofs.Ranks.{rank_same}
-use Rattle.hive_log.proofs.Runs.{gathered_is}
-use Rattle.log_parts.specs.declared.base.FileRole.TheVariants.{Hive, Log}
-use Rattle.log_parts.specs.declared.fault.LogFault.{LogFault}
+use Rattle.log_parts.specs.declared.base.FileRole.TheVariants.{Log}
 use Rattle.log_parts.specs.Filled.{filled}
 use Rattle.log_parts.specs.Wide.{is_wide_size, wide_checks, wide_base_of}
-use Rattle.dirt_log.specs.Dirt as dirt
-use Rattle.dirt_log.specs.Dirt.{bits_of, has_rest, needed, dirt_checks}
 use Rattle.log_replay.specs.Replay.{hive_base_of}
-use Rattle.replay_laws.proofs.Bases.{AllHold, none_fails, none_holds, read_parts}
-use Rattle.replay_laws.proofs.Hives.{hive_is, filled_long, filled_whole}
-use Rattle.replay_laws.proofs.Sectors.{IsThere, read_there, padded_sector, gathered_each}
+use Rattle.replay_laws.proofs.Bases.{none_fails, none_holds, read_parts}
+use Rattle.replay_laws.proofs.Hives.{hive_is}
+use Rattle.replay_laws.proofs.Sectors.{padded_sector}
 
 -- a step without a fault had something to go on with
 pub went_on : {A B : Type 0} (s : Result A HiveFault) (next : A → Result B HiveFault) (b : B) → (s >>= next) ≡ Ok b
@@ -54,8 +45,7 @@ with_parts : (dirty : Bool) (base : Base) (g : Result (List ℕ) HiveFault) (r :
 unfolding got
 with_parts dirty base (Err f) r e = absurd cc
 with_parts dirty base (Ok bins) r e =
-    let same : record { base = base; bins = bins; dirty = dirty } ≡ r = same_got (record { base = base; bins = bins; dirty = dirty }) r e in
-    (
+    let same : record { base = base; bins = bins; dirty = dirty } ≡ r = same_got (record { base = base; bins = bins; dirty = dirty }) r e in (
       ap (λ (x : Recovered). Ok x.bins) same,
       ap (λ (x : Recovered). x.base) same,
       ap (λ (x : Recovered). x.dirty) same,

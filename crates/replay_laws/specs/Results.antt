@@ -36,10 +36,13 @@ IsOneOf a (b ∷ bs) = (a ≡ b) ⊎ IsOneOf a bs
 
 -- ---- entries
 
--- the entry is one of the run of a log, is whole, with both hashes right, and has this number
+-- the entry is one of the run of a new log, is whole, with both hashes right, and has this number
 pub record IsFrom (files : List LogFile) (n : ℕ) (c : Chosen) : Type 0 where
   pub file : LogFile
   pub listed : IsOneOf file files
+  pub base : Base
+  pub base_is : wide_base_of (take 512 (filled file.bytes)) Log ≡ Ok base
+  pub is_new : base.kind ≡ 6
   pub bytes_are : c.log.bytes ≡ filled file.bytes
   pub in_run : IsOneOf c.entry (run_of (filled file.bytes)).entries
   pub whole : IsWhole (filled file.bytes) c.entry
