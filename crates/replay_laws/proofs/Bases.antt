@@ -49,7 +49,8 @@ none_holds (check ∷ checks) none =
     elim [ true ↦ λ h. (refl, none_holds checks h) | false ↦ λ h. absurd (cc) ] in
     here check.0 none
 
-pub read_parts : (found : Option HiveFault) (base b : Base) → unless_fault found base ≡ Ok b → (found ≡ None) × (base ≡ b)
+pub read_parts : (found : Option HiveFault) (base b : Base) → unless_fault found base ≡ Ok b
+    → (found ≡ None) × (base ≡ b)
 read_parts None base b is = (refl, cc)
 read_parts (Some fault) base b is = absurd (cc)
 
@@ -98,7 +99,8 @@ module _ (b : Base) (n : NumbersFit b) (t : TextsFit b) where
         | zero ↦ omega arith
         | suc k ↦ elim k as (λ k. slice_index (codes "regf") (suc (suc k)) < 256) [
           | zero ↦ omega arith
-          | suc k ↦ elim k as (λ k. slice_index (codes "regf") (suc (suc (suc k))) < 256) [ zero ↦ omega arith | suc k ↦ omega arith ]
+          | suc k ↦ elim k as (λ k. slice_index (codes "regf") (suc (suc (suc k))) < 256)
+              [ zero ↦ omega arith | suc k ↦ omega arith ]
         ]
       ]
     ];
@@ -129,7 +131,8 @@ module _ (b : Base) (n : NumbersFit b) (t : TextsFit b) where
 
   summed_bytes : AreBytes (summed_text b)
   unfolding summed_text
-  summed_bytes = append_bytes _ _ (append_bytes _ _ head_bytes (record { each = t.name_bytes })) (record { each = t.rest_bytes })
+  summed_bytes = append_bytes _ _ (append_bytes _ _ head_bytes (record { each = t.name_bytes }))
+      (record { each = t.rest_bytes })
 
   sum_fits : checksum_of (summed_text b) < 2 ^ 32
   sum_fits = moved_small _ (mixed_small 127 _ summed_bytes)
@@ -141,7 +144,8 @@ module _ (b : Base) (n : NumbersFit b) (t : TextsFit b) where
   stored_is : u32_in (base_text b) 508 ≡ checksum_of (summed_text b)
   unfolding base_text
   stored_is =
-      ap (λ (l : List ℕ). from_le_bytes w32 (take 4 l)) (drop_at (summed_text b) (to_le_bytes w32 (checksum_of (summed_text b))) 508 summed_long)
+      ap (λ (l : List ℕ). from_le_bytes w32 (take 4 l))
+      (drop_at (summed_text b) (to_le_bytes w32 (checksum_of (summed_text b))) 508 summed_long)
       ∙ from_le_bytes-to_le_bytes_4 _ sum_fits
 
   module _ (kind_is : b.kind ≡ 0) (minor_is : is_minor b.minor ≡ true) (size_is : is_wide_size b.size ≡ true) where

@@ -82,10 +82,12 @@ module _ (file log : List ℕ) (hive : Base) (r : Recovered) (t : IsTaken file l
   first = first_dirty size
 
   pub log_there : (n : ℕ) (read : List ℕ) → read_log image n ≡ Ok read → IsThere log n read
-  log_there n read is = read_there (fault_at kinds.LogShort (512 * n)) (fault_at kinds.LogUnreadable (512 * n)) log n read is
+  log_there n read is = read_there (fault_at kinds.LogShort (512 * n)) (fault_at kinds.LogUnreadable (512 * n)) log n
+      read is
 
   pub bin_there : (i : ℕ) (read : List ℕ) → read_bin image i ≡ Ok read → IsThere file (8 + i) read
-  bin_there i read is = read_there (fault_at kinds.Size 40) (fault_at kinds.Unreadable (512 * (8 + i))) file (8 + i) read is
+  bin_there i read is = read_there (fault_at kinds.Size 40) (fault_at kinds.Unreadable (512 * (8 + i))) file (8 + i)
+      read is
 
   -- ---- the log's base block
 
@@ -124,7 +126,8 @@ module _ (file log : List ℕ) (hive : Base) (r : Recovered) (t : IsTaken file l
   front : IsFront
   unfolding got
   front =
-      let on = went_on (read_log image 1) (λ front. cond (starts_with nat_eq front (codes "DIRT")) (Ok front) (Err (fault_at kinds.LogDirt 512)))
+      let on = went_on (read_log image 1) (λ front. cond (starts_with nat_eq front (codes "DIRT")) (Ok front)
+      (Err (fault_at kinds.LogDirt 512)))
       parts.0 parts.2 in
       here on.0 on.1 (starts_with nat_eq on.0 (codes "DIRT")) refl on.2
     where
@@ -159,7 +162,8 @@ module _ (file log : List ℕ) (hive : Base) (r : Recovered) (t : IsTaken file l
       parts.4
       ∙ ap (λ (l : List ℕ). l ++ parts.1) front.there.same
       ∙ ap (λ (l : List ℕ). take 512 (drop (512 * 1) whole) ++ l) rest_is
-      ∙ ap (λ (l : List ℕ). take 512 (drop 512 whole) ++ take (512 * (bitmap_sectors size - 1)) l) (sym (drop-drop 512 512 whole))
+      ∙ ap (λ (l : List ℕ). take 512 (drop 512 whole) ++ take (512 * (bitmap_sectors size - 1)) l)
+      (sym (drop-drop 512 512 whole))
       ∙ sym (take-add 512 (512 * (bitmap_sectors size - 1)) (drop 512 whole))
       ∙ ap (λ n. take n (drop 512 whole)) long
 
@@ -191,7 +195,8 @@ module _ (file log : List ℕ) (hive : Base) (r : Recovered) (t : IsTaken file l
       here : (1 < bitmap_sectors size) ⊎ (bitmap_sectors size ≤ 1) → 512 * first ≤ length whole
       here (inr one) = omega (arith, one, few, front_long)
       here (inl more) =
-          let last = gathered_each (read_log image) 2 (bitmap_sectors size - 1) parts.1 parts.3 (bitmap_sectors size) (omega (arith, more)) (omega (arith, more)) in
+          let last = gathered_each (read_log image) 2 (bitmap_sectors size - 1) parts.1 parts.3 (bitmap_sectors size)
+          (omega (arith, more)) (omega (arith, more)) in
           omega (arith, there_whole log (bitmap_sectors size) (log_there (bitmap_sectors size) last.0 last.1).inside)
 
   marked_there : 512 * (first + rank bits count) ≤ length whole
@@ -201,7 +206,8 @@ module _ (file log : List ℕ) (hive : Base) (r : Recovered) (t : IsTaken file l
       here (inr none) = omega (arith, none, bitmap_there)
       here (inl some) =
           let n : ℕ = first + rank bits count - 1 in
-          let last = gathered_each (read_log image) first (rank bits count) t.marked t.marked_are n (omega (arith, some)) (omega (arith, some)) in
+          let last = gathered_each (read_log image) first (rank bits count) t.marked t.marked_are n
+          (omega (arith, some)) (omega (arith, some)) in
           omega (arith, some, there_whole log n (log_there n last.0 last.1).inside)
 
   pub needed_there : 512 * needed whole size ≤ length whole
@@ -209,14 +215,16 @@ module _ (file log : List ℕ) (hive : Base) (r : Recovered) (t : IsTaken file l
 
   -- a sector of the bins data, as the load takes it
   pub picked_there : (i : ℕ) → i < count → (one : List ℕ) × (picked image first bits i ≡ Ok one)
-  picked_there i below = gathered_each (picked image first bits) 0 count r.bins t.bins_are i (omega arith) (omega (arith, below))
+  picked_there i below = gathered_each (picked image first bits) 0 count r.bins t.bins_are i (omega arith)
+      (omega (arith, below))
 
   pub unmarked_there : (i : ℕ) → i < count → bits i ≡ false → (one : List ℕ) × (read_bin image i ≡ Ok one)
   unmarked_there i below off =
       let one = picked_there i below in
       (one.0, sym (ap (λ b. cond b (read_log image (first + rank bits i)) (read_bin image i)) off) ∙ one.1)
 
-  pub marked_read : (i : ℕ) → i < count → bits i ≡ true → (one : List ℕ) × (read_log image (first + rank bits i) ≡ Ok one)
+  pub marked_read : (i : ℕ) → i < count → bits i ≡ true
+      → (one : List ℕ) × (read_log image (first + rank bits i) ≡ Ok one)
   marked_read i below on =
       let one = picked_there i below in
       (one.0, sym (ap (λ b. cond b (read_log image (first + rank bits i)) (read_bin image i)) on) ∙ one.1)
@@ -243,7 +251,8 @@ module _ (file log : List ℕ) (hive : Base) (r : Recovered) (t : IsTaken file l
   signed_too : starts_with nat_eq (drop 512 whole) (codes "DIRT") ≡ true
   unfolding sector
   signed_too =
-      sym (dirt_cut (drop 512 whole)) ∙ sym (ap (λ (l : List ℕ). starts_with nat_eq l (codes "DIRT")) front.there.same) ∙ front.signed
+      sym (dirt_cut (drop 512 whole)) ∙ sym (ap (λ (l : List ℕ). starts_with nat_eq l (codes "DIRT")) front.there.same)
+      ∙ front.signed
 
   no_fault : first_failing (dirt_checks whole size have) ≡ None
   no_fault = none_fails (dirt_checks whole size have) (

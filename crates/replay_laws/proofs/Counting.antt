@@ -45,12 +45,14 @@ apart : (b k m : ℕ) → k < m → m < 4294967296 → (b + k) % 4294967296 ≡ 
 apart b k m less few same = omega (arith, less, few, same)
 
 -- m numbers that follow one by one are in a list of m at least
-all_there : (m b : ℕ) (ys : List ℕ) → m ≤ 4294967296 → ((k : ℕ) → k < m → IsOneOf ((b + k) % 4294967296) ys) → m ≤ length ys
+all_there : (m b : ℕ) (ys : List ℕ) → m ≤ 4294967296 → ((k : ℕ) → k < m → IsOneOf ((b + k) % 4294967296) ys)
+    → m ≤ length ys
 all_there zero b ys few each = omega arith
 all_there (suc m) b ys few each =
     let last = each m (omega arith) in
     let rest = all_there m b (removed ((b + m) % 4294967296) ys last) (omega arith)
-    (λ k below. still_one ((b + m) % 4294967296) ((b + k) % 4294967296) ys last (apart b k m below (omega arith)) (each k (omega arith))) in
+    (λ k below. still_one ((b + m) % 4294967296) ((b + k) % 4294967296) ys last (apart b k m below (omega arith))
+    (each k (omega arith))) in
     omega (arith, rest, removed_long ((b + m) % 4294967296) ys last)
 
 -- ---- the entries of the logs
@@ -77,7 +79,8 @@ number_one e [] one = absurd one
 number_one e (x ∷ xs) (inl same) = inl (ap (λ (y : Entry). y.number) same)
 number_one e (x ∷ xs) (inr later) = inr (number_one e xs later)
 
-listed_one : (file : LogFile) (files : List LogFile) (e : Entry) → IsOneOf file files → IsOneOf e (run_of (filled file.bytes)).entries
+listed_one : (file : LogFile) (files : List LogFile) (e : Entry) → IsOneOf file files
+    → IsOneOf e (run_of (filled file.bytes)).entries
     → IsOneOf e.number (numbers_of files)
 unfolding numbers_of
 listed_one file [] e listed in_run = absurd listed
@@ -133,18 +136,21 @@ from_one files (c ∷ cs) b (suc k) fits are below =
 
 module _ (file : List ℕ) (files : List LogFile) (hive : Base) (bytes : AreBytes file) (are : AreByteFiles files)
     (reads : hive_base_of (filled file) ≡ Ok hive) (few : sectors_of files < 4294967296) where
-  fold : (entries : List Chosen) × IsFoldOf (logs_of file files hive) entries (begun (filled file) hive) (now_of file files hive)
+  fold : (entries : List Chosen) × IsFoldOf (logs_of file files hive) entries (begun (filled file) hive)
+      (now_of file files hive)
   fold = folded most (logs_of file files hive) (begun (filled file) hive)
 
   fits : hive.second < 2 ^ 32
   fits = second_fits file hive bytes reads
 
   from : AreFrom files hive.second fold.0
-  from = fold_from files hive (length (filled file)) fold.0 (begun (filled file) hive) (now_of file files hive) are fits fold.1
+  from = fold_from files hive (length (filled file)) fold.0 (begun (filled file) hive) (now_of file files hive) are fits
+      fold.1
 
   count : (now_of file files hive).applied ≡ 0 + length fold.0
   count =
-      fold_count (logs_of file files hive) (given_whole hive (length (filled file)) files) fold.0 (begun (filled file) hive)
+      fold_count (logs_of file files hive) (given_whole hive (length (filled file)) files) fold.0
+      (begun (filled file) hive)
       (now_of file files hive) fold.1
 
   not_all : (now_of file files hive).applied ≡ 4294967296 → ⊥
@@ -159,7 +165,8 @@ module _ (file : List ℕ) (files : List LogFile) (hive : Base) (bytes : AreByte
   ends_for_good = here (ends most (logs_of file files hive) (begun (filled file) hive))
     where
       here : EndsSo most (logs_of file files hive) (begun (filled file) hive) (now_of file files hive)
-          → (chosen (logs_of file files hive) (now_of file files hive).next ≡ None) ⊎ IsHeldUp (logs_of file files hive) (now_of file files hive)
+          → (chosen (logs_of file files hive) (now_of file files hive).next ≡ None) ⊎ IsHeldUp (logs_of file files hive)
+          (now_of file files hive)
       here (inl none) = inl none
       here (inr (inl held)) = inr held
       here (inr (inr all)) = absurd (not_all (omega (arith, all)))

@@ -27,7 +27,8 @@ now_of file files hive = (replayed_by (logs_of file files hive) (begun (filled f
 -- what holds of each of the three ends holds of the result
 module _ (file : List ℕ) (files : List LogFile) (hive : Base) (P : Outcome → Type 0)
     (by_none : (said : List ReplayLine) → P (kept file hive said))
-    (by_some : (said : List ReplayLine) → ((now_of file files hive).applied ≡ 0 → ⊥) → P (by_entries hive said (now_of file files hive)))
+    (by_some : (said : List ReplayLine) → ((now_of file files hive).applied ≡ 0 → ⊥)
+    → P (by_entries hive said (now_of file files hive)))
     (by_one : (said : List ReplayLine) (c : ChosenOld) → (now_of file files hive).applied ≡ 0
     → chosen_old (logs_of file files hive) hive.first ≡ Some c → P (after_old (filled file) hive said c)) where
   olds : (said : List ReplayLine) → (now_of file files hive).applied ≡ 0 → (c : Option ChosenOld)
@@ -36,7 +37,8 @@ module _ (file : List ℕ) (files : List LogFile) (hive : Base) (P : Outcome →
   olds said none (Some c) is = by_one said c none is
 
   ends : (said : List ReplayLine) (t : Bool) → ((now_of file files hive).applied == 0) ≡ t
-      → P (cond t (by_old file hive said (chosen_old (logs_of file files hive) hive.first)) (by_entries hive said (now_of file files hive)))
+      → P (cond t (by_old file hive said (chosen_old (logs_of file files hive) hive.first))
+      (by_entries hive said (now_of file files hive)))
   ends said true is = olds said (eqb-true _ _ is) (chosen_old (logs_of file files hive) hive.first) refl
   ends said false is = by_some said (eqb-false _ _ is)
 
@@ -46,7 +48,9 @@ module _ (file : List ℕ) (files : List LogFile) (hive : Base) (P : Outcome →
       ++ (replayed_by (logs_of file files hive) (begun (filled file) hive)).lines)
       ((now_of file files hive).applied == 0) refl
 
-  any : (t : Bool) → P (cond t (kept file hive (Sequence hive.first hive.second false ∷ [])) (dirty_of file hive (logs_of file files hive)))
+  any : (t : Bool)
+      → P (cond t (kept file hive (Sequence hive.first hive.second false ∷ []))
+      (dirty_of file hive (logs_of file files hive)))
   any true = by_none (Sequence hive.first hive.second false ∷ [])
   any false = dirty
 
@@ -55,7 +59,8 @@ module _ (file : List ℕ) (files : List LogFile) (hive : Base) (P : Outcome →
 
 -- what holds of the result of each hive that is read holds of what is answered
 pub replay_is : (file : List ℕ) (files : List LogFile) (P : Outcome → Type 0)
-    → ((hive : Base) → hive_base_of (filled file) ≡ Ok hive → P (outcome_of file hive files)) → IfOk (replay_of file files) P
+    → ((hive : Base) → hive_base_of (filled file) ≡ Ok hive → P (outcome_of file hive files))
+    → IfOk (replay_of file files) P
 unfolding replay_of
 replay_is file files P each = here (hive_base_of (filled file)) refl
   where
@@ -64,7 +69,8 @@ replay_is file files P each = here (hive_base_of (filled file)) refl
     here (Ok hive) is = each hive is
 
 -- the same of a hive whose base block is known
-pub replay_of_hive : (file : List ℕ) (files : List LogFile) (hive : Base) (P : Outcome → Type 0) → hive_base_of (filled file) ≡ Ok hive
+pub replay_of_hive : (file : List ℕ) (files : List LogFile) (hive : Base) (P : Outcome → Type 0)
+    → hive_base_of (filled file) ≡ Ok hive
     → P (outcome_of file hive files) → IfOk (replay_of file files) P
 unfolding replay_of
 replay_of_hive file files hive P reads holds =
@@ -79,7 +85,8 @@ pub replay_leaves : (file : List ℕ) (files : List LogFile) (hive : Base) → h
     → IfOk (replay_of file files) (Leaves file hive)
 replay_leaves file files hive reads =
     replay_of_hive file files hive (Leaves file hive) reads
-    (outcome_is file files hive (Leaves file hive) (λ said. inl (refl, (refl, refl))) (λ said some. inr refl) (λ said c none is. inr refl))
+    (outcome_is file files hive (Leaves file hive) (λ said. inl (refl, (refl, refl))) (λ said some. inr refl)
+    (λ said c none is. inr refl))
 
 -- ---- what is said at the end
 

@@ -14,7 +14,8 @@ use Rattle.entry_log.proofs.Steps.{known}
 use Rattle.replay_laws.specs.Runs.{EndsAs, RunsSo}
 
 -- there is no entry at or past the end
-none_past : (log : List ℕ) (sector : ℕ) (before : Option ℕ) → length log ≤ 512 * sector → found_at log sector before ≡ NoEntry
+none_past : (log : List ℕ) (sector : ℕ) (before : Option ℕ) → length log ≤ 512 * sector
+    → found_at log sector before ≡ NoEntry
 unfolding found_at
 none_past log sector before past =
     ap (λ (l : List ℕ). cond (starts_with nat_eq l (codes "HvLE"))
@@ -28,7 +29,8 @@ not_zero (suc n) is = omega arith
 -- a whole entry has a sector at least
 one_sector : (log : List ℕ) (entry : Entry) → IsWhole log entry → 0 < entry.length / 512
 one_sector log entry whole =
-    let long = and_parts (not (entry.length == 0) && (entry.length % 512 == 0)) (nat_le (512 * entry.sector + entry.length) (length log)) whole.long in
+    let long = and_parts (not (entry.length == 0) && (entry.length % 512 == 0))
+    (nat_le (512 * entry.sector + entry.length) (length log)) whole.long in
     let some = not_zero entry.length (and_parts (not (entry.length == 0)) (entry.length % 512 == 0) long.0).0 in
     omega (arith, some, (known log entry whole).steps)
 
@@ -38,12 +40,15 @@ ended sector found is = subst (λ f. EndsAs sector f None) (sym is) refl
 run_so : (n : ℕ) (log : List ℕ) (sector : ℕ) (before : Option ℕ) → length log < 512 * (n + sector)
     → RunsSo log sector before (run_from n log sector before).entries (run_from n log sector before).fault
 unfolding run_from
-run_so zero log sector before room = ended sector (found_at log sector before) (none_past log sector before (omega (arith, room)))
+run_so zero log sector before room = ended sector (found_at log sector before)
+    (none_past log sector before (omega (arith, room)))
 run_so (suc n) log sector before room = here (run_so n log) (found_at log sector before) refl
   where
-    here : ((at : ℕ) (b : Option ℕ) → length log < 512 * (n + at) → RunsSo log at b (run_from n log at b).entries (run_from n log at b).fault)
+    here : ((at : ℕ) (b : Option ℕ) → length log < 512 * (n + at)
+        → RunsSo log at b (run_from n log at b).entries (run_from n log at b).fault)
         → (found : Found) → found_at log sector before ≡ found
-        → RunsSo log sector before (run_by sector found (λ e. run_from n log (sector + e.length / 512) (Some e.number))).entries
+        → RunsSo log sector before
+        (run_by sector found (λ e. run_from n log (sector + e.length / 512) (Some e.number))).entries
         (run_by sector found (λ e. run_from n log (sector + e.length / 512) (Some e.number))).fault
     here rest NoEntry is = ended sector (found_at log sector before) is
     here rest (Broken kind) is =

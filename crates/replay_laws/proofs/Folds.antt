@@ -35,21 +35,26 @@ pages_within bytes size field start zero are = tt
 pages_within bytes size field start (suc n) are =
     let place = u32_in bytes field in
     let long = u32_in bytes (field + 4) in
-    let parts = and_parts (is_page bytes size start place long) (are_pages bytes size (field + 8) (start + long) n) are in
+    let parts = and_parts (is_page bytes size start place long) (are_pages bytes size (field + 8) (start + long) n)
+    are in
     let fits = page_fits bytes size start place long parts.0 in (
       omega (arith, fits.inside, length-take (start + long - start) (drop start bytes)),
       pages_within bytes size (field + 8) (start + long) n parts.1,
     )
 
-pub entry_within : (log : List ℕ) (entry : Entry) → IsWhole log entry → AreWithin (4096 + entry.size) (pages_of log entry)
-entry_within log entry whole = pages_within (bytes_of log entry) entry.size 40 (40 + 8 * entry.count) entry.count (known log entry whole).pages
+pub entry_within : (log : List ℕ) (entry : Entry) → IsWhole log entry
+    → AreWithin (4096 + entry.size) (pages_of log entry)
+entry_within log entry whole = pages_within (bytes_of log entry) entry.size 40 (40 + 8 * entry.count) entry.count
+    (known log entry whole).pages
 
 entry_sized : (log : List ℕ) (entry : Entry) → IsWhole log entry → is_wide_size entry.size ≡ true
 entry_sized log entry whole =
-    let parts = and_parts (is_wide_size entry.size && nat_le (40 + 8 * entry.count) (length (bytes_of log entry))) _ whole.paged in
+    let parts = and_parts (is_wide_size entry.size && nat_le (40 + 8 * entry.count) (length (bytes_of log entry))) _
+    whole.paged in
     (and_parts (is_wide_size entry.size) _ parts.0).0
 
-pub pages_long : (pages : List Page) (file : List ℕ) → AreWithin (length file) pages → length (put_pages file pages) ≡ length file
+pub pages_long : (pages : List Page) (file : List ℕ) → AreWithin (length file) pages
+    → length (put_pages file pages) ≡ length file
 pages_long [] file within = refl
 pages_long (page ∷ pages) file within =
     let next : List ℕ = put_at file (4096 + page.place) page.bytes in
@@ -73,7 +78,8 @@ filled_at file q d below = get_or_append_left file _ d q below
 
 pub roomy_at : (file : List ℕ) (size q d : ℕ) → q < length file → get_or (roomy file size) q d ≡ get_or file q d
 roomy_at file size q d below =
-    get_or_append_left (filled file) (replicate (4096 + size - length (filled file)) 0) d q (omega (arith, filled_long file, below))
+    get_or_append_left (filled file) (replicate (4096 + size - length (filled file)) 0) d q
+    (omega (arith, filled_long file, below))
     ∙ filled_at file q d below
 
 -- ---- one entry
@@ -91,7 +97,8 @@ module _ (hive : HiveNow) (c : Chosen) (whole : IsWhole c.log.bytes c.entry) whe
   pages = pages_of c.log.bytes c.entry
 
   within : AreWithin (length file) pages
-  within = within_more pages (4096 + c.entry.size) (length file) (roomy_long hive.file c.entry.size) (entry_within c.log.bytes c.entry whole)
+  within = within_more pages (4096 + c.entry.size) (length file) (roomy_long hive.file c.entry.size)
+      (entry_within c.log.bytes c.entry whole)
 
   step_long : length (with_entry hive c).file ≡ length file
   step_long = pages_long pages file within
@@ -106,7 +113,8 @@ module _ (hive : HiveNow) (c : Chosen) (whole : IsWhole c.log.bytes c.entry) whe
     fits = omega arith;
   }
 
-  step_left : (q d : ℕ) → q < length hive.file → IsOutside q pages → get_or (with_entry hive c).file q d ≡ get_or hive.file q d
+  step_left : (q d : ℕ) → q < length hive.file → IsOutside q pages
+      → get_or (with_entry hive c).file q d ≡ get_or hive.file q d
   step_left q d below out = left pages file q d within out ∙ roomy_at hive.file c.entry.size q d below
 
 -- ---- all of them
@@ -117,7 +125,8 @@ module _ (logs : List GivenLog) (are : AreWholeLogs logs) where
   fold_holds (c ∷ cs) old new is holds =
       fold_holds cs (with_entry old c) new is.1.1 (step_holds old c (chosen_whole logs old.next c are is.0))
 
-  pub fold_left : (cs : List Chosen) (old new : HiveNow) (q d : ℕ) → IsFoldOf logs cs old new → q < length old.file → IsOutsideAll q cs
+  pub fold_left : (cs : List Chosen) (old new : HiveNow) (q d : ℕ) → IsFoldOf logs cs old new → q < length old.file
+      → IsOutsideAll q cs
       → get_or new.file q d ≡ get_or old.file q d
   fold_left [] old new q d is below out = ap (λ (h : HiveNow). get_or h.file q d) is
   fold_left (c ∷ cs) old new q d is below out =
@@ -125,6 +134,7 @@ module _ (logs : List GivenLog) (are : AreWholeLogs logs) where
       fold_left cs (with_entry old c) new q d is.1.1 (omega (arith, step_more old c whole, below)) out.1
       ∙ step_left old c whole q d below out.0
 
-  pub fold_count : (cs : List Chosen) (old new : HiveNow) → IsFoldOf logs cs old new → new.applied ≡ old.applied + length cs
+  pub fold_count : (cs : List Chosen) (old new : HiveNow) → IsFoldOf logs cs old new
+      → new.applied ≡ old.applied + length cs
   fold_count [] old new is = ap (λ (h : HiveNow). h.applied) is ∙ omega arith
   fold_count (c ∷ cs) old new is = omega (arith, fold_count cs (with_entry old c) new is.1.1)

@@ -42,7 +42,8 @@ same_found : (a b : Base) → found a ≡ found b → a ≡ b
 unfolding found
 same_found a b e = cc
 
-with_parts : (r : Result Base HiveFault) (have : ℕ) (b : Base) → with_bins r have ≡ Ok b → (r ≡ Ok b) × (4096 + b.size ≤ have)
+with_parts : (r : Result Base HiveFault) (have : ℕ) (b : Base) → with_bins r have ≡ Ok b
+    → (r ≡ Ok b) × (4096 + b.size ≤ have)
 unfolding found
 with_parts (Err f) have b is = absurd cc
 with_parts (Ok x) have b is = here (nat_le (4096 + x.size) have) refl is
@@ -55,7 +56,8 @@ with_parts (Ok x) have b is = here (nat_le (4096 + x.size) have) refl is
 pub hive_is : (file : List ℕ) (hive : Base) → hive_base_of file ≡ Ok hive → IsHive file hive
 unfolding hive_base_of
 hive_is file hive is =
-    let there : (t : Bool) → cond t (Err (fault_at NotRegf 0)) (with_bins (wide_base_of (take 512 file) Hive) (length file)) ≡ Ok hive
+    let there : (t : Bool)
+    → cond t (Err (fault_at NotRegf 0)) (with_bins (wide_base_of (take 512 file) Hive) (length file)) ≡ Ok hive
     → with_bins (wide_base_of (take 512 file) Hive) (length file) ≡ Ok hive =
     elim [ true ↦ λ h. absurd cc | false ↦ λ h. h ] in
     let parts = with_parts (wide_base_of (take 512 file) Hive) (length file) hive (there (length file == 0) is) in
@@ -63,13 +65,17 @@ hive_is file hive is =
 
 -- ---- fields that fit
 
-pub numbers_fit : (file : List ℕ) (role : FileRole) (base : Base) → AreBytes file → IsRead (take 512 file) role base → NumbersFit base
-numbers_fit file role base bytes read = subst NumbersFit read.fields (numbers_there (take 512 file) (take_bytes 512 file bytes))
+pub numbers_fit : (file : List ℕ) (role : FileRole) (base : Base) → AreBytes file → IsRead (take 512 file) role base
+    → NumbersFit base
+numbers_fit file role base bytes read = subst NumbersFit read.fields
+    (numbers_there (take 512 file) (take_bytes 512 file bytes))
 
-pub texts_fit : (file : List ℕ) (role : FileRole) (base : Base) → AreBytes file → 512 ≤ length file → IsRead (take 512 file) role base
+pub texts_fit : (file : List ℕ) (role : FileRole) (base : Base) → AreBytes file → 512 ≤ length file
+    → IsRead (take 512 file) role base
     → TextsFit base
 texts_fit file role base bytes long read =
-    subst TextsFit read.fields (texts_there (take 512 file) (take_bytes 512 file bytes) (omega (arith, long, length-take 512 file)))
+    subst TextsFit read.fields
+    (texts_there (take 512 file) (take_bytes 512 file bytes) (omega (arith, long, length-take 512 file)))
 
 -- ---- another base block
 
@@ -109,5 +115,6 @@ module _ (file : List ℕ) (base : Base) (good : IsGood base) (room : 4096 + bas
       ap (λ t. cond t (Err (fault_at NotRegf 0)) (with_bins (wide_base_of (take 512 g) Hive) (length g)))
       (ne_eqb (length g) 0 (λ e. omega (arith, e, have)))
       ∙ ap (λ s. with_bins (wide_base_of s Hive) (length g)) first_sector
-      ∙ ap (λ r. with_bins r (length g)) (wide_back base good.numbers good.texts good.kind_is good.minor_is good.size_is)
+      ∙ ap (λ r. with_bins r (length g)) (wide_back base good.numbers good.texts good.kind_is good.minor_is
+      good.size_is)
       ∙ ap (λ t. cond t (Ok base) (Err (fault_at Size 40))) (le-leb (4096 + base.size) (length g) have)

@@ -33,17 +33,20 @@ use Rattle.replay_laws.proofs.Writing.{elsewhere, left}
 
 -- ---- the sectors of an old log
 
-marked_within : (bits : ℕ → Bool) (log : List ℕ) (next i n : ℕ) → AreWithin (4096 + 512 * (i + n)) (marked_pages bits log next i n)
+marked_within : (bits : ℕ → Bool) (log : List ℕ) (next i n : ℕ)
+    → AreWithin (4096 + 512 * (i + n)) (marked_pages bits log next i n)
 unfolding marked_pages sector
 marked_within bits log next i zero = tt
 marked_within bits log next i (suc n) =
     let rest : (from : ℕ) → AreWithin (4096 + 512 * (i + suc n)) (marked_pages bits log from (i + 1) n) =
-    λ from. within_more (marked_pages bits log from (i + 1) n) (4096 + 512 * ((i + 1) + n)) (4096 + 512 * (i + suc n)) (omega arith)
+    λ from. within_more (marked_pages bits log from (i + 1) n) (4096 + 512 * ((i + 1) + n)) (4096 + 512 * (i + suc n))
+    (omega arith)
     (marked_within bits log from (i + 1) n) in
     here rest (bits i)
   where
     here : ((from : ℕ) → AreWithin (4096 + 512 * (i + suc n)) (marked_pages bits log from (i + 1) n)) → (b : Bool)
-        → AreWithin (4096 + 512 * (i + suc n)) (cond b (record { place = 512 * i; bytes = take 512 (drop (512 * next) log) }
+        → AreWithin (4096 + 512 * (i + suc n))
+        (cond b (record { place = 512 * i; bytes = take 512 (drop (512 * next) log) }
         ∷ marked_pages bits log (next + 1) (i + 1) n) (marked_pages bits log next (i + 1) n))
     here rest true = (omega (arith, length-take 512 (drop (512 * next) log)), rest (next + 1))
     here rest false = rest next
@@ -76,19 +79,26 @@ module _ (file : List ℕ) (hive : Base) (bytes : AreBytes file) (reads : hive_b
   begun_holds = record { room = is.room; sized = is.read.size_is; fits = numbers.second_fits }
 
   module _ (files : List LogFile) (are : AreByteFiles files) where
-    now_fold : (entries : List Chosen) × IsFoldOf (logs_of file files hive) entries (begun (filled file) hive) (now_of file files hive)
+    now_fold : (entries : List Chosen) × IsFoldOf (logs_of file files hive) entries (begun (filled file) hive)
+        (now_of file files hive)
     now_fold = folded most (logs_of file files hive) (begun (filled file) hive)
 
     now_holds : Holds (now_of file files hive)
     now_holds =
-        fold_holds (logs_of file files hive) (given_whole hive (length (filled file)) files) now_fold.0 (begun (filled file) hive)
+        fold_holds (logs_of file files hive) (given_whole hive (length (filled file)) files) now_fold.0
+        (begun (filled file) hive)
         (now_of file files hive) now_fold.1 begun_holds
 
     -- ---- after entries
 
     abbrev next_base : Base
     next_base =
-        record hive { first = (now_of file files hive).next; second = (now_of file files hive).next; size = (now_of file files hive).size }
+        record hive {
+          first = (now_of file files hive).next;
+          second = (now_of file files hive).next;
+          size =
+              (now_of file files hive).size;
+        }
 
     next_good : IsGood next_base
     next_good = record {
@@ -119,12 +129,14 @@ module _ (file : List ℕ) (hive : Base) (bytes : AreBytes file) (reads : hive_b
         let now = now_of file files hive in
         let logs = logs_of file files hive in
         let whole = given_whole hive (length (filled file)) files in
-        let count : now.applied ≡ 0 + length now_fold.0 = fold_count logs whole now_fold.0 (begun (filled file) hive) now now_fold.1 in
+        let count : now.applied ≡ 0 + length now_fold.0 = fold_count logs whole now_fold.0 (begun (filled file) hive)
+        now now_fold.1 in
         record {
           entries = now_fold.0;
           now = now;
           folded = now_fold.1;
-          from = fold_from files hive (length (filled file)) now_fold.0 (begun (filled file) hive) now are numbers.second_fits now_fold.1;
+          from = fold_from files hive (length (filled file)) now_fold.0 (begun (filled file) hive) now are
+              numbers.second_fits now_fold.1;
           some = some_more (length now_fold.0) (λ e. some (omega (arith, count, e)));
           file_is = refl;
           first_is = refl;
@@ -190,11 +202,17 @@ module _ (file : List ℕ) (hive : Base) (bytes : AreBytes file) (reads : hive_b
 
       old_inside : AreWithin (length (roomy (filled file) size)) (old_pages_of log size)
       old_inside =
-          within_more (old_pages_of log size) (4096 + size) (length (roomy (filled file) size)) (roomy_long (filled file) size)
+          within_more (old_pages_of log size) (4096 + size) (length (roomy (filled file) size))
+          (roomy_long (filled file) size)
           (old_within log size)
 
       old_room : 4096 + size ≤ length old_file
-      old_room = omega (arith, pages_long (old_pages_of log size) (roomy (filled file) size) old_inside, roomy_long (filled file) size)
+      old_room = omega (
+        arith,
+        pages_long (old_pages_of log size) (roomy (filled file) size) old_inside,
+        roomy_long
+            (filled file) size,
+      )
 
       file_same : with_old (filled file) c ≡ old_file
       file_same = ap (λ (l : List ℕ). put_pages (roomy (filled file) size) (old_pages_of l size)) from.bytes_are
@@ -216,15 +234,18 @@ module _ (file : List ℕ) (hive : Base) (bytes : AreBytes file) (reads : hive_b
         left = λ q d low below out.
             let long : length (base_text old_base) ≡ 512 = text_long old_base old_good.numbers old_good.texts in
             ap (λ (l : List ℕ). get_or (with_base l old_base) q d) file_same
-            ∙ elsewhere old_file (base_text old_base) 0 (omega (arith, long, old_room)) q d (inr (omega (arith, long, low)))
+            ∙ elsewhere old_file (base_text old_base) 0 (omega (arith, long, old_room)) q d
+            (inr (omega (arith, long, low)))
             ∙ left (old_pages_of log size) (roomy (filled file) size) q d old_inside out
             ∙ roomy_at (filled file) size q d (omega (arith, below, filled_long file))
             ∙ filled_at file q d below;
       }
 
-      pub old_again : (said : List ReplayLine) → hive_base_of (filled (after_old (filled file) hive said c).file) ≡ Ok old_base
+      pub old_again : (said : List ReplayLine)
+          → hive_base_of (filled (after_old (filled file) hive said c).file) ≡ Ok old_base
       old_again said =
-          ap (λ (l : List ℕ). hive_base_of (filled (with_base l old_base))) file_same ∙ read_again old_file old_base old_good old_room
+          ap (λ (l : List ℕ). hive_base_of (filled (with_base l old_base))) file_same
+          ∙ read_again old_file old_base old_good old_room
 
     pub old_source : (c : ChosenOld) → chosen_old (logs_of file files hive) hive.first ≡ Some c
         → IsOldFrom files hive (length (filled file)) c × IsLong c.log.bytes c.whole.base.size
@@ -251,21 +272,36 @@ module _ (file : List ℕ) (hive : Base) (bytes : AreBytes file) (reads : hive_b
     hive_again =
         outcome_is file files hive IsReadAgain
         (λ said e. (hive, reads, refl, refl))
-        (λ said some e. (next_base, read_again (now_of file files hive).file next_base next_good now_holds.room, refl, refl))
+        (λ said some e. (
+          next_base,
+          read_again (now_of file files hive).file next_base next_good now_holds.room,
+          refl,
+          refl,
+        ))
         (λ said c none e h.
-        let source = old_source c e in
-        (record c.whole.base { first = hive.first; second = hive.first; kind = 0 }, old_again c source.0 source.1 said, refl, refl))
+        let source = old_source c e in (
+          record c.whole.base { first = hive.first; second = hive.first; kind = 0 },
+          old_again c source.0 source.1 said,
+          refl,
+          refl,
+        ))
 
 -- ---- a second replay
 
 -- a clean hive, as any logs leave it
-clean_again : (g : List ℕ) (base : Base) (files : List LogFile) → hive_base_of (filled g) ≡ Ok base → base.first ≡ base.second
+clean_again : (g : List ℕ) (base : Base) (files : List LogFile) → hive_base_of (filled g) ≡ Ok base
+    → base.first ≡ base.second
     → replay_of g files ≡ Ok (kept g base (Sequence base.first base.second false ∷ []))
 unfolding replay_of
 clean_again g base files reads even =
     ap (replayed_as g files) reads
     ∙ ap (λ t. Ok (cond t (kept g base (Sequence base.first base.second false ∷ []))
     (dirty_of g base (map (given base (length (filled g))) files)))) (eq-eqb base.first base.second even)
+
+pub no_log_read : (file : List ℕ) (files others : List LogFile) (hive : Base) → hive_base_of (filled file) ≡ Ok hive
+    → hive.first ≡ hive.second → replay_of file files ≡ replay_of file others
+no_log_read file files others hive reads even =
+    clean_again file hive files reads even ∙ sym (clean_again file hive others reads even)
 
 stayed_as : (o : Outcome) (base : Base) → base.first ≡ o.first → base.second ≡ o.second
     → kept o.file base (Sequence base.first base.second false ∷ []) ≡ stayed o
@@ -291,20 +327,23 @@ answered : (file : List ℕ) (files : List LogFile) (hive : Base) → hive_base_
 unfolding replay_of
 answered file files hive reads = ap (replayed_as file files) reads
 
-again_as : (o p : Outcome) (r : Result Outcome HiveFault) → r ≡ Ok p → p.file ≡ o.file → p.first ≡ o.first → p.second ≡ o.second → IsAgain o r
+again_as : (o p : Outcome) (r : Result Outcome HiveFault) → r ≡ Ok p → p.file ≡ o.file → p.first ≡ o.first
+    → p.second ≡ o.second → IsAgain o r
 again_as o p r is file first second = subst (IsAgain o) (sym is) (file, (first, second))
 
 pub replay_again : (file : List ℕ) (files : List LogFile) → AreBytes file → AreByteFiles files
     → IfOk (replay_of file files) (λ o. IsAgain o (replay_of o.file files))
 replay_again file files bytes are =
     replay_is file files (λ o. IsAgain o (replay_of o.file files))
-    (λ hive reads. here hive reads (outcome_is file files hive (Leaves file hive) (λ said. inl (refl, (refl, refl))) (λ said some. inr refl)
+    (λ hive reads. here hive reads (outcome_is file files hive (Leaves file hive) (λ said. inl (refl, (refl, refl)))
+    (λ said some. inr refl)
     (λ said c none is. inr refl)))
   where
     here : (hive : Base) → hive_base_of (filled file) ≡ Ok hive → Leaves file hive (outcome_of file hive files)
         → IsAgain (outcome_of file hive files) (replay_of (outcome_of file hive files).file files)
     here hive reads (inl same) =
-        again_as (outcome_of file hive files) (outcome_of file hive files) (replay_of (outcome_of file hive files).file files)
+        again_as (outcome_of file hive files) (outcome_of file hive files)
+        (replay_of (outcome_of file hive files).file files)
         (ap (λ (l : List ℕ). replay_of l files) same.0 ∙ answered file files hive reads) refl refl refl
     here hive reads (inr even) =
         let o = outcome_of file hive files in
@@ -313,7 +352,8 @@ replay_again file files bytes are =
         (clean_again o.file again.0 files again.1 (again.2 ∙ even ∙ sym again.3)
         ∙ ap (λ (x : Outcome). Ok x) (stayed_as o again.0 again.2 again.3)) refl refl refl
 
-pub replay_made : (file : List ℕ) (files : List LogFile) (hive : Base) → AreBytes file → AreByteFiles files → hive_base_of (filled file) ≡ Ok hive
+pub replay_made : (file : List ℕ) (files : List LogFile) (hive : Base) → AreBytes file → AreByteFiles files
+    → hive_base_of (filled file) ≡ Ok hive
     → IfOk (replay_of file files) (IsMade file files hive)
 replay_made file files hive bytes are reads =
     replay_of_hive file files hive (IsMade file files hive) reads (hive_made file hive bytes reads files are)

@@ -48,7 +48,8 @@ use Rattle.replay_laws.proofs.Taking.{IsTaken, taken}
 
 -- ---- no entry
 
-pub still : (n : ℕ) (logs : List GivenLog) (hive : HiveNow) → chosen logs hive.next ≡ None → (replay_by n logs hive).hive ≡ hive
+pub still : (n : ℕ) (logs : List GivenLog) (hive : HiveNow) → chosen logs hive.next ≡ None
+    → (replay_by n logs hive).hive ≡ hive
 unfolding replay_by step_of
 still zero logs hive none = refl
 still (suc n) logs hive none = ap (λ x. (going (stepped x hive) (replay_by n logs)).hive) none
@@ -65,18 +66,22 @@ module _ (file : List ℕ) (files : List LogFile) (hive : Base) (c : ChosenOld) 
       → (outcome_of file hive files).file
       ≡ with_base (with_old (filled file) c) (record c.whole.base { first = hive.first; second = hive.first; kind = 0 })
   old_file uneven none is =
-      ap (λ t. (cond t (kept file hive (Sequence hive.first hive.second false ∷ [])) (dirty_of file hive (logs_of file files hive))).file)
+      ap (λ t. (cond t (kept file hive (Sequence hive.first hive.second false ∷ []))
+      (dirty_of file hive (logs_of file files hive))).file)
       (ne_eqb hive.first hive.second uneven)
-      ∙ ap (λ t. (cond t (by_old file hive said (chosen_old (logs_of file files hive) hive.first)) (by_entries hive said (now_of file files hive))).file)
+      ∙ ap (λ t. (cond t (by_old file hive said (chosen_old (logs_of file files hive) hive.first))
+      (by_entries hive said (now_of file files hive))).file)
       (eq-eqb (now_of file files hive).applied 0 none)
       ∙ ap (λ x. (by_old file hive said x).file) is
 
 -- ---- what it leaves
 
-closed_same : (b : Base) (n : ℕ) → b.first ≡ n → b.second ≡ n → record b { first = n; second = n; kind = 0 } ≡ closed_by b
+closed_same : (b : Base) (n : ℕ) → b.first ≡ n → b.second ≡ n
+    → record b { first = n; second = n; kind = 0 } ≡ closed_by b
 closed_same b n first second = λ i. record b { first = sym first i; second = sym second i; kind = 0 }
 
-module _ (g : List ℕ) (base : Base) (bins : List ℕ) (is : IsBase base) (kind : base.kind ≡ 0) (even : base.first ≡ base.second)
+module _ (g : List ℕ) (base : Base) (bins : List ℕ) (is : IsBase base) (kind : base.kind ≡ 0)
+    (even : base.first ≡ base.second)
     (block : sector (filled g) 0 ≡ base_text base) (some : 0 < length g) where
   abbrev made : Image
   made = image_of g []
@@ -115,7 +120,8 @@ filled_sector x k inside = sector_front x _ k inside
 
 -- ---- the whole
 
-module _ (file log : List ℕ) (name : LogName) (others : List LogFile) (hive : Base) (r : Recovered) (bytes : AreBytes file)
+module _ (file log : List ℕ) (name : LogName) (others : List LogFile) (hive : Base) (r : Recovered)
+    (bytes : AreBytes file)
     (are : AreByteFiles (record { name = name; bytes = log } ∷ others)) (reads : hive_base_of (filled file) ≡ Ok hive)
     (back : recovered_of (image_of file log) ≡ Ok r) (dirty : r.dirty ≡ true) (stamp : r.base.stamp ≡ hive.stamp)
     (none : chosen (map (given hive (length (filled file))) others) hive.second ≡ None) where
@@ -143,15 +149,18 @@ module _ (file log : List ℕ) (name : LogName) (others : List LogFile) (hive : 
   abbrev c : ChosenOld
   c = record { log = one; whole = whole }
 
-  reading : reading_of (filled log) hive have ≡ readings.Old t.logged (olds.Whole t.logged.first (rank bits (size / 512)))
+  reading : reading_of (filled log) hive have
+      ≡ readings.Old t.logged (olds.Whole t.logged.first (rank bits (size / 512)))
   reading = log_facts.log_is file log hive r t (ap (λ (b : Base). b.stamp) t.base_is ∙ stamp)
 
   not_new : chosen (logs_of file files hive) hive.second ≡ None
   not_new =
-      ap (λ (x : LogReading). chosen_or one (numbered (entries_in x) hive.second) (chosen (map (given hive have) others) hive.second)) reading ∙ none
+      ap (λ (x : LogReading). chosen_or one (numbered (entries_in x) hive.second)
+      (chosen (map (given hive have) others) hive.second)) reading ∙ none
 
   not_applied : (now_of file files hive).applied ≡ 0
-  not_applied = ap (λ (h : HiveNow). h.applied) (still most (logs_of file files hive) (begun (filled file) hive) not_new)
+  not_applied = ap (λ (h : HiveNow). h.applied) (still most (logs_of file files hive) (begun (filled file) hive)
+      not_new)
 
   wanted : wanted_old one (Some hive.first) ≡ Some c
   wanted =
@@ -160,7 +169,8 @@ module _ (file log : List ℕ) (name : LogName) (others : List LogFile) (hive : 
 
   is_chosen : chosen_old (logs_of file files hive) hive.first ≡ Some c
   is_chosen =
-      ap (λ x. first_of (first_of x (first_old (map (given hive have) others) (Some hive.first))) (first_old (logs_of file files hive) None)) wanted
+      ap (λ x. first_of (first_of x (first_old (map (given hive have) others) (Some hive.first)))
+      (first_old (logs_of file files hive) None)) wanted
 
   source : IsOldFrom files hive have c × IsLong (filled log) size
   source = old_source file hive bytes reads files are c is_chosen
@@ -178,7 +188,8 @@ module _ (file log : List ℕ) (name : LogName) (others : List LogFile) (hive : 
   pages_file = put_pages room (old_pages_of (filled log) size)
 
   inside : AreWithin (length room) (old_pages_of (filled log) size)
-  inside = within_more (old_pages_of (filled log) size) (4096 + size) (length room) (roomy_long (filled file) size) (old_within (filled log) size)
+  inside = within_more (old_pages_of (filled log) size) (4096 + size) (length room) (roomy_long (filled file) size)
+      (old_within (filled log) size)
 
   pages_room : 4096 + size ≤ length pages_file
   pages_room = omega (arith, pages_long (old_pages_of (filled log) size) room inside, roomy_long (filled file) size)
@@ -215,8 +226,10 @@ module _ (file log : List ℕ) (name : LogName) (others : List LogFile) (hive : 
   read_made i below =
       let sized = log_facts.size_is file log hive r t in
       ap (bytes_or (fault_at kinds.Size 40) (fault_at kinds.Unreadable (512 * (8 + i))))
-      (there saved (8 + i) (omega (arith, below, sized.high)) (omega (arith, below, pages_room, based_long pages_file base good pages_room)))
-      ∙ ap (λ (l : List ℕ). Ok l) (based_sector pages_file base good pages_room (8 + i) (omega arith) (omega (arith, below, pages_room)))
+      (there saved (8 + i) (omega (arith, below, sized.high))
+      (omega (arith, below, pages_room, based_long pages_file base good pages_room)))
+      ∙ ap (λ (l : List ℕ). Ok l) (based_sector pages_file base good pages_room (8 + i) (omega arith)
+      (omega (arith, below, pages_room)))
 
   all_needed : 512 * (first + rank bits (0 + size / 512)) ≤ length (filled log) + 512 * rank bits 0
   all_needed =
@@ -228,12 +241,15 @@ module _ (file log : List ℕ) (name : LogName) (others : List LogFile) (hive : 
   read_same i below true on =
       let on_too : bits i ≡ true = sym (log_facts.bits_same file log hive r t i below) ∙ on in
       let read = log_facts.marked_read file log hive r t i below on in
-      let place : first + rank bits i ≡ first + rank taken_bits i = ap (λ k. first + k) (sym (log_facts.rank_is file log hive r t i (omega (arith, below)))) in
+      let place : first + rank bits i ≡ first + rank taken_bits i = ap (λ k. first + k)
+      (sym (log_facts.rank_is file log hive r t i (omega (arith, below)))) in
       ap (λ (l : List ℕ). Ok l)
-      (marked_here bits (filled log) first 0 (size / 512) i (first + rank bits i) room (omega (arith, roomy_long (filled file) size)) all_needed
+      (marked_here bits (filled log) first 0 (size / 512) i (first + rank bits i) room
+      (omega (arith, roomy_long (filled file) size)) all_needed
       (omega arith) (omega (arith, below)) on_too (omega arith))
       ∙ ap (λ k. Ok (sector (filled log) k)) place
-      ∙ ap (λ (l : List ℕ). Ok l) (sym (log_facts.log_there file log hive r t (first + rank taken_bits i) read.0 read.1).same)
+      ∙ ap (λ (l : List ℕ). Ok l)
+      (sym (log_facts.log_there file log hive r t (first + rank taken_bits i) read.0 read.1).same)
       ∙ sym read.1
       ∙ ap (λ b. cond b (read_log image (first + rank taken_bits i)) (read_bin image i)) (sym on)
   read_same i below false off =
@@ -264,27 +280,34 @@ module _ (file log : List ℕ) (name : LogName) (others : List LogFile) (hive : 
 
   saved_recovered : recovered_of (image_of saved []) ≡ Ok (record { base = r.base; bins = r.bins; dirty = false })
   saved_recovered =
-      clean_recovered saved base r.bins is_base refl refl block_again (omega (arith, pages_room, based_long pages_file base good pages_room))
+      clean_recovered saved base r.bins is_base refl refl block_again
+      (omega (arith, pages_room, based_long pages_file base good pages_room))
       bins_again
-      ∙ ap (λ (b : Base). Ok (record { base = b; bins = r.bins; dirty = false })) (closed_same t.logged hive.first t.first_is t.second_is ∙ t.base_is)
+      ∙ ap (λ (b : Base). Ok (record { base = b; bins = r.bins; dirty = false }))
+      (closed_same t.logged hive.first t.first_is t.second_is ∙ t.base_is)
 
   pub replay_recovers : IfOk (replay_of file files)
       (λ o. recovered_of (image_of o.file []) ≡ Ok (record { base = r.base; bins = r.bins; dirty = false }))
   replay_recovers =
-      replay_of_hive file files hive (λ o. recovered_of (image_of o.file []) ≡ Ok (record { base = r.base; bins = r.bins; dirty = false })) reads
-      (ap (λ (l : List ℕ). recovered_of (image_of l [])) (old_file file files hive c t.uneven not_applied is_chosen) ∙ saved_recovered)
+      replay_of_hive file files hive (λ o. recovered_of (image_of o.file [])
+      ≡ Ok (record { base = r.base; bins = r.bins; dirty = false })) reads
+      (ap (λ (l : List ℕ). recovered_of (image_of l [])) (old_file file files hive c t.uneven not_applied is_chosen)
+      ∙ saved_recovered)
 
 pub replay_loads : (file log : List ℕ) (name : LogName) (others : List LogFile) (hive : Base) (state : HiveState)
-    (loads : Loads (image_of file log) state true) → AreBytes file → AreByteFiles (record { name = name; bytes = log } ∷ others)
+    (loads : Loads (image_of file log) state true) → AreBytes file
+    → AreByteFiles (record { name = name; bytes = log } ∷ others)
     → hive_base_of (filled file) ≡ Ok hive → loads.recovered.base.stamp ≡ hive.stamp
     → chosen (map (given hive (length (filled file))) others) hive.second ≡ None
     → IfOk (replay_of file (record { name = name; bytes = log } ∷ others)) (λ o. Loads (image_of o.file []) state false)
 replay_loads file log name others hive state loads bytes are reads stamp none =
     on_ok (replay_of file (record { name = name; bytes = log } ∷ others))
-    (replay_recovers file log name others hive loads.recovered bytes are reads loads.read (sym loads.was_dirty) stamp none)
+    (replay_recovers file log name others hive loads.recovered bytes are reads loads.read (sym loads.was_dirty) stamp
+    none)
   where
     on_ok : (x : Result Outcome HiveFault)
-        → IfOk x (λ o. recovered_of (image_of o.file []) ≡ Ok (record { base = loads.recovered.base; bins = loads.recovered.bins; dirty = false }))
+        → IfOk x (λ o. recovered_of (image_of o.file [])
+        ≡ Ok (record { base = loads.recovered.base; bins = loads.recovered.bins; dirty = false }))
         → IfOk x (λ o. Loads (image_of o.file []) state false)
     on_ok (Err fault) h = tt
     on_ok (Ok o) h = record {

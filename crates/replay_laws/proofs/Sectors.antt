@@ -15,20 +15,24 @@ use Rattle.dirt_log.specs.Dirt.{marked_pages}
 
 -- ---- a sector of an image
 
-cut_short : (x : List ℕ) (pad : ℕ) → length x < 512 → pad ≡ 512 - length x → take 512 x ++ replicate (512 - length (take 512 x)) 0 ≡ take 512 (x ++ replicate pad 0)
+cut_short : (x : List ℕ) (pad : ℕ) → length x < 512 → pad ≡ 512 - length x
+    → take 512 x ++ replicate (512 - length (take 512 x)) 0 ≡ take 512 (x ++ replicate pad 0)
 cut_short x pad short is =
     let whole : take 512 x ≡ x = take_all 512 x (omega arith) in
-    let long : length (x ++ replicate pad 0) ≤ 512 = omega (arith, length-append x (replicate pad 0), length-replicate {A = ℕ} pad 0) in
+    let long : length (x ++ replicate pad 0) ≤ 512 = omega
+    (arith, length-append x (replicate pad 0), length-replicate {A = ℕ} pad 0) in
     ap (λ (l : List ℕ). l ++ replicate (512 - length l) 0) whole
     ∙ ap (λ n. x ++ replicate n 0) (sym is)
     ∙ sym (take_all 512 (x ++ replicate pad 0) long)
 
-cut_long : (x more : List ℕ) → 512 ≤ length x → take 512 x ++ replicate (512 - length (take 512 x)) 0 ≡ take 512 (x ++ more)
+cut_long : (x more : List ℕ) → 512 ≤ length x
+    → take 512 x ++ replicate (512 - length (take 512 x)) 0 ≡ take 512 (x ++ more)
 cut_long x more long =
     let full : 512 - length (take 512 x) ≡ 0 = omega (arith, length-take 512 x) in
     ap (λ n. take 512 x ++ replicate n 0) full ∙ append-nil (take 512 x) ∙ sym (take-append-le 512 x more long)
 
-pub padded_sector : (bytes : List ℕ) (n : ℕ) → 512 * n < length bytes → padded (take 512 (drop (512 * n) bytes)) ≡ sector (filled bytes) n
+pub padded_sector : (bytes : List ℕ) (n : ℕ) → 512 * n < length bytes
+    → padded (take 512 (drop (512 * n) bytes)) ≡ sector (filled bytes) n
 unfolding sector filled
 padded_sector bytes n inside =
     let x : List ℕ = drop (512 * n) bytes in
@@ -61,13 +65,15 @@ unfolding got
 read_there f g bytes n read is = outer (nat_lt n 65536) refl is
   where
     inner : n < 65536 → (t : Bool) → nat_lt (512 * n) (length bytes) ≡ t
-        → bytes_or f g (cond t (Some (Bytes (padded (take 512 (drop (512 * n) bytes))))) None) ≡ Ok read → IsThere bytes n read
+        → bytes_or f g (cond t (Some (Bytes (padded (take 512 (drop (512 * n) bytes))))) None) ≡ Ok read
+        → IsThere bytes n read
     inner few true e h =
         let inside : 512 * n < length bytes = ltb-true (512 * n) (length bytes) e in
         record { inside = inside; few = few; same = sym (same_got _ read h) ∙ padded_sector bytes n inside }
     inner few false e h = absurd cc
 
-    outer : (t : Bool) → nat_lt n 65536 ≡ t → bytes_or f g (cond t (sector_of bytes n) None) ≡ Ok read → IsThere bytes n read
+    outer : (t : Bool) → nat_lt n 65536 ≡ t → bytes_or f g (cond t (sector_of bytes n) None) ≡ Ok read
+        → IsThere bytes n read
     outer true e h = inner (ltb-true n 65536 e) (nat_lt (512 * n) (length bytes)) refl h
     outer false e h = absurd cc
 
@@ -75,18 +81,22 @@ pub there : (bytes : List ℕ) (n : ℕ) → n < 65536 → 512 * n < length byte
     → cond (nat_lt n 65536) (sector_of bytes n) None ≡ Some (Bytes (sector (filled bytes) n))
 there bytes n few inside =
     ap (λ t. cond t (sector_of bytes n) None) (lt-ltb n 65536 few)
-    ∙ ap (λ t. cond t (Some (Bytes (padded (take 512 (drop (512 * n) bytes))))) None) (lt-ltb (512 * n) (length bytes) inside)
+    ∙ ap (λ t. cond t (Some (Bytes (padded (take 512 (drop (512 * n) bytes))))) None)
+    (lt-ltb (512 * n) (length bytes) inside)
     ∙ ap (λ (l : List ℕ). Some (Bytes l)) (padded_sector bytes n inside)
 
 -- of a run that was gathered each sector was read
-pub gathered_each : (at : Sectors) (from n : ℕ) (all : List ℕ) → gathered at from n ≡ Ok all → (i : ℕ) → from ≤ i → i < from + n
+pub gathered_each : (at : Sectors) (from n : ℕ) (all : List ℕ) → gathered at from n ≡ Ok all → (i : ℕ) → from ≤ i
+    → i < from + n
     → (one : List ℕ) × (at i ≡ Ok one)
 gathered_each at from zero all is i low high = absurd (omega arith)
 gathered_each at from (suc n) all is i low high = first (at from) refl (gathered at (suc from) n) refl is
     (λ more e. gathered_each at (suc from) n more e i)
   where
-    first : (s : Result (List ℕ) HiveFault) → at from ≡ s → (r : Result (List ℕ) HiveFault) → gathered at (suc from) n ≡ r → joined s r ≡ Ok all
-        → ((more : List ℕ) → gathered at (suc from) n ≡ Ok more → suc from ≤ i → i < suc from + n → (one : List ℕ) × (at i ≡ Ok one))
+    first : (s : Result (List ℕ) HiveFault) → at from ≡ s → (r : Result (List ℕ) HiveFault)
+        → gathered at (suc from) n ≡ r → joined s r ≡ Ok all
+        → ((more : List ℕ) → gathered at (suc from) n ≡ Ok more → suc from ≤ i → i < suc from + n
+        → (one : List ℕ) × (at i ≡ Ok one))
         → (one : List ℕ) × (at i ≡ Ok one)
     first (Err f) e r h is rest = absurd cc
     first (Ok s) e (Err f) h is rest = absurd cc
@@ -98,11 +108,13 @@ gathered_each at from (suc n) all is i low high = first (at from) refl (gathered
 
 -- ---- a sector that is written
 
-pub put_same : (file bytes : List ℕ) (m : ℕ) → length bytes ≡ 512 → 512 * m + 512 ≤ length file → sector (put_at file (512 * m) bytes) m ≡ bytes
+pub put_same : (file bytes : List ℕ) (m : ℕ) → length bytes ≡ 512 → 512 * m + 512 ≤ length file
+    → sector (put_at file (512 * m) bytes) m ≡ bytes
 put_same file bytes m long inside =
     let front : List ℕ = take (512 * m) file in
     let front_long : length front ≡ 512 * m = omega (arith, length-take (512 * m) file) in
-    sector_front (front ++ bytes) (drop (512 * m + length bytes) file) m (omega (arith, length-append front bytes, front_long, long))
+    sector_front (front ++ bytes) (drop (512 * m + length bytes) file) m
+    (omega (arith, length-append front bytes, front_long, long))
     ∙ ap (sector (front ++ bytes)) (omega arith)
     ∙ sector_back front bytes m 0 front_long
     ∙ sector_whole bytes long
@@ -145,7 +157,8 @@ module _ (file bytes : List ℕ) (m k : ℕ) (long : length bytes ≡ 512) (insi
     where
       here : (k < m) ⊎ (m ≤ k) → sector (put_at file (512 * m) bytes) k ≡ sector file k
       here (inl less) = put_before less
-      here (inr more) = let not_here : k ≢ m = other in put_past (m + 1) (k - (m + 1)) refl (omega (arith, more, not_here))
+      here (inr more) = let not_here : k ≢ m = other in put_past (m + 1) (k - (m + 1)) refl
+          (omega (arith, more, not_here))
 
 -- ---- the marked sectors
 
@@ -156,7 +169,8 @@ module _ (bits : ℕ → Bool) (log : List ℕ) where
 
   next_long : (next i n : ℕ) → bits i ≡ true → 512 * (next + rank bits (i + suc n)) ≤ length log + 512 * rank bits i
       → length (sector log next) ≡ 512
-  next_long next i n on needs = sector_long log next (omega (arith, needs, rank_below bits (i + suc n) i (omega arith) on))
+  next_long next i n on needs = sector_long log next
+      (omega (arith, needs, rank_below bits (i + suc n) i (omega arith) on))
 
   first_long : (file : List ℕ) (next i n : ℕ) → length (sector log next) ≡ 512 → 4096 + 512 * (i + suc n) ≤ length file
       → length (with_first file next i) ≡ length file
@@ -174,7 +188,8 @@ module _ (bits : ℕ → Bool) (log : List ℕ) where
       let same : rank bits ((i + 1) + n) ≡ rank bits (i + suc n) = ap (rank bits) (omega arith) in
       omega (arith, same, needs, rank_off bits i off)
 
-  first_others : (file : List ℕ) (next i n j : ℕ) → length (sector log next) ≡ 512 → 4096 + 512 * (i + suc n) ≤ length file
+  first_others : (file : List ℕ) (next i n j : ℕ) → length (sector log next) ≡ 512
+      → 4096 + 512 * (i + suc n) ≤ length file
       → 4096 + 512 * j + 512 ≤ length file → (j ≡ i → ⊥) → sector (with_first file next i) (8 + j) ≡ sector file (8 + j)
   first_others file next i n j long room there other =
       let place : 4096 + 512 * i ≡ 512 * (8 + i) = omega arith in
@@ -198,7 +213,8 @@ module _ (bits : ℕ → Bool) (log : List ℕ) where
   still i j (inr off) = inr off
 
   -- sectors before them and those whose bit is off are left
-  pub marked_others : (next i n j : ℕ) (file : List ℕ) → 4096 + 512 * (i + n) ≤ length file → 4096 + 512 * j + 512 ≤ length file
+  pub marked_others : (next i n j : ℕ) (file : List ℕ) → 4096 + 512 * (i + n) ≤ length file
+      → 4096 + 512 * j + 512 ≤ length file
       → 512 * (next + rank bits (i + n)) ≤ length log + 512 * rank bits i → (j < i) ⊎ (bits j ≡ false)
       → sector (put_pages file (marked_pages bits log next i n)) (8 + j) ≡ sector file (8 + j)
   unfolding marked_pages
@@ -207,14 +223,18 @@ module _ (bits : ℕ → Bool) (log : List ℕ) where
       here (λ next. marked_others next (i + 1) n j) (bits i) refl
     where
       here : ((next : ℕ) (file : List ℕ) → 4096 + 512 * ((i + 1) + n) ≤ length file → 4096 + 512 * j + 512 ≤ length file
-          → 512 * (next + rank bits ((i + 1) + n)) ≤ length log + 512 * rank bits (i + 1) → (j < i + 1) ⊎ (bits j ≡ false)
-          → sector (put_pages file (marked_pages bits log next (i + 1) n)) (8 + j) ≡ sector file (8 + j)) → (b : Bool) → bits i ≡ b
-          → sector (put_pages file (cond b (record { place = 512 * i; bytes = sector log next } ∷ marked_pages bits log (next + 1) (i + 1) n)
+          → 512 * (next + rank bits ((i + 1) + n)) ≤ length log + 512 * rank bits (i + 1)
+          → (j < i + 1) ⊎ (bits j ≡ false)
+          → sector (put_pages file (marked_pages bits log next (i + 1) n)) (8 + j) ≡ sector file (8 + j)) → (b : Bool)
+          → bits i ≡ b
+          → sector (put_pages file
+          (cond b (record { place = 512 * i; bytes = sector log next } ∷ marked_pages bits log (next + 1) (i + 1) n)
           (marked_pages bits log next (i + 1) n))) (8 + j) ≡ sector file (8 + j)
       here rest true on =
           let long = next_long next i n on needs in
           let same = first_long file next i n long room in
-          rest (next + 1) (with_first file next i) (omega (arith, same, room)) (omega (arith, same, there)) (needs_on next i n on needs)
+          rest (next + 1) (with_first file next i) (omega (arith, same, room)) (omega (arith, same, there))
+          (needs_on next i n on needs)
           (still i j other)
           ∙ first_others file next i n j long room there (apart_from i j on other)
       here rest false off = rest next file (omega (arith, room)) there (needs_off next i n off needs) (still i j other)
@@ -230,14 +250,18 @@ module _ (bits : ℕ → Bool) (log : List ℕ) where
       here (λ next. marked_here next (i + 1) n j m) (cases_lt i j) (bits i) refl
     where
       here : ((next : ℕ) (file : List ℕ) → 4096 + 512 * ((i + 1) + n) ≤ length file
-          → 512 * (next + rank bits ((i + 1) + n)) ≤ length log + 512 * rank bits (i + 1) → i + 1 ≤ j → j < (i + 1) + n → bits j ≡ true
+          → 512 * (next + rank bits ((i + 1) + n)) ≤ length log + 512 * rank bits (i + 1) → i + 1 ≤ j → j < (i + 1) + n
+          → bits j ≡ true
           → m + rank bits (i + 1) ≡ next + rank bits j
-          → sector (put_pages file (marked_pages bits log next (i + 1) n)) (8 + j) ≡ sector log m) → (i < j) ⊎ (j ≤ i) → (b : Bool) → bits i ≡ b
-          → sector (put_pages file (cond b (record { place = 512 * i; bytes = sector log next } ∷ marked_pages bits log (next + 1) (i + 1) n)
+          → sector (put_pages file (marked_pages bits log next (i + 1) n)) (8 + j) ≡ sector log m) → (i < j) ⊎ (j ≤ i)
+          → (b : Bool) → bits i ≡ b
+          → sector (put_pages file
+          (cond b (record { place = 512 * i; bytes = sector log next } ∷ marked_pages bits log (next + 1) (i + 1) n)
           (marked_pages bits log next (i + 1) n))) (8 + j) ≡ sector log m
       here rest (inl less) true is =
           let same = first_long file next i n (next_long next i n is needs) room in
-          rest (next + 1) (with_first file next i) (omega (arith, same, room)) (needs_on next i n is needs) (omega arith) (omega (arith, high)) on
+          rest (next + 1) (with_first file next i) (omega (arith, same, room)) (needs_on next i n is needs)
+          (omega arith) (omega (arith, high)) on
           (omega (arith, place, rank_on bits i is))
       here rest (inl less) false is =
           rest next file (omega (arith, room)) (needs_off next i n is needs) (omega arith) (omega (arith, high)) on
@@ -247,8 +271,10 @@ module _ (bits : ℕ → Bool) (log : List ℕ) where
           let long = next_long next i n is needs in
           let kept = first_long file next i n long room in
           let first : next ≡ m = omega (arith, place, ap (rank bits) same) in
-          ap (λ k. sector (put_pages (with_first file next i) (marked_pages bits log (next + 1) (i + 1) n)) (8 + k)) same
-          ∙ marked_others (next + 1) (i + 1) n i (with_first file next i) (omega (arith, kept, room)) (omega (arith, kept, room))
+          ap (λ k. sector (put_pages (with_first file next i) (marked_pages bits log (next + 1) (i + 1) n)) (8 + k))
+          same
+          ∙ marked_others (next + 1) (i + 1) n i (with_first file next i) (omega (arith, kept, room))
+          (omega (arith, kept, room))
           (needs_on next i n is needs) (inl (omega arith))
           ∙ first_same file next i n long room
           ∙ ap (sector log) first

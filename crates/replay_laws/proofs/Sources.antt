@@ -52,9 +52,12 @@ unfolding reading_of
 entries_of log hive have = here (length log == 0)
   where
     kind : (base : Base) → wide_base_of (take 512 log) roles.Log ≡ Ok base → (new : Bool) → (base.kind == 6) ≡ new
-        → (entries_in (cond new (readings.New (run_of log)) (readings.Old base (old_reading_of log base hive have))) ≡ [])
-        ⊎ IsNewRun log (entries_in (cond new (readings.New (run_of log)) (readings.Old base (old_reading_of log base hive have))))
-    kind base reads true is = inr (record { base = base; base_is = reads; is_new = eqb-true base.kind 6 is; entries_are = refl })
+        → (entries_in (cond new (readings.New (run_of log)) (readings.Old base (old_reading_of log base hive have)))
+        ≡ [])
+        ⊎ IsNewRun log
+        (entries_in (cond new (readings.New (run_of log)) (readings.Old base (old_reading_of log base hive have))))
+    kind base reads true is = inr
+        (record { base = base; base_is = reads; is_new = eqb-true base.kind 6 is; entries_are = refl })
     kind base reads false is = inl refl
 
     there : (r : Result Base HiveFault) → wide_base_of (take 512 log) roles.Log ≡ r
@@ -64,7 +67,8 @@ entries_of log hive have = here (length log == 0)
 
     here : (empty : Bool)
         → (entries_in (cond empty readings.Empty (based (wide_base_of (take 512 log) roles.Log) log hive have)) ≡ [])
-        ⊎ IsNewRun log (entries_in (cond empty readings.Empty (based (wide_base_of (take 512 log) roles.Log) log hive have)))
+        ⊎ IsNewRun log
+        (entries_in (cond empty readings.Empty (based (wide_base_of (take 512 log) roles.Log) log hive have)))
     here true = inl refl
     here false = there (wide_base_of (take 512 log) roles.Log) refl
 
@@ -101,10 +105,12 @@ entry_from : (log : List ℕ) (hive : Base) (have n : ℕ) (e : Entry) → AreBy
     → numbered (entries_in (reading_of log hive have)) n ≡ Some e → IsNumbered log n e
 entry_from log hive have n e bytes fits is = here (entries_of log hive have)
   where
-    here : (entries_in (reading_of log hive have) ≡ []) ⊎ IsNewRun log (entries_in (reading_of log hive have)) → IsNumbered log n e
+    here : (entries_in (reading_of log hive have) ≡ []) ⊎ IsNewRun log (entries_in (reading_of log hive have))
+        → IsNumbered log n e
     here (inl none) = absurd (numbered_one [] n e (sym (ap (λ (l : List Entry). numbered l n) none) ∙ is))
     here (inr run) =
-        let got : numbered (run_of log).entries n ≡ Some e = sym (ap (λ (l : List Entry). numbered l n) run.entries_are) ∙ is in
+        let got : numbered (run_of log).entries n ≡ Some e = sym (ap (λ (l : List Entry). numbered l n) run.entries_are)
+        ∙ is in
         record {
           run = record { base = run.base; base_is = run.base_is; is_new = run.is_new; entries_are = refl };
           in_run = numbered_one (run_of log).entries n e got;
@@ -122,9 +128,11 @@ chosen_found : (files : List LogFile) (hive : Base) (have n : ℕ) (c : Chosen) 
     → chosen (map (given hive have) files) n ≡ Some c → IsFound files n c
 chosen_found [] hive have n c are fits is = absurd cc
 chosen_found (f ∷ fs) hive have n c are fits is =
-    here (chosen_found fs hive have n c are.1 fits) (numbered (entries_in (reading_of (filled f.bytes) hive have)) n) refl is
+    here (chosen_found fs hive have n c are.1 fits) (numbered (entries_in (reading_of (filled f.bytes) hive have)) n)
+    refl is
   where
-    here : (chosen (map (given hive have) fs) n ≡ Some c → IsFound fs n c) → (found : Option Entry) → numbered (entries_in (reading_of (filled f.bytes) hive have)) n ≡ found
+    here : (chosen (map (given hive have) fs) n ≡ Some c → IsFound fs n c) → (found : Option Entry)
+        → numbered (entries_in (reading_of (filled f.bytes) hive have)) n ≡ found
         → chosen_or (given hive have f) found (chosen (map (given hive have) fs) n) ≡ Some c → IsFound (f ∷ fs) n c
     here later None none h =
         let rest = later h in
@@ -156,14 +164,16 @@ chosen_from files hive have n c are fits is =
       number = found.numbered.number;
     }
 
-pub fold_from : (files : List LogFile) (hive : Base) (have : ℕ) (cs : List Chosen) (old new : HiveNow) → AreByteFiles files
+pub fold_from : (files : List LogFile) (hive : Base) (have : ℕ) (cs : List Chosen) (old new : HiveNow)
+    → AreByteFiles files
     → old.next < 2 ^ 32 → IsFoldOf (map (given hive have) files) cs old new → AreFrom files old.next cs
 fold_from files hive have [] old new are fits is = tt
 fold_from files hive have (c ∷ cs) old new are fits is =
     let from = chosen_from files hive have old.next c are fits is.0 in
     let next : (c.entry.number + 1) % 2 ^ 32 ≡ (old.next + 1) % 2 ^ 32 = ap (λ k. (k + 1) % 2 ^ 32) from.number in (
       from,
-      subst (λ k. AreFrom files k cs) next (fold_from files hive have cs (with_entry old c) new are (omega arith) is.1.1),
+      subst (λ k. AreFrom files k cs) next (fold_from files hive have cs (with_entry old c) new are (omega arith)
+          is.1.1),
     )
 
 -- ---- an old log
@@ -184,7 +194,8 @@ record IsWholeBy (log : List ℕ) (hive : Base) (have : ℕ) (w : WholeOld) : Ty
   pub sectors : ℕ
   pub whole : old_reading_of log w.base hive have ≡ olds.Whole number sectors
 
-whole_by : (log : List ℕ) (hive : Base) (have : ℕ) (w : WholeOld) → whole_old (reading_of log hive have) ≡ Some w → IsWholeBy log hive have w
+whole_by : (log : List ℕ) (hive : Base) (have : ℕ) (w : WholeOld) → whole_old (reading_of log hive have) ≡ Some w
+    → IsWholeBy log hive have w
 unfolding reading_of
 whole_by log hive have w is = here (length log == 0) is
   where
@@ -203,23 +214,27 @@ whole_by log hive have w is = here (length log == 0) is
         }
 
     kind : (base : Base) → wide_base_of (take 512 log) roles.Log ≡ Ok base → (new : Bool)
-        → whole_old (cond new (readings.New (run_of log)) (readings.Old base (old_reading_of log base hive have))) ≡ Some w
+        → whole_old (cond new (readings.New (run_of log)) (readings.Old base (old_reading_of log base hive have)))
+        ≡ Some w
         → IsWholeBy log hive have w
     kind base reads true h = absurd cc
     kind base reads false h = reading base reads (old_reading_of log base hive have) refl h
 
-    there : (r : Result Base HiveFault) → wide_base_of (take 512 log) roles.Log ≡ r → whole_old (based r log hive have) ≡ Some w
+    there : (r : Result Base HiveFault) → wide_base_of (take 512 log) roles.Log ≡ r
+        → whole_old (based r log hive have) ≡ Some w
         → IsWholeBy log hive have w
     there (Err fault) reads h = absurd cc
     there (Ok base) reads h = kind base reads (base.kind == 6) h
 
-    here : (empty : Bool) → whole_old (cond empty readings.Empty (based (wide_base_of (take 512 log) roles.Log) log hive have)) ≡ Some w
+    here : (empty : Bool)
+        → whole_old (cond empty readings.Empty (based (wide_base_of (take 512 log) roles.Log) log hive have)) ≡ Some w
         → IsWholeBy log hive have w
     here true h = absurd cc
     here false h = there (wide_base_of (take 512 log) roles.Log) refl h
 
 wanted_from : (file : LogFile) (hive : Base) (have : ℕ) (wanted : Option ℕ) (c : ChosenOld)
-    → wanted_old (given hive have file) wanted ≡ Some c → (c.log.bytes ≡ filled file.bytes) × IsWholeBy (filled file.bytes) hive have c.whole
+    → wanted_old (given hive have file) wanted ≡ Some c
+    → (c.log.bytes ≡ filled file.bytes) × IsWholeBy (filled file.bytes) hive have c.whole
 wanted_from file hive have wanted c is = here (whole_old (reading_of (filled file.bytes) hive have)) refl is
   where
     there : (w : WholeOld) → whole_old (reading_of (filled file.bytes) hive have) ≡ Some w → (t : Bool)
@@ -229,7 +244,8 @@ wanted_from file hive have wanted c is = here (whole_old (reading_of (filled fil
     there w some true h =
         let same : record { log = given hive have file; whole = w } ≡ c = cc in (
           sym (ap (λ (x : ChosenOld). x.log.bytes) same),
-          subst (λ (x : ChosenOld). IsWholeBy (filled file.bytes) hive have x.whole) same (whole_by (filled file.bytes) hive have w some),
+          subst (λ (x : ChosenOld). IsWholeBy (filled file.bytes) hive have x.whole) same
+              (whole_by (filled file.bytes) hive have w some),
         )
 
     here : (found : Option WholeOld) → whole_old (reading_of (filled file.bytes) hive have) ≡ found
@@ -238,7 +254,8 @@ wanted_from file hive have wanted c is = here (whole_old (reading_of (filled fil
     here None none h = absurd cc
     here (Some w) some h = there w some (is_wanted wanted w.base.first) h
 
-first_part : (a b : Option ChosenOld) (c : ChosenOld) (P : Type 0) → (a ≡ Some c → P) → (b ≡ Some c → P) → first_of a b ≡ Some c → P
+first_part : (a b : Option ChosenOld) (c : ChosenOld) (P : Type 0) → (a ≡ Some c → P) → (b ≡ Some c → P)
+    → first_of a b ≡ Some c → P
 first_part None b c P one other is = other is
 first_part (Some x) b c P one other is = one is
 
@@ -246,7 +263,8 @@ first_from : (files : List LogFile) (hive : Base) (have : ℕ) (wanted : Option 
     → first_old (map (given hive have) files) wanted ≡ Some c → IsOldFrom files hive have c
 first_from [] hive have wanted c is = absurd cc
 first_from (f ∷ fs) hive have wanted c is =
-    first_part (wanted_old (given hive have f) wanted) (first_old (map (given hive have) fs) wanted) c (IsOldFrom (f ∷ fs) hive have c)
+    first_part (wanted_old (given hive have f) wanted) (first_old (map (given hive have) fs) wanted) c
+    (IsOldFrom (f ∷ fs) hive have c)
     (λ h.
     let from = wanted_from f hive have wanted c h in
     record {

@@ -40,12 +40,14 @@ joined_parts (Err f) r all e = absurd cc
 joined_parts (Ok a) (Err f) all e = absurd cc
 joined_parts (Ok a) (Ok b) all e = (a, b, refl, refl, sym (same_got (a ++ b) all e))
 
-with_parts : (dirty : Bool) (base : Base) (g : Result (List ℕ) HiveFault) (r : Recovered) → recovered_with dirty base g ≡ Ok r
+with_parts : (dirty : Bool) (base : Base) (g : Result (List ℕ) HiveFault) (r : Recovered)
+    → recovered_with dirty base g ≡ Ok r
     → (g ≡ Ok r.bins) × (base ≡ r.base) × (dirty ≡ r.dirty)
 unfolding got
 with_parts dirty base (Err f) r e = absurd cc
 with_parts dirty base (Ok bins) r e =
-    let same : record { base = base; bins = bins; dirty = dirty } ≡ r = same_got (record { base = base; bins = bins; dirty = dirty }) r e in (
+    let same : record { base = base; bins = bins; dirty = dirty }
+    ≡ r = same_got (record { base = base; bins = bins; dirty = dirty }) r e in (
       ap (λ (x : Recovered). Ok x.bins) same,
       ap (λ (x : Recovered). x.base) same,
       ap (λ (x : Recovered). x.dirty) same,
@@ -74,8 +76,22 @@ wide_log s b is =
     let parts = read_parts (first_failing (base_checks s 1)) (fields_of s) b is in
     let h = none_holds (base_checks s 1) parts.0 in
     let none : first_failing (wide_checks s Log) ≡ None =
-    none_fails (wide_checks s Log)
-    (h.0, (h.1.0, (h.1.1.0, (h.1.1.1.0, (old_type (u32_in s 28) h.1.1.1.1.0, (h.1.1.1.1.1.0, (bins_wide (u32_in s 40) h.1.1.1.1.1.1.0, tt))))))) in
+    none_fails (wide_checks s Log) (
+      h.0,
+      (
+        h.1.0,
+        (
+          h.1.1.0,
+          (
+            h.1.1.1.0,
+            (
+              old_type (u32_in s 28) h.1.1.1.1.0,
+              (h.1.1.1.1.1.0, (bins_wide (u32_in s 40) h.1.1.1.1.1.1.0, tt)),
+            ),
+          ),
+        ),
+      ),
+    ) in
     ap (λ f. unless_fault f (fields_of s)) none ∙ ap (λ f. Ok f) parts.1
 
 -- ---- what a load took
@@ -89,20 +105,25 @@ pub record IsTaken (file log : List ℕ) (hive : Base) (r : Recovered) : Type 0 
   pub text : List ℕ
   pub text_is : bitmap_in (image_of file log) logged.size ≡ Ok text
   pub marked : List ℕ
-  pub marked_are : gathered (read_log (image_of file log)) (first_dirty logged.size) (rank (bit (drop 4 text)) (logged.size / 512)) ≡ Ok marked
-  pub bins_are : gathered (picked (image_of file log) (first_dirty logged.size) (bit (drop 4 text))) 0 (logged.size / 512) ≡ Ok r.bins
+  pub marked_are : gathered (read_log (image_of file log)) (first_dirty logged.size)
+      (rank (bit (drop 4 text)) (logged.size / 512)) ≡ Ok marked
+  pub bins_are : gathered (picked (image_of file log) (first_dirty logged.size) (bit (drop 4 text))) 0
+      (logged.size / 512) ≡ Ok r.bins
   pub base_is : closed_by logged ≡ r.base
 
-module _ (file log : List ℕ) (hive : Base) (r : Recovered) (reads : hive_base_of (filled file) ≡ Ok hive) (dirty : r.dirty ≡ true) where
+module _ (file log : List ℕ) (hive : Base) (r : Recovered) (reads : hive_base_of (filled file) ≡ Ok hive)
+    (dirty : r.dirty ≡ true) where
   abbrev image : Image
   image = image_of file log
 
-  by_text : (logged : Base) (text : List ℕ) → (hive.first ≡ hive.second → ⊥) → logged_in image ≡ Ok logged → logged.first ≡ hive.first
+  by_text : (logged : Base) (text : List ℕ) → (hive.first ≡ hive.second → ⊥) → logged_in image ≡ Ok logged
+      → logged.first ≡ hive.first
       → logged.second ≡ hive.first → bitmap_in image logged.size ≡ Ok text
       → by_bits image (closed_by logged) (bit (drop 4 text)) ≡ Ok r → IsTaken file log hive r
   by_text logged text uneven logged_is first second text_is back =
       let bits = bit (drop 4 text) in
-      let parts = with_parts true (closed_by logged) (bins_by image logged.size bits) r (sym (by_bins image (closed_by logged) bits) ∙ back) in
+      let parts = with_parts true (closed_by logged) (bins_by image logged.size bits) r
+      (sym (by_bins image (closed_by logged) bits) ∙ back) in
       let on = went_on (gathered (read_log image) (first_dirty logged.size) (rank bits (logged.size / 512)))
       (λ _. gathered (picked image (first_dirty logged.size) bits) 0 (logged.size / 512)) r.bins parts.0 in
       record {
@@ -119,20 +140,24 @@ module _ (file log : List ℕ) (hive : Base) (r : Recovered) (reads : hive_base_
         base_is = parts.1;
       }
 
-  by_goes : (logged : Base) → (hive.first ≡ hive.second → ⊥) → logged_in image ≡ Ok logged → by_logged image (Some hive) logged ≡ Ok r
+  by_goes : (logged : Base) → (hive.first ≡ hive.second → ⊥) → logged_in image ≡ Ok logged
+      → by_logged image (Some hive) logged ≡ Ok r
       → IsTaken file log hive r
   by_goes logged uneven logged_is back = here (goes_with (Some hive) logged) refl back
     where
       here : (t : Bool) → goes_with (Some hive) logged ≡ t
-          → cond t (bitmap_in image logged.size >>= λ text. by_bits image (closed_by logged) (bit (drop 4 text))) (Err (fault_at kinds.LogSequence 4)) ≡ Ok r
+          → cond t (bitmap_in image logged.size >>= λ text. by_bits image (closed_by logged) (bit (drop 4 text)))
+          (Err (fault_at kinds.LogSequence 4)) ≡ Ok r
           → IsTaken file log hive r
       here false goes h = absurd cc
       here true goes h =
           let two = and_parts (logged.first == hive.first) (logged.second == hive.first) goes in
-          let on = went_on (bitmap_in image logged.size) (λ text. by_bits image (closed_by logged) (bit (drop 4 text))) r h in
+          let on = went_on (bitmap_in image logged.size) (λ text. by_bits image (closed_by logged) (bit (drop 4 text)))
+          r h in
           by_text logged on.0 uneven logged_is (eqb-true _ _ two.0) (eqb-true _ _ two.1) on.1 on.2
 
-  by_opened : (t : Bool) → (hive.first == hive.second) ≡ t → cond t (by_primary image hive) (by_log image (Some hive)) ≡ Ok r
+  by_opened : (t : Bool) → (hive.first == hive.second) ≡ t
+      → cond t (by_primary image hive) (by_log image (Some hive)) ≡ Ok r
       → IsTaken file log hive r
   by_opened true even h =
       let clean : false ≡ r.dirty = (with_parts false hive (gathered (read_bin image) 0 (hive.size / 512)) r h).2 in
@@ -147,14 +172,17 @@ module _ (file log : List ℕ) (hive : Base) (r : Recovered) (reads : hive_base_
   unfolding got sector
   opened_is opened is = here (nat_lt 0 (length file)) refl is
     where
-      here : (t : Bool) → nat_lt 0 (length file) ≡ t → base_at (cond t (Some (Bytes (padded (take 512 file)))) None) ≡ Ok opened
+      here : (t : Bool) → nat_lt 0 (length file) ≡ t
+          → base_at (cond t (Some (Bytes (padded (take 512 file)))) None) ≡ Ok opened
           → opened ≡ Some hive
       here false e h = absurd cc
       here true e h =
-          let block : padded (take 512 file) ≡ take 512 (filled file) = padded_sector file 0 (ltb-true 0 (length file) e) in
+          let block : padded (take 512 file) ≡ take 512 (filled file) = padded_sector file 0
+          (ltb-true 0 (length file) e) in
           let on = went_on (base_of (padded (take 512 file)) 0) (λ base. Ok (Some base)) opened h in
           let same : on.0 ≡ hive =
-          sym (base_fields (padded (take 512 file)) 0 on.0 on.1) ∙ ap fields_of block ∙ (hive_is (filled file) hive reads).read.fields in
+          sym (base_fields (padded (take 512 file)) 0 on.0 on.1) ∙ ap fields_of block
+          ∙ (hive_is (filled file) hive reads).read.fields in
           sym (same_got (Some on.0) opened on.2) ∙ ap (λ b. Some b) same
 
   pub taken : recovered_of image ≡ Ok r → IsTaken file log hive r
