@@ -33,4 +33,5 @@ marks_all bytes n from (suc m) marks inside are =
 
 pub all_covered : (bytes : List ℕ) (n from m : ℕ) (marks : List Bool) → length marks ≡ m → AreMarks bytes n from marks
     → all_on marks (length marks) ≡ covers_all bytes n from m
-all_covered bytes n from m marks long are = ap (all_on marks) long ∙ marks_all bytes n from m marks (omega (arith, long)) are
+all_covered bytes n from m marks long are = ap (all_on marks) long
+    ∙ marks_all bytes n from m marks (omega (arith, long)) are
