@@ -12,19 +12,20 @@ ghost use Rattle.hive_alt.specs.Schemes.{StandFault};
 ghost use Rattle.command_words.specs.Words.{TwinAsked};
 ghost use Rattle.command_words.specs.declared.asked.AskedScheme.{AskedScheme};
 ghost use Rattle.command_parts.specs.declared.status.Status.TheVariants as statuses;
+ghost use Rattle.line_text.specs.declared.form.ReportForm.TheVariants.{Text};
 ghost use Rattle.twin_command.specs.Twinned.{stands_by, DecidesTwin};
 ghost use Rattle.twin_laws.specs.AsTold.{StandsAsTold};
 
-/// After `twin` that ended as done, the two files that the disk holds stand together for the state that the lines tell, by the
+/// After `twin` that printed text and ended as done, the two files that the disk holds stand together for the state that the lines tell, by the
 /// scheme of the words (`held`). So do the two files that were saved, where each has its own name (`saved`). The primary's
 /// sector 0 has to be one that can be read.
 pub fn what_was_saved_stands_as_told()
     ensures held { (words : TwinAsked) (old new : HostState) (disk : DiskState) (hive alt : List ℕ)
-        → DecidesTwin words statuses.Done old new disk → old.tells ≡ true
+        → DecidesTwin Text words statuses.Done old new disk → old.tells ≡ true
         → IsFileOf disk.held Primary hive → IsFileOf disk.held Log alt → HasUntornBlock disk.held
         → StandsAsTold words old new (image_of hive alt) }
     ensures saved { (words : TwinAsked) (old new : HostState) (disk : DiskState) (name other hive alt : List ℕ)
-        → DecidesTwin words statuses.Done old new disk → old.tells ≡ true
+        → DecidesTwin Text words statuses.Done old new disk → old.tells ≡ true
         → words.save_hive ≡ Some name → words.save_alt ≡ Some other → (name ≡ other → ⊥)
         → new.files name ≡ Some hive → new.files other ≡ Some alt → HasUntornBlock disk.held
         → StandsAsTold words old new (image_of hive alt) }
