@@ -2,6 +2,7 @@
 
 use super::*;
 use control_command::{read_commands, report};
+use line_text::ReportForm;
 use nt_bytes::Bytes;
 use reg_tree::Key;
 use startup_tests::{Service, plain};
@@ -13,7 +14,7 @@ use std::test::Fail;
 fn said(rt: &impl Abort, alloc: Global, root: &Key, text: &[u8]) -> Result<Bytes, Fail> {
     assert!(rt; can_be_held(root));
     let commands = read_commands(alloc, text)?;
-    Ok(report(alloc, root, commands.as_slice())?)
+    Ok(report(alloc, ReportForm::Text, root, commands.as_slice())?)
 }
 
 /// These commands on these services are answered by these lines.
