@@ -14,3 +14,5 @@ pub mod SetLemmas
 pub mod LineLemmas
 pub mod WaysLemmas
 pub mod AboutLemmas
+pub mod TurnsLemmas
+pub mod DemandLemmas

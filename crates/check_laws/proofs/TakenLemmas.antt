@@ -54,7 +54,7 @@ placed_other r (s ∷ ss) x c = elim (is_before r s) as (λ b. Contains (cond b 
     ]
 ]
 
-ordered_in : (rs : List Rank) (x : Rank) → Contains rs x → Contains (ordered_of rs) x
+pub ordered_in : (rs : List Rank) (x : Rank) → Contains rs x → Contains (ordered_of rs) x
 ordered_in [] x c = absurd (none_in x c)
 ordered_in (r ∷ rs) x c = elim (in_cons r rs x c) [
   | inl e ↦ subst (λ (y : Rank). Contains (placed r (ordered_of rs)) y) e (placed_first r (ordered_of rs))
@@ -71,7 +71,7 @@ placed_from r (s ∷ ss) x c = elim (is_before r s) as (λ b. Contains (cond b (
     ])
 ] c
 
-ordered_from : (rs : List Rank) (x : Rank) → Contains (ordered_of rs) x → Contains rs x
+pub ordered_from : (rs : List Rank) (x : Rank) → Contains (ordered_of rs) x → Contains rs x
 ordered_from [] x c = c
 ordered_from (r ∷ rs) x c = elim (placed_from r (ordered_of rs) x c) [
   | inl e ↦ subst (λ (y : Rank). Contains (r ∷ rs) y) e (first_in r rs)

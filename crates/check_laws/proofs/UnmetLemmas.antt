@@ -169,14 +169,14 @@ module _ (rows : List Staged) (apart : RowsApart rows) where
 
   -- ---- what is not ready is held
 
-  -- Each entry that may serve one of this stage is started, or in the set.
-  pub record Serves (own : Stage) (now : List Need) (set : ℕ → Bool) : Type 0 where
-    pub by_name : (q : ℕ) (s : Staged) (other : Stage) → slice_get rows q ≡ Some s → s.stage ≡ Some other → Fits own other
-        → Contains now (need_of s.entry) ⊎ (set q ≡ true)
+  -- Each entry that may serve this one is started, or in the set.
+  pub record Serves (own : Stage) (now : List Need) (set : ℕ → Bool) (r : Staged) : Type 0 where
+    pub by_name : (d : List ℕ) → Contains r.entry.services d → (q : ℕ) (s : Staged) (other : Stage) → slice_get rows q ≡ Some s
+        → folds_same d s.entry.name ≡ true → s.stage ≡ Some other → Fits own other → Contains now (need_of s.entry) ⊎ (set q ≡ true)
     pub by_group : (q : ℕ) (s : Staged) → slice_get rows q ≡ Some s → is_upto own s.stage ≡ true
         → Contains now (need_of s.entry) ⊎ (set q ≡ true)
 
-  right_name : (r : Staged) (own : Stage) (d : List ℕ) → r.stage ≡ Some own → IsRight rows r
+  pub right_name : (r : Staged) (own : Stage) (d : List ℕ) → r.stage ≡ Some own → IsRight rows r
       → Contains (first_names r.entry.services) d → service_fault rows own d ≡ []
   right_name r own d stage right c = by (service_fault rows own d) refl
     where
@@ -228,16 +228,16 @@ module _ (rows : List Staged) (apart : RowsApart rows) where
           (sym (ap (name_fault own d) (ap (option_and_then (slice_get rows)) e ∙ n.1)) ∙ h) in
           record { place = k; row = n.0; other = f.0; found = e; at = n.1; same = n.2; stage_is = f.1; fits = f.2 }
 
-  held_by_name : (own : Stage) (now : List Need) (set : ℕ → Bool) → Serves own now set → (p : ℕ) (r : Staged)
+  held_by_name : (own : Stage) (now : List Need) (set : ℕ → Bool) (p : ℕ) (r : Staged) → Serves own now set r
       → slice_get rows p ≡ Some r → r.stage ≡ Some own → IsRight rows r → (d : List ℕ) → Contains r.entry.services d
       → has_name (labels_of now) d ≡ false → is_held (waits_of rows) set p ≡ true
-  held_by_name own now set serves p r at stage right d c off =
+  held_by_name own now set p r serves at stage right d c off =
       let x = first_for r.entry.services d c in
       let none = right_name r own x.0 stage right x.1 in
       let s = served own x.0 none in
       let unmet : has_name (labels_of now) x.0 ≡ false = name_alike (labels_of now) x.0 d x.2 ∙ off in
       let good : is_good rows own x.0 ≡ true = ap (λ (l : List Fault). nat_eq (length l) 0) none in
-      elim (serves.by_name s.place s.row s.other s.at s.stage_is s.fits) [
+      elim (serves.by_name x.0 (first_sub r.entry.services x.0 x.1) s.place s.row s.other s.at s.same s.stage_is s.fits) [
         | inl i ↦ absurd (false≢true (sym unmet ∙ named_in now x.0 (need_of s.row.entry) i s.same))
         | inr on ↦
             any_from (λ ways. list_all set ways) (needs_at (waits_of rows) p) (s.place ∷ [])
@@ -245,10 +245,10 @@ module _ (rows : List Staged) (apart : RowsApart rows) where
             (way_by_name rows r own x.0 s.place x.1 good s.found)) (and_from (set s.place) true on refl)
       ]
 
-  held_by_group : (own : Stage) (now : List Need) (set : ℕ → Bool) → Serves own now set → (p : ℕ) (r : Staged)
+  held_by_group : (own : Stage) (now : List Need) (set : ℕ → Bool) (p : ℕ) (r : Staged) → Serves own now set r
       → slice_get rows p ≡ Some r → r.stage ≡ Some own → IsRight rows r → (g : List ℕ) → Contains r.entry.groups g
       → has_group (labels_of now) g ≡ false → is_held (waits_of rows) set p ≡ true
-  held_by_group own now set serves p r at stage right g c off =
+  held_by_group own now set p r serves at stage right g c off =
       let x = first_for r.entry.groups g c in
       let unmet : has_group (labels_of now) x.0 ≡ false = group_alike (labels_of now) x.0 g x.2 ∙ off in
       any_from (λ ways. list_all set ways) (needs_at (waits_of rows) p) (ways_in rows own x.0)
@@ -262,13 +262,13 @@ module _ (rows : List Staged) (apart : RowsApart rows) where
       ])))
 
   -- one without wrong needs that isn't ready is held by the set
-  pub unready_held : (own : Stage) (now : List Need) (set : ℕ → Bool) → Serves own now set → (p : ℕ) (r : Staged)
+  pub unready_held : (own : Stage) (now : List Need) (set : ℕ → Bool) (p : ℕ) (r : Staged) → Serves own now set r
       → slice_get rows p ≡ Some r → r.stage ≡ Some own → IsRight rows r
       → is_ready (labels_of now) (need_of r.entry) ≡ false → is_held (waits_of rows) set p ≡ true
-  unready_held own now set serves p r at stage right off = elim
+  unready_held own now set p r serves at stage right off = elim
       (and_cases (list_all (has_name (labels_of now)) r.entry.services) (list_all (has_group (labels_of now)) r.entry.groups) off) [
         | inl e ↦ (let d = not_all (has_name (labels_of now)) r.entry.services e in
-            held_by_name own now set serves p r at stage right d.0 d.1 d.2)
+            held_by_name own now set p r serves at stage right d.0 d.1 d.2)
         | inr e ↦ (let g = not_all (has_group (labels_of now)) r.entry.groups e in
-            held_by_group own now set serves p r at stage right g.0 g.1 g.2)
+            held_by_group own now set p r serves at stage right g.0 g.1 g.2)
       ]

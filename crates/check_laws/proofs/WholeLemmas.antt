@@ -220,10 +220,10 @@ module _ (rows : List Staged) (apart : RowsApart rows) where
 
     -- ---- what is left out has a reason
 
-    abbrev is_left : Staged → Bool
+    abbrev pub is_left : Staged → Bool
     is_left r = is_taken r.stage && list_any (λ (n : Need). folds_same r.entry.name n.name) lefts
 
-    abbrev left_set : ℕ → Bool
+    abbrev pub left_set : ℕ → Bool
     left_set p = option_map_or is_left (slice_get rows p) false
 
     left_at : (p : ℕ) (r : Staged) → slice_get rows p ≡ Some r → is_taken r.stage ≡ true → Contains lefts (need_of r.entry)
@@ -267,12 +267,22 @@ module _ (rows : List Staged) (apart : RowsApart rows) where
         ]
     ]
 
+    pub left_some : (p : ℕ) → left_set p ≡ true → (n : Need) × Contains lefts n
+    left_some p h = by (slice_get rows p) h
+      where
+        by : (o : Option Staged) → option_map_or is_left o false ≡ true → (n : Need) × Contains lefts n
+        by None h = absurd (false≢true h)
+        by (Some r) h =
+            let n = any_gives (λ (n : Need). folds_same r.entry.name n.name) lefts
+            (and_parts (is_taken r.stage) (list_any (λ (n : Need). folds_same r.entry.name n.name) lefts) h).1 in
+            (n.0, n.1)
+
     serves_by : (own : Stage) (now : List Need) → is_taken (Some own) ≡ true
         → ((q : ℕ) (s : Staged) → slice_get rows q ≡ Some s → is_upto own s.stage ≡ true
         → Contains now (need_of s.entry) ⊎ (left_set q ≡ true))
-        → Serves rows apart own now left_set
-    serves_by own now h f = record {
-      by_name = λ q s other at e fits. f q s at (fits_upto own other s.stage h fits e);
+        → (r : Staged) → Serves rows apart own now left_set r
+    serves_by own now h f r = record {
+      by_name = λ d i q s other at same e fits. f q s at (fits_upto own other s.stage h fits e);
       by_group = f;
     }
 
@@ -286,7 +296,7 @@ module _ (rows : List Staged) (apart : RowsApart rows) where
         → (p : ℕ) (r : Staged) → slice_get rows p ≡ Some r → r.stage ≡ Some own
         → is_ready (labels_of now) (need_of r.entry) ≡ false → is_held (waits_of rows) left_set p ≡ true
     left_held right own now h f p r at stage off =
-        unready_held rows apart own now left_set (serves_by own now h f) p r at stage
+        unready_held rows apart own now left_set p r (serves_by own now h f r) at stage
         (right r (item_here rows p r at) (ap is_taken stage ∙ h)) off
 
     -- the need in the lists is that of the row

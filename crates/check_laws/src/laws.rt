@@ -2,6 +2,7 @@
 
 ghost use Rattle.check_laws.specs.Laws.{NothingFoundIsQuiet, OrderOnlyAdds, GoodNeedsAreProper, StuckHoldsItself, StuckIsGreatest, NoCycleNoneStuck};
 ghost use Rattle.check_laws.specs.Unmet.{AboutIsUnmet, UnmetHasAbout, NoneAboutStartsWhole};
+ghost use Rattle.check_laws.specs.Demand.{NoneAboutStartsOnDemand};
 
 /// The number of `found` is 0 exactly where each line is `set`, `found 0` or `end`.
 pub fn nothing_found_is_quiet()
@@ -31,4 +32,9 @@ pub fn a_start_leaves_out_whom_a_line_is_about()
     ensures unmet { AboutIsUnmet }
     ensures told { UnmetHasAbout }
     ensures whole { NoneAboutStartsWhole }
+{}
+
+/// Where no line is about any entry, each driver or service of Start 3 can be started after such a start, or it runs already.
+pub fn what_no_line_is_about_starts_on_demand()
+    ensures starts { NoneAboutStartsOnDemand }
 {}
