@@ -169,7 +169,7 @@ one_removed [] k z is = absurd cc
 one_removed (y ∷ ys) zero z is = refl
 one_removed (y ∷ ys) (suc k) z is = ap suc (one_removed ys k z is)
 
-past : {X : Type 0} (xs : List X) (k : ℕ) → k < length xs → slice_get xs k ≡ None → ⊥
+pub past : {X : Type 0} (xs : List X) (k : ℕ) → k < length xs → slice_get xs k ≡ None → ⊥
 past [] k lt is = omega (arith, lt)
 past (y ∷ ys) zero lt is = cc
 past (y ∷ ys) (suc k) lt is = past ys k (omega (arith, lt)) is

@@ -1,3 +1,5 @@
 pub mod BlockLemmas
 pub mod OffLemmas
 pub mod LeaningLemmas
+pub mod AttemptLemmas
+pub mod PlayLemmas
