@@ -30,12 +30,12 @@ use Rattle.check_laws.proofs.UnmetLemmas.{IsOf}
 
 -- ---- entries of one name
 
-entry_name : (t : Tree) (start kind : Option ℕ) (e : Entry) → entry_with t start kind ≡ Some e → e.name ≡ (head t).name
+pub entry_name : (t : Tree) (start kind : Option ℕ) (e : Entry) → entry_with t start kind ≡ Some e → e.name ≡ (head t).name
 entry_name t (Some s) (Some k) e h = ap (λ (o : Option Entry). option_map_or (λ (x : Entry). x.name) o []) (sym h)
 entry_name t (Some s) None e h = absurd cc
 entry_name t None kind e h = absurd cc
 
-one_key : (keys : List Tree) (t u : Tree) → KeysDiffer keys → Contains keys t → Contains keys u
+pub one_key : (keys : List Tree) (t u : Tree) → KeysDiffer keys → Contains keys t → Contains keys u
     → folds_same (head t).name (head u).name ≡ true → t ≡ u
 one_key keys t u differ a b one = elim (cases_lt a.0 b.0) [
   | inl h ↦
@@ -68,7 +68,7 @@ entries_apart set holds e f there other one =
 abbrev pub TriedBelow : List Entry → List (List ℕ) → ℕ → Type 0
 TriedBelow entries tried k = (e : Entry) → Contains entries e → was_tried tried e ≡ true → e.start < k
 
-late_above : (n : ℕ) → is_late n ≡ true → n < 2 → ⊥
+pub late_above : (n : ℕ) → is_late n ≡ true → n < 2 → ⊥
 late_above n h lt = elim (or_cases (nat_eq n 2) (nat_eq n 3) h) [
   | inl e ↦ omega (arith, eqb-true n 2 e, lt)
   | inr e ↦ omega (arith, eqb-true n 3 e, lt)
