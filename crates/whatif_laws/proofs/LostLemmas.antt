@@ -1,8 +1,8 @@
 -- Who is lost where an entry fails or is off.
 use Rattle.std.proofs.Common.{◌≡◌, ℕ, zero, suc, ◌+◌, ◌<◌, Bool, true, false, not, ◌&&◌, ◌||◌, cond, List, [], ◌∷◌, ◌++◌, length, map, Option, Some, None, refl, sym, ap, ◌∙◌, ◌⊎◌, inl, inr, subst, arith, append_assoc}
-use Rattle.std.specs.Prelude.{Contains, filter}
-use Rattle.std.specs.Option.{option_map_or}
-use Rattle.std.specs.List.{list_any, list_all, filter_map, cons_option}
+use Rattle.std.specs.Prelude.{Contains, filter, ◌↔◌}
+use Rattle.std.specs.Option.{option_map_or, option_or}
+use Rattle.std.specs.List.{list_any, list_all, flat_map, filter_map, cons_option}
 use Rattle.std.proofs.lemmas.Bool.{false≢true, cases_Bool, and_parts, and_cases, and_from, or_left, or_right, not-true, false_from_ne_true}
 use Rattle.std.proofs.lemmas.List.Elements.{Contains-append_left, Contains-append_right, Contains-append_cases}
 use Rattle.std.proofs.lemmas.Option.{same_Some}
@@ -24,19 +24,27 @@ use Rattle.wait_cycles.proofs.CycleLemmas.{in_cons, filter_in, filter_out, not_a
 use Rattle.error_control.specs.declared.outcome.Judgement.{Judgement}
 use Rattle.failure_effects.specs.declared.leaning.Layer.{Layer}
 use Rattle.failure_effects.specs.declared.told.Told.{Told}
+use Rattle.failure_effects.specs.declared.told.Fate.{Fate}
+use Rattle.failure_effects.specs.declared.told.Fate.TheVariants as fates
+use Rattle.failure_effects.specs.declared.lost.Other.{Other}
+use Rattle.failure_effects.specs.declared.lines.EffectLine.{EffectLine}
+use Rattle.failure_effects.specs.declared.lines.EffectLine.TheVariants as lines
 use Rattle.failure_effects.specs.declared.opening.Taken.{Taken}
 use Rattle.failure_effects.specs.Effects.{plain_told}
 use Rattle.failure_effects.specs.Leans.{layer_of, first_layer, names_one, groups_one, needs_one}
-use Rattle.failure_effects.specs.Lost.{has_name, other_of, is_lost, goes_on, lost_in}
-use Rattle.failure_effects.specs.Played.{played, is_started, started_in, unmet_in, failure_in}
+use Rattle.failure_effects.specs.Lost.{has_name, other_of, is_lost, goes_on, lost_in, lost_line, lost_lines, failed_lines, fail_block}
+use Rattle.failure_effects.specs.Played.{played, is_started, is_unmet, started_in, unmet_in, failed_by, failure_in}
 use Rattle.failure_effects.specs.Switching.{off_set}
 use Rattle.failure_effects.proofs.HeldLemmas.{off_set_held}
 use Rattle.check_laws.proofs.TakenLemmas.{mapped_on}
+use Rattle.check_laws.proofs.ProperLaws.{flat_from}
+use Rattle.check_laws.proofs.CycleLaws.{flat_in}
 use Rattle.check_laws.proofs.SetLemmas.{plan_entry, entries_apart}
 use Rattle.check_laws.proofs.TurnLemmas.{InTurn, turn_ind, turned_each, named_in, named_from, member_in, member_from, is_member, ready_wider}
 use Rattle.whatif_laws.specs.Leaning.{leaning_on, needs_entry, IsOther}
-use Rattle.whatif_laws.specs.Starts.{fail_told, off_told, GoesOn, lost_of, StartsNoOther, LostOfFailIsUnmet, LostOfFailLeans, OffIsNoBetter, FailMakesUnmet, OffMakesUnmet}
+use Rattle.whatif_laws.specs.Starts.{fail_told, off_told, GoesOn, lost_of, StartsNoOther, LostOfFailIsUnmet, LostOfFailLeans, OffIsNoBetter, unmet_said, fail_block_of, off_block_of, FailBlockSaysUnmet, IsUntold, LostOfOffIsUnmetOrUntold, IsNewlyUnmet, FailBlockIsNew, OffBlockIsNew}
 use Rattle.whatif_laws.proofs.LeaningLemmas.{itself, another}
+use Rattle.whatif_laws.proofs.AttemptLemmas as attempt
 use Rattle.whatif_laws.proofs.AttemptLemmas.{fails}
 use Rattle.whatif_laws.proofs.PlayLemmas as play
 use Rattle.whatif_laws.proofs.PlayLemmas.{PlanOf, Part, Full, Whole, Ends, IsPlay, play_of}
@@ -546,6 +554,162 @@ module _ (taken : Taken) (holds : HoldsKeys taken.set) (name : List ℕ) where
       let w = fail_whole goes in
       lost_leans_by w other l (need_of l.entry) refl (keeps3 w (need_of l.entry) (all_needs l.entry l.there))
 
+  -- ---- lines
+
+  goes_from : (j : Judgement) → failure_in (fail_told taken name) ≡ Some j → goes_on j ≡ true → GoesOn (fail_told taken name)
+  goes_from j is goes k h = ap goes_on (same_Some k j (sym h ∙ is)) ∙ goes
+
+  unmet_line : (told : List Told) (n : List ℕ) → Contains (unmet_in told) n → lost_line (other_of told) n ≡ lines.Unmet n
+  unmet_line told n c =
+      ap (λ (b : Bool). cond b (lines.Unmet n) (lines.Untaken n)) (any_from (folds_same n) (unmet_in told) n c (folds_itself n))
+
+  all_unmet : (told : List Told) (lost : List (List ℕ)) → ((n : List ℕ) → Contains lost n → Contains (unmet_in told) n)
+      → map (lost_line (other_of told)) lost ≡ map (λ n. lines.Unmet n) lost
+  all_unmet told [] f = refl
+  all_unmet told (n ∷ lost) f =
+      λ i. unmet_line told n (f n (first_in n lost)) i ∷ all_unmet told lost (λ m c. f m (later_in n lost m c)) i
+
+  block_is : (j : Judgement) → failure_in (fail_told taken name) ≡ Some j → goes_on j ≡ true
+      → fail_block_of taken name ≡ lines.Fail j (length (lost_of taken name (fail_told taken name))) name
+      ∷ lost_lines (other_of (fail_told taken name)) (lost_of taken name (fail_told taken name))
+  block_is j is goes =
+      let other : Other = other_of (fail_told taken name) in
+      let lost : List (List ℕ) = lost_of taken name (fail_told taken name) in
+      ap (failed_lines (other_of (fail_told taken name)) name (lost_of taken name (fail_told taken name))) is
+      ∙ ap (λ (b : Bool). lines.Fail j (length (lost_of taken name (fail_told taken name))) name
+      ∷ cond b (lost_lines (other_of (fail_told taken name)) (lost_of taken name (fail_told taken name))) []) goes
+
+  pub fail_says : (j : Judgement) → failure_in (fail_told taken name) ≡ Some j → goes_on j ≡ true
+      → fail_block_of taken name ≡ lines.Fail j (length (lost_of taken name (fail_told taken name))) name
+      ∷ map (λ n. lines.Unmet n) (lost_of taken name (fail_told taken name))
+  fail_says j is goes =
+      block_is j is goes
+      ∙ ap (λ (l : List EffectLine). lines.Fail j (length (lost_of taken name (fail_told taken name))) name ∷ l)
+      (all_unmet (fail_told taken name) (lost_of taken name (fail_told taken name)) (λ n c. lost_unmet n (goes_from j is goes) c))
+
+  -- what the lines of the lost say to be unmet
+  said_from : (told : List Told) (lost : List (List ℕ)) (o : List ℕ) → Contains (flat_map unmet_said (lost_lines (other_of told) lost)) o
+      → Contains lost o × (has_name (unmet_in told) o ≡ true)
+  said_from told lost o c =
+      let l = flat_from unmet_said (lost_lines (other_of told) lost) o c in
+      let m = mapped_from (lost_line (other_of told)) lost l.0 l.1 in
+      by m.item (has_name (unmet_in told) m.item) refl m.there (subst (λ (x : EffectLine). Contains (unmet_said x) o) (sym m.is) l.2)
+    where
+      by : (n : List ℕ) (b : Bool) → has_name (unmet_in told) n ≡ b → Contains lost n
+          → Contains (unmet_said (cond b (lines.Unmet n) (lines.Untaken n))) o → Contains lost o × (has_name (unmet_in told) o ≡ true)
+      by n true is there i =
+          let same : n ≡ o = alone_from n o i in (subst (Contains lost) same there, ap (has_name (unmet_in told)) (sym same) ∙ is)
+      by n false is there i = absurd (none_in o i)
+
+  said_in : (told : List Told) (lost : List (List ℕ)) (o : List ℕ) → Contains lost o → Contains (unmet_in told) o
+      → Contains (flat_map unmet_said (lost_lines (other_of told) lost)) o
+  said_in told lost o c u =
+      flat_in unmet_said (lost_lines (other_of told) lost) (lost_line (other_of told) o) o (mapped_to (lost_line (other_of told)) lost o c)
+      (subst (λ (x : EffectLine). Contains (unmet_said x) o) (sym (unmet_line told o u)) (first_in o []))
+
+  -- the name of one of the lost that folds as one of the unmet is that one
+  exact : (told : List Told) (other : List ℕ) → IsLost told other
+      → ((u : List ℕ) → Contains (unmet_in told) u → (x : Entry) × Contains (entries_of set) x × (x.name ≡ u))
+      → has_name (unmet_in told) other ≡ true → Contains (unmet_in told) other
+  exact told other l f h =
+      let u = any_gives (folds_same other) (unmet_in told) h in
+      let x = f u.0 u.1 in
+      let same : l.entry ≡ x.0 = entries_apart set holds l.entry x.0 (lost_entry l.entry l.there) x.1
+      (ap (λ (n : List ℕ). folds_same n x.0.name) l.named ∙ ap (folds_same other) x.2 ∙ u.2) in
+      subst (Contains (unmet_in told)) (sym x.2 ∙ ap (λ (e : Entry). e.name) (sym same) ∙ l.named) u.1
+    where
+      lost_entry : (x : Entry) → InThree plain.n1 plain.n2 plain.n3 x → Contains (entries_of set) x
+      lost_entry x (in1 i) = plan_entry set Boot [] x (plain.boot.from x i)
+      lost_entry x (in2 i) = plan_entry set System [] x (plain.system.from x i)
+      lost_entry x (in3 i) = plan_entry set Automatic [] x (plain.automatic.from x i)
+
+  planned_entry : (x : Entry) → (Contains (plan_of set Boot []) x) ⊎ ((Contains (plan_of set System []) x) ⊎ (Contains (plan_of set Automatic []) x))
+      → Contains (entries_of set) x
+  planned_entry x (inl c) = plan_entry set Boot [] x c
+  planned_entry x (inr (inl c)) = plan_entry set System [] x c
+  planned_entry x (inr (inr c)) = plan_entry set Automatic [] x c
+
+  fail_unmet_entry : (u : List ℕ) → Contains (unmet_in (fail_told taken name)) u → (x : Entry) × Contains (entries_of set) x × (x.name ≡ u)
+  fail_unmet_entry u c =
+      let x = name_unmet (Some name) set (fail_told taken name) fail u c in (x.0, planned_entry x.0 (fail_planned x.0 x.1), x.2)
+
+  off_unmet_entry : (u : List ℕ) → Contains (unmet_in (off_told taken name)) u → (x : Entry) × Contains (entries_of set) x × (x.name ≡ u)
+  off_unmet_entry u c =
+      let x = name_unmet None (off_set name set) (off_told taken name) off u c in (x.0, planned_entry x.0 (off_planned x.0 x.1).0, x.2)
+
+  pub fail_lines : list_any (folds_same name) (started_in (plain_told taken)) ≡ true → (j : Judgement)
+      → failure_in (fail_told taken name) ≡ Some j → goes_on j ≡ true → (other : List ℕ)
+      → Contains (flat_map unmet_said (fail_block_of taken name)) other ↔ IsNewlyUnmet taken (fail_told taken name) other
+  fail_lines run j is goes other = (
+    λ c. (let s = said_from (fail_told taken name) lost other (subst (λ (l : List EffectLine). Contains (flat_map unmet_said l) other) (block_is j is goes) c) in
+        (lost_unmet other on s.0, λ u. lost_new (fail_told taken name) other s.0 u)),
+    λ b. subst (λ (l : List EffectLine). Contains (flat_map unmet_said l) other) (sym (block_is j is goes))
+        (said_in (fail_told taken name) lost other (fail_new other run on b.0 b.1) b.0),
+  )
+    where
+      on : GoesOn (fail_told taken name)
+      on = goes_from j is goes
+
+      lost : List (List ℕ)
+      lost = lost_of taken name (fail_told taken name)
+
+  pub off_lines : (other : List ℕ)
+      → Contains (flat_map unmet_said (off_block_of taken name)) other ↔ IsNewlyUnmet taken (off_told taken name) other
+  off_lines other = (
+    λ c. (let s = said_from (off_told taken name) (lost_of taken name (off_told taken name)) other c in
+        (
+          exact (off_told taken name) other (lost_from (off_told taken name) other s.0) off_unmet_entry s.1,
+          λ u. lost_new (off_told taken name) other s.0 u,
+        )),
+    λ b. said_in (off_told taken name) (lost_of taken name (off_told taken name)) other (off_new other b.0 b.1) b.0,
+  )
+
+  -- ---- untaken ones
+
+  told_kept : (p : Told → Bool) (told : List Told) (t : Told) → Contains told t → p t ≡ true
+      → Contains (map (λ (t : Told). t.name) (filter p told)) t.name
+  told_kept p told t c h = mapped_to (λ (t : Told). t.name) (filter p told) t (filter_in p told t c h)
+
+  plain_fate : (told : List Told) → failure_in told ≡ None → (t : Told) → Contains told t → failed_by t.fate ≡ None
+  plain_fate [] none t c = absurd (none_in t c)
+  plain_fate (x ∷ told) none t c = by (failed_by x.fate) refl none (in_cons x told t c) (λ h i. plain_fate told h t i)
+    where
+      by : (o : Option Judgement) → failed_by x.fate ≡ o → option_or o (failure_in told) ≡ None → (x ≡ t) ⊎ Contains told t
+          → (failure_in told ≡ None → Contains told t → failed_by t.fate ≡ None) → failed_by t.fate ≡ None
+      by None is h (inl e) rest = ap (λ (y : Told). failed_by y.fate) (sym e) ∙ is
+      by None is h (inr i) rest = rest h i
+      by (Some j) is h i rest = absurd cc
+
+  fate_is : (f : Fate) → failed_by f ≡ None → (is_started f ≡ true) ⊎ (is_unmet f ≡ true)
+  fate_is fates.Started h = inl refl
+  fate_is fates.Unmet h = inr refl
+  fate_is (fates.Failed j) h = absurd cc
+
+  no_failure : (setp : Tree) (told : List Told) (n1 n2 n3 l1 l2 l3 : List Entry) → Ends None setp told n1 n2 n3 l1 l2 l3 → failure_in told ≡ None
+  no_failure setp told n1 n2 n3 l1 l2 l3 (play.over j x bad failure stops) = absurd (false≢true bad)
+  no_failure setp told n1 n2 n3 l1 l2 l3 (play.whole w fs (attempt.plain is none failure)) = failure
+  no_failure setp told n1 n2 n3 l1 l2 l3 (play.whole w fs (attempt.armed n is one failure)) = failure
+  no_failure setp told n1 n2 n3 l1 l2 l3 (play.whole w fs (attempt.spent n j is one failure goes)) = absurd (no_name n is)
+    where
+      no_name : (n : List ℕ) → None ≡ Some n → ⊥
+      no_name n e = cc
+
+  pub lost_untold : (other : List ℕ) → Contains (lost_of taken name (off_told taken name)) other
+      → Contains (unmet_in (off_told taken name)) other ⊎ IsUntold (off_told taken name) other
+  lost_untold other c = elim (cases_Bool (has_name (unmet_in (off_told taken name)) other)) [
+    | inl yes' ↦ inl (exact (off_told taken name) other l off_unmet_entry yes')
+    | inr out ↦ inr (λ t i. false_from_ne_true (folds_same other t.name) (λ same.
+        elim (fate_is t.fate (plain_fate (off_told taken name) (no_failure (off_set name set) (off_told taken name) off.n1 off.n2 off.n3 off.l1 off.l2 off.l3 off.ends) t i)) [
+          | inl run ↦ false≢true (sym (ap (has_name (started_in (off_told taken name))) (sym l.named) ∙ l.absent)
+              ∙ any_from (folds_same other) (started_in (off_told taken name)) t.name (told_kept (λ (t : Told). is_started t.fate) (off_told taken name) t i run) same)
+          | inr un ↦ false≢true (sym out
+              ∙ any_from (folds_same other) (unmet_in (off_told taken name)) t.name (told_kept (λ (t : Told). is_unmet t.fate) (off_told taken name) t i un) same)
+        ]))
+  ]
+    where
+      l : IsLost (off_told taken name) other
+      l = lost_from (off_told taken name) other c
+
 -- ---- the laws
 
 pub starts_no_other : StartsNoOther
@@ -560,14 +724,14 @@ lost_leans_on taken holds name other goes c = lost_leans taken holds name other 
 pub off_no_better : OffIsNoBetter
 off_no_better taken holds name other goes c = lost_off taken holds name other goes c
 
-pub fail_makes_unmet : FailMakesUnmet
-fail_makes_unmet taken holds name other run goes = (
-  λ c. (lost_unmet taken holds name other goes c, λ u. lost_new taken holds name (fail_told taken name) other c u),
-  λ b. fail_new taken holds name other run goes b.0 b.1,
-)
+pub fail_block_says : FailBlockSaysUnmet
+fail_block_says taken holds name j is goes = fail_says taken holds name j is goes
 
-pub off_makes_unmet : OffMakesUnmet
-off_makes_unmet taken holds name other = (
-  λ b. (b.1, λ u. lost_new taken holds name (off_told taken name) other b.0 u),
-  λ b. (off_new taken holds name other b.0 b.1, b.0),
-)
+pub lost_of_off : LostOfOffIsUnmetOrUntold
+lost_of_off taken holds name other c = lost_untold taken holds name other c
+
+pub fail_block_new : FailBlockIsNew
+fail_block_new taken holds name run j is goes other = fail_lines taken holds name run j is goes other
+
+pub off_block_new : OffBlockIsNew
+off_block_new taken holds name other = off_lines taken holds name other
