@@ -66,7 +66,7 @@ IsSecondBy form asked files first (Some name) answer =
     IsOnFiles (hive_in files name asked.with_log) with_fault (IsOther form asked first) answer
 
 abbrev pub IsSecond : ReportForm → DiffAsked → Files → Tree → Allowed
-IsSecond form asked files first answer = IsSecondBy form asked files first asked.with_hive answer
+IsSecond form asked files first answer = IsSecondBy form asked files first asked.with answer
 
 -- what the command line and the files allow
 abbrev pub IsAnswer : ReportForm → DiffAsked → Files → Allowed

@@ -40,7 +40,7 @@ asks_with files (Some name) log = asks_hive files name log
 -- of a command line
 abbrev pub AsksDiffAs : DiffAsked → Files → (ℕ → Type 0) → Type 0 → Type 0
 AsksDiffAs asked files asks stopped =
-    AsksIn (hive_in files asked.hive asked.log) (asks_hive files asked.hive asked.log) (asks_with files asked.with_hive asked.with_log) asks
+    AsksIn (hive_in files asked.hive asked.log) (asks_hive files asked.hive asked.log) (asks_with files asked.with asked.with_log) asks
     stopped
 
 -- the host counts them, up to the stop that the status says
@@ -62,12 +62,12 @@ IsHalted (Err (Stopped Memory)) = Unit {0}
 -- for the second hive, up to the first obstacle or stop
 abbrev pub AsksWith : DiffAsked → Result Finding Obstacle → HostState → HostState → Type 0
 AsksWith asked result old new =
-    old.tells ≡ true → AsksUntil (asks_with old.files asked.with_hive asked.with_log) result old.gets new.gets
+    old.tells ≡ true → AsksUntil (asks_with old.files asked.with asked.with_log) result old.gets new.gets
 
 -- after the first hive's files were got
 abbrev pub AsksAfter : HiveFiles → DiffAsked → Result Finding Obstacle → HostState → HostState → Type 0
 AsksAfter files asked result old new =
-    old.tells ≡ true → AsksOn files 0 (asks_with old.files asked.with_hive asked.with_log) (λ n. AsksUntil n result old.gets new.gets) (IsHalted result)
+    old.tells ≡ true → AsksOn files 0 (asks_with old.files asked.with asked.with_log) (λ n. AsksUntil n result old.gets new.gets) (IsHalted result)
 
 -- from the beginning
 abbrev pub AsksSearch : DiffAsked → Result Finding Obstacle → HostState → HostState → Type 0

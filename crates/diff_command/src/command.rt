@@ -115,7 +115,7 @@ fn seek_second<H: Host>(
     ensures asks { AsksWith (diff_seen words.entry) result (H.state host.old) (H.state host.new) }
     ensures kept { result ≡ Err (Obstacle.Refused Refusal.Usage) → ⊥ }
 {
-    let Some(name) = words.with_hive else {
+    let Some(name) = words.with else {
         return alone(alloc, form, words, first);
     };
     match hive_in(alloc, host, name, words.with_log) {

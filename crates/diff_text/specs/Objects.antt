@@ -51,6 +51,10 @@ abbrev pub settings_fields : ℕ → ℕ → ℕ → Fields → Fields
 settings_fields start kind control more =
     number_field (codes "start") start (number_field (codes "type") kind (number_field (codes "control") control more))
 
+-- the image and the name
+abbrev pub image_fields : Shown → List ℕ → Fields
+image_fields image name = shown_field (codes "image") image (text_field (codes "name") name [])
+
 abbrev pub phases_fields : Phase → Phase → Fields → Fields
 phases_fields first second more = text_field (codes "first") (phase_word first) (text_field (codes "second") (phase_word second) more)
 
@@ -58,7 +62,7 @@ abbrev pub line_fields : DiffLine → Fields
 line_fields (lines.NoSet side number) = side_field side (number_field (codes "number") number [])
 line_fields (lines.Sets first second) = number_field (codes "first") first (number_field (codes "second") second [])
 line_fields (lines.Only side start kind control image name) =
-    side_field side (settings_fields start kind control (shown_field (codes "image") image (text_field (codes "name") name [])))
+    side_field side (settings_fields start kind control (image_fields image name))
 line_fields (lines.Differs field first second name) =
     text_field (codes "field") (field_word field) (both_fields first second (text_field (codes "name") name []))
 line_fields (lines.Parts sequence place first second) = number_field (codes "place") place (both_fields first second [])

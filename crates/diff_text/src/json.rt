@@ -4,7 +4,7 @@ ghost use Rattle.std.specs.Prelude.{◌≡◌, [], ◌∷◌, ◌++◌, codes, O
 ghost use Rattle.line_text.specs.Objects.{Number, Text, Texts, fields_text};
 ghost use Rattle.key_text.specs.Data.{form_of, form_fields};
 ghost use Rattle.key_text.specs.Kinds.{kind_text};
-ghost use Rattle.diff_text.specs.Objects.{shown_value, side_field, path_field, both_fields, settings_fields, phases_fields, line_fields, line_json};
+ghost use Rattle.diff_text.specs.Objects.{text_field, shown_value, side_field, path_field, both_fields, settings_fields, image_fields, phases_fields, line_fields, line_json};
 
 use crate::words::{field_word, key_field_word, line_word, part_name, phase_word, side_word};
 use boot_phases::Phase;
@@ -89,11 +89,61 @@ fn push_settings(
     push_u32(out, b"control", control)
 }
 
+/// Appends a set's side, and Start, Type and ErrorControl.
+fn push_entry(
+    out: &mut Vec<u8>,
+    side: Side,
+    start: u32,
+    kind: u32,
+    control: u32,
+) -> Result<(), AllocError>
+    ensures { OnOk result (out.new.items ≡ out.old.items ++ fields_text (side_field side (settings_fields start kind control []))) }
+{
+    push_side(out, side)?;
+    push_settings(out, start, kind, control)
+}
+
+fn push_image(out: &mut Vec<u8>, image: &Shown, name: &Units) -> Result<(), AllocError>
+    ensures { OnOk result (out.new.items ≡ out.old.items ++ fields_text (image_fields image.now name.now)) }
+{
+    push_shown(out, b"image", image)?;
+    push_text(out, b"name", name)
+}
+
+/// Appends a service that one set alone has.
+fn push_only(
+    out: &mut Vec<u8>,
+    side: Side,
+    start: u32,
+    kind: u32,
+    control: u32,
+    image: &Shown,
+    name: &Units,
+) -> Result<(), AllocError>
+    ensures { OnOk result (out.new.items ≡ out.old.items ++ fields_text (side_field side (settings_fields start kind control (image_fields image.now name.now)))) }
+{
+    push_entry(out, side, start, kind, control)?;
+    push_image(out, image, name)
+}
+
 fn push_phases(out: &mut Vec<u8>, first: Phase, second: Phase) -> Result<(), AllocError>
     ensures { OnOk result (out.new.items ≡ out.old.items ++ fields_text (phases_fields first second [])) }
 {
     push_word(out, b"first", phase_word(first))?;
     push_word(out, b"second", phase_word(second))
+}
+
+/// Appends a name that is attempted in two phases.
+fn push_phases_of(
+    out: &mut Vec<u8>,
+    first: Phase,
+    second: Phase,
+    name: &Units,
+) -> Result<(), AllocError>
+    ensures { OnOk result (out.new.items ≡ out.old.items ++ fields_text (phases_fields first second (text_field (codes "name") name.now []))) }
+{
+    push_phases(out, first, second)?;
+    push_text(out, b"name", name)
 }
 
 /// Appends the type as a field.
@@ -134,12 +184,7 @@ fn push_fields(alloc: Global, out: &mut Vec<u8>, line: &DiffLine) -> Result<(), 
             control,
             image,
             name,
-        } => {
-            push_side(out, *side)?;
-            push_settings(out, *start, *kind, *control)?;
-            push_shown(out, b"image", image)?;
-            push_text(out, b"name", name)
-        }
+        } => push_only(out, *side, *start, *kind, *control, image, name),
         DiffLine::Differs {
             field,
             first,
@@ -175,10 +220,7 @@ fn push_fields(alloc: Global, out: &mut Vec<u8>, line: &DiffLine) -> Result<(), 
             first,
             second,
             name,
-        } => {
-            push_phases(out, *first, *second)?;
-            push_text(out, b"name", name)
-        }
+        } => push_phases_of(out, *first, *second, name),
         DiffLine::StartsSame => push_word(out, b"word", b"same"),
         DiffLine::KeyDiffers { field, path } => {
             push_word(out, b"field", key_field_word(*field))?;

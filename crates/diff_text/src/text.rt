@@ -1,6 +1,6 @@
 //! The lines as texts.
 
-ghost use Rattle.std.specs.Prelude.{◌≡◌, ◌<◌, ◌++◌, length, OnOk};
+ghost use Rattle.std.specs.Prelude.{◌≡◌, ◌++◌, take, OnOk};
 ghost use Rattle.diff_text.specs.Lines.{texts_text, numbers_text, shown_text, first_bytes, cut_text, data_text, word_part, number_part, name_part, quoted_part, path_part, shown_part, data_part, both_parts, counted_part, settings_parts, phases_parts, line_parts, line_text};
 ghost use Rattle.diff_text.specs.Words.{side_word};
 
@@ -49,11 +49,17 @@ fn push_value(out: &mut Vec<u8>, shown: &Shown) -> Result<(), AllocError>
 
 // ---- data
 
+/// The first 32 bytes.
+fn first_of(bytes: &[u8]) -> &[u8]
+    ensures { result.now ≡ take 32 bytes.now }
+{
+    &bytes[..bytes.len().min(32)]
+}
+
 fn push_first_bytes(alloc: Global, out: &mut Vec<u8>, bytes: &[u8]) -> Result<(), AllocError>
-    requires { 32 < length bytes.now }
     ensures { OnOk result (out.new.items ≡ out.old.items ++ first_bytes bytes.now) }
 {
-    let first = &bytes[..32];
+    let first = first_of(bytes);
     out.extend_from_slice(b"hex ")?;
     push_number(out, bytes.len() as u64)?;
     out.extend_from_slice(b" ")?;

@@ -79,11 +79,17 @@ paired_phases others a = option_map_or (phase_lines a) (attempt_named others a.n
 abbrev pub phases_lines : List Attempt → List Attempt → List DiffLine
 phases_lines attempts others = flat_map (paired_phases others) attempts
 
-abbrev pub boots_lines : QuietBoot → QuietBoot → List DiffLine
-boots_lines first second =
+-- what one boot alone attempts, or leaves unmet
+abbrev pub lone_names : QuietBoot → QuietBoot → List DiffLine
+lone_names first second =
     both_lone Start (attempt_names first.attempts) (attempt_names second.attempts) ++ both_lone Unmet first.unmet second.unmet
-    ++ phases_lines first.attempts second.attempts
-    ++ shared_parts Starts (attempt_names first.attempts) (attempt_names second.attempts)
+
+-- what both attempt: its phases and its order
+abbrev pub common_attempts : List Attempt → List Attempt → List DiffLine
+common_attempts first second = phases_lines first second ++ shared_parts Starts (attempt_names first) (attempt_names second)
+
+abbrev pub boots_lines : QuietBoot → QuietBoot → List DiffLine
+boots_lines first second = lone_names first second ++ common_attempts first.attempts second.attempts
 
 -- these lines, or that the boots are the same where there are none
 abbrev pub or_same : List DiffLine → List DiffLine

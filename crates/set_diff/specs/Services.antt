@@ -95,7 +95,13 @@ differs_lines services others = flat_map (paired_lines others) services
 
 -- ---- all of them
 
+-- the services that one set alone has
+abbrev pub apart_lines : List Service → List Service → List DiffLine
+apart_lines first second = only_lines First first (service_names second) ++ only_lines Second second (service_names first)
+
+-- the services that both have: their fields and their order
+abbrev pub common_lines : List Service → List Service → List DiffLine
+common_lines first second = differs_lines first second ++ shared_parts Registry (service_names first) (service_names second)
+
 abbrev pub services_lines : List Service → List Service → List DiffLine
-services_lines first second =
-    only_lines First first (service_names second) ++ only_lines Second second (service_names first)
-    ++ differs_lines first second ++ shared_parts Registry (service_names first) (service_names second)
+services_lines first second = apart_lines first second ++ common_lines first second

@@ -63,10 +63,12 @@ compared_of set = record {
 
 -- ---- two sets
 
+-- how groups and tags are listed
+abbrev pub orders_lines : Compared → Compared → List DiffLine
+orders_lines a b = parts_lines Groups a.listed b.listed ++ tags_lines a.groups b.groups
+
 abbrev pub groups_lines : Compared → Compared → List DiffLine
-groups_lines a b =
-    both_lone Group (group_names a.groups) (group_names b.groups)
-    ++ parts_lines Groups a.listed b.listed ++ tags_lines a.groups b.groups
+groups_lines a b = both_lone Group (group_names a.groups) (group_names b.groups) ++ orders_lines a b
 
 abbrev pub compared_lines : Compared → Compared → List DiffLine
 compared_lines a b = services_lines a.services b.services ++ groups_lines a b ++ or_same (boots_lines a.boot b.boot)
@@ -88,7 +90,7 @@ sets_lines n first m second = absent_lines First n first ++ absent_lines Second 
 -- ---- the end
 
 -- a line that tells of a difference
-abbrev pub is_difference : DiffLine → Bool
+unfoldable pub is_difference : DiffLine → Bool
 is_difference (lines.Sets first second) = false
 is_difference lines.StartsSame = false
 is_difference (lines.Data side kind bytes) = false

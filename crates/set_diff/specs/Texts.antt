@@ -1,5 +1,5 @@
 -- What of a service's key is read beside its entry? (this project's own)
-use Rattle.std.specs.Prelude.{◌×◌, Bool, codes}
+use Rattle.std.specs.Prelude.{Bool, codes}
 use Rattle.std.specs.Option.{is_some}
 use Rattle.hive_model.specs.Tree.{Tree, find_string}
 use Rattle.start_model.specs.Entries.{Entry, entry_of}

@@ -42,6 +42,7 @@ fn difference_count(lines: &[DiffLine]) -> u64
     lines.iter().filter(|line| is_difference(line)).count() as u64
 }
 
+#[tactic(auto, unfolding(crate::specs::Sets::is_difference))]
 fn is_difference(line: &DiffLine) -> bool
     ensures { result ≡ is_difference line.now }
 {

@@ -3,13 +3,13 @@
 ghost use Rattle.std.specs.Prelude.{◌≡◌, ◌++◌, ◌∷◌, IfOk, OnOk, IfSome};
 ghost use Rattle.std.specs.Option.{option_copied};
 ghost use Rattle.hive_model.specs.Valid.{HoldsKeys};
-ghost use Rattle.set_diff.specs.Boots.{boots_lines, or_same};
+ghost use Rattle.set_diff.specs.Boots.{attempt_names, lone_names, common_attempts, boots_lines, or_same};
 ghost use Rattle.set_diff.specs.Listed.{both_lone};
-ghost use Rattle.set_diff.specs.Services.{services_lines};
-ghost use Rattle.set_diff.specs.Sets.{compared_of, groups_lines, compared_lines, both_lines, absent_lines, sets_lines};
+ghost use Rattle.set_diff.specs.Services.{service_names, apart_lines, common_lines, services_lines};
+ghost use Rattle.set_diff.specs.Sets.{group_names, compared_of, orders_lines, groups_lines, compared_lines, both_lines, absent_lines, sets_lines};
 
-use crate::boot::{QuietBoot, attempt_names, boot_of, put_phases};
-use crate::groups::{Group, group_names, groups_of, listed_groups, put_tags};
+use crate::boot::{Attempt, QuietBoot, attempt_names, boot_of, put_phases};
+use crate::groups::{TaggedGroup, group_names, groups_of, listed_groups, put_tags};
 use crate::names::{put_both_lone, put_parts, put_shared_parts};
 use crate::service::{Service, put_only, put_pairs, service_names, services_in};
 use diff_lines::{DiffLine, DiffLines, Part, Sequence, Side};
@@ -25,7 +25,7 @@ pub(crate) struct Compared {
     services: Vec<Service>,
     by_service: NamePlaces,
     listed: Names,
-    groups: Vec<Group>,
+    groups: Vec<TaggedGroup>,
     by_group: NamePlaces,
     boot: QuietBoot,
     by_attempt: NamePlaces,
@@ -65,6 +65,76 @@ impl Compared {
             by_attempt,
         })
     }
+
+    fn services(&self) -> &[Service]
+        ensures { result.now ≡ self.now.services }
+    {
+        self.services.as_slice()
+    }
+
+    fn service_places(&self) -> &NamePlaces
+        ensures { result.now ≡ service_names self.now.services }
+    {
+        &self.by_service
+    }
+
+    fn groups(&self) -> &[TaggedGroup]
+        ensures { result.now ≡ self.now.groups }
+    {
+        self.groups.as_slice()
+    }
+
+    fn group_places(&self) -> &NamePlaces
+        ensures { result.now ≡ group_names self.now.groups }
+    {
+        &self.by_group
+    }
+
+    fn attempts(&self) -> &[Attempt]
+        ensures { result.now ≡ self.now.boot.attempts }
+    {
+        self.boot.attempts.as_slice()
+    }
+
+    fn attempt_places(&self) -> &NamePlaces
+        ensures { result.now ≡ attempt_names self.now.boot.attempts }
+    {
+        &self.by_attempt
+    }
+}
+
+// ---- services
+
+/// Appends the services that one set alone has.
+fn put_apart(
+    alloc: Global,
+    a: &Compared,
+    b: &Compared,
+    lines: &mut DiffLines,
+) -> Result<(), AllocError>
+    ensures { OnOk result (lines.new ≡ lines.old ++ apart_lines a.now.services b.now.services) }
+{
+    put_only(alloc, Side::First, a.services(), b.service_places(), lines)?;
+    put_only(alloc, Side::Second, b.services(), a.service_places(), lines)
+}
+
+/// Appends what differs between the services that both sets have.
+fn put_common(
+    alloc: Global,
+    a: &Compared,
+    b: &Compared,
+    lines: &mut DiffLines,
+) -> Result<(), AllocError>
+    ensures { OnOk result (lines.new ≡ lines.old ++ common_lines a.now.services b.now.services) }
+{
+    put_pairs(alloc, a.services(), b.services(), b.service_places(), lines)?;
+    put_shared_parts(
+        alloc,
+        Sequence::Registry,
+        a.service_places(),
+        b.service_places(),
+        lines,
+    )
 }
 
 fn put_services(
@@ -75,18 +145,29 @@ fn put_services(
 ) -> Result<(), AllocError>
     ensures { OnOk result (lines.new ≡ lines.old ++ services_lines a.now.services b.now.services) }
 {
-    let first = a.services.as_slice();
-    let second = b.services.as_slice();
-    put_only(alloc, Side::First, first, &b.by_service, lines)?;
-    put_only(alloc, Side::Second, second, &a.by_service, lines)?;
-    put_pairs(alloc, first, second, &b.by_service, lines)?;
-    put_shared_parts(
+    put_apart(alloc, a, b, lines)?;
+    put_common(alloc, a, b, lines)
+}
+
+// ---- groups
+
+/// Appends what differs in how groups and tags are listed.
+fn put_orders(
+    alloc: Global,
+    a: &Compared,
+    b: &Compared,
+    lines: &mut DiffLines,
+) -> Result<(), AllocError>
+    ensures { OnOk result (lines.new ≡ lines.old ++ orders_lines a.now b.now) }
+{
+    put_parts(
         alloc,
-        Sequence::Registry,
-        &a.by_service,
-        &b.by_service,
+        Sequence::Groups,
+        a.listed.as_slice(),
+        b.listed.as_slice(),
         lines,
-    )
+    )?;
+    put_tags(alloc, a.groups(), b.groups(), b.group_places(), lines)
 }
 
 fn put_groups(
@@ -97,19 +178,58 @@ fn put_groups(
 ) -> Result<(), AllocError>
     ensures { OnOk result (lines.new ≡ lines.old ++ groups_lines a.now b.now) }
 {
-    put_both_lone(alloc, Part::Group, &a.by_group, &b.by_group, lines)?;
-    put_parts(
+    put_both_lone(
         alloc,
-        Sequence::Groups,
-        a.listed.as_slice(),
-        b.listed.as_slice(),
+        Part::Group,
+        a.group_places(),
+        b.group_places(),
         lines,
     )?;
-    put_tags(
+    put_orders(alloc, a, b, lines)
+}
+
+// ---- boots
+
+/// Appends what one boot alone attempts, or leaves unmet.
+fn put_lone_names(
+    alloc: Global,
+    a: &Compared,
+    b: &Compared,
+    lines: &mut DiffLines,
+) -> Result<(), AllocError>
+    ensures { OnOk result (lines.new ≡ lines.old ++ lone_names a.now.boot b.now.boot) }
+{
+    put_both_lone(
         alloc,
-        a.groups.as_slice(),
-        b.groups.as_slice(),
-        &b.by_group,
+        Part::Start,
+        a.attempt_places(),
+        b.attempt_places(),
+        lines,
+    )?;
+    put_unmet(alloc, &a.boot.unmet, &b.boot.unmet, lines)
+}
+
+/// Appends what differs between the attempts that both boots make.
+fn put_common_attempts(
+    alloc: Global,
+    a: &Compared,
+    b: &Compared,
+    lines: &mut DiffLines,
+) -> Result<(), AllocError>
+    ensures { OnOk result (lines.new ≡ lines.old ++ common_attempts a.now.boot.attempts b.now.boot.attempts) }
+{
+    put_phases(
+        alloc,
+        a.attempts(),
+        b.attempts(),
+        b.attempt_places(),
+        lines,
+    )?;
+    put_shared_parts(
+        alloc,
+        Sequence::Starts,
+        a.attempt_places(),
+        b.attempt_places(),
         lines,
     )
 }
@@ -122,22 +242,8 @@ fn put_boots(
 ) -> Result<(), AllocError>
     ensures { OnOk result (lines.new ≡ lines.old ++ boots_lines a.now.boot b.now.boot) }
 {
-    put_both_lone(alloc, Part::Start, &a.by_attempt, &b.by_attempt, lines)?;
-    put_unmet(alloc, &a.boot.unmet, &b.boot.unmet, lines)?;
-    put_phases(
-        alloc,
-        a.boot.attempts.as_slice(),
-        b.boot.attempts.as_slice(),
-        &b.by_attempt,
-        lines,
-    )?;
-    put_shared_parts(
-        alloc,
-        Sequence::Starts,
-        &a.by_attempt,
-        &b.by_attempt,
-        lines,
-    )
+    put_lone_names(alloc, a, b, lines)?;
+    put_common_attempts(alloc, a, b, lines)
 }
 
 /// Appends what one of the two boots alone leaves unmet.

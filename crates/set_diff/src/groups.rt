@@ -36,12 +36,12 @@ const BINARY: u32 = 3;
 
 /// A listed group, and its tags in their order.
 #[derive(Drop)]
-pub(crate) struct Group {
+pub(crate) struct TaggedGroup {
     pub(crate) name: Units,
     pub(crate) tags: Row<u32>,
 }
 
-impl Model for Group {
+impl Model for TaggedGroup {
     ghost use Rattle.start_model.specs.Order.{GroupOrder as Ordered};
 
     ghost Value = { Ordered };
@@ -68,7 +68,7 @@ pub(crate) fn listed_groups(alloc: Global, set: &Key) -> Result<Names, AllocErro
 
 /// The listed groups of a set, each where it stands first.
 #[tactic(auto, using(crate::proofs::GroupLemmas::same_orders))]
-pub(crate) fn groups_of(alloc: Global, set: &Key) -> Result<Vec<Group>, AllocError>
+pub(crate) fn groups_of(alloc: Global, set: &Key) -> Result<Vec<TaggedGroup>, AllocError>
     requires { HoldsKeys set.now }
     ensures { IfOk result (λ g. g.items ≡ orders_of set.now) }
 {
@@ -82,7 +82,7 @@ fn with_tags(
     alloc: Global,
     orders: &[GroupOrder],
     lists: Option<&Key>,
-) -> Result<Vec<Group>, AllocError>
+) -> Result<Vec<TaggedGroup>, AllocError>
     ensures { IfOk result (λ g. g.items ≡ map (order_again (option_copied lists.entry)) orders.now) }
 {
     let mut groups = Vec::new(alloc);
@@ -92,12 +92,12 @@ fn with_tags(
     Ok(groups)
 }
 
-fn group(alloc: Global, name: &Units, lists: Option<&Key>) -> Result<Group, AllocError>
+fn group(alloc: Global, name: &Units, lists: Option<&Key>) -> Result<TaggedGroup, AllocError>
     ensures { IfOk result (λ g. g ≡ order_of (option_copied lists.entry) name.now) }
 {
     let tags = tags_in(alloc, tag_bytes(lists, name))?;
     let name = name.copy(alloc)?;
-    Ok(Group { name, tags })
+    Ok(TaggedGroup { name, tags })
 }
 
 /// The bytes of the binary value of this name.
@@ -142,7 +142,7 @@ fn numbers(alloc: Global, bytes: &[u8], count: usize) -> Result<Row<u32>, AllocE
 }
 
 /// The names of the groups.
-pub(crate) fn group_names(alloc: Global, groups: &[Group]) -> Result<Names, AllocError>
+pub(crate) fn group_names(alloc: Global, groups: &[TaggedGroup]) -> Result<Names, AllocError>
     ensures { IfOk result (λ n. n ≡ group_names groups.now) }
 {
     let mut names = Names::new(alloc);
@@ -157,8 +157,8 @@ pub(crate) fn group_names(alloc: Global, groups: &[Group]) -> Result<Names, Allo
 /// Appends the tags of each group that both sets list, where they differ. `places` are those of the names of the other set's groups.
 pub(crate) fn put_tags(
     alloc: Global,
-    groups: &[Group],
-    others: &[Group],
+    groups: &[TaggedGroup],
+    others: &[TaggedGroup],
     places: &NamePlaces,
     lines: &mut DiffLines,
 ) -> Result<(), AllocError>
@@ -172,7 +172,7 @@ pub(crate) fn put_tags(
 }
 
 /// The other set's group of this one's name.
-fn group_named<'a>(others: &'a [Group], places: &NamePlaces, group: &Group) -> Option<&'a Group>
+fn group_named<'a>(others: &'a [TaggedGroup], places: &NamePlaces, group: &TaggedGroup) -> Option<&'a TaggedGroup>
     requires { places.now ≡ group_names others.now }
     ensures { option_copied result ≡ group_named others.now group.now.name }
 {
@@ -182,8 +182,8 @@ fn group_named<'a>(others: &'a [Group], places: &NamePlaces, group: &Group) -> O
 
 fn put_paired(
     alloc: Global,
-    group: &Group,
-    other: Option<&Group>,
+    group: &TaggedGroup,
+    other: Option<&TaggedGroup>,
     lines: &mut DiffLines,
 ) -> Result<(), AllocError>
     ensures { OnOk result (lines.new ≡ lines.old ++ option_map_or (tag_lines group.now) (option_copied other.entry) []) }
@@ -196,8 +196,8 @@ fn put_paired(
 
 fn put_pair(
     alloc: Global,
-    a: &Group,
-    b: &Group,
+    a: &TaggedGroup,
+    b: &TaggedGroup,
     lines: &mut DiffLines,
 ) -> Result<(), AllocError>
     ensures { OnOk result (lines.new ≡ lines.old ++ tag_lines a.now b.now) }
@@ -214,7 +214,7 @@ fn put_pair(
     })
 }
 
-fn tags_shown(alloc: Global, group: &Group) -> Result<Shown, AllocError>
+fn tags_shown(alloc: Global, group: &TaggedGroup) -> Result<Shown, AllocError>
     ensures { IfOk result (λ s. s ≡ Shown.Numbers group.now.tags) }
 {
     let tags = Vec::from_slice(alloc, group.tags.as_slice())?;

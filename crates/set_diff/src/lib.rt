@@ -15,4 +15,6 @@ mod shown;
 pub use boot::{Attempt, QuietBoot};
 pub use closing::{Closed, close};
 pub use comparing::put_sets;
+pub use names::{lacks, shared};
 pub use service::Service;
+pub use shown::names_same;

@@ -19,7 +19,7 @@ pub(crate) fn has(names: &NamePlaces, name: &Units) -> bool
 }
 
 /// Whether none of the names is this one.
-pub(crate) fn lacks(names: &NamePlaces, name: &Units) -> bool
+pub fn lacks(names: &NamePlaces, name: &Units) -> bool
     ensures { result ≡ lacks names.now name.now }
 {
     !has(names, name)
@@ -59,8 +59,8 @@ pub(crate) fn put_both_lone(
     put_lone(alloc, part, Side::Second, second.as_slice(), first, lines)
 }
 
-/// Those of the names that are among the others too.
-fn shared(alloc: Global, names: &[Units], others: &NamePlaces) -> Result<Names, AllocError>
+/// Those of the names that are among the others too. Takes n log n time.
+pub fn shared(alloc: Global, names: &[Units], others: &NamePlaces) -> Result<Names, AllocError>
     ensures { IfOk result (λ s. s ≡ shared names.now others.now) }
 {
     let mut both = Names::new(alloc);

@@ -29,7 +29,7 @@ pub(crate) fn text_shown(alloc: Global, text: Option<&Units>) -> Result<Shown, A
 }
 
 /// Whether the lists have the same names, letters of either case taken for one.
-fn names_same(first: &[Units], second: &[Units]) -> bool
+pub fn names_same(first: &[Units], second: &[Units]) -> bool
     ensures { result ≡ names_same first.now second.now }
 {
     let mut xs = first;

@@ -5,6 +5,7 @@ use Rattle.set_diff.proofs.names.put_parts.Given as goal
 abbrev pub invariant-names : goal.invariant-names
 invariant-names l = record {
   same : parts_from l.sequence l.place l.xs l.ys ≡ parts_lines l.sequence l.first l.second;
+  lines : l.lines ≡ l.initial.lines;
   place : l.place + length l.xs ≡ 1 + length l.first;
 }
 
