@@ -247,7 +247,7 @@ step_alike rows place value values word None there other unlike =
     (found_elsewhere place rows (λ row. is_free row.takes) there refl)
 step_alike rows place value values word (Some known) there other unlike = word_alike place value values known word other
 
--- ---- the words
+-- ---- several words
 
 neither : (a b : Bool) → (a || b) ≡ false → (a ≡ false) × (b ≡ false)
 neither true b h = cc
@@ -384,6 +384,7 @@ unasked names.Replay look = refl
 unasked names.Check look = refl
 unasked names.Whatif look = refl
 unasked names.Salvage look = refl
+unasked names.Diff look = refl
 
 named_alike : (rows : List OptionRow) (place : ℕ) (value : Text) (values : Values) (name : Text) → HasFlagAt place rows
     → bytes_eq (codes "--verbose") name ≡ false
@@ -455,18 +456,18 @@ all_have : AllHave commands
 all_have = (
   (7, refl),
   (
-    (2, refl),
+    (3, refl),
     (
-      (2, refl),
+      (3, refl),
       (
         (7, refl),
         (
-          (3, refl),
+          (4, refl),
           (
-            (6, refl),
+            (7, refl),
             (
-              (4, refl),
-              ((5, refl), ((6, refl), ((6, refl), ((5, refl), ((6, refl), ((4, refl), tt)))))),
+              (5, refl),
+              ((9, refl), ((6, refl), ((6, refl), ((5, refl), ((6, refl), ((5, refl), ((8, refl), tt))))))),
             ),
           ),
         ),

@@ -3,14 +3,17 @@ use Rattle.std.specs.Prelude.{ℕ, Bool, List, [], ◌∷◌, Option, Some, None
 use Rattle.std.specs.Prelude.{if◌then◌else◌, option_and_then, unwrap_or, length, nat_le}
 use Rattle.command_words.specs.declared.asked.AskedScheme.{AskedScheme}
 use Rattle.command_words.specs.declared.asked.AskedScheme.TheVariants.{Alt, Log}
+use Rattle.command_words.specs.declared.asked.AskedEncoding.{AskedEncoding}
+use Rattle.command_words.specs.declared.asked.AskedEncoding.TheVariants.{Utf16}
+use Rattle.command_words.specs.declared.asked.AskedSet.{AskedSet}
 use Rattle.command_words.specs.declared.asked.CommandName.{CommandName}
 use Rattle.command_words.specs.declared.asked.CommandName.TheVariants as names
 use Rattle.command_words.specs.declared.table.Takes.{Takes}
 use Rattle.command_words.specs.declared.table.Takes.TheVariants as takes
 use Rattle.command_words.specs.Words.{Text, Asked, Reason, missing, bad_value, usual_system}
 use Rattle.command_words.specs.Words.{run, show, make, safe, control, twin, export, import}
-use Rattle.command_words.specs.Words.{key, replay, check, whatif, salvage}
-use Rattle.command_words.specs.Table.{OptionRow, count_of, depth_of, mode_of, set_number_of}
+use Rattle.command_words.specs.Words.{key, replay, check, whatif, salvage, diff}
+use Rattle.command_words.specs.Table.{OptionRow, count_of, depth_of, encoding_of, mode_of, set_number_of, set_of}
 use Rattle.command_words.specs.Walk.{and_then, no_values}
 
 -- ---- the options
@@ -45,10 +48,10 @@ run_options =
     ∷ any (codes "--save-hive") ∷ any (codes "--save-log") ∷ flags
 
 abbrev pub show_options : List OptionRow
-show_options = any (codes "--hive") ∷ any (codes "--log") ∷ flags
+show_options = any (codes "--hive") ∷ any (codes "--log") ∷ json_flags
 
 abbrev pub make_options : List OptionRow
-make_options = row (codes "N") takes.Count ∷ any (codes "--save-hive") ∷ flags
+make_options = row (codes "N") takes.Count ∷ any (codes "--save-hive") ∷ json_flags
 
 abbrev pub safe_options : List OptionRow
 safe_options =
@@ -56,20 +59,20 @@ safe_options =
     ∷ row (codes "--mode") takes.Mode ∷ flag (codes "--images") ∷ json_flags
 
 abbrev pub control_options : List OptionRow
-control_options = any (codes "--hive") ∷ any (codes "--log") ∷ any (codes "--commands") ∷ flags
+control_options = any (codes "--hive") ∷ any (codes "--log") ∷ any (codes "--commands") ∷ json_flags
 
 abbrev pub twin_options : List OptionRow
 twin_options =
     any (codes "--hive") ∷ any (codes "--alt") ∷ row (codes "--scheme") takes.Scheme ∷ row (codes "--default") takes.SetNumber
-    ∷ any (codes "--save-hive") ∷ any (codes "--save-alt") ∷ flags
+    ∷ any (codes "--save-hive") ∷ any (codes "--save-alt") ∷ json_flags
 
 abbrev pub export_options : List OptionRow
-export_options = any (codes "--hive") ∷ any (codes "--log") ∷ any (codes "--reg") ∷ any (codes "--key") ∷ flags
+export_options = any (codes "--hive") ∷ any (codes "--log") ∷ any (codes "--reg") ∷ any (codes "--key") ∷ json_flags
 
 abbrev pub import_options : List OptionRow
 import_options =
     any (codes "--hive") ∷ any (codes "--log") ∷ any (codes "--reg") ∷ any (codes "--save-hive") ∷ any (codes "--save-log")
-    ∷ flags
+    ∷ row (codes "--encoding") takes.Encoding ∷ row (codes "--current") takes.Set ∷ flag (codes "--lenient") ∷ json_flags
 
 abbrev pub key_options : List OptionRow
 key_options =
@@ -87,7 +90,13 @@ abbrev pub whatif_options : List OptionRow
 whatif_options = any (codes "--hive") ∷ any (codes "--log") ∷ any (codes "--boot-ini") ∷ system_row ∷ any (codes "--of") ∷ json_flags
 
 abbrev pub salvage_options : List OptionRow
-salvage_options = any (codes "--hive") ∷ any (codes "--log") ∷ any (codes "--save-hive") ∷ json_flags
+salvage_options =
+    any (codes "--hive") ∷ any (codes "--log") ∷ any (codes "--save-hive") ∷ flag (codes "--by-parent") ∷ json_flags
+
+abbrev pub diff_options : List OptionRow
+diff_options =
+    any (codes "--hive") ∷ any (codes "--log") ∷ row (codes "--set") takes.SetNumber ∷ any (codes "--with")
+    ∷ any (codes "--with-log") ∷ row (codes "--with-set") takes.SetNumber ∷ flag (codes "--all") ∷ json_flags
 
 -- a command: its name, and what it takes
 pub record CommandRow : Type 0 where
@@ -111,6 +120,7 @@ commands =
     ∷ record { name = codes "check"; command = names.Check; options = check_options }
     ∷ record { name = codes "whatif"; command = names.Whatif; options = whatif_options }
     ∷ record { name = codes "salvage"; command = names.Salvage; options = salvage_options }
+    ∷ record { name = codes "diff"; command = names.Diff; options = diff_options }
     ∷ []
 
 -- each of the command's options has a place among the values
@@ -188,7 +198,7 @@ abbrev pub control_by : Look → Result Asked Reason
 control_by look = and_then (needed_in look (codes "--hive")) (λ hive. and_then (needed_in look (codes "--commands")) (λ commands.
     Ok (control (record { hive = hive; log = look (codes "--log"); commands = commands }))))
 
--- what keeps the hive: a second copy, or `log` where it is said
+-- what keeps the hive: a second copy, or `log` where that is given
 abbrev pub scheme_of : Option Text → AskedScheme
 scheme_of None = Alt
 scheme_of (Some text) = if bytes_eq text (codes "log") then Log else Alt
@@ -213,6 +223,14 @@ abbrev pub export_by : Look → Result Asked Reason
 export_by look = and_then (needed_in look (codes "--hive")) (λ hive. and_then (needed_in look (codes "--reg")) (λ reg.
     Ok (export (record { hive = hive; log = look (codes "--log"); reg = reg; key = look (codes "--key") }))))
 
+-- how the text is encoded: in UTF-16, where it isn't said
+abbrev pub encoding_in : Look → AskedEncoding
+encoding_in look = unwrap_or (option_and_then encoding_of (look (codes "--encoding"))) Utf16
+
+-- the set that `CurrentControlSet` stands for, where one is named
+abbrev pub current_in : Look → Option AskedSet
+current_in look = option_and_then set_of (look (codes "--current"))
+
 -- what the values ask of `import`
 abbrev pub import_by : Look → Result Asked Reason
 import_by look = and_then (needed_in look (codes "--hive")) (λ hive. and_then (needed_in look (codes "--reg")) (λ reg. Ok (import (record {
@@ -221,6 +239,9 @@ import_by look = and_then (needed_in look (codes "--hive")) (λ hive. and_then (
   reg = reg;
   save_hive = look (codes "--save-hive");
   save_log = look (codes "--save-log");
+  encoding = encoding_in look;
+  current = current_in look;
+  lenient = flag_in look (codes "--lenient");
 }))))
 
 -- the number of levels, none where it isn't said
@@ -272,7 +293,27 @@ salvage_by look = and_then (needed_in look (codes "--hive")) (λ hive. Ok (salva
   hive = hive;
   log = look (codes "--log");
   save_hive = look (codes "--save-hive");
+  by_parent = flag_in look (codes "--by-parent");
 })))
+
+-- the second hive, where one is named; it has to be where its log is
+abbrev pub paired : Option Text → Option Text → Result (Option Text) Reason
+paired None None = Ok None
+paired None (Some log) = Err (missing (codes "--with"))
+paired (Some with) log = Ok (Some with)
+
+-- what the values ask of `diff`
+abbrev pub diff_by : Look → Result Asked Reason
+diff_by look = and_then (needed_in look (codes "--hive")) (λ hive.
+    and_then (paired (look (codes "--with")) (look (codes "--with-log"))) (λ with. Ok (diff (record {
+      hive = hive;
+      log = look (codes "--log");
+      set = set_in look (codes "--set");
+      with = with;
+      with_log = look (codes "--with-log");
+      with_set = set_in look (codes "--with-set");
+      all = flag_in look (codes "--all");
+    }))))
 
 -- what the values ask of the command
 abbrev pub asks_of : CommandName → Look → Result Asked Reason
@@ -289,3 +330,4 @@ asks_of names.Replay look = replay_by look
 asks_of names.Check look = check_by look
 asks_of names.Whatif look = whatif_by look
 asks_of names.Salvage look = salvage_by look
+asks_of names.Diff look = diff_by look

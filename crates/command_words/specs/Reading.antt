@@ -1,4 +1,4 @@
--- What do the words of the command line ask for, or why have they no reading? (this project's own)
+-- What does the command line ask for, or why can it not be parsed? (this project's own)
 --
 -- The first word is the command. `help`, `--help` and `-h` ask for help, `version` and `--version` for the version. After a command
 -- `--help` or `-h` asks for the command's page, whatever the other words are.
@@ -15,7 +15,7 @@ use Rattle.command_words.specs.Commands.{CommandRow, asks_of, flag_in, row_named
 abbrev pub is_help : Text → Bool
 is_help word = bytes_eq word (codes "--help") || bytes_eq word (codes "-h")
 
--- one of the words asks for help
+-- a word asks for help
 abbrev pub asks_help : List Text → Bool
 asks_help words = list_any is_help words
 
@@ -27,7 +27,7 @@ is_verbose word = bytes_eq word (codes "-v") || bytes_eq word (codes "--verbose"
 abbrev pub is_about : Text → Bool
 is_about first = is_help first || (bytes_eq first (codes "help") || (bytes_eq first (codes "version") || bytes_eq first (codes "--version")))
 
--- whether the reason of a refusal is to be printed: a word after the first asks for it, also where the words cannot be parsed;
+-- whether the reason of a refusal is to be printed: a word after the first asks for it, also where the rest cannot be parsed;
 -- but never where help or the version is asked for
 unfoldable pub wants_reason : List Text → Bool
 wants_reason [] = false
@@ -57,7 +57,7 @@ abbrev pub alone : Reading → List Text → Reading
 alone reading [] = reading
 alone reading (word ∷ words) = refused None
 
--- what the words after `help` ask for
+-- what follows `help`
 abbrev pub help_topic : List Text → Reading
 help_topic [] = help pages.Overview
 help_topic (name ∷ words) = alone (page_read (page_named name)) words
@@ -65,7 +65,7 @@ help_topic (name ∷ words) = alone (page_read (page_named name)) words
 abbrev pub help_read : List Text → Reading
 help_read words = if asks_help words then help pages.Help else help_topic words
 
--- what the words after `version` ask for
+-- what follows `version`
 abbrev pub version_read : List Text → Reading
 version_read words = if asks_help words then help pages.Version else alone version words
 
@@ -75,7 +75,7 @@ asked_by row values =
     and_then (asks_of row.command (value_named row.options values))
     (λ asked. Ok (asked, flag_in (value_named row.options values) (codes "--json")))
 
--- what the words after the command ask of it, or the first reason from the left why they cannot be parsed
+-- what the arguments ask of the command, or the first reason from the left why they cannot be parsed
 abbrev pub asked_of : CommandRow → List Text → Result (Asked × Bool) Reason
 asked_of row words = and_then (walked row.options (record { values = no_values; waiting = None }) words) (asked_by row)
 
@@ -84,7 +84,7 @@ abbrev pub asked_read : Result (Asked × Bool) Reason → Reading
 asked_read (Ok asked) = asks asked.0 asked.1
 asked_read (Err reason) = refused (Some reason)
 
--- what the words after the first ask of the command that it names
+-- what the arguments ask of the command that the first word names
 abbrev pub command_read : Text → List Text → Option CommandRow → Reading
 command_read first words None = refused (Some (unknown_command first))
 command_read first words (Some row) = if asks_help words then help (page_of_row row) else asked_read (asked_of row words)

@@ -6,6 +6,10 @@ use Rattle.nt_bytes.specs.Text.{is_digits}
 use Rattle.arc_path.specs.Reading.{arc_of}
 use Rattle.command_words.specs.declared.asked.AskedMode.{AskedMode}
 use Rattle.command_words.specs.declared.asked.AskedMode.TheVariants.{Minimal, Network}
+use Rattle.command_words.specs.declared.asked.AskedEncoding.{AskedEncoding}
+use Rattle.command_words.specs.declared.asked.AskedEncoding.TheVariants.{Utf16, Utf8}
+use Rattle.command_words.specs.declared.asked.AskedSet.{AskedSet}
+use Rattle.command_words.specs.declared.asked.AskedSet.TheVariants as asked_set
 use Rattle.command_words.specs.declared.table.Takes.{Takes}
 use Rattle.command_words.specs.declared.table.Takes.TheVariants as takes
 use Rattle.command_words.specs.Words.{Text}
@@ -43,6 +47,16 @@ abbrev pub mode_of : Text → Option AskedMode
 mode_of text =
     if bytes_eq text (codes "minimal") then Some Minimal else if bytes_eq text (codes "network") then Some Network else None
 
+-- the encoding of a registry text that the text names
+abbrev pub encoding_of : Text → Option AskedEncoding
+encoding_of text =
+    if bytes_eq text (codes "utf-16") then Some Utf16 else if bytes_eq text (codes "utf-8") then Some Utf8 else None
+
+-- the set that the text names: by its number, or `default`
+abbrev pub set_of : Text → Option AskedSet
+set_of text =
+    if bytes_eq text (codes "default") then Some asked_set.Default else option_map asked_set.Number (set_number_of text)
+
 -- the text is the one or the other
 abbrev pub is_either : Text → Text → Text → Bool
 is_either one other text = bytes_eq text one || bytes_eq text other
@@ -57,6 +71,8 @@ accepts takes.Scheme text = is_either (codes "alt") (codes "log") text
 accepts takes.SetNumber text = is_some (set_number_of text)
 accepts takes.Depth text = is_some (depth_of text)
 accepts takes.Mode text = is_some (mode_of text)
+accepts takes.Encoding text = is_some (encoding_of text)
+accepts takes.Set text = is_some (set_of text)
 
 -- no value is taken
 abbrev pub is_flag : Takes → Bool
@@ -68,6 +84,8 @@ is_flag takes.Scheme = false
 is_flag takes.SetNumber = false
 is_flag takes.Depth = false
 is_flag takes.Mode = false
+is_flag takes.Encoding = false
+is_flag takes.Set = false
 
 -- the value is a word without an option
 abbrev pub is_free : Takes → Bool
@@ -79,6 +97,8 @@ is_free takes.Scheme = false
 is_free takes.SetNumber = false
 is_free takes.Depth = false
 is_free takes.Mode = false
+is_free takes.Encoding = false
+is_free takes.Set = false
 
 -- the first row that passes, with its place; the first of these rows has this place
 abbrev pub known_from : ℕ → (OptionRow → Bool) → List OptionRow → Option Known

@@ -2,11 +2,11 @@
 use Rattle.std.specs.Borrow.{Bor}
 use Rattle.std.specs.Prelude.{◌≡◌, ℕ, List, Bool, Option, Result, Ok, Err, map, option_map}
 use Rattle.command_words.specs.Words.{Asked, Reason, RunAsked, ShowAsked, MakeAsked, SafeAsked, ControlAsked, TwinAsked, ExportAsked, ImportAsked}
-use Rattle.command_words.specs.Words.{KeyAsked, ReplayAsked, CheckAsked, WhatifAsked, SalvageAsked}
+use Rattle.command_words.specs.Words.{KeyAsked, ReplayAsked, CheckAsked, WhatifAsked, SalvageAsked, DiffAsked}
 use Rattle.command_words.specs.Words.{Reading, help, version, asks, refused}
 use Rattle.command_words.specs.Words.{unknown_command, left_over, bad_value, unknown_option, twice, no_value, missing}
 use Rattle.command_words.specs.Words.{run, show, make, safe, control, twin, export, import}
-use Rattle.command_words.specs.Words.{key, replay, check, whatif, salvage}
+use Rattle.command_words.specs.Words.{key, replay, check, whatif, salvage, diff}
 use Rattle.command_words.specs.declared.asked.Command.{Command}
 use Rattle.command_words.specs.declared.asked.Command.TheVariants as commands
 use Rattle.command_words.specs.declared.asked.Command.TheVariants.{Run, Show, Make, Safe, Control, Twin, Export, Import}
@@ -23,6 +23,7 @@ use Rattle.command_words.specs.declared.asked.ReplayWords.{ReplayWords}
 use Rattle.command_words.specs.declared.asked.CheckWords.{CheckWords}
 use Rattle.command_words.specs.declared.asked.WhatifWords.{WhatifWords}
 use Rattle.command_words.specs.declared.asked.SalvageWords.{SalvageWords}
+use Rattle.command_words.specs.declared.asked.DiffWords.{DiffWords}
 use Rattle.command_words.specs.declared.reason.Reason.{Reason as CodeReason}
 use Rattle.command_words.specs.declared.reason.Reason.TheVariants as reasons
 use Rattle.command_words.specs.declared.asked.Reading.{Reading as CodeReading}
@@ -99,6 +100,9 @@ import_seen i = record {
   reg = i.reg.now;
   save_hive = option_map (λ t. t.now) i.save_hive;
   save_log = option_map (λ t. t.now) i.save_log;
+  encoding = i.encoding;
+  current = i.current;
+  lenient = i.lenient;
 }
 
 -- what `key` is asked for, seen so
@@ -141,6 +145,19 @@ salvage_seen w = record {
   hive = w.hive.now;
   log = option_map (λ t. t.now) w.log;
   save_hive = option_map (λ t. t.now) w.save_hive;
+  by_parent = w.by_parent;
+}
+
+-- what `diff` is asked for, seen so
+abbrev pub diff_seen : DiffWords → DiffAsked
+diff_seen w = record {
+  hive = w.hive.now;
+  log = option_map (λ t. t.now) w.log;
+  set = w.set;
+  with = option_map (λ t. t.now) w.with;
+  with_log = option_map (λ t. t.now) w.with_log;
+  with_set = w.with_set;
+  all = w.all;
 }
 
 -- the command seen so
@@ -158,6 +175,7 @@ command_seen (commands.Replay w) = replay (replay_seen w)
 command_seen (commands.Check w) = check (check_seen w)
 command_seen (commands.Whatif w) = whatif (whatif_seen w)
 command_seen (commands.Salvage w) = salvage (salvage_seen w)
+command_seen (commands.Diff w) = diff (diff_seen w)
 
 -- a reason, as the texts after the references
 abbrev pub reason_seen : CodeReason → Reason

@@ -1,6 +1,6 @@
--- Which values do the words after a command give, or why have they no reading? (this project's own)
+-- Which values do the arguments of a command give, or why can they not be parsed? (this project's own)
 --
--- The words are read from left to right. An option stands as `--name value` or `--name=value`, a flag as `--name`.
+-- They are read from left to right. An option stands as `--name value` or `--name=value`, a flag as `--name`.
 use Rattle.std.specs.Prelude.{ℕ, ◌&&◌, ◌||◌, List, [], ◌∷◌, Option, Some, None, is_some, codes}
 use Rattle.std.specs.Prelude.{Result, Ok, Err, if◌then◌else◌, option_and_then, bytes_eq, slice_set, slice_index_or}
 use Rattle.std.specs.List.{before_first}
@@ -20,7 +20,7 @@ no_values = None ∷ None ∷ None ∷ None ∷ None ∷ None ∷ None ∷ None 
 abbrev pub value_at : ℕ → Values → Option Text
 value_at place values = slice_index_or values place None
 
--- the values that the words so far have given, and the option whose value is the next word
+-- the values so far, and the option whose value is the next word
 pub record State : Type 0 where
   pub values : Values
   pub waiting : Option Known

@@ -1,7 +1,9 @@
--- What the words of the command line can ask for. This project's own.
+-- What the command line can ask for. This project's own.
 use Rattle.std.specs.Prelude.{ℕ, ◌==◌, Bool, true, false, List, [], ◌∷◌, Option, codes}
 use Rattle.command_words.specs.declared.asked.AskedMode.{AskedMode}
 use Rattle.command_words.specs.declared.asked.AskedScheme.{AskedScheme}
+use Rattle.command_words.specs.declared.asked.AskedEncoding.{AskedEncoding}
+use Rattle.command_words.specs.declared.asked.AskedSet.{AskedSet}
 use Rattle.command_words.specs.declared.asked.Page.{Page}
 
 -- the bytes of a word
@@ -80,13 +82,17 @@ pub record ExportAsked : Type 0 where
   pub reg : Text
   pub key : Option Text
 
--- what `import` is asked for
+-- what `import` is asked for: the names of the files, how the text is encoded, the set that `CurrentControlSet` stands for where
+-- one is named, and whether steps that delete what isn't there are passed over
 pub record ImportAsked : Type 0 where
   pub hive : Text
   pub log : Option Text
   pub reg : Text
   pub save_hive : Option Text
   pub save_log : Option Text
+  pub encoding : AskedEncoding
+  pub current : Option AskedSet
+  pub lenient : Bool
 
 -- what `key` is asked for: the names of the files, the path of the key, how many levels below it, and whether with descriptors
 pub record KeyAsked : Type 0 where
@@ -124,6 +130,17 @@ pub record SalvageAsked : Type 0 where
   pub hive : Text
   pub log : Option Text
   pub save_hive : Option Text
+  pub by_parent : Bool
+
+-- what `diff` is asked for: the names of the files of two hives, the numbers of two sets, and whether whole trees are compared
+pub record DiffAsked : Type 0 where
+  pub hive : Text
+  pub log : Option Text
+  pub set : Option ℕ
+  pub with : Option Text
+  pub with_log : Option Text
+  pub with_set : Option ℕ
+  pub all : Bool
 
 -- what is asked for
 pub data Asked : Type 0 where
@@ -140,6 +157,7 @@ pub data Asked : Type 0 where
   check : CheckAsked → Asked
   whatif : WhatifAsked → Asked
   salvage : SalvageAsked → Asked
+  diff : DiffAsked → Asked
 
 -- why words cannot be parsed; an option is named with its hyphens
 pub data Reason : Type 0 where

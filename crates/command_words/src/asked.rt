@@ -89,7 +89,22 @@ pub struct ExportWords<'a> {
     pub key: Option<&'a str>,
 }
 
-/// What `import` is asked for: the names of the files that it reads and saves.
+/// How a registry text is encoded.
+#[derive(Clone, Copy, Debug, PartialEq, Eq)]
+pub enum AskedEncoding {
+    Utf16,
+    Utf8,
+}
+
+/// A control set: by its number, from 1 to 999, or the one that Default names.
+#[derive(Clone, Copy, Debug, PartialEq, Eq)]
+pub enum AskedSet {
+    Number(u32),
+    Default,
+}
+
+/// What `import` is asked for: the names of the files that it reads and saves, how the text is encoded, the set that
+/// `CurrentControlSet` stands for where one is named, and whether steps that delete what isn't there are passed over.
 #[derive(Clone, Copy, Debug, PartialEq, Eq)]
 pub struct ImportWords<'a> {
     pub hive: &'a str,
@@ -97,6 +112,9 @@ pub struct ImportWords<'a> {
     pub reg: &'a str,
     pub save_hive: Option<&'a str>,
     pub save_log: Option<&'a str>,
+    pub encoding: AskedEncoding,
+    pub current: Option<AskedSet>,
+    pub lenient: bool,
 }
 
 /// What `key` is asked for: the names of the files that it reads, the path of the key, and how many levels below it.
@@ -149,6 +167,20 @@ pub struct SalvageWords<'a> {
     pub hive: &'a str,
     pub log: Option<&'a str>,
     pub save_hive: Option<&'a str>,
+    pub by_parent: bool,
+}
+
+/// What `diff` is asked for: the names of the files of two hives, the numbers of two sets, from 1 to 999, and whether whole trees
+/// are compared.
+#[derive(Clone, Copy, Debug, PartialEq, Eq)]
+pub struct DiffWords<'a> {
+    pub hive: &'a str,
+    pub log: Option<&'a str>,
+    pub set: Option<u32>,
+    pub with: Option<&'a str>,
+    pub with_log: Option<&'a str>,
+    pub with_set: Option<u32>,
+    pub all: bool,
 }
 
 /// A command by its name.
@@ -167,6 +199,7 @@ pub enum CommandName {
     Check,
     Whatif,
     Salvage,
+    Diff,
 }
 
 /// A page of help: of all commands, of one, of `help`, of `version`, or of a topic.
@@ -197,6 +230,7 @@ pub enum Command<'a> {
     Check(CheckWords<'a>),
     Whatif(WhatifWords<'a>),
     Salvage(SalvageWords<'a>),
+    Diff(DiffWords<'a>),
 }
 
 /// What words are read as.
@@ -208,6 +242,6 @@ pub enum Reading<'a> {
     Version,
     /// A command is asked for, and whether each line of its report is to be a JSON object.
     Command(Command<'a>, bool),
-    /// The words cannot be parsed. There is no reason where there are no words, or the first one asks for help or the version.
+    /// The command line cannot be parsed. There is no reason where it is empty, or the first one asks for help or the version.
     Refused(Option<Reason<'a>>),
 }

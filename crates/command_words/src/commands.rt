@@ -1,19 +1,19 @@
 //! What the values of a command's options ask for.
 
 ghost use Rattle.std.specs.Prelude.{◌≡◌, codes, option_and_then, option_map, Some};
-ghost use Rattle.command_words.specs.Table.{count_of, depth_of, mode_of};
+ghost use Rattle.command_words.specs.Table.{count_of, depth_of, encoding_of, mode_of, set_of};
 ghost use Rattle.command_words.specs.Commands.{needed_in, system_in, set_in, scheme_of, counted, asks_of};
 ghost use Rattle.command_words.specs.Commands.{run_by, show_by, make_by, safe_by, control_by, twin_by, export_by, import_by};
-ghost use Rattle.command_words.specs.Commands.{flag_in, levels_in};
-ghost use Rattle.command_words.specs.Commands.{key_by, replay_by, check_by, whatif_by, salvage_by};
+ghost use Rattle.command_words.specs.Commands.{flag_in, levels_in, encoding_in, current_in, paired};
+ghost use Rattle.command_words.specs.Commands.{key_by, replay_by, check_by, whatif_by, salvage_by, diff_by};
 ghost use Rattle.command_words.specs.Views.{Sees, command_seen, look_of};
 
 use crate::asked::{
-    AskedMode, AskedScheme, CheckWords, Command, CommandName, ControlWords, ExportWords,
-    ImportWords, KeyWords, MakeWords, ReplayWords, RunWords, SafeWords, SalvageWords, ShowWords,
-    TwinWords, USUAL_SYSTEM, WhatifWords,
+    AskedEncoding, AskedMode, AskedScheme, AskedSet, CheckWords, Command, CommandName,
+    ControlWords, DiffWords, ExportWords, ImportWords, KeyWords, MakeWords, ReplayWords, RunWords,
+    SafeWords, SalvageWords, ShowWords, TwinWords, USUAL_SYSTEM, WhatifWords,
 };
-use crate::count::{count_in, depth_in, mode_named, set_number_in};
+use crate::count::{count_in, depth_in, encoding_named, mode_named, set_named, set_number_in};
 use crate::reason::Reason;
 use crate::table::{CommandOption, option_named};
 use crate::walk::{Values, value_at};
@@ -200,6 +200,35 @@ fn export_words<'a>(given: &Given<'a>) -> Result<Command<'a>, Reason<'a>>
     }))
 }
 
+/// How the text is encoded that the command line names: in UTF-16, where it is not said.
+fn encoding<'a>(given: &Given<'a>) -> AskedEncoding
+    ensures { result ≡ encoding_in (look_of given.now) }
+{
+    match encoding_said(given) {
+        Some(encoding) => encoding,
+        None => AskedEncoding::Utf16,
+    }
+}
+
+fn encoding_said<'a>(given: &Given<'a>) -> Option<AskedEncoding>
+    ensures { result ≡ option_and_then encoding_of (look_of given.now (codes "--encoding")) }
+{
+    match value(given, "--encoding") {
+        Some(text) => encoding_named(text),
+        None => None,
+    }
+}
+
+/// The set that `CurrentControlSet` stands for, where one is named.
+fn current<'a>(given: &Given<'a>) -> Option<AskedSet>
+    ensures { result ≡ current_in (look_of given.now) }
+{
+    match value(given, "--current") {
+        Some(text) => set_named(text),
+        None => None,
+    }
+}
+
 fn import_words<'a>(given: &Given<'a>) -> Result<Command<'a>, Reason<'a>>
     ensures { Sees command_seen result (import_by (look_of given.now)) }
 {
@@ -211,10 +240,13 @@ fn import_words<'a>(given: &Given<'a>) -> Result<Command<'a>, Reason<'a>>
         reg,
         save_hive: value(given, "--save-hive"),
         save_log: value(given, "--save-log"),
+        encoding: encoding(given),
+        current: current(given),
+        lenient: flag(given, "--lenient"),
     }))
 }
 
-/// The number of levels that is said, where one is.
+/// The number of levels, where one is given.
 fn levels_said<'a>(given: &Given<'a>) -> Option<u32>
     ensures { result ≡ option_and_then depth_of (look_of given.now (codes "--depth")) }
 {
@@ -293,6 +325,34 @@ fn salvage_words<'a>(given: &Given<'a>) -> Result<Command<'a>, Reason<'a>>
         hive,
         log: value(given, "--log"),
         save_hive: value(given, "--save-hive"),
+        by_parent: flag(given, "--by-parent"),
+    }))
+}
+
+/// The second hive, where one is named, and one has to be where its log is.
+fn paired<'a>(with: Option<&'a str>, log: Option<&'a str>) -> Result<Option<&'a str>, Reason<'a>>
+    ensures { Sees (λ w. option_map (λ t. t.now) w) result (paired (option_map (λ t. t.now) with.entry) (option_map (λ t. t.now) log.entry)) }
+{
+    match (with, log) {
+        (None, Some(_)) => Err(Reason::Missing("--with")),
+        (None, None) => Ok(None),
+        (Some(with), _) => Ok(Some(with)),
+    }
+}
+
+fn diff_words<'a>(given: &Given<'a>) -> Result<Command<'a>, Reason<'a>>
+    ensures { Sees command_seen result (diff_by (look_of given.now)) }
+{
+    let hive = needed(given, "--hive")?;
+    let with = paired(value(given, "--with"), value(given, "--with-log"))?;
+    Ok(Command::Diff(DiffWords {
+        hive,
+        log: value(given, "--log"),
+        set: set_number(given, "--set"),
+        with,
+        with_log: value(given, "--with-log"),
+        with_set: set_number(given, "--with-set"),
+        all: flag(given, "--all"),
     }))
 }
 
@@ -314,5 +374,6 @@ pub fn command_asked<'a>(name: CommandName, given: &Given<'a>) -> Result<Command
         CommandName::Check => check_words(given),
         CommandName::Whatif => whatif_words(given),
         CommandName::Salvage => salvage_words(given),
+        CommandName::Diff => diff_words(given),
     }
 }

@@ -1,4 +1,4 @@
-//! What holds of the walk over the words, and of the table of commands.
+//! What holds of the walk over the command line, and of the table of commands.
 
 ghost use Rattle.std.specs.Prelude.{◌≡◌, ◌∷◌, ◌++◌, Err, false, List, Ok, true};
 ghost use Rattle.std.specs.List.{list_all, list_any};

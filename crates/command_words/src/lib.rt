@@ -1,4 +1,4 @@
-//! The words of the command line: which command they name, and with which options.
+//! The command line: which command it names, and with which options.
 //!
 //! The commands are
 //! `run --hive F --script F [--log F] [--boot-ini F] [--system ARC] [--save-hive F] [--save-log F]`,
@@ -7,24 +7,25 @@
 //! `control --hive F [--log F] --commands F`,
 //! `twin --hive F [--alt F] [--scheme alt|log] [--default N] [--save-hive F] [--save-alt F]`,
 //! `export --hive F [--log F] --reg F [--key PATH]`,
-//! `import --hive F [--log F] --reg F [--save-hive F] [--save-log F]`,
+//! `import --hive F [--log F] --reg F [--save-hive F] [--save-log F] [--encoding utf-16|utf-8] [--current N|default] [--lenient]`,
 //! `key --hive F [--log F] [--key PATH] [--depth N] [--security]`,
 //! `replay --hive F [--log F] [--log1 F] [--log2 F] [--save-hive F]`, `check --hive F [--log F] [--set N] [--order]`,
 //! `whatif --hive F [--log F] [--boot-ini F] [--system ARC] [--of NAME]`,
-//! `salvage --hive F [--log F] [--save-hive F]`.
-//! Each also has the flag `--verbose`, which is written `-v` too, and the last five and `safe` have `--json`. Options come in any order after
+//! `salvage --hive F [--log F] [--save-hive F] [--by-parent]`,
+//! `diff --hive F [--log F] [--set N] [--with F] [--with-log F] [--with-set N] [--all]`.
+//! Each also has the flag `--verbose`, which is written `-v` too, and all but `run` have `--json`. Options come in any order after
 //! the command, also around N, as `--name value` or as `--name=value`.
 //!
-//! The words cannot be parsed exactly where one of these holds, and the reason is the first from the left: there is no command,
+//! The command line cannot be parsed exactly where one of these holds, and the reason is the first from the left: there is no command,
 //! or another one; an option is one that the command does not have, is given twice, has no value, or is missing though the
-//! command needs it; a word is left over; a word is empty or is `--`; a value is empty; a value in a word of its own begins
+//! command needs it, as `diff` needs `--with` where `--with-log` is given; a word is left over; a word is empty or is `--`; a value is empty; a value in a word of its own begins
 //! with `-`; the N of `make` is missing; an N is not one to five decimal digits with a value from 1 to 10000, or
-//! elsewhere one to three with a value from 1 to 999, or from 0 for `--depth` (leading zeros are read); a scheme or a mode
-//! is none of those named above; a system is no ARC path.
-//! These rules are this project's own; `specs/Reading.antt` states them by the words alone.
+//! elsewhere one to three with a value from 1 to 999, or from 0 for `--depth` (leading zeros are read); a scheme, a
+//! mode or an encoding is none of those named above; a set of `--current` is neither such a number nor `default`; a system is no ARC path.
+//! These rules are this project's own; `specs/Reading.antt` states them by the command line alone.
 //!
 //! `help`, `--help` and `-h` ask for a page of help, `version` and `--version` for the version. `wants_reason` is whether
-//! the reason of a refusal is to be printed, `reason_line` the line that says why words cannot be parsed.
+//! the reason of a refusal is to be printed, `reason_line` the line that says why it cannot be parsed.
 #![tactic(auto)]
 
 mod asked;
@@ -39,9 +40,10 @@ mod walk;
 mod word_texts;
 
 pub use asked::{
-    AskedMode, AskedScheme, CheckWords, Command, CommandName, ControlWords, ExportWords,
-    ImportWords, KeyWords, MakeWords, Page, Reading, ReplayWords, RunWords, SafeWords,
-    SalvageWords, ShowWords, TwinWords, USUAL_SYSTEM, WhatifWords,
+    AskedEncoding, AskedMode, AskedScheme, AskedSet, CheckWords, Command, CommandName,
+    ControlWords, DiffWords, ExportWords, ImportWords, KeyWords, MakeWords, Page, Reading,
+    ReplayWords, RunWords, SafeWords, SalvageWords, ShowWords, TwinWords, USUAL_SYSTEM,
+    WhatifWords,
 };
 pub use laws::{
     each_option_has_a_place, the_first_fault_decides, unnamed_options_ask_nothing,

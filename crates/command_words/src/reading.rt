@@ -1,4 +1,4 @@
-//! What the words of the command line ask for.
+//! What the command line asks for.
 
 ghost use Rattle.std.specs.Prelude.{◌≡◌, ◌∷◌, [], false, Some, map, None, option_map};
 ghost use Rattle.std.specs.List.{list_any};
@@ -60,8 +60,8 @@ fn is_about(first: &str) -> bool
     is_help(first) || first == "help" || first == "version" || first == "--version"
 }
 
-/// Whether the reason of a refusal is to be printed: a word after the first is `-v` or `--verbose`, also where the words cannot be
-/// parsed; but never where the first one asks for help or the version.
+/// Whether the reason of a refusal is to be printed: a word after the first is `-v` or `--verbose`, also where the command line
+/// cannot be parsed; but never where the first one asks for help or the version.
 #[tactic(auto, unfolding(crate::specs::Reading::wants_reason))]
 pub fn wants_reason(words: &[&str]) -> bool
     ensures exact { result ≡ wants_reason (map (λ w. w.now) words.now) }

@@ -31,7 +31,7 @@ fn bad_value_line(alloc: Global, name: &str, word: &str) -> Result<Vec<u8>, Allo
     Ok(format!(in alloc; "ntboot: bad value {name} {word}\n")?.into_bytes())
 }
 
-/// The line that says why words cannot be parsed, ended by a line feed. A word stands in it as it was given, an empty one as two
+/// The line that says why words cannot be parsed, ended by a line feed. A word is printed as it was given, an empty one as two
 /// quotation marks.
 #[tactic(auto, unfolding(crate::specs::Reasons::reason_text))]
 pub fn reason_line(alloc: Global, reason: Reason<'_>) -> Result<Vec<u8>, AllocError>

@@ -26,6 +26,10 @@ pub enum Takes {
     Depth,
     /// `minimal` or `network`.
     Mode,
+    /// `utf-16` or `utf-8`.
+    Encoding,
+    /// The number of a set, from 1 to 999, or `default`.
+    Set,
 }
 
 /// An option by its name with the hyphens, or a word without an option by `N`.
@@ -108,6 +112,22 @@ const ORDER: CommandOption = option!("--order", Flag);
 
 const OF: CommandOption = option!("--of", Any);
 
+const ENCODING: CommandOption = option!("--encoding", Encoding);
+
+const CURRENT: CommandOption = option!("--current", Set);
+
+const LENIENT: CommandOption = option!("--lenient", Flag);
+
+const BY_PARENT: CommandOption = option!("--by-parent", Flag);
+
+const WITH: CommandOption = option!("--with", Any);
+
+const WITH_LOG: CommandOption = option!("--with-log", Any);
+
+const WITH_SET: CommandOption = option!("--with-set", SetNumber);
+
+const ALL: CommandOption = option!("--all", Flag);
+
 const JSON: CommandOption = option!("--json", Flag);
 
 const VERBOSE: CommandOption = option!("--verbose", Flag);
@@ -123,33 +143,44 @@ macro_rules! command {
     };
 }
 
-/// The commands. What is left out here is no command.
+/// The commands. There are no others.
 static COMMANDS: &[CommandEntry] = &[
     command!(
         "run",
         Run,
         [HIVE, SCRIPT, LOG, BOOT_INI, SYSTEM, SAVE_HIVE, SAVE_LOG]
     ),
-    command!("show", Show, [HIVE, LOG]),
-    command!("make", Make, [COUNT, SAVE_HIVE]),
+    command!("show", Show, [HIVE, LOG, JSON]),
+    command!("make", Make, [COUNT, SAVE_HIVE, JSON]),
     command!(
         "safe",
         Safe,
         [HIVE, LOG, BOOT_INI, SYSTEM, MODE, IMAGES, JSON]
     ),
-    command!("control", Control, [HIVE, LOG, COMMANDS_FILE]),
+    command!("control", Control, [HIVE, LOG, COMMANDS_FILE, JSON]),
     command!(
         "twin",
         Twin,
-        [HIVE, ALT, SCHEME, DEFAULT, SAVE_HIVE, SAVE_ALT]
+        [HIVE, ALT, SCHEME, DEFAULT, SAVE_HIVE, SAVE_ALT, JSON]
     ),
-    command!("export", Export, [HIVE, LOG, REG, KEY]),
-    command!("import", Import, [HIVE, LOG, REG, SAVE_HIVE, SAVE_LOG]),
+    command!("export", Export, [HIVE, LOG, REG, KEY, JSON]),
+    command!(
+        "import",
+        Import,
+        [
+            HIVE, LOG, REG, SAVE_HIVE, SAVE_LOG, ENCODING, CURRENT, LENIENT, JSON
+        ]
+    ),
     command!("key", Key, [HIVE, LOG, KEY, DEPTH, SECURITY, JSON]),
     command!("replay", Replay, [HIVE, LOG, LOG1, LOG2, SAVE_HIVE, JSON]),
     command!("check", Check, [HIVE, LOG, SET, ORDER, JSON]),
     command!("whatif", Whatif, [HIVE, LOG, BOOT_INI, SYSTEM, OF, JSON]),
-    command!("salvage", Salvage, [HIVE, LOG, SAVE_HIVE, JSON]),
+    command!("salvage", Salvage, [HIVE, LOG, SAVE_HIVE, BY_PARENT, JSON]),
+    command!(
+        "diff",
+        Diff,
+        [HIVE, LOG, SET, WITH, WITH_LOG, WITH_SET, ALL, JSON]
+    ),
 ];
 
 /// The table is the one of the definitions.

@@ -1,4 +1,4 @@
-//! The words after a command, read from left to right.
+//! The arguments of a command, read from left to right.
 
 ghost use Rattle.std.specs.Prelude.{◌≡◌, ◌||◌, codes, is_ok, map, None, option_map, slice_set, Some};
 ghost use Rattle.std.specs.Prelude.{Ok};
@@ -11,7 +11,7 @@ ghost use Rattle.command_words.specs.Walk.{attached_in, long_name, no_values, va
 ghost use Rattle.command_words.specs.Walk.{walked, with_value, with_taken, with_word, with_option, with_known, with_free, with_next, with_step, finished};
 ghost use Rattle.command_words.specs.Views.{Sees, found_seen, option_seen, values_seen, walk_seen};
 
-use crate::count::{count_in, depth_in, mode_named, set_number_in};
+use crate::count::{count_in, depth_in, encoding_named, mode_named, set_named, set_number_in};
 use crate::reason::Reason;
 use crate::table::{CommandOption, Found, Takes, free_word, is_flag, option_named};
 use arc_path::{ArcStop, read_arc};
@@ -23,7 +23,7 @@ const PLACES: usize = 12;
 /// The value of each option of a command, by its place, where it was given.
 pub type Values<'a> = [Option<&'a str>; PLACES];
 
-/// The values that the words so far have given, and the option whose value is the next word.
+/// The values so far, and the option whose value is the next word.
 #[derive(Clone, Copy)]
 pub struct Walk<'a> {
     pub values: [Option<&'a str>; PLACES],
@@ -78,6 +78,8 @@ fn accepts(alloc: Global, takes: Takes, value: &str) -> bool
         Takes::SetNumber => set_number_in(value.as_bytes()).is_some(),
         Takes::Depth => depth_in(value.as_bytes()).is_some(),
         Takes::Mode => mode_named(value).is_some(),
+        Takes::Encoding => encoding_named(value).is_some(),
+        Takes::Set => set_named(value).is_some(),
     }
 }
 

@@ -1,4 +1,4 @@
-//! The words as texts.
+//! The arguments as texts.
 
 ghost use Rattle.std.specs.Prelude.{◌≡◌, IfOk, map, string_bytes};
 

@@ -1,4 +1,4 @@
--- Which calls are the commands of `control`, and what was said of those before one? (this project's own)
+-- Which calls are the commands of `control`, and what was printed for those before one? (this project's own)
 use Rattle.std.specs.Prelude.{ℕ, List, [], ◌∷◌, ◌++◌}
 use Rattle.std.specs.List.{flat_map}
 use Rattle.hive_model.specs.Tree.{Tree}
@@ -24,7 +24,7 @@ all_calls_by commands = flat_map calls_by commands
 abbrev pub control_behind : Tree → List ControlCommand → ControlState
 control_behind set commands = after_calls (control_of set) (all_calls_by commands)
 
--- what is said of commands, in sequence
+-- what is printed for commands, in sequence
 abbrev pub said_to : ControlState → List ControlCommand → List ℕ
 said_to c [] = []
 said_to c (command ∷ more) = (answer_to c command).text ++ said_to (answer_to c command).state more

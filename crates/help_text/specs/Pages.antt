@@ -21,6 +21,7 @@ command_text names.Replay = texts.REPLAY.now
 command_text names.Check = texts.CHECK.now
 command_text names.Whatif = texts.WHATIF.now
 command_text names.Salvage = texts.SALVAGE.now
+command_text names.Diff = texts.DIFF.now
 
 -- the text of a page
 abbrev pub page_text : Page → List ℕ

@@ -4,7 +4,7 @@ ghost use Rattle.std.specs.Prelude.{◌≡◌, codes};
 ghost use Rattle.help_text.specs.Pages.{command_text, page_text};
 
 use crate::texts::{
-    CHECK, CONTROL, EXITS, EXPORT, HELP, IMPORT, KEY, MAKE, OVERVIEW, REPLAY, REPORT, RUN, SAFE,
+    CHECK, CONTROL, DIFF, EXITS, EXPORT, HELP, IMPORT, KEY, MAKE, OVERVIEW, REPLAY, REPORT, RUN, SAFE,
     SALVAGE, SCRIPT, SHOW, TWIN, VERSION, WHATIF,
 };
 use command_words::{CommandName, Page};
@@ -27,6 +27,7 @@ fn command_page(command: CommandName) -> &'static [u8]
         CommandName::Check => CHECK,
         CommandName::Whatif => WHATIF,
         CommandName::Salvage => SALVAGE,
+        CommandName::Diff => DIFF,
     }
 }
 

@@ -15,6 +15,7 @@ Look
   show     print the hive as text
   key      print one key readably
   check    everything suspicious about the services of a control set
+  diff     compare two control sets or hives, and the boots they give
   export   write a key as registry text
 Repair
   import   apply a registry text to a hive
@@ -26,8 +27,7 @@ Teach
 
 Help: 'ntboot help NAME', NAME a command or exits, script or report. The
 version: 'ntboot version'. Any command: -v, --verbose (say on standard error why
-a command was refused), -h, --help. Of safe, key, check, whatif, salvage and
-replay: --json (one JSON object a line).
+a command was refused), -h, --help. Any but run: --json (one JSON object a line).
 Options may come in any order, as --name VALUE or --name=VALUE. Files are
 changed only where an option says so.
 ";
@@ -127,6 +127,21 @@ where something was found.
   --order    also entries of unlisted groups and tags
 ";
 
+/// Of `diff`.
+pub const DIFF: &[u8] = b"Usage: ntboot diff --hive F [OPTIONS]
+
+Compare the services and orders of two control sets, and the boots they give.
+The exit is 8 where something differs.
+
+  --hive F       the first hive
+  --set N        its control set [default: the Default set]
+  --with F       the second hive [default: the first]
+  --with-set N   its control set [default: Default; in one hive LastKnownGood]
+  --log F        the log of the first hive
+  --with-log F   the log of the second
+  --all          compare every key and value of the two sets
+";
+
 /// Of `export`.
 pub const EXPORT: &[u8] = b"Usage: ntboot export --hive F --reg F [OPTIONS]
 
@@ -148,6 +163,10 @@ Apply a registry text (version 5.00) to a copy of the hive, all or nothing.
   --log F           the hive's log, which recovers a dirty hive
   --save-hive F     write the changed hive; without it nothing is kept
   --save-log F      write its log
+  --encoding E      utf-16 or utf-8 [default: utf-16]
+  --current N       take keys under CurrentControlSet to set N, 1 to 999, or
+                    to the Default set with the word default
+  --lenient         pass over deletions of what is not there
 ";
 
 /// Of `twin`.
@@ -173,6 +192,7 @@ print each fault and what it takes away. The exit is 8 where a fault was found.
   --hive F        the hive
   --log F         its log
   --save-hive F   write a sound hive of everything that was read
+  --by-parent     also look for children that no list leads to
 ";
 
 /// Of `replay`.

@@ -35,7 +35,7 @@ abbrev pub question_by : ReportForm → KeyAsked → Result HiveFiles Refusal �
 question_by form asked (Ok files) = Ok (question_on form asked files)
 question_by form asked (Err why) = Err why
 
--- the same by the words and the files that they name
+-- the same by the options and the files that they name
 abbrev pub question_in : ReportForm → KeyAsked → Files → Result Question Refusal
 question_in form asked files = question_by form asked (hive_in files asked.hive asked.log)
 

@@ -25,7 +25,7 @@ enum NoWords {
     Memory,
 }
 
-/// The words of the command line without the program's name.
+/// The command line without the program's name.
 fn words(rt: &HostRuntime) -> Result<Vec<String>, NoWords> {
     let mut words = Vec::new(rt.alloc());
     let mut args = match env::args(rt) {
@@ -78,7 +78,7 @@ fn settle(
     done
 }
 
-/// Plays what the words ask for over real files; then prints the reason of a refusal, where they ask for it.
+/// Does what the command line asks for over real files; then prints the reason of a refusal, where that is asked for.
 fn obey(rt: &HostRuntime, words: &[String], texts: &[&str]) -> Status {
     let alloc = rt.alloc();
     let mut host = Noted::new(StandardHost::new(rt, SystemFiles::new(alloc)), texts);
@@ -90,7 +90,7 @@ fn obey(rt: &HostRuntime, words: &[String], texts: &[&str]) -> Status {
     status
 }
 
-/// The status of the words, or that there is no memory for them.
+/// The status of the command line, or that there is no memory for it.
 fn read_and_obey(rt: &HostRuntime, words: &[String]) -> Status {
     match texts(rt.alloc(), words) {
         Ok(texts) => obey(rt, words, texts.as_slice()),

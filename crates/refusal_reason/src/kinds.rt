@@ -1,4 +1,4 @@
-//! The reasons that the words of faults stand for.
+//! The reasons by the names of faults.
 
 /// The word of a fault, and its reason.
 type Row = (&'static [u8], &'static str);

@@ -24,7 +24,7 @@ fn named(alloc: Global, text: &str, name: &str) -> Result<Vec<u8>, AllocError>
     line(alloc, text.as_str())
 }
 
-/// What is said where nothing more is known.
+/// What is printed where nothing more is known.
 fn unknown(alloc: Global) -> Result<Vec<u8>, AllocError>
     ensures { IfOk result (λ l. IsReasonLine l.items) }
 {

@@ -2,7 +2,7 @@
 
 use crate::heard::Heard;
 
-/// What was noted so far. A file is known by its place among the words that name it.
+/// What was noted so far. A file is known by its place on the command line.
 #[derive(Clone, Copy)]
 pub struct Notes {
     /// The file that was asked for and is not there.

@@ -27,7 +27,7 @@ abbrev pub report_by : ReportForm → Bool → Result Outcome HiveFault → Resu
 report_by form asked (Ok outcome) = Ok (report_of form asked outcome)
 report_by form asked (Err fault) = Err (BadHive fault)
 
--- the report on what the words and files have, or the first obstacle
+-- the report on what options and files have, or the first obstacle
 abbrev pub report_in : ReportForm → ReplayAsked → Files → Result Report Refusal
 report_in form words files = do
   inputs ← inputs_in words files
@@ -51,7 +51,7 @@ EndsSaved answer name file before after status old new =
     ((new ≡ old ++ answer.text) × EndsPut answer.status name file before after status)
     ⊎ (StopsBy (stop_in status) answer.text old new × (after ≡ before))
 
--- the same where the words may name no file, and the report may have none to save
+-- the same where the options may name no file, and the report may have none to save
 abbrev pub EndsReport : Bool → Option (List ℕ) → Answer → List ℕ → Files → Files → Status → List ℕ → List ℕ → Type 0
 EndsReport true (Some name) answer file before after status old new = EndsSaved answer name file before after status old new
 EndsReport false (Some name) answer file before after status old new = Ends answer status old new × (after ≡ before)

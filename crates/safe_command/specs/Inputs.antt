@@ -15,13 +15,13 @@ use Rattle.command_parts.specs.Inputs.{◌>>=◌, system_in, bytes_in, ini_in, h
 use Rattle.command_parts.specs.Leaves.{AsksUntil, named}
 use Rattle.safe_command.specs.declared.inputs.SafeInputs.{SafeInputs}
 
--- the mode that the words name, if any
+-- the mode that is asked for, if any
 abbrev pub named_mode : Option AskedMode → Option SafeMode
 named_mode None = None
 named_mode (Some asked.Minimal) = Some Minimal
 named_mode (Some asked.Network) = Some Network
 
--- what the words and files have, or the first obstacle
+-- what options and files have, or the first obstacle
 abbrev pub inputs_in : SafeAsked → Files → Result SafeInputs Refusal
 inputs_in words files = do
   system ← system_in (arc_of words.system)

@@ -15,7 +15,7 @@ use nt_edge::Host;
 use safe_boot::SafeMode;
 use std::alloc::Global;
 
-/// All that `safe` reads, the mode that the words name, and whether images count.
+/// All that `safe` reads, the mode that is asked for, and whether images count.
 #[derive(Drop)]
 pub struct SafeInputs {
     pub system: Arc,
@@ -25,7 +25,7 @@ pub struct SafeInputs {
     pub images: bool,
 }
 
-/// The mode that the words name, if any.
+/// The mode that is asked for, if any.
 fn named_mode(asked: Option<AskedMode>) -> Option<SafeMode>
     ensures { result ≡ named_mode asked }
 {
@@ -36,7 +36,7 @@ fn named_mode(asked: Option<AskedMode>) -> Option<SafeMode>
     }
 }
 
-/// What the words and files have, or the first obstacle. Nothing is printed.
+/// What options and files have, or the first obstacle. Nothing is printed.
 pub(crate) fn inputs_in<H: Host>(
     alloc: Global,
     words: SafeWords<'_>,

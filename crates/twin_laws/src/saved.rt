@@ -16,7 +16,7 @@ ghost use Rattle.twin_command.specs.Twinned.{stands_by, DecidesTwin};
 ghost use Rattle.twin_laws.specs.AsTold.{StandsAsTold};
 
 /// After `twin` that ended as done, the two files that the disk holds stand together for the state that the lines tell, by the
-/// scheme of the words (`held`). So do the two files that were saved, where each has its own name (`saved`). The primary's
+/// scheme that is asked for (`held`). So do the two files that were saved, where each has its own name (`saved`). The primary's
 /// sector 0 has to be one that can be read.
 pub fn what_was_saved_stands_as_told()
     ensures held { (words : TwinAsked) (old new : HostState) (disk : DiskState) (hive alt : List ℕ)

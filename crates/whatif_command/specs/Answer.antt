@@ -63,6 +63,6 @@ abbrev pub question_by : ReportForm → WhatifAsked → Result WhatifInputs Refu
 question_by form asked (Ok inputs) = Ok (question_on form asked inputs)
 question_by form asked (Err why) = Err why
 
--- the same by the words and the files that they name
+-- the same by the options and the files that they name
 abbrev pub question_in : ReportForm → WhatifAsked → Files → Result Question Refusal
 question_in form asked files = question_by form asked (inputs_in asked files)

@@ -11,7 +11,7 @@ use Rattle.command_parts.specs.Inputs.{◌>>=◌, system_in, bytes_in, ini_in, h
 use Rattle.command_parts.specs.Leaves.{AsksUntil, named}
 use Rattle.whatif_command.specs.declared.inputs.WhatifInputs.{WhatifInputs}
 
--- what the words and files have, or the first obstacle
+-- what options and files have, or the first obstacle
 abbrev pub inputs_in : WhatifAsked → Files → Result WhatifInputs Refusal
 inputs_in words files = do
   system ← system_in (arc_of words.system)

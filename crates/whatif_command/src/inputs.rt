@@ -20,7 +20,7 @@ pub struct WhatifInputs {
     pub hive: HiveFiles,
 }
 
-/// What the words and files have, or the first obstacle. Nothing is printed.
+/// What options and files have, or the first obstacle. Nothing is printed.
 pub(crate) fn inputs_in<H: Host>(
     alloc: Global,
     words: WhatifWords<'_>,

@@ -1,4 +1,4 @@
-//! What people write and read: the words of the command line, scripts, boot.ini, the report and a tree's text.
+//! What people write and read: the command line, scripts, boot.ini, the report and a tree's text.
 //!
 //! No crate of the program stands on this one: it is for its tests.
 #![tactic(auto)]

@@ -1,7 +1,7 @@
 //! Each rule on words, with what is read.
 
 use command_words::{
-    AskedScheme, Command, CommandName, ControlWords, ExportWords, ImportWords, KeyWords, MakeWords,
+    AskedEncoding, AskedScheme, Command, CommandName, ControlWords, ExportWords, ImportWords, KeyWords, MakeWords,
     Page, Reading, Reason, RunWords, SafeWords, ShowWords, TwinWords, read_words, texts,
 };
 use std::alloc::Global;
@@ -103,7 +103,7 @@ static SHOW: [Case; 5] = [
     (&["show", "--hive", "h"], asks!(Command::Show(SHOWN))),
     (
         &["show", "--hive", "h", "--json"],
-        no!(Reason::UnknownOption("--json")),
+        Reading::Command(Command::Show(SHOWN), true),
     ),
     (
         &["show", "--log=--log", "--hive", "h"],
@@ -354,6 +354,9 @@ const IMPORTED: ImportWords<'static> = ImportWords {
     reg: "r",
     save_hive: None,
     save_log: None,
+    encoding: AskedEncoding::Utf16,
+    current: None,
+    lenient: false,
 };
 
 const IMPORTED_WITH_EACH: ImportWords<'static> = ImportWords {
@@ -362,6 +365,9 @@ const IMPORTED_WITH_EACH: ImportWords<'static> = ImportWords {
     reg: "r",
     save_hive: Some("sh"),
     save_log: Some("sl"),
+    encoding: AskedEncoding::Utf16,
+    current: None,
+    lenient: false,
 };
 
 static REG: [Case; 8] = [

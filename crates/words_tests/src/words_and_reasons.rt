@@ -1,9 +1,9 @@
-//! The words of the commands that judge a hive or a start, the options with named values, and the lines of reasons.
+//! The command lines of the commands that judge a hive or a start, the options with named values, and the lines of reasons.
 
 use crate::words::{Case, check};
 use command_words::{
-    AskedMode, CheckWords, Command, Reading, Reason, SafeWords, SalvageWords, ShowWords,
-    WhatifWords, reason_line, wants_reason,
+    AskedEncoding, AskedMode, AskedSet, CheckWords, Command, DiffWords, ImportWords, Reading,
+    Reason, SafeWords, SalvageWords, ShowWords, WhatifWords, reason_line, wants_reason,
 };
 use std::alloc::Global;
 use std::process::Abort;
@@ -107,13 +107,14 @@ fn whatif_takes_the_files_of_a_start(rt: HostRuntime) {
     check(&rt, rt.alloc(), STARTS.as_slice());
 }
 
-static SALVAGE: [Case; 3] = [
+static SALVAGE: [Case; 4] = [
     (
         &["salvage", "--hive", "h"],
         asks!(Command::Salvage(SalvageWords {
             hive: "h",
             log: None,
             save_hive: None,
+            by_parent: false,
         })),
     ),
     (
@@ -122,6 +123,16 @@ static SALVAGE: [Case; 3] = [
             hive: "h",
             log: Some("l"),
             save_hive: Some("sh"),
+            by_parent: false,
+        })),
+    ),
+    (
+        &["salvage", "--by-parent", "--hive", "h"],
+        asks!(Command::Salvage(SalvageWords {
+            hive: "h",
+            log: None,
+            save_hive: None,
+            by_parent: true,
         })),
     ),
     (
@@ -133,6 +144,132 @@ static SALVAGE: [Case; 3] = [
 #[test]
 fn salvage_takes_a_hive_and_a_flag(rt: HostRuntime) {
     check(&rt, rt.alloc(), SALVAGE.as_slice());
+}
+
+/// What `import` is asked for without its options.
+const IMPORTED: ImportWords<'static> = ImportWords {
+    hive: "h",
+    log: None,
+    reg: "r",
+    save_hive: None,
+    save_log: None,
+    encoding: AskedEncoding::Utf16,
+    current: None,
+    lenient: false,
+};
+
+static IMPORT: [Case; 7] = [
+    (
+        &[
+            "import",
+            "--hive",
+            "h",
+            "--lenient",
+            "--reg",
+            "r",
+            "--current",
+            "default",
+            "--encoding",
+            "utf-8",
+        ],
+        asks!(Command::Import(ImportWords {
+            encoding: AskedEncoding::Utf8,
+            current: Some(AskedSet::Default),
+            lenient: true,
+            ..IMPORTED
+        })),
+    ),
+    (
+        &["import", "--hive", "h", "--reg", "r", "--current=007"],
+        asks!(Command::Import(ImportWords {
+            current: Some(AskedSet::Number(7)),
+            ..IMPORTED
+        })),
+    ),
+    (
+        &["import", "--hive", "h", "--reg", "r", "--encoding=utf-16"],
+        asks!(Command::Import(IMPORTED)),
+    ),
+    (
+        &["import", "--hive", "h", "--reg", "r", "--current", "last"],
+        no!(Reason::BadValue("--current", "last")),
+    ),
+    (
+        &["import", "--hive", "h", "--reg", "r", "--current", "0"],
+        no!(Reason::BadValue("--current", "0")),
+    ),
+    (
+        &["import", "--hive", "h", "--reg", "r", "--encoding", "UTF-8"],
+        no!(Reason::BadValue("--encoding", "UTF-8")),
+    ),
+    (
+        &["import", "--lenient=yes"],
+        no!(Reason::UnknownOption("--lenient=yes")),
+    ),
+];
+
+#[test]
+fn import_takes_an_encoding_a_set_and_a_flag(rt: HostRuntime) {
+    check(&rt, rt.alloc(), IMPORT.as_slice());
+}
+
+static DIFF: [Case; 5] = [
+    (
+        &["diff", "--hive", "h"],
+        asks!(Command::Diff(DiffWords {
+            hive: "h",
+            log: None,
+            set: None,
+            with: None,
+            with_log: None,
+            with_set: None,
+            all: false
+        })),
+    ),
+    (
+        &[
+            "diff",
+            "--with-set",
+            "2",
+            "--all",
+            "--with-log",
+            "m",
+            "--with",
+            "g",
+            "--set",
+            "1",
+            "--log",
+            "l",
+            "--hive",
+            "h",
+        ],
+        asks!(Command::Diff(DiffWords {
+            hive: "h",
+            log: Some("l"),
+            set: Some(1),
+            with: Some("g"),
+            with_log: Some("m"),
+            with_set: Some(2),
+            all: true
+        })),
+    ),
+    (
+        &["diff", "--hive", "h", "--with-log", "m"],
+        no!(Reason::Missing("--with")),
+    ),
+    (
+        &["diff", "--with-log", "m"],
+        no!(Reason::Missing("--hive")),
+    ),
+    (
+        &["diff", "--hive", "h", "--with-set", "0"],
+        no!(Reason::BadValue("--with-set", "0")),
+    ),
+];
+
+#[test]
+fn diff_takes_two_hives_and_two_sets(rt: HostRuntime) {
+    check(&rt, rt.alloc(), DIFF.as_slice());
 }
 
 static MODES: [Case; 4] = [
@@ -182,7 +319,7 @@ static VERBOSE: [Case; 7] = [
     (&["show", "-v", "--hive", "h"], asks!(Command::Show(SHOWN))),
     (
         &["show", "--hive", "h", "--json", "--verbose"],
-        no!(Reason::UnknownOption("--json")),
+        Reading::Command(Command::Show(SHOWN), true),
     ),
     (
         &["show", "-v", "--hive", "h", "--verbose"],
