@@ -1,11 +1,12 @@
 //! What is printed of two sets.
 
-ghost use Rattle.std.specs.Prelude.{◌≡◌, ◌==◌, ◌++◌, not, None, IfOk, OnOk, if◌then◌else◌};
+ghost use Rattle.std.specs.Prelude.{◌≡◌, ◌==◌, ◌++◌, not, None, IfOk, IfSome, OnOk, if◌then◌else◌};
+ghost use Rattle.std.specs.Option.{option_copied};
 ghost use Rattle.hive_model.specs.Valid.{HoldsKeys};
 ghost use Rattle.command_parts.specs.Leaves.{stop_in};
 ghost use Rattle.command_words.specs.Views.{diff_seen};
 ghost use Rattle.diff_command.specs.Answer.{finding_answer};
-ghost use Rattle.diff_command.specs.Compared.{found_lines, lines_answer, same_answer, other_answer};
+ghost use Rattle.diff_command.specs.Compared.{both_trees, both_found, found_lines, lines_answer, same_answer, other_answer};
 
 use crate::command::Finding;
 use command_parts::Status;
@@ -17,10 +18,48 @@ use reg_tree::Key;
 use select_keys::{select_numbers, set_of};
 use set_diff::{close, put_sets};
 use std::alloc::{AllocError, Global};
+use tree_diff::put_trees;
+
+/// Appends the lines of the trees of two sets, where both are there.
+fn put_both_trees(
+    alloc: Global,
+    first: Option<&Key>,
+    second: Option<&Key>,
+    lines: &mut DiffLines,
+) -> Result<(), AllocError>
+    ensures { OnOk result (lines.new ≡ lines.old ++ both_trees (option_copied first.entry) (option_copied second.entry)) }
+{
+    if let Some(first) = first && let Some(second) = second {
+        return put_trees(alloc, first, second, lines);
+    }
+    Ok(())
+}
+
+/// Appends the lines of two sets of these numbers; with all keys and values, where that is asked for.
+fn put_both_found(
+    alloc: Global,
+    all: bool,
+    n: u32,
+    first: Option<&Key>,
+    m: u32,
+    second: Option<&Key>,
+    lines: &mut DiffLines,
+) -> Result<(), AllocError>
+    requires first { IfSome first (λ set. HoldsKeys set.now) }
+    requires second { IfSome second (λ set. HoldsKeys set.now) }
+    ensures { OnOk result (lines.new ≡ lines.old ++ both_found all n (option_copied first.entry) m (option_copied second.entry)) }
+{
+    put_sets(alloc, n, first, m, second, lines)?;
+    if all {
+        return put_both_trees(alloc, first, second, lines);
+    }
+    Ok(())
+}
 
 /// Appends the lines of the sets of two numbers, the first of one tree and the second of the other.
 fn put_found(
     alloc: Global,
+    all: bool,
     a: &Key,
     n: u32,
     b: &Key,
@@ -29,9 +68,9 @@ fn put_found(
 ) -> Result<(), AllocError>
     requires first { HoldsKeys a.now }
     requires second { HoldsKeys b.now }
-    ensures { OnOk result (lines.new ≡ lines.old ++ found_lines a.now n b.now m) }
+    ensures { OnOk result (lines.new ≡ lines.old ++ found_lines all a.now n b.now m) }
 {
-    put_sets(alloc, n, set_of(a, n), m, set_of(b, m), lines)
+    put_both_found(alloc, all, n, set_of(a, n), m, set_of(b, m), lines)
 }
 
 /// The status of what was found.
@@ -63,6 +102,7 @@ fn finding_of(alloc: Global, form: ReportForm, lines: DiffLines) -> Result<Findi
 fn found(
     alloc: Global,
     form: ReportForm,
+    all: bool,
     a: &Key,
     n: u32,
     b: &Key,
@@ -70,11 +110,11 @@ fn found(
 ) -> Result<Finding, AllocError>
     requires first { HoldsKeys a.now }
     requires second { HoldsKeys b.now }
-    ensures answer { IfOk result (λ f. finding_answer f ≡ lines_answer form (found_lines a.now n b.now m)) }
+    ensures answer { IfOk result (λ f. finding_answer f ≡ lines_answer form (found_lines all a.now n b.now m)) }
     ensures ends { IfOk result (λ f. stop_in f.status ≡ None) }
 {
     let mut lines = DiffLines::new(alloc);
-    put_found(alloc, a, n, b, m, &mut lines)?;
+    put_found(alloc, all, a, n, b, m, &mut lines)?;
     finding_of(alloc, form, lines)
 }
 
@@ -92,7 +132,7 @@ pub(crate) fn found_alone(
     let numbers = select_numbers(root);
     let n = words.set.unwrap_or(numbers.default);
     let m = words.with_set.unwrap_or(numbers.good);
-    found(alloc, form, root, n, root, m)
+    found(alloc, form, words.all, root, n, root, m)
 }
 
 /// What is found of sets of two hives.
@@ -110,5 +150,5 @@ pub(crate) fn found_between(
 {
     let n = words.set.unwrap_or(select_numbers(first).default);
     let m = words.with_set.unwrap_or(select_numbers(second).default);
-    found(alloc, form, first, n, second, m)
+    found(alloc, form, words.all, first, n, second, m)
 }

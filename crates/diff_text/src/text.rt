@@ -1,6 +1,6 @@
 //! The lines as texts.
 
-ghost use Rattle.std.specs.Prelude.{◌≡◌, ◌++◌, take, OnOk};
+ghost use Rattle.std.specs.Prelude.{◌≡◌, ◌<◌, ◌++◌, length, take, OnOk};
 ghost use Rattle.diff_text.specs.Lines.{texts_text, numbers_text, shown_text, first_bytes, cut_text, data_text, word_part, number_part, name_part, quoted_part, path_part, shown_part, data_part, both_parts, counted_part, settings_parts, phases_parts, line_parts, line_text};
 ghost use Rattle.diff_text.specs.Words.{side_word};
 
@@ -51,12 +51,14 @@ fn push_value(out: &mut Vec<u8>, shown: &Shown) -> Result<(), AllocError>
 
 /// The first 32 bytes.
 fn first_of(bytes: &[u8]) -> &[u8]
+    requires { 32 < length bytes.now }
     ensures { result.now ≡ take 32 bytes.now }
 {
-    &bytes[..bytes.len().min(32)]
+    &bytes[..32]
 }
 
 fn push_first_bytes(alloc: Global, out: &mut Vec<u8>, bytes: &[u8]) -> Result<(), AllocError>
+    requires { 32 < length bytes.now }
     ensures { OnOk result (out.new.items ≡ out.old.items ++ first_bytes bytes.now) }
 {
     let first = first_of(bytes);

@@ -39,7 +39,13 @@ fn verdict(count: u64) -> DiffLine
 fn difference_count(lines: &[DiffLine]) -> u64
     ensures { result ≡ difference_count lines.now }
 {
-    lines.iter().filter(|line| is_difference(line)).count() as u64
+    let mut count: u64 = 0;
+    for line in lines {
+        if is_difference(line) {
+            count += 1;
+        }
+    }
+    count
 }
 
 #[tactic(auto, unfolding(crate::specs::Sets::is_difference))]

@@ -76,13 +76,25 @@ fn put_paired_marks(
 fn stamps(marks: &[Marks]) -> u64
     ensures { result ≡ count_by (λ m. m.stamp) marks.now }
 {
-    marks.iter().filter(|mark| mark.stamp).count() as u64
+    let mut count: u64 = 0;
+    for mark in marks {
+        if mark.stamp {
+            count += 1;
+        }
+    }
+    count
 }
 
 fn flags(marks: &[Marks]) -> u64
     ensures { result ≡ count_by (λ m. m.flags) marks.now }
 {
-    marks.iter().filter(|mark| mark.flags).count() as u64
+    let mut count: u64 = 0;
+    for mark in marks {
+        if mark.flags {
+            count += 1;
+        }
+    }
+    count
 }
 
 fn put_stamps(count: u64, lines: &mut DiffLines) -> Result<(), AllocError>
