@@ -94,7 +94,10 @@ both_lone_keys path a b = lone_keys First path a (key_names b) ++ lone_keys Seco
 abbrev pub orders_lines : List (List ℕ) → List (List ℕ) → List (List ℕ) → List (List ℕ) → List (List ℕ) → List DiffLine
 orders_lines path items others keys us = order_lines Values path items others ++ order_lines Keys path keys us
 
+-- of values and children: their order, and the values
+abbrev pub content_lines : List (List ℕ) → List Item → List Item → List Tree → List Tree → List DiffLine
+content_lines path items others ts us =
+    orders_lines path (item_names items) (item_names others) (key_names ts) (key_names us) ++ items_lines path items others
+
 abbrev pub own_lines : Bool → List (List ℕ) → Head → List Tree → Head → List Tree → List DiffLine
-own_lines top path h as k bs =
-    heads_lines top path h k ++ orders_lines path (item_names h.values) (item_names k.values) (key_names as) (key_names bs)
-    ++ items_lines path h.values k.values
+own_lines top path h ts k us = heads_lines top path h k ++ content_lines path h.values k.values ts us

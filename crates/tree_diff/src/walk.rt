@@ -3,7 +3,7 @@
 ghost use Rattle.std.specs.Prelude.{◌≡◌, ◌++◌, [], false, IfOk, OnOk};
 ghost use Rattle.std.specs.Option.{option_copied, option_map_or};
 ghost use Rattle.hive_model.specs.Tree.{children, head, trees};
-ghost use Rattle.tree_diff.specs.Heads.{item_names, key_names, orders_lines, own_lines, both_lone_keys};
+ghost use Rattle.tree_diff.specs.Heads.{item_names, key_names, orders_lines, content_lines, own_lines, both_lone_keys};
 ghost use Rattle.tree_diff.specs.Trees.{key_lines, keys_lines};
 
 use crate::heads::{put_heads, put_order};
@@ -12,14 +12,14 @@ use crate::keys::{key_names, put_both_lone, tree_named};
 use diff_lines::{DiffLines, KeyField};
 use name_places::NamePlaces;
 use nt_bytes::Units;
-use reg_tree::Key;
+use reg_tree::{Key, Value};
 use std::alloc::{AllocError, Global};
 
-/// The places of the names of a key's values.
-fn by_item(alloc: Global, key: &Key) -> Result<NamePlaces, AllocError>
-    ensures { IfOk result (λ p. p ≡ item_names (head key.now).values) }
+/// The places of the names of values.
+fn by_item(alloc: Global, items: &[Value]) -> Result<NamePlaces, AllocError>
+    ensures { IfOk result (λ p. p ≡ item_names items.now) }
 {
-    NamePlaces::new(alloc, item_names(alloc, key.items())?)
+    NamePlaces::new(alloc, item_names(alloc, items)?)
 }
 
 /// The places of the names of keys.
@@ -40,11 +40,34 @@ fn put_own(
 ) -> Result<(), AllocError>
     ensures { OnOk result (lines.new ≡ lines.old ++ own_lines top path.now (head a.now) (children a.now) (head b.now) (children b.now)) }
 {
-    let items_a = by_item(alloc, a)?;
-    let items_b = by_item(alloc, b)?;
     put_heads(alloc, top, path, a, b, lines)?;
-    put_orders(alloc, path, &items_a, &items_b, a.subkeys(), b.subkeys(), lines)?;
-    put_items(alloc, path, a.items(), &items_a, b.items(), &items_b, lines)
+    put_content(
+        alloc,
+        path,
+        a.items(),
+        b.items(),
+        a.subkeys(),
+        b.subkeys(),
+        lines,
+    )
+}
+
+/// Appends the order of values and children, and what differs between the values.
+fn put_content(
+    alloc: Global,
+    path: &[Units],
+    items: &[Value],
+    others: &[Value],
+    a: &[Key],
+    b: &[Key],
+    lines: &mut DiffLines,
+) -> Result<(), AllocError>
+    ensures { OnOk result (lines.new ≡ lines.old ++ content_lines path.now items.now others.now a.now b.now) }
+{
+    let by_a = by_item(alloc, items)?;
+    let by_b = by_item(alloc, others)?;
+    put_orders(alloc, path, &by_a, &by_b, a, b, lines)?;
+    put_items(alloc, path, items, &by_a, others, &by_b, lines)
 }
 
 /// Appends that values, or children, stand in another order.
