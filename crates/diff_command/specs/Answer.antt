@@ -44,6 +44,9 @@ with_text fault = codes "with fault " ++ hive_kind_word fault.kind ++ codes " at
 abbrev pub with_fault : HiveFault → Answer
 with_fault fault = record { status = statuses.HiveFault; text = with_text fault }
 
+abbrev pub IsWithFault : HiveFault → Allowed
+IsWithFault fault answer = answer ≡ with_fault fault
+
 -- the hive has a first fault, and that is the answer; or it loads as a state, and its tree allows the answer
 abbrev pub IsOnImage : Image → (HiveFault → Answer) → (Tree → Allowed) → Allowed
 IsOnImage image told rest answer =
@@ -55,13 +58,17 @@ abbrev pub IsOnFiles : Result HiveFiles Refusal → (HiveFault → Answer) → (
 IsOnFiles (Err why) told rest answer = answer ≡ refusal why
 IsOnFiles (Ok files) told rest answer = IsOnImage (image_in files) told rest answer
 
+-- both sets of the hive with this tree
+abbrev pub IsSame : ReportForm → DiffAsked → Tree → Allowed
+IsSame form asked tree answer = answer ≡ same_answer form asked tree
+
 -- the sets of two hives, of which the first has this tree
 abbrev pub IsOther : ReportForm → DiffAsked → Tree → Tree → Allowed
 IsOther form asked first second answer = answer ≡ other_answer form asked first second
 
 -- after the first hive: the second one, where the command line names one, or else both sets of the first
 abbrev pub IsSecondBy : ReportForm → DiffAsked → Files → Tree → Option (List ℕ) → Allowed
-IsSecondBy form asked files first None answer = answer ≡ same_answer form asked first
+IsSecondBy form asked files first None answer = IsSame form asked first answer
 IsSecondBy form asked files first (Some name) answer =
     IsOnFiles (hive_in files name asked.with_log) with_fault (IsOther form asked first) answer
 

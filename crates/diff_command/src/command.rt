@@ -1,11 +1,11 @@
 //! The command: one or two hives in, what differs or the first obstacle out.
 
-ghost use Rattle.std.specs.Prelude.{◌≡◌, Err, IfOk};
+ghost use Rattle.std.specs.Prelude.{◌≡◌, ◌++◌, Err, IfOk, codes};
+ghost use Rattle.std.specs.Fmt.{decimal};
 ghost use Rattle.hive_model.specs.Valid.{HoldsKeys};
 ghost use Rattle.command_parts.specs.Placed.{image_in};
 ghost use Rattle.command_words.specs.Views.{diff_seen};
-ghost use Rattle.diff_command.specs.Answer.{hive_fault, with_text, with_fault, IsOnImage, IsOther, IsSecond, IsAnswer, DecidesDiff, FindsBy, SeeksBy};
-ghost use Rattle.diff_command.specs.Compared.{same_answer};
+ghost use Rattle.diff_command.specs.Answer.{hive_fault, with_fault, IsWithFault, IsOnImage, IsSame, IsOther, IsSecond, IsAnswer, DecidesDiff, FindsBy, SeeksBy};
 ghost use Rattle.diff_command.specs.Asks.{AsksAfter, AsksSearch, AsksDiff, AsksWith};
 
 use crate::comparing::{found_alone, found_between};
@@ -27,23 +27,19 @@ pub struct Finding {
     pub status: Status,
 }
 
-/// The line on a fault of the second hive.
-fn with_line(alloc: Global, fault: HiveFault) -> Result<Bytes, AllocError>
-    ensures { IfOk result (λ text. text ≡ with_text fault) }
+fn with_line(alloc: Global, kind: &str, at: u32) -> Result<Vec<u8>, AllocError>
+    ensures { IfOk result (λ l. l.items ≡ codes "with fault " ++ kind.now ++ codes " at " ++ decimal at ++ codes "\n") }
 {
-    let kind = hive_kind(fault.kind);
-    let at = fault.at;
-    let line = format!(in alloc; "with fault {kind} at {at}\n")?;
-    Ok(Bytes::from_vec(line.into_bytes()))
+    Ok(format!(in alloc; "with fault {kind} at {at}\n")?.into_bytes())
 }
 
 /// The answer on a fault of the second hive.
 fn with_fault(alloc: Global, fault: HiveFault) -> Result<Finding, Obstacle>
-    ensures { FindsBy (λ answer. answer ≡ with_fault fault) result }
+    ensures { FindsBy (IsWithFault fault) result }
 {
-    match with_line(alloc, fault) {
-        Ok(text) => Ok(Finding {
-            text,
+    match with_line(alloc, hive_kind(fault.kind), fault.at) {
+        Ok(line) => Ok(Finding {
+            text: Bytes::from_vec(line),
             status: Status::HiveFault,
         }),
         Err(_) => Err(no_memory()),
@@ -58,7 +54,7 @@ fn alone(
     root: &Key,
 ) -> Result<Finding, Obstacle>
     requires { HoldsKeys root.now }
-    ensures { FindsBy (λ answer. answer ≡ same_answer form (diff_seen words.entry) root.now) result }
+    ensures { FindsBy (IsSame form (diff_seen words.entry) root.now) result }
 {
     match found_alone(alloc, form, words, root) {
         Ok(finding) => Ok(finding),
