@@ -18,7 +18,8 @@ pub(crate) fn script_kind(kind: ScriptFaultKind) -> &'static str
     }
 }
 
-pub(crate) fn hive_kind(kind: HiveFaultKind) -> &'static str
+/// The word of a fault of a hive.
+pub fn hive_kind(kind: HiveFaultKind) -> &'static str
     ensures { result.now ≡ hive_kind_word kind }
 {
     match kind {

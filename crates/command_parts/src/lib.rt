@@ -19,6 +19,7 @@ mod status;
 
 pub use answering::{Told, answer};
 pub use inputs::{HiveFiles, bytes_in, file_in, hive_in, ini_in, no_memory, system_in};
+pub use kinds::hive_kind;
 pub use lines::push_count;
 pub use placing::{judge, place, read};
 pub use refusal::{Obstacle, Refusal, refuse, stopped, tell};

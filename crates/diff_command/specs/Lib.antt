@@ -1,0 +1,3 @@
+pub mod Compared
+pub mod Answer
+pub mod Asks

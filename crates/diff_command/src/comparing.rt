@@ -1,0 +1,154 @@
+//! What is printed of two sets.
+
+ghost use Rattle.std.specs.Prelude.{◌≡◌, ◌==◌, ◌++◌, not, None, IfOk, IfSome, OnOk, if◌then◌else◌};
+ghost use Rattle.std.specs.Option.{option_copied};
+ghost use Rattle.hive_model.specs.Valid.{HoldsKeys};
+ghost use Rattle.command_parts.specs.Leaves.{stop_in};
+ghost use Rattle.command_words.specs.Views.{diff_seen};
+ghost use Rattle.diff_command.specs.Answer.{finding_answer};
+ghost use Rattle.diff_command.specs.Compared.{both_trees, both_found, found_lines, lines_answer, same_answer, other_answer};
+
+use crate::command::Finding;
+use command_parts::Status;
+use command_words::DiffWords;
+use diff_lines::DiffLines;
+use diff_text::lines_text;
+use line_text::ReportForm;
+use reg_tree::Key;
+use select_keys::{select_numbers, set_of};
+use set_diff::{close, put_sets};
+use std::alloc::{AllocError, Global};
+use tree_diff::put_trees;
+
+/// Appends the lines of the trees of two sets, where both are there.
+fn put_both_trees(
+    alloc: Global,
+    first: Option<&Key>,
+    second: Option<&Key>,
+    lines: &mut DiffLines,
+) -> Result<(), AllocError>
+    ensures { OnOk result (lines.new ≡ lines.old ++ both_trees (option_copied first.entry) (option_copied second.entry)) }
+{
+    if let Some(first) = first && let Some(second) = second {
+        return put_trees(alloc, first, second, lines);
+    }
+    Ok(())
+}
+
+/// Appends the lines of two sets of these numbers; with all keys and values, where that is asked for.
+fn put_both_found(
+    alloc: Global,
+    all: bool,
+    n: u32,
+    first: Option<&Key>,
+    m: u32,
+    second: Option<&Key>,
+    lines: &mut DiffLines,
+) -> Result<(), AllocError>
+    requires first { IfSome first (λ set. HoldsKeys set.now) }
+    requires second { IfSome second (λ set. HoldsKeys set.now) }
+    ensures { OnOk result (lines.new ≡ lines.old ++ both_found all n (option_copied first.entry) m (option_copied second.entry)) }
+{
+    put_sets(alloc, n, first, m, second, lines)?;
+    if all {
+        return put_both_trees(alloc, first, second, lines);
+    }
+    Ok(())
+}
+
+/// Appends the lines of the sets of two numbers, the first of one tree and the second of the other.
+fn put_found(
+    alloc: Global,
+    all: bool,
+    a: &Key,
+    n: u32,
+    b: &Key,
+    m: u32,
+    lines: &mut DiffLines,
+) -> Result<(), AllocError>
+    requires first { HoldsKeys a.now }
+    requires second { HoldsKeys b.now }
+    ensures { OnOk result (lines.new ≡ lines.old ++ found_lines all a.now n b.now m) }
+{
+    put_both_found(alloc, all, n, set_of(a, n), m, set_of(b, m), lines)
+}
+
+/// The status of what was found.
+fn status_of(differences: u64) -> Status
+    ensures same { result ≡ (if not (differences == 0) then Status.Found else Status.Done) }
+    ensures ends { stop_in result ≡ None }
+{
+    if differences != 0 {
+        Status::Found
+    } else {
+        Status::Done
+    }
+}
+
+/// The lines in a form, with a status of their own where something differs.
+fn finding_of(alloc: Global, form: ReportForm, lines: DiffLines) -> Result<Finding, AllocError>
+    ensures answer { IfOk result (λ f. finding_answer f ≡ lines_answer form lines) }
+    ensures ends { IfOk result (λ f. stop_in f.status ≡ None) }
+{
+    let closed = close(lines)?;
+    let text = lines_text(alloc, form, closed.lines.as_slice())?;
+    Ok(Finding {
+        text,
+        status: status_of(closed.differences),
+    })
+}
+
+/// What is found of the sets of two numbers.
+fn found(
+    alloc: Global,
+    form: ReportForm,
+    all: bool,
+    a: &Key,
+    n: u32,
+    b: &Key,
+    m: u32,
+) -> Result<Finding, AllocError>
+    requires first { HoldsKeys a.now }
+    requires second { HoldsKeys b.now }
+    ensures answer { IfOk result (λ f. finding_answer f ≡ lines_answer form (found_lines all a.now n b.now m)) }
+    ensures ends { IfOk result (λ f. stop_in f.status ≡ None) }
+{
+    let mut lines = DiffLines::new(alloc);
+    put_found(alloc, all, a, n, b, m, &mut lines)?;
+    finding_of(alloc, form, lines)
+}
+
+/// What is found of two sets of one hive.
+pub(crate) fn found_alone(
+    alloc: Global,
+    form: ReportForm,
+    words: DiffWords<'_>,
+    root: &Key,
+) -> Result<Finding, AllocError>
+    requires { HoldsKeys root.now }
+    ensures answer { IfOk result (λ f. finding_answer f ≡ same_answer form (diff_seen words.entry) root.now) }
+    ensures ends { IfOk result (λ f. stop_in f.status ≡ None) }
+{
+    let numbers = select_numbers(root);
+    let n = words.set.unwrap_or(numbers.default);
+    let m = words.with_set.unwrap_or(numbers.good);
+    found(alloc, form, words.all, root, n, root, m)
+}
+
+/// What is found of sets of two hives.
+pub(crate) fn found_between(
+    alloc: Global,
+    form: ReportForm,
+    words: DiffWords<'_>,
+    first: &Key,
+    second: &Key,
+) -> Result<Finding, AllocError>
+    requires first { HoldsKeys first.now }
+    requires second { HoldsKeys second.now }
+    ensures answer { IfOk result (λ f. finding_answer f ≡ other_answer form (diff_seen words.entry) first.now second.now) }
+    ensures ends { IfOk result (λ f. stop_in f.status ≡ None) }
+{
+    let n = words.set.unwrap_or(select_numbers(first).default);
+    let m = words.with_set.unwrap_or(select_numbers(second).default);
+    found(alloc, form, words.all, first, n, second, m)
+}
