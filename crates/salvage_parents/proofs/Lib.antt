@@ -1,0 +1,3 @@
+pub mod IndexLemmas
+pub mod NamedLemmas
+pub mod SearchLemmas
