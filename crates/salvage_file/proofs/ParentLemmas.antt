@@ -23,7 +23,8 @@ use Rattle.salvage_walk.specs.Found.{unsaid, found_next}
 use Rattle.salvage_parents.specs.Naming.{naming}
 use Rattle.salvage_parents.specs.Arranged.{put_by_name, arranged_onto, arranged}
 use Rattle.salvage_parents.specs.Change.{changed_among, changed_at}
-use Rattle.salvage_parents.specs.Search.{Adopted, arranged_if, adopted_as, adopted, adopted_none, adopted_at, Search, search_done, search_step, searched_on, searched, search_from, searched_by, salvaged_by_parents}
+use Rattle.salvage_parents.specs.Search.{Adopted, arranged_if, adopted_as, adopted, adopted_none, adopted_at, Search, search_done, search_step, searched_on, searched, search_from, without_lines, searched_by, salvaged_by_parents}
+use Rattle.salvage_parents.proofs.ChangeLemmas.{name-kept}
 use Rattle.salvage_file.proofs.KeyLemmas.{GoodKey, JudgesWell, judged-good, salvaged-valid}
 
 -- ---- keys in the order of their names
@@ -180,11 +181,6 @@ unlike-among {A} name f other same (u ∷ us) h = go (is_named name u)
     go true = (subst (λ (n : List ℕ). Lacks key_name n us) (sym (same u)) h.0, h.1)
     go false = (lacks, more)
 
-name-kept : {A : Type 0} (path : List (List ℕ)) (change : Head → List Tree → List Tree × A) (other : A) (u : Tree)
-    → key_name (changed_at path change other u).0 ≡ key_name u
-name-kept [] change other (key h ts) = refl
-name-kept (name ∷ path) change other (key h ts) = refl
-
 changed-sound : {A : Type 0} (path : List (List ℕ)) (change : Head → List Tree → List Tree × A) (other : A) (d : ℕ)
     → ((h : Head) (us : List Tree) → Parts (depth path d) h us → Parts (depth path d) h (change h us).0)
     → (t : Tree) → Sound d t → Sound d (changed_at path change other t).0
@@ -233,7 +229,7 @@ found-by-parents hive root version t b e small = valid_back version t (by (salva
     by : (r : Option Tree × Walked) → salvaged hive root ≡ r → (searched_by hive (incomplete hive root) r).tree ≡ Some t → Sound 1 t
     by (Some u, w) s e =
         let v = salvaged-valid hive root u b (ap (λ (x : Option Tree × Walked). x.0) s) in
-        let begun = search_from u w (incomplete hive root) in
+        let begun = search_from u (without_lines w) (incomplete hive root) in
         subst (Sound 1) (some-same (searched hive hive.slots 0 begun).tree t e)
         (searched-sound hive hive.slots 0 begun b (sound_from 1 u v.keys (omega (arith, v.levels))))
     by (None, w) s e = absurd cc

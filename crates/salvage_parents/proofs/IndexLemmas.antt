@@ -13,7 +13,7 @@ use Rattle.hive_model.specs.Walk.{reading}
 use Rattle.salvage_bins.specs.Ground.{Ground}
 use Rattle.salvage_parents.specs.Naming.{listed, naming, parent_in, place_if}
 
-items : Option (Vec ℕ) → List ℕ
+abbrev pub items : Option (Vec ℕ) → List ℕ
 items o = option_map_or (λ (v : Vec ℕ). v.items) o []
 
 eq-cmp : (a b : ℕ) → is_eq (nat_cmp a b) ≡ (a == b)
@@ -54,3 +54,11 @@ naming-next hive parent n at e = rw e (up (n + 1) (omega arith))
 pub naming-none : (hive : Ground) (parent n : ℕ) → n ≡ 0 → naming hive parent n ≡ []
 unfolding naming
 naming-none hive parent n e = rw e refl
+
+pub listed-none : (m : BTreeMap ℕ (Vec ℕ)) (parent : ℕ) → m.entries ≡ [] → listed m parent ≡ []
+listed-none m parent e = rw e refl
+
+pub index-next : (hive : Ground) (parent n at : ℕ) (old new : List ℕ) (o : Option ℕ) → at ≡ 8 * n → old ≡ naming hive parent n
+    → o ≡ parent_in (reading key_node_at hive.cells at) → new ≡ old ++ place_if parent o at → new ≡ naming hive parent (n + 1)
+index-next hive parent n at old new o e f g h =
+    h ∙ rw (f, g) refl ∙ sym (naming-next hive parent n at e)

@@ -87,3 +87,5 @@ pub arranged-on : (keys next rest more : List Tree) (t : Tree) → rest ≡ t �
     → arranged_onto next more ≡ arranged_onto keys rest
 unfolding arranged_onto
 arranged-on keys next rest more t e d = rw (e, d) refl
+
+pub ruleset arranging = (arranged-end, arranged-on)

@@ -20,3 +20,5 @@ pub searched-on : (hive : Ground) (n place : ℕ) (s after : Search) (own : Inco
 unfolding searched
 searched-on hive zero place s after own h e d = absurd (omega arith)
 searched-on hive (suc n) place s after own h e d = let m : suc n - 1 ≡ n = omega arith in rw (m, e, d) refl
+
+pub ruleset search_steps = (searched-end, searched-all, searched-on)

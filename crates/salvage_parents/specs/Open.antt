@@ -7,13 +7,13 @@ use Rattle.hive_model.specs.Codes.{weight, weights, most_le-weights}
 use Rattle.salvage_walk.specs.Keys.{key_names}
 
 -- the children are as they were, or each is open; and these are the names of those that are open
-pub record AreKept (kept open : List Tree) (names : List (List ℕ)) : Type 0 where
-  pub one : (kept ≡ []) ⊎ (open ≡ [])
-  pub named : names ≡ key_names open
+pub record AreKept (kept drafts : List Tree) (names : List (List ℕ)) : Type 0 where
+  pub one : (kept ≡ []) ⊎ (drafts ≡ [])
+  pub named : names ≡ key_names drafts
 
 -- these are the children, and their names
-pub record AreOpen (keys open : List Tree) (names : List (List ℕ)) : Type 0 where
-  pub all : open ≡ keys
+pub record AreOpen (keys drafts : List Tree) (names : List (List ℕ)) : Type 0 where
+  pub all : drafts ≡ keys
   pub named : names ≡ key_names keys
 
 weights_after : (kept keys : List Tree) → weights keys ≤ weights (kept ++ keys)
@@ -21,5 +21,5 @@ weights_after [] keys = omega arith
 weights_after (t ∷ kept) keys = omega (arith, weights_after kept keys)
 
 -- the greatest weight of the open children, and one, is at most the weight of all
-pub most_le-open : (kept open : List Tree) → most (λ t. weight t + 1) open ≤ weights (kept ++ open)
-most_le-open kept open = omega (arith, weights_after kept open, most_le-weights open)
+pub most_le-open : (kept drafts : List Tree) → most (λ t. weight t + 1) drafts ≤ weights (kept ++ drafts)
+most_le-open kept drafts = omega (arith, weights_after kept drafts, most_le-weights drafts)

@@ -89,7 +89,7 @@ searched hive (suc n) place s = searched_on (searched hive n (place + 1)) hive s
 -- ---- all of it
 
 abbrev pub search_from : Tree → Walked → List Incomplete → Search
-search_from t w notes = record { tree = t; used = without_lines w; said = []; notes = notes }
+search_from t w notes = record { tree = t; used = w; said = []; notes = notes }
 
 -- the tree, and what is said
 abbrev pub tree_and_said : Search → Tree × List ParentLine
@@ -100,7 +100,7 @@ searched_tree lines r = record { tree = Some r.0; lines = lines; said = r.1 }
 
 abbrev pub searched_by : Ground → List Incomplete → Option Tree × Walked → SearchedTree
 searched_by hive notes (Some t, w) =
-    searched_tree w.lines (tree_and_said (searched hive hive.slots 0 (search_from t w notes)))
+    searched_tree w.lines (tree_and_said (searched hive hive.slots 0 (search_from t (without_lines w) notes)))
 searched_by hive notes (None, w) = record { tree = None; lines = w.lines; said = [] }
 
 -- what is salvaged from a root, with the children that name their parents

@@ -22,6 +22,7 @@ fn put(alloc: Global, named: &mut BTreeMap<Vec<u16>, Key>, key: Key) -> Result<(
 }
 
 // Keys by their folded names.
+#[tactic(auto, using(crate::proofs::NamedLemmas::arranging))]
 fn by_name(alloc: Global, keys: Keys) -> Result<BTreeMap<Vec<u16>, Key>, AllocError>
     ensures { IfOk result (λ m. values_of m.entries ≡ arranged keys) }
 {

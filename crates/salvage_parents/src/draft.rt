@@ -1,6 +1,6 @@
 //! Keys below which others are found.
 
-ghost use Rattle.std.specs.Prelude.{◌≡◌, ◌-◌, ℕ, IfOk, OnOk, length};
+ghost use Rattle.std.specs.Prelude.{◌≡◌, ◌-◌, ℕ, [], IfOk, OnOk, length};
 ghost use Rattle.hive_model.specs.Tree.{Head};
 ghost use Rattle.salvage_bins.specs.Ground.{ground_of};
 ghost use Rattle.salvage_walk.specs.Keys.{key_names};
@@ -40,7 +40,7 @@ pub(crate) struct Draft {
 #[derive(Drop)]
 pub(crate) struct DraftKeys {
     pub(crate) kept: Keys,
-    pub(crate) open: Vec<Draft>,
+    pub(crate) drafts: Vec<Draft>,
     pub(crate) names: NamePlaces,
 }
 
@@ -78,13 +78,13 @@ impl Model for DraftKeys {
 
     ghost coded = { coded_trees };
 
-    ghost view = { λ a. a.kept ++ a.open.items };
+    ghost view = { λ a. a.kept ++ a.drafts.items };
 
-    ghost invariant = { λ a. AreKept a.kept a.open.items a.names };
+    ghost invariant = { λ a. AreKept a.kept a.drafts.items a.names };
 
     ghost size = { weights };
 
-    ghost size_decreases = { λ a h. Prim.omega (arith, most_le-open a.kept a.open.items) };
+    ghost size_decreases = { λ a h. Prim.omega (arith, most_le-open a.kept a.drafts.items) };
 }
 
 impl DraftKeys {
@@ -92,18 +92,26 @@ impl DraftKeys {
     fn of(alloc: Global, kept: Keys) -> Result<DraftKeys, AllocError>
         ensures { IfOk result (λ d. d ≡ kept) }
     {
-        let open = Vec::new(alloc);
+        let drafts = Vec::new(alloc);
         let names = NamePlaces::new(alloc, Names::new(alloc))?;
-        Ok(DraftKeys { kept, open, names })
+        Ok(DraftKeys {
+            kept,
+            drafts,
+            names,
+        })
     }
 
     // Children that are open, and their names.
-    fn of_open(alloc: Global, open: Vec<Draft>, names: NamePlaces) -> DraftKeys
-        requires { names ≡ key_names open.items }
-        ensures { result ≡ open.items }
+    fn of_open(alloc: Global, drafts: Vec<Draft>, names: NamePlaces) -> DraftKeys
+        requires { names ≡ key_names drafts.items }
+        ensures { result ≡ drafts.items }
     {
         let kept = Keys::new(alloc);
-        DraftKeys { kept, open, names }
+        DraftKeys {
+            kept,
+            drafts,
+            names,
+        }
     }
 
     // The children as they are now.
@@ -112,7 +120,7 @@ impl DraftKeys {
         ensures { IfOk result (λ k. k ≡ self) }
     {
         let mut closed = self.kept;
-        let mut rest = self.open.into_iter();
+        let mut rest = self.drafts.into_iter();
         'keys: while let Some(key) = rest.next() {
             closed.push(key.closed(alloc)?)?;
         }
@@ -124,7 +132,7 @@ impl DraftKeys {
         ensures { IfOk result (λ o. AreOpen self o.0.items o.1) }
     {
         if self.kept.len() == 0 {
-            return Ok((self.open, self.names));
+            return Ok((self.drafts, self.names));
         }
         let names = NamePlaces::new(alloc, names_of(alloc, self.kept.as_slice())?)?;
         Ok((each_open(alloc, self.kept)?, names))
@@ -163,12 +171,12 @@ fn names_of(alloc: Global, keys: &[Key]) -> Result<Names, AllocError>
 fn each_open(alloc: Global, keys: Keys) -> Result<Vec<Draft>, AllocError>
     ensures { IfOk result (λ v. v.items ≡ keys) }
 {
-    let mut open = Vec::new(alloc);
+    let mut drafts = Vec::new(alloc);
     let mut rest = keys.into_vec().into_iter();
     'keys: while let Some(key) = rest.next() {
-        open.push(Draft::of(alloc, key)?)?;
+        drafts.push(Draft::of(alloc, key)?)?;
     }
-    Ok(open)
+    Ok(drafts)
 }
 
 impl Draft {
@@ -340,15 +348,15 @@ impl DraftKeys {
             ≡ changed_among name.now (adopted_at (ground_of cells.now) own.now (state_of walk.old) notes.old path.now)
                 (adopted_none (state_of walk.old) notes.old) self.old) }
     {
-        let (mut open, names) = self.take_open(alloc)?;
+        let (mut drafts, names) = self.take_open(alloc)?;
         match names.place_of(name) {
             None => {
-                *self = DraftKeys::of_open(alloc, open, names);
+                *self = DraftKeys::of_open(alloc, drafts, names);
                 Ok(0)
             }
             Some(place) => {
-                let count = open[place].adopt_at(alloc, cells, index, walk, notes, own, path)?;
-                *self = DraftKeys::of_open(alloc, open, names);
+                let count = drafts[place].adopt_at(alloc, cells, index, walk, notes, own, path)?;
+                *self = DraftKeys::of_open(alloc, drafts, names);
                 Ok(count)
             }
         }

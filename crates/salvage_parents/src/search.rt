@@ -8,7 +8,7 @@ ghost use Rattle.salvage_walk.specs.Incomplete.{incomplete};
 ghost use Rattle.salvage_parents.specs.Naming.{AreNaming};
 ghost use Rattle.salvage_parents.specs.Search.{found_line, salvaged_by_parents, searched, searched_by, search_from, search_step, tree_and_said};
 ghost use Rattle.salvage_parents.specs.Seen.{search_seen};
-ghost use Rattle.salvage_parents.specs.declared.search.ParentLine.TheVariants as said;
+ghost use Rattle.salvage_parents.specs.declared.search.ParentLine.TheVariants as parents;
 
 use crate::draft::Draft;
 use crate::index::index_of;
@@ -64,7 +64,7 @@ fn at_place(
 
 // Says these lines of the walk.
 fn say_walked(said: &mut Row<ParentLine>, lines: Vec<WalkLine>) -> Result<(), AllocError>
-    ensures { OnOk result (said.new ≡ said.old ++ map said.Walked lines.items) }
+    ensures { OnOk result (said.new ≡ said.old ++ map parents.Walked lines.items) }
 {
     let mut rest = lines.into_iter();
     'lines: while let Some(line) = rest.next() {
@@ -110,14 +110,15 @@ fn step(
 }
 
 // Goes through the incomplete keys, and those that become so.
+#[tactic(auto, using(crate::proofs::SearchLemmas::search_steps))]
 fn search(
     alloc: Global,
     cells: &DamagedCells<'_>,
     index: &BTreeMap<u32, Vec<u32>>,
     search: &mut Searching,
 ) -> Result<(), AllocError>
-    requires { AreNaming (ground_of cells.now) index.now }
-    requires { length cells.now.bytes.now ≤ 268435456 }
+    requires naming { AreNaming (ground_of cells.now) index.now }
+    requires small { length cells.now.bytes.now ≤ 268435456 }
     ensures { OnOk result (search_seen search.new ≡ searched (ground_of cells.now) (ground_of cells.now).slots 0 (search_seen search.old)) }
 {
     let mut place = 0;
