@@ -31,28 +31,23 @@ use Rattle.salvage_file.proofs.KeyLemmas.{GoodKey, JudgesWell, judged-good, salv
 
 each-put : (P : Tree → Type 0) (t : Tree) (us : List Tree) → P t → Each P us → Each P (put_by_name t us)
 each-put P t [] k h = (k, tt)
-each-put P t (u ∷ us) k h = go (folded_order (head t).name (head u).name)
+each-put P t (u ∷ us) k h = go (folded_order (head t).name (head u).name) (each-put P t us k h.1)
   where
-    more : Each P (put_by_name t us)
-    more = each-put P t us k h.1
-
-    go : (r : Ordering) → Each P (match_ordering r (t ∷ u ∷ us) (t ∷ us) (u ∷ put_by_name t us))
-    go Less = (k, h)
-    go Equal = (k, h.1)
-    go Greater = (h.0, more)
+    go : (r : Ordering) → Each P (put_by_name t us) → Each P (match_ordering r (t ∷ u ∷ us) (t ∷ us) (u ∷ put_by_name t us))
+    go Less more = (k, h)
+    go Equal more = (k, h.1)
+    go Greater more = (h.0, more)
 
 unlike-put : (t : Tree) (us : List Tree) → Each (λ u. folds_same (key_name t) (key_name u) ≡ false) us → Unlike key_name us
     → Unlike key_name (put_by_name t us)
 unlike-put t [] n h = (tt, tt)
-unlike-put t (u ∷ us) n h = go (folded_order (head t).name (head u).name)
+unlike-put t (u ∷ us) n h = go (folded_order (head t).name (head u).name) (unlike-put t us n.1 h.1)
   where
-    more : Unlike key_name (put_by_name t us)
-    more = unlike-put t us n.1 h.1
-
-    go : (r : Ordering) → Unlike key_name (match_ordering r (t ∷ u ∷ us) (t ∷ us) (u ∷ put_by_name t us))
-    go Less = (lacks_from key_name (key_name t) (u ∷ us) n, h)
-    go Equal = (lacks_from key_name (key_name t) us n.1, h.1)
-    go Greater = (each-put (λ v. folds_same (key_name v) (key_name u) ≡ false) t us n.0 h.0, more)
+    go : (r : Ordering) → Unlike key_name (put_by_name t us)
+        → Unlike key_name (match_ordering r (t ∷ u ∷ us) (t ∷ us) (u ∷ put_by_name t us))
+    go Less more = (lacks_from key_name (key_name t) (u ∷ us) n, h)
+    go Equal more = (lacks_from key_name (key_name t) us n.1, h.1)
+    go Greater more = (each-put (λ v. folds_same (key_name v) (key_name u) ≡ false) t us n.0 h.0, more)
 
 -- keys of which each has a name unlike those of all the others
 abbrev Cross : List Tree → List Tree → Type 0
@@ -150,36 +145,31 @@ depth-is (name ∷ path) d = omega (arith, depth-is path (suc d))
 each-among : {A : Type 0} (P : Tree → Type 0) (name : List ℕ) (f : Tree → Tree × A) (other : A) → ((u : Tree) → P u → P (f u).0)
     → (us : List Tree) → Each P us → Each P (changed_among name f other us).0
 each-among {A} P name f other keeps [] h = tt
-each-among {A} P name f other keeps (u ∷ us) h = go (is_named name u)
+each-among {A} P name f other keeps (u ∷ us) h = go (is_named name u) (each-among P name f other keeps us h.1)
   where
     rest : List Tree × A
     rest = changed_among name f other us
 
-    more : Each P rest.0
-    more = each-among P name f other keeps us h.1
-
-    go : (b : Bool) → Each P (cond {A = List Tree × A} b ((f u).0 ∷ us, (f u).1) (u ∷ rest.0, rest.1)).0
-    go true = (keeps u h.0, h.1)
-    go false = (h.0, more)
+    go : (b : Bool) → Each P rest.0 → Each P (cond {A = List Tree × A} b ((f u).0 ∷ us, (f u).1) (u ∷ rest.0, rest.1)).0
+    go true more = (keeps u h.0, h.1)
+    go false more = (h.0, more)
 
 unlike-among : {A : Type 0} (name : List ℕ) (f : Tree → Tree × A) (other : A) → ((u : Tree) → key_name (f u).0 ≡ key_name u)
     → (us : List Tree) → Unlike key_name us → Unlike key_name (changed_among name f other us).0
 unlike-among {A} name f other same [] h = tt
-unlike-among {A} name f other same (u ∷ us) h = go (is_named name u)
+unlike-among {A} name f other same (u ∷ us) h = go (is_named name u) (unlike-among name f other same us h.1)
   where
     rest : List Tree × A
     rest = changed_among name f other us
-
-    more : Unlike key_name rest.0
-    more = unlike-among name f other same us h.1
 
     lacks : Lacks key_name (key_name u) rest.0
     lacks = each-among (λ x. folds_same (key_name x) (key_name u) ≡ false) name f other
         (λ x l. ap (λ (m : List ℕ). folds_same m (key_name u)) (same x) ∙ l) us h.0
 
-    go : (b : Bool) → Unlike key_name (cond {A = List Tree × A} b ((f u).0 ∷ us, (f u).1) (u ∷ rest.0, rest.1)).0
-    go true = (subst (λ (n : List ℕ). Lacks key_name n us) (sym (same u)) h.0, h.1)
-    go false = (lacks, more)
+    go : (b : Bool) → Unlike key_name rest.0
+        → Unlike key_name (cond {A = List Tree × A} b ((f u).0 ∷ us, (f u).1) (u ∷ rest.0, rest.1)).0
+    go true more = (subst (λ (n : List ℕ). Lacks key_name n us) (sym (same u)) h.0, h.1)
+    go false more = (lacks, more)
 
 changed-sound : {A : Type 0} (path : List (List ℕ)) (change : Head → List Tree → List Tree × A) (other : A) (d : ℕ)
     → ((h : Head) (us : List Tree) → Parts (depth path d) h us → Parts (depth path d) h (change h us).0)
@@ -208,13 +198,16 @@ step-sound hive own s b t =
 searched-sound : (hive : Ground) (n place : ℕ) (s : Search) → AreBytes hive.cells → Sound 1 s.tree → Sound 1 (searched hive n place s).tree
 unfolding searched
 searched-sound hive zero place s b t = t
-searched-sound hive (suc n) place s b t = go (slice_get s.notes place)
+searched-sound hive (suc n) place s b t =
+    go (slice_get s.notes place)
+    (λ own. searched-sound hive n (place + 1) (search_step hive own s) b (step-sound hive own s b t))
   where
-    go : (o : Option Incomplete) → Sound 1 (searched_on (searched hive n (place + 1)) hive s o).tree
-    go (Some own) = searched-sound hive n (place + 1) (search_step hive own s) b (step-sound hive own s b t)
-    go None = t
+    go : (o : Option Incomplete) → ((own : Incomplete) → Sound 1 (searched hive n (place + 1) (search_step hive own s)).tree)
+        → Sound 1 (searched_on (searched hive n (place + 1)) hive s o).tree
+    go (Some own) more = more own
+    go None more = t
 
-some : Tree → Option Tree
+abbrev some : Tree → Option Tree
 some t = Some t
 
 some-same : (t u : Tree) → some t ≡ some u → t ≡ u

@@ -346,7 +346,7 @@ impl DraftKeys {
         requires { AreNaming (ground_of cells.now) index.now }
         ensures { IfOk result (λ n. (self.new, record { walked = state_of walk.new; notes = notes.new; count = n })
             ≡ changed_among name.now (adopted_at (ground_of cells.now) own.now (state_of walk.old) notes.old path.now)
-                (adopted_none (state_of walk.old) notes.old) self.old) }
+            (adopted_none (state_of walk.old) notes.old) self.old) }
     {
         let (mut drafts, names) = self.take_open(alloc)?;
         match names.place_of(name) {
