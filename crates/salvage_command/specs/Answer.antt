@@ -14,7 +14,7 @@ use Rattle.command_parts.specs.Inputs.{◌>>=◌, hive_in, asks_hive, AsksHive}
 use Rattle.command_parts.specs.Leaves.{Leaves, stop_in}
 use Rattle.command_parts.specs.Refusals.{Answer, Ends, StopsBy, IsToldAs, refusal}
 use Rattle.line_text.specs.declared.form.ReportForm.{ReportForm}
-use Rattle.salvage_file.specs.Salvage.{salvaged_hive}
+use Rattle.salvage_file.specs.Salvage.{salvaged_as}
 use Rattle.salvage_text.specs.declared.reporting.Report.{Report}
 use Rattle.salvage_text.specs.Report.{report_of}
 
@@ -25,7 +25,7 @@ log_bytes (Some bytes) = bytes
 
 -- the report on a hive and its log
 abbrev pub report_on : ReportForm → SalvageAsked → HiveFiles → Report
-report_on form words files = report_of form (salvaged_hive (is_some words.save_hive) files.primary (log_bytes files.log))
+report_on form words files = report_of form (salvaged_as words.by_parent (is_some words.save_hive) files.primary (log_bytes files.log))
 
 -- the report on what the words and files have, or the first obstacle
 abbrev pub report_in : ReportForm → SalvageAsked → Files → Result Report Refusal

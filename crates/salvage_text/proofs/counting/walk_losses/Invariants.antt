@@ -1,6 +1,6 @@
 use Rattle.std.proofs.Common.{◌≡◌, ◌+◌, ◌≤◌, length}
 use Rattle.salvage_text.specs.Counts.{losses}
-use Rattle.salvage_text.proofs.counting.losses.Given as goal
+use Rattle.salvage_text.proofs.counting.walk_losses.Given as goal
 
 abbrev pub invariant-lines : goal.invariant-lines
 invariant-lines l = record {
