@@ -1,0 +1,4 @@
+pub mod Current
+pub mod Encoding
+pub mod Left
+pub mod Made
