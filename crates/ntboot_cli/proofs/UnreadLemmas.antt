@@ -3,7 +3,7 @@ use Rattle.std.proofs.Common.{◌≡◌, inl, inr, ℕ, Bool, true, false, List,
 use Rattle.std.specs.Prelude.{Result, Ok, Err}
 use Rattle.nt_edge.specs.Disk.{DiskState, new_state}
 use Rattle.nt_edge.specs.Host.{Files, HostState}
-use Rattle.command_words.specs.Words.{Reading, asks, help, refused, version, salvage, whatif, check, key, replay, export, import, twin, control, safe, run, show, make}
+use Rattle.command_words.specs.Words.{Reading, asks, help, refused, version, graph, why, diff, salvage, whatif, check, key, replay, export, import, twin, control, safe, run, show, make}
 use Rattle.command_words.specs.Words.{MakeAsked}
 use Rattle.command_parts.specs.declared.inputs.HiveFiles.{HiveFiles}
 use Rattle.command_parts.specs.declared.refusal.Refusal.{Refusal}
@@ -32,7 +32,8 @@ use Rattle.control_command.specs.declared.inputs.ControlInputs.{ControlInputs}
 use Rattle.control_command.specs.Answer.{EndsControl}
 use Rattle.control_command.specs.Inputs.{inputs_in as control_inputs_in}
 use Rattle.twin_command.specs.Twinned.{EndsTwin, stands_by, twin_saves}
-use Rattle.text_commands.specs.Imported.{EndsImport, import_saves}
+use Rattle.text_commands.specs.declared.said.How.{How}
+use Rattle.text_commands.specs.Imported.{EndsImport, import_how, import_saves}
 use Rattle.text_commands.specs.Exported.{EndsExported}
 use Rattle.ntboot_cli.specs.declared.inputs.Inputs.{Inputs}
 use Rattle.ntboot_cli.specs.declared.making.Usual.{Usual}
@@ -75,11 +76,11 @@ part_imported : (files : HiveFiles) (disk : DiskState) → disk ≡ new_state �
 part_imported files disk fresh = subst (λ (d : DiskState). IsPartDone files 0 d) (sym fresh)
     (record { placed = omega arith; taken = omega arith; unordered = refl; uncut = refl })
 
-unread_import : (wanted : Result HiveFiles Refusal) (saves : Saves) (text : Result (List ℕ) Refusal) (disk : DiskState)
-    (said : List ℕ)
-    → disk ≡ new_state → EndsImport wanted saves text disk statuses.Memory said said
-unread_import (Err r) saves text disk said fresh = (inr (no_front (refusal_text r) said said refl), fresh)
-unread_import (Ok files) saves text disk said fresh = inr (inr (inl (refl, refl, part_imported files disk fresh)))
+unread_import : (wanted : Result HiveFiles Refusal) (saves : Saves) (how : How) (text : Result (List ℕ) Refusal)
+    (disk : DiskState) (said : List ℕ)
+    → disk ≡ new_state → EndsImport wanted saves how text disk statuses.Memory said said
+unread_import (Err r) saves how text disk said fresh = (inr (no_front (refusal_text r) said said refl), fresh)
+unread_import (Ok files) saves how text disk said fresh = inr (inr (inl (refl, refl, part_imported files disk fresh)))
 
 unread_export : (form : ReportForm) (wanted : Result HiveFiles Refusal) (path : List (List ℕ)) (name : List ℕ) (files : Files)
     (said : List ℕ)
@@ -138,7 +139,7 @@ unread_words (asks (twin words) json) host disk fresh =
     unread_twin (form_of json) (hive_in host.files words.hive words.alt) (stands_by words.scheme) words.default (twin_saves words)
     disk host.said fresh
 unread_words (asks (import words) json) host disk fresh =
-    unread_import (hive_in host.files words.hive words.log) (import_saves words)
+    unread_import (hive_in host.files words.hive words.log) (import_saves words) (import_how (form_of json) words)
     (file_in words.reg (host.files words.reg)) disk host.said fresh
 unread_words (asks (export words) json) host disk fresh =
     (unread_export (form_of json) (hive_in host.files words.hive words.log) (path_in words.key) words.reg host.files host.said, fresh)
@@ -152,6 +153,9 @@ unread_words (asks (whatif words) json) host disk fresh =
     (unread_hive (whatif_question_in (form_of json) words host.files) host.said, fresh)
 unread_words (asks (salvage words) json) host disk fresh =
     (unread_salvage (salvage_report_in (form_of json) words host.files) words.save_hive host.files host.said, fresh)
+unread_words (asks (diff words) json) host disk fresh = (inr (inl refl, refl), fresh)
+unread_words (asks (why words) json) host disk fresh = (inr (no_front _ host.said host.said refl), fresh)
+unread_words (asks (graph words) json) host disk fresh = (inr (no_front _ host.said host.said refl), fresh)
 
 pub unread_leaves : (asked : Reading) (host : HostState) (disk : DiskState) → disk ≡ new_state
     → Leaves (EndsWords asked host.files host.files disk) statuses.Memory host host

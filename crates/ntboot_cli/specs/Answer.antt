@@ -25,7 +25,7 @@ use Rattle.boot_run.specs.Agrees.{LoadsAny}
 use Rattle.boot_run.specs.Choices.{choices}
 use Rattle.help_text.specs.Pages.{page_text}
 use Rattle.tree_text.specs.TreeObjects.{shown_in}
-use Rattle.command_words.specs.Words.{Reading, asks, help, refused, version, salvage, whatif, check, key, replay, export, import, twin, control, safe, run, show, make, RunAsked, ShowAsked, MakeAsked}
+use Rattle.command_words.specs.Words.{Reading, asks, help, refused, version, graph, why, diff, salvage, whatif, check, key, replay, export, import, twin, control, safe, run, show, make, RunAsked, ShowAsked, MakeAsked}
 use Rattle.command_parts.specs.declared.status.Status.{Status}
 use Rattle.command_parts.specs.declared.status.Status.TheVariants as statuses
 use Rattle.command_parts.specs.declared.refusal.Refusal.{Refusal}
@@ -44,7 +44,7 @@ use Rattle.control_command.specs.Answer.{EndsControl}
 use Rattle.control_command.specs.Inputs.{inputs_in as control_inputs_in}
 use Rattle.twin_command.specs.Twinned.{EndsTwin, stands_by, twin_saves}
 use Rattle.text_commands.specs.Asks.{AsksImport}
-use Rattle.text_commands.specs.Imported.{EndsImport, import_saves}
+use Rattle.text_commands.specs.Imported.{EndsImport, import_how, import_saves}
 use Rattle.key_text.specs.Words.{path_in}
 use Rattle.text_commands.specs.Exported.{EndsExported}
 use Rattle.ntboot_cli.specs.Made.{told, usual_in, made_text, IsMade, IsPartMade}
@@ -57,6 +57,8 @@ use Rattle.replay_command.specs.Answer.{EndsReplay, report_in}
 use Rattle.check_command.specs.Answer.{question_in as check_question_in}
 use Rattle.whatif_command.specs.Answer.{question_in as whatif_question_in}
 use Rattle.salvage_command.specs.Answer.{EndsSalvage, report_in as salvage_report_in}
+use Rattle.diff_command.specs.Answer.{EndsDiff}
+use Rattle.diff_command.specs.Asks.{AsksDiff}
 use Rattle.command_parts.specs.Placed.{image_in, placed_disk, IsUnrun, IsUntouchedBy}
 use Rattle.command_parts.specs.Refusals.{Answer, Ends, IsToldAs, refusal}
 use Rattle.command_parts.specs.Saves.{Saves, no_saves, saved_count, FilesAs, KeepsUnsaved, Settles}
@@ -185,6 +187,9 @@ saves_of (asks (replay words) json) = no_saves
 saves_of (asks (check words) json) = no_saves
 saves_of (asks (whatif words) json) = no_saves
 saves_of (asks (salvage words) json) = no_saves
+saves_of (asks (diff words) json) = no_saves
+saves_of (asks (why words) json) = no_saves
+saves_of (asks (graph words) json) = no_saves
 
 -- the answer with a page of help, or the version
 abbrev pub about : List ℕ → Answer
@@ -210,7 +215,7 @@ EndsWords (asks (control words) json) files after disk status old new = EndsCont
 EndsWords (asks (twin words) json) files after disk status old new =
     EndsTwin (form_of json) (hive_in files words.hive words.alt) (stands_by words.scheme) words.default (twin_saves words) disk status old new
 EndsWords (asks (import words) json) files after disk status old new =
-    EndsImport (hive_in files words.hive words.log) (import_saves words) (file_in words.reg (files words.reg)) disk status old new
+    EndsImport (hive_in files words.hive words.log) (import_saves words) (import_how (form_of json) words) (file_in words.reg (files words.reg)) disk status old new
 EndsWords (asks (export words) json) files after disk status old new =
     EndsExported (form_of json) (hive_in files words.hive words.log) (path_in words.key) words.reg files after status old new × (disk ≡ new_state)
 EndsWords (asks (key words) json) files after disk status old new =
@@ -223,10 +228,14 @@ EndsWords (asks (whatif words) json) files after disk status old new =
     EndsOnHive (whatif_question_in (form_of json) words files) status old new × (disk ≡ new_state)
 EndsWords (asks (salvage words) json) files after disk status old new =
     EndsSalvage (salvage_report_in (form_of json) words files) words.save_hive files after status old new × (disk ≡ new_state)
+EndsWords (asks (diff words) json) files after disk status old new = EndsDiff (form_of json) words files status old new × (disk ≡ new_state)
+EndsWords (asks (why words) json) files after disk status old new = Ends (refusal Usage) status old new × (disk ≡ new_state)
+EndsWords (asks (graph words) json) files after disk status old new = Ends (refusal Usage) status old new × (disk ≡ new_state)
 
--- the same number of files are asked for as are in the written order, up to the first obstacle; for `import` one more, where the hive has no fault
+-- the same number of files are asked for as are in the written order, up to the first obstacle; for `import` and `diff` more, where the hive has no fault
 abbrev pub AsksAs : Reading → Status → HostState → HostState → Type 0
 AsksAs (asks (import words) json) status old new = AsksImport words status old new
+AsksAs (asks (diff words) json) status old new = AsksDiff words status old new
 AsksAs asked status old new = AsksSoMany (asks_in asked) status old new
 
 -- what becomes of the files: `export` changes the one that it puts alone, `replay` and `salvage` the one that they save alone, every other command

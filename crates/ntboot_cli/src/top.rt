@@ -16,6 +16,7 @@ use check_command::check;
 use command_parts::{Refusal, Status, refuse, tell};
 use command_words::{Command, Reading, read_words, texts};
 use control_command::control;
+use diff_command::diff;
 use help_text::{page_of, version_text};
 use key_command::key;
 use line_text::ReportForm;
@@ -53,7 +54,9 @@ fn obey<H: Host, B: Bench>(alloc: Global, words: &[&str], host: &mut H, bench: &
         Reading::Command(Command::Safe(words), json) => safe(alloc, words, form(json), host),
         Reading::Command(Command::Control(words), json) => control(alloc, words, form(json), host),
         Reading::Command(Command::Twin(words), json) => twin(alloc, words, form(json), host, bench),
-        Reading::Command(Command::Import(words), _) => import(alloc, words, host, bench),
+        Reading::Command(Command::Import(words), json) => {
+            import(alloc, words, form(json), host, bench)
+        }
         Reading::Command(Command::Export(words), json) => export(alloc, words, form(json), host),
         Reading::Command(Command::Key(words), json) => key(alloc, words, form(json), host),
         Reading::Command(Command::Replay(words), json) => replay(alloc, words, form(json), host),
@@ -62,6 +65,9 @@ fn obey<H: Host, B: Bench>(alloc: Global, words: &[&str], host: &mut H, bench: &
         Reading::Command(Command::Salvage(words), json) => {
             salvage(alloc, words, form(json), host)
         }
+        Reading::Command(Command::Diff(words), json) => diff(alloc, words, form(json), host),
+        Reading::Command(Command::Why(_), _) => refuse(alloc, host, &Refusal::Usage),
+        Reading::Command(Command::Graph(_), _) => refuse(alloc, host, &Refusal::Usage),
         Reading::Refused(_) => refuse(alloc, host, &Refusal::Usage),
     }
 }
