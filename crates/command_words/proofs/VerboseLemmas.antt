@@ -385,8 +385,6 @@ unasked names.Check look = refl
 unasked names.Whatif look = refl
 unasked names.Salvage look = refl
 unasked names.Diff look = refl
-unasked names.Why look = refl
-unasked names.Graph look = refl
 
 named_alike : (rows : List OptionRow) (place : ℕ) (value : Text) (values : Values) (name : Text) → HasFlagAt place rows
     → bytes_eq (codes "--verbose") name ≡ false
@@ -469,7 +467,7 @@ all_have = (
             (7, refl),
             (
               (5, refl),
-              ((9, refl), ((6, refl), ((6, refl), ((5, refl), ((6, refl), ((5, refl), ((8, refl), ((7, refl), ((7, refl), tt))))))))),
+              ((9, refl), ((6, refl), ((6, refl), ((5, refl), ((6, refl), ((5, refl), ((8, refl), tt))))))),
             ),
           ),
         ),

@@ -12,7 +12,7 @@ use Rattle.command_words.specs.declared.table.Takes.{Takes}
 use Rattle.command_words.specs.declared.table.Takes.TheVariants as takes
 use Rattle.command_words.specs.Words.{Text, Asked, Reason, missing, bad_value, usual_system}
 use Rattle.command_words.specs.Words.{run, show, make, safe, control, twin, export, import}
-use Rattle.command_words.specs.Words.{key, replay, check, whatif, salvage, diff, why, graph}
+use Rattle.command_words.specs.Words.{key, replay, check, whatif, salvage, diff}
 use Rattle.command_words.specs.Table.{OptionRow, count_of, depth_of, encoding_of, mode_of, set_number_of, set_of}
 use Rattle.command_words.specs.Walk.{and_then, no_values}
 
@@ -98,16 +98,6 @@ diff_options =
     any (codes "--hive") ∷ any (codes "--log") ∷ row (codes "--set") takes.SetNumber ∷ any (codes "--with")
     ∷ any (codes "--with-log") ∷ row (codes "--with-set") takes.SetNumber ∷ flag (codes "--all") ∷ json_flags
 
-abbrev pub why_options : List OptionRow
-why_options =
-    any (codes "--hive") ∷ any (codes "--log") ∷ any (codes "--script") ∷ any (codes "--boot-ini") ∷ system_row
-    ∷ row (codes "NAME") takes.Name ∷ json_flags
-
-abbrev pub graph_options : List OptionRow
-graph_options =
-    any (codes "--hive") ∷ any (codes "--log") ∷ any (codes "--script") ∷ any (codes "--boot-ini") ∷ system_row
-    ∷ any (codes "--of") ∷ json_flags
-
 -- a command: its name, and what it takes
 pub record CommandRow : Type 0 where
   pub name : Text
@@ -131,8 +121,6 @@ commands =
     ∷ record { name = codes "whatif"; command = names.Whatif; options = whatif_options }
     ∷ record { name = codes "salvage"; command = names.Salvage; options = salvage_options }
     ∷ record { name = codes "diff"; command = names.Diff; options = diff_options }
-    ∷ record { name = codes "why"; command = names.Why; options = why_options }
-    ∷ record { name = codes "graph"; command = names.Graph; options = graph_options }
     ∷ []
 
 -- each of the command's options has a place among the values
@@ -327,28 +315,6 @@ diff_by look = and_then (needed_in look (codes "--hive")) (λ hive.
       all = flag_in look (codes "--all");
     }))))
 
--- what the values ask of `why`
-abbrev pub why_by : Look → Result Asked Reason
-why_by look = and_then (needed_in look (codes "--hive")) (λ hive. and_then (needed_in look (codes "NAME")) (λ name. Ok (why (record {
-  hive = hive;
-  log = look (codes "--log");
-  script = look (codes "--script");
-  boot_ini = look (codes "--boot-ini");
-  system = system_in look;
-  name = name;
-}))))
-
--- what the values ask of `graph`
-abbrev pub graph_by : Look → Result Asked Reason
-graph_by look = and_then (needed_in look (codes "--hive")) (λ hive. Ok (graph (record {
-  hive = hive;
-  log = look (codes "--log");
-  script = look (codes "--script");
-  boot_ini = look (codes "--boot-ini");
-  system = system_in look;
-  of = look (codes "--of");
-})))
-
 -- what the values ask of the command
 abbrev pub asks_of : CommandName → Look → Result Asked Reason
 asks_of names.Run look = run_by look
@@ -365,5 +331,3 @@ asks_of names.Check look = check_by look
 asks_of names.Whatif look = whatif_by look
 asks_of names.Salvage look = salvage_by look
 asks_of names.Diff look = diff_by look
-asks_of names.Why look = why_by look
-asks_of names.Graph look = graph_by look

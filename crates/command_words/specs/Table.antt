@@ -14,7 +14,7 @@ use Rattle.command_words.specs.declared.table.Takes.{Takes}
 use Rattle.command_words.specs.declared.table.Takes.TheVariants as takes
 use Rattle.command_words.specs.Words.{Text}
 
--- an option by its name with the hyphens, or the word without an option by `N` or `NAME`, and the values that it takes
+-- an option by its name with the hyphens, or the word without an option by `N`, and the values that it takes
 pub record OptionRow : Type 0 where
   pub name : Text
   pub takes : Takes
@@ -73,7 +73,6 @@ accepts takes.Depth text = is_some (depth_of text)
 accepts takes.Mode text = is_some (mode_of text)
 accepts takes.Encoding text = is_some (encoding_of text)
 accepts takes.Set text = is_some (set_of text)
-accepts takes.Name text = true
 
 -- no value is taken
 abbrev pub is_flag : Takes → Bool
@@ -87,7 +86,6 @@ is_flag takes.Depth = false
 is_flag takes.Mode = false
 is_flag takes.Encoding = false
 is_flag takes.Set = false
-is_flag takes.Name = false
 
 -- the value is a word without an option
 abbrev pub is_free : Takes → Bool
@@ -101,7 +99,6 @@ is_free takes.Depth = false
 is_free takes.Mode = false
 is_free takes.Encoding = false
 is_free takes.Set = false
-is_free takes.Name = true
 
 -- the first row that passes, with its place; the first of these rows has this place
 abbrev pub known_from : ℕ → (OptionRow → Bool) → List OptionRow → Option Known

@@ -142,24 +142,6 @@ pub record DiffAsked : Type 0 where
   pub with_set : Option ℕ
   pub all : Bool
 
--- what `why` is asked for: the names of the files, the ARC path of the system, and the name of an entry as it was given
-pub record WhyAsked : Type 0 where
-  pub hive : Text
-  pub log : Option Text
-  pub script : Option Text
-  pub boot_ini : Option Text
-  pub system : Text
-  pub name : Text
-
--- what `graph` is asked for: the same, and a name where it is about one
-pub record GraphAsked : Type 0 where
-  pub hive : Text
-  pub log : Option Text
-  pub script : Option Text
-  pub boot_ini : Option Text
-  pub system : Text
-  pub of : Option Text
-
 -- what is asked for
 pub data Asked : Type 0 where
   run : RunAsked → Asked
@@ -176,8 +158,6 @@ pub data Asked : Type 0 where
   whatif : WhatifAsked → Asked
   salvage : SalvageAsked → Asked
   diff : DiffAsked → Asked
-  why : WhyAsked → Asked
-  graph : GraphAsked → Asked
 
 -- why words cannot be parsed; an option is named with its hyphens
 pub data Reason : Type 0 where

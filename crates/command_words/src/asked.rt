@@ -183,34 +183,6 @@ pub struct DiffWords<'a> {
     pub all: bool,
 }
 
-/// What `why` is asked for: the names of the files that it reads, the ARC path of the system, and the name of an entry as it was
-/// given.
-///
-/// That the path is one is for the caller to judge.
-#[derive(Clone, Copy, Debug, PartialEq, Eq)]
-pub struct WhyWords<'a> {
-    pub hive: &'a str,
-    pub log: Option<&'a str>,
-    pub script: Option<&'a str>,
-    pub boot_ini: Option<&'a str>,
-    pub system: &'a str,
-    pub name: &'a str,
-}
-
-/// What `graph` is asked for: the names of the files that it reads, the ARC path of the system, and the name of an entry as it was
-/// given, where it is about one.
-///
-/// That the path is one is for the caller to judge.
-#[derive(Clone, Copy, Debug, PartialEq, Eq)]
-pub struct GraphWords<'a> {
-    pub hive: &'a str,
-    pub log: Option<&'a str>,
-    pub script: Option<&'a str>,
-    pub boot_ini: Option<&'a str>,
-    pub system: &'a str,
-    pub of: Option<&'a str>,
-}
-
 /// A command by its name.
 #[derive(Clone, Copy, Debug, PartialEq, Eq)]
 pub enum CommandName {
@@ -228,8 +200,6 @@ pub enum CommandName {
     Whatif,
     Salvage,
     Diff,
-    Why,
-    Graph,
 }
 
 /// A page of help: of all commands, of one, of `help`, of `version`, or of a topic.
@@ -261,8 +231,6 @@ pub enum Command<'a> {
     Whatif(WhatifWords<'a>),
     Salvage(SalvageWords<'a>),
     Diff(DiffWords<'a>),
-    Why(WhyWords<'a>),
-    Graph(GraphWords<'a>),
 }
 
 /// What words are read as.

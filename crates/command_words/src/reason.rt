@@ -1,6 +1,6 @@
 //! Why words cannot be parsed.
 
-/// Why words cannot be parsed. An option is named with its hyphens, the word of `make` by `N`, that of `why` by `NAME`.
+/// Why words cannot be parsed. An option is named with its hyphens, the word of `make` by `N`.
 #[derive(Clone, Copy, Debug, PartialEq, Eq)]
 pub enum Reason<'a> {
     /// The first word is no command.

@@ -30,11 +30,9 @@ pub enum Takes {
     Encoding,
     /// The number of a set, from 1 to 999, or `default`.
     Set,
-    /// The name of an entry, in a word without an option.
-    Name,
 }
 
-/// An option by its name with the hyphens, or a word without an option by `N` or `NAME`.
+/// An option by its name with the hyphens, or a word without an option by `N`.
 #[derive(Clone, Copy)]
 pub struct CommandOption {
     pub name: &'static str,
@@ -130,8 +128,6 @@ const WITH_SET: CommandOption = option!("--with-set", SetNumber);
 
 const ALL: CommandOption = option!("--all", Flag);
 
-const NAME: CommandOption = option!("NAME", Name);
-
 const JSON: CommandOption = option!("--json", Flag);
 
 const VERBOSE: CommandOption = option!("--verbose", Flag);
@@ -185,16 +181,6 @@ static COMMANDS: &[CommandEntry] = &[
         Diff,
         [HIVE, LOG, SET, WITH, WITH_LOG, WITH_SET, ALL, JSON]
     ),
-    command!(
-        "why",
-        Why,
-        [HIVE, LOG, SCRIPT, BOOT_INI, SYSTEM, NAME, JSON]
-    ),
-    command!(
-        "graph",
-        Graph,
-        [HIVE, LOG, SCRIPT, BOOT_INI, SYSTEM, OF, JSON]
-    ),
 ];
 
 /// The table is the one of the definitions.
@@ -228,7 +214,7 @@ pub fn is_flag(takes: Takes) -> bool
 fn is_free(takes: Takes) -> bool
     ensures { result ≡ is_free takes }
 {
-    matches!(takes, Takes::Count | Takes::Name)
+    matches!(takes, Takes::Count)
 }
 
 /// The option of this name, with its place.

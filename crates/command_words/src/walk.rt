@@ -80,7 +80,6 @@ fn accepts(alloc: Global, takes: Takes, value: &str) -> bool
         Takes::Mode => mode_named(value).is_some(),
         Takes::Encoding => encoding_named(value).is_some(),
         Takes::Set => set_named(value).is_some(),
-        Takes::Name => true,
     }
 }
 

@@ -10,9 +10,7 @@ Predict
   run      play a script of boots, failures, edits and power cuts, and report it
   safe     what a boot in safe mode would start
   control  start and stop services after a boot
-  why      why an entry was started or not, and where it stands
   whatif   what is lost when an entry fails or is disabled
-  graph    the needs and the order of a boot, for Graphviz
 Look
   show     print the hive as text
   key      print one key readably
@@ -142,39 +140,6 @@ The exit is 8 where something differs.
   --log F        the log of the first hive
   --with-log F   the log of the second
   --all          compare every key and value of the two sets
-";
-
-/// Of `why`.
-pub const WHY: &[u8] = b"Usage: ntboot why --hive F [OPTIONS] NAME
-
-Print where an entry stands in the last boot, what became of it, and what it
-lacked, down to the root.
-
-  --hive F       the SYSTEM hive
-  --script F     a script to play first, without ordered cuts and faults
-                 [default: boot, go]
-  --log F        the hive's log, which recovers a dirty hive
-  --boot-ini F   boot.ini
-  --system ARC   this system's ARC path
-                 [default: multi(0)disk(0)rdisk(0)partition(1)\\WINDOWS]
-
-NAME is a key below Services; \\u and four hexadecimal digits are one unit.
-";
-
-/// Of `graph`.
-pub const GRAPH: &[u8] = b"Usage: ntboot graph --hive F [OPTIONS]
-
-Print the entries of the last boot and their needs as a graph in the language of
-Graphviz: ntboot graph --hive SYSTEM | dot -Tsvg > boot.svg
-
-  --hive F       the SYSTEM hive
-  --of NAME      only what NAME needs and what needs NAME
-  --script F     a script to play first, without ordered cuts and faults
-                 [default: boot, go]
-  --log F        the hive's log, which recovers a dirty hive
-  --boot-ini F   boot.ini
-  --system ARC   this system's ARC path
-                 [default: multi(0)disk(0)rdisk(0)partition(1)\\WINDOWS]
 ";
 
 /// Of `export`.

@@ -3,7 +3,7 @@ use Rattle.std.proofs.Common.{◌≡◌, inl, inr, ℕ, Bool, true, false, List,
 use Rattle.std.specs.Prelude.{Result, Ok, Err}
 use Rattle.nt_edge.specs.Disk.{DiskState, new_state}
 use Rattle.nt_edge.specs.Host.{Files, HostState}
-use Rattle.command_words.specs.Words.{Reading, asks, help, refused, version, graph, why, diff, salvage, whatif, check, key, replay, export, import, twin, control, safe, run, show, make}
+use Rattle.command_words.specs.Words.{Reading, asks, help, refused, version, diff, salvage, whatif, check, key, replay, export, import, twin, control, safe, run, show, make}
 use Rattle.command_words.specs.Words.{MakeAsked}
 use Rattle.command_parts.specs.declared.inputs.HiveFiles.{HiveFiles}
 use Rattle.command_parts.specs.declared.refusal.Refusal.{Refusal}
@@ -154,8 +154,6 @@ unread_words (asks (whatif words) json) host disk fresh =
 unread_words (asks (salvage words) json) host disk fresh =
     (unread_salvage (salvage_report_in (form_of json) words host.files) words.save_hive host.files host.said, fresh)
 unread_words (asks (diff words) json) host disk fresh = (inr (inl refl, refl), fresh)
-unread_words (asks (why words) json) host disk fresh = (inr (no_front _ host.said host.said refl), fresh)
-unread_words (asks (graph words) json) host disk fresh = (inr (no_front _ host.said host.said refl), fresh)
 
 pub unread_leaves : (asked : Reading) (host : HostState) (disk : DiskState) → disk ≡ new_state
     → Leaves (EndsWords asked host.files host.files disk) statuses.Memory host host

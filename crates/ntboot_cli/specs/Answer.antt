@@ -25,7 +25,7 @@ use Rattle.boot_run.specs.Agrees.{LoadsAny}
 use Rattle.boot_run.specs.Choices.{choices}
 use Rattle.help_text.specs.Pages.{page_text}
 use Rattle.tree_text.specs.TreeObjects.{shown_in}
-use Rattle.command_words.specs.Words.{Reading, asks, help, refused, version, graph, why, diff, salvage, whatif, check, key, replay, export, import, twin, control, safe, run, show, make, RunAsked, ShowAsked, MakeAsked}
+use Rattle.command_words.specs.Words.{Reading, asks, help, refused, version, diff, salvage, whatif, check, key, replay, export, import, twin, control, safe, run, show, make, RunAsked, ShowAsked, MakeAsked}
 use Rattle.command_parts.specs.declared.status.Status.{Status}
 use Rattle.command_parts.specs.declared.status.Status.TheVariants as statuses
 use Rattle.command_parts.specs.declared.refusal.Refusal.{Refusal}
@@ -188,8 +188,6 @@ saves_of (asks (check words) json) = no_saves
 saves_of (asks (whatif words) json) = no_saves
 saves_of (asks (salvage words) json) = no_saves
 saves_of (asks (diff words) json) = no_saves
-saves_of (asks (why words) json) = no_saves
-saves_of (asks (graph words) json) = no_saves
 
 -- the answer with a page of help, or the version
 abbrev pub about : List ℕ → Answer
@@ -229,8 +227,6 @@ EndsWords (asks (whatif words) json) files after disk status old new =
 EndsWords (asks (salvage words) json) files after disk status old new =
     EndsSalvage (salvage_report_in (form_of json) words files) words.save_hive files after status old new × (disk ≡ new_state)
 EndsWords (asks (diff words) json) files after disk status old new = EndsDiff (form_of json) words files status old new × (disk ≡ new_state)
-EndsWords (asks (why words) json) files after disk status old new = Ends (refusal Usage) status old new × (disk ≡ new_state)
-EndsWords (asks (graph words) json) files after disk status old new = Ends (refusal Usage) status old new × (disk ≡ new_state)
 
 -- the same number of files are asked for as are in the written order, up to the first obstacle; for `import` and `diff` more, where the hive has no fault
 abbrev pub AsksAs : Reading → Status → HostState → HostState → Type 0

@@ -9,7 +9,7 @@ use Rattle.arc_path.specs.Reading.{arc_of}
 use Rattle.boot_script.specs.declared.event.Event.{Event}
 use Rattle.boot_script.specs.declared.stop.ScriptFault.{ScriptFault}
 use Rattle.boot_script.specs.Script.{script_of}
-use Rattle.command_words.specs.Words.{Reading, asks, help, refused, version, graph, why, diff, salvage, whatif, check, key, replay, export, import, twin, control, safe, run, show, make, RunAsked, ShowAsked}
+use Rattle.command_words.specs.Words.{Reading, asks, help, refused, version, diff, salvage, whatif, check, key, replay, export, import, twin, control, safe, run, show, make, RunAsked, ShowAsked}
 use Rattle.command_parts.specs.declared.refusal.Refusal.{Refusal}
 use Rattle.command_parts.specs.declared.refusal.Refusal.TheVariants.{Usage, ScriptFault as BadScript}
 use Rattle.command_parts.specs.declared.refusal.Obstacle.{Obstacle}
@@ -62,8 +62,6 @@ arguments_in (asks (check words) json) = Ok tt
 arguments_in (asks (whatif words) json) = whatif_arguments_in words
 arguments_in (asks (salvage words) json) = Ok tt
 arguments_in (asks (diff words) json) = Ok tt
-arguments_in (asks (why words) json) = Err Usage
-arguments_in (asks (graph words) json) = Err Usage
 
 -- ---- how many files are asked for, up to the first obstacle
 
@@ -100,8 +98,6 @@ asks_in (asks (check words) json) files = asks_check words files
 asks_in (asks (whatif words) json) files = asks_whatif words files
 asks_in (asks (salvage words) json) files = asks_salvage words files
 asks_in (asks (diff words) json) files = asks_hive files words.hive words.log
-asks_in (asks (why words) json) files = 0
-asks_in (asks (graph words) json) files = 0
 
 -- a search for the inputs of a run asked for these files, each once and in their order, up to the first obstacle or stop
 abbrev pub AsksRun : {A : Type 0} → RunAsked → Result A Obstacle → HostState → HostState → Type 0

@@ -66,8 +66,6 @@ fn obey<H: Host, B: Bench>(alloc: Global, words: &[&str], host: &mut H, bench: &
             salvage(alloc, words, form(json), host)
         }
         Reading::Command(Command::Diff(words), json) => diff(alloc, words, form(json), host),
-        Reading::Command(Command::Why(_), _) => refuse(alloc, host, &Refusal::Usage),
-        Reading::Command(Command::Graph(_), _) => refuse(alloc, host, &Refusal::Usage),
         Reading::Refused(_) => refuse(alloc, host, &Refusal::Usage),
     }
 }

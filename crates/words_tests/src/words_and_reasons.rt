@@ -2,8 +2,8 @@
 
 use crate::words::{Case, check};
 use command_words::{
-    AskedEncoding, AskedMode, AskedSet, CheckWords, Command, DiffWords, GraphWords, ImportWords, Reading,
-    Reason, SafeWords, SalvageWords, ShowWords, WhatifWords, WhyWords, reason_line, wants_reason,
+    AskedEncoding, AskedMode, AskedSet, CheckWords, Command, DiffWords, ImportWords, Reading,
+    Reason, SafeWords, SalvageWords, ShowWords, WhatifWords, reason_line, wants_reason,
 };
 use std::alloc::Global;
 use std::process::Abort;
@@ -270,57 +270,6 @@ static DIFF: [Case; 5] = [
 #[test]
 fn diff_takes_two_hives_and_two_sets(rt: HostRuntime) {
     check(&rt, rt.alloc(), DIFF.as_slice());
-}
-
-static WHY: [Case; 7] = [
-    (
-        &["why", "Disk", "--hive", "h"],
-        asks!(Command::Why(WhyWords {
-            hive: "h",
-            log: None,
-            script: None,
-            boot_ini: None,
-            system: USUAL,
-            name: "Disk"
-        })),
-    ),
-    (
-        &["why", "--hive", "h", "--script", "s", "Disk", "--log", "l"],
-        asks!(Command::Why(WhyWords {
-            hive: "h",
-            log: Some("l"),
-            script: Some("s"),
-            boot_ini: None,
-            system: USUAL,
-            name: "Disk"
-        })),
-    ),
-    (&["why", "--hive", "h"], no!(Reason::Missing("NAME"))),
-    (&["why", "Disk"], no!(Reason::Missing("--hive"))),
-    (
-        &["why", "Disk", "Fs", "--hive", "h"],
-        no!(Reason::LeftOver("Fs")),
-    ),
-    (
-        &["graph", "--hive", "h", "--of", "Disk", "--boot-ini=b"],
-        asks!(Command::Graph(GraphWords {
-            hive: "h",
-            log: None,
-            script: None,
-            boot_ini: Some("b"),
-            system: USUAL,
-            of: Some("Disk")
-        })),
-    ),
-    (
-        &["graph", "Disk", "--hive", "h"],
-        no!(Reason::LeftOver("Disk")),
-    ),
-];
-
-#[test]
-fn why_and_graph_take_a_name(rt: HostRuntime) {
-    check(&rt, rt.alloc(), WHY.as_slice());
 }
 
 static MODES: [Case; 4] = [
