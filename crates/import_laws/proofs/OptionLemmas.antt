@@ -1,6 +1,6 @@
 -- What the options of `import` make of a text.
 use Rattle.std.proofs.Common.{◌≡◌, ℕ, suc, ◌+◌, ◌==◌, Bool, true, false, cond, inl, inr, List, [], ◌∷◌, ◌++◌, length, Option, Some, None, Result, Ok, Err, refl, sym, ap, subst, ◌∙◌, arith, append_assoc}
-use Rattle.std.specs.Prelude.{codes, ◌↔◌, ◌&&◌, ◌||◌, map, not, nat_lt}
+use Rattle.std.specs.Prelude.{codes, option_map, ◌↔◌, ◌&&◌, ◌||◌, map, not, nat_lt}
 use Rattle.std.specs.Result.{result_ok}
 use Rattle.std.specs.List.{All}
 use Rattle.std.specs.Option.{is_some, is_none, option_map_or}
@@ -17,7 +17,9 @@ use Rattle.hive_model.specs.Valid.{longest_key_name, longest_value_name, longest
 use Rattle.start_model.specs.Sets.{is_usable, set_name}
 use Rattle.reg_text.specs.declared.stop.RegFault.{RegFault}
 use Rattle.reg_text.specs.declared.stop.RegFaultKind.TheVariants.{Mark}
-use Rattle.reg_text.specs.Reading.{reg_steps_of}
+use Rattle.reg_text.specs.declared.item.LineItem.{LineItem}
+use Rattle.reg_text.specs.declared.item.LineItem.TheVariants.{Nothing, InKey, NoKey, Named, NoValue, GoesOn}
+use Rattle.reg_text.specs.Reading.{making, edits_of, key_after, reg_steps_of}
 use Rattle.reg_tree.proofs.Unlike.{Each, each_from, each_all}
 use Rattle.command_words.specs.declared.asked.AskedEncoding.{AskedEncoding}
 use Rattle.command_words.specs.declared.asked.AskedEncoding.TheVariants.{Utf16, Utf8}
@@ -38,7 +40,7 @@ use Rattle.text_commands.specs.ImportLines.{number_line, option_line, done_line,
 use Rattle.line_text.specs.declared.form.ReportForm.{ReportForm}
 use Rattle.text_commands.specs.Changed.{Change, steps_in, done_by, state_by, said_of, tree_by, change_by, change_made, change_for}
 use Rattle.text_commands.specs.Imported.{EndsSteps, EndsText, EndsHive, EndsImport}
-use Rattle.import_laws.specs.Options.{encoded, announced, begins_current, names_current, IsOfText}
+use Rattle.import_laws.specs.Options.{encoded, announced, item_in, edits_in, begins_current, names_current, IsOfText}
 
 -- ---- encodings
 
@@ -93,6 +95,40 @@ mark_left_out text plain =
     sym (ap (λ (t : List ℕ). cond (is_utf8 t) (Some (wide_text t)) None) plain)
 
 -- ---- the set
+
+below_written : (set first : List ℕ) (above path : List (List ℕ))
+    → map (step_in set) (making (first ∷ above) path) ≡ making (named_in set first ∷ above) path
+below_written set first above [] = refl
+below_written set first above (name ∷ path) =
+    ap (λ (l : List Step). make_key (named_in set first ∷ above) name ∷ l)
+    (below_written set first (above ++ name ∷ []) path)
+
+making_written : (set : List ℕ) (path : List (List ℕ))
+    → map (step_in set) (making [] path) ≡ making [] (path_in set path)
+making_written set [] = refl
+making_written set (name ∷ path) =
+    ap (λ (l : List Step). make_key [] (named_in set name) ∷ l) (below_written set name [] path)
+
+pub line_written : (set : List ℕ) (key : Option (List (List ℕ))) (item : LineItem)
+    → edits_in set (edits_of key item) ≡ edits_of (option_map (path_in set) key) (item_in set item)
+line_written set key Nothing = refl
+line_written set key (InKey path) = ap (λ (l : List Step). Ok l) (making_written set path)
+line_written set key (NoKey path) = refl
+line_written set None (Named name kind bytes) = refl
+line_written set (Some path) (Named name kind bytes) = refl
+line_written set None (NoValue name) = refl
+line_written set (Some path) (NoValue name) = refl
+line_written set None (GoesOn begun) = refl
+line_written set (Some path) (GoesOn begun) = refl
+
+pub key_written : (set : List ℕ) (key : Option (List (List ℕ))) (item : LineItem)
+    → option_map (path_in set) (key_after key item) ≡ key_after (option_map (path_in set) key) (item_in set item)
+key_written set key Nothing = refl
+key_written set key (InKey path) = refl
+key_written set key (NoKey path) = refl
+key_written set key (Named name kind bytes) = refl
+key_written set key (NoValue name) = refl
+key_written set key (GoesOn begun) = refl
 
 written_out : (set : List ℕ) (steps : List Step) → Each (λ step. deletes_current step ≡ false) steps
     → steps_of_set set steps ≡ record { steps = map (step_in set) steps; protected = false }

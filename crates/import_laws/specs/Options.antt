@@ -1,9 +1,12 @@
 -- Words for the laws of the options of `import`. (this project's own)
-use Rattle.std.specs.Prelude.{ℕ, Bool, false, List, [], ◌∷◌, Option, Some}
+use Rattle.std.specs.Prelude.{ℕ, Bool, false, List, [], ◌∷◌, map, Option, Some, Result, Ok, Err}
 use Rattle.nt_bytes.specs.Folding.{folds_same}
 use Rattle.hive_model.specs.Edit.{Step, set_value, delete_value, make_key, delete_key, copy_child, add_child}
 use Rattle.command_words.specs.declared.asked.AskedEncoding.{AskedEncoding}
-use Rattle.import_steps.specs.Current.{current_name}
+use Rattle.reg_text.specs.declared.item.LineItem.{LineItem}
+use Rattle.reg_text.specs.declared.item.LineItem.TheVariants.{InKey, NoKey}
+use Rattle.reg_text.specs.declared.stop.RegFaultKind.{RegFaultKind}
+use Rattle.import_steps.specs.Current.{current_name, path_in, step_in}
 use Rattle.text_commands.specs.declared.said.How.{How}
 use Rattle.text_commands.specs.Changed.{Change}
 
@@ -14,6 +17,17 @@ encoded encoding how = record how { encoding = encoding }
 -- the same, with the number of the set said first
 abbrev pub announced : ℕ → Change → Change
 announced n change = record { said = record change.said { current = Some n }; state = change.state }
+
+-- what a line says, with the set's name in the path of its key
+abbrev pub item_in : List ℕ → LineItem → LineItem
+item_in set (InKey path) = InKey (path_in set path)
+item_in set (NoKey path) = NoKey (path_in set path)
+item_in set item = item
+
+-- the edits of a line with that name
+abbrev pub edits_in : List ℕ → Result (List Step) RegFaultKind → Result (List Step) RegFaultKind
+edits_in set (Ok steps) = Ok (map (step_in set) steps)
+edits_in set (Err kind) = Err kind
 
 -- the path begins with `CurrentControlSet`, in any case
 abbrev pub begins_current : List (List ℕ) → Bool

@@ -1,6 +1,8 @@
 //! What the options make of a text.
 
-ghost use Rattle.std.specs.Prelude.{◌≡◌, ◌↔◌, ◌++◌, ◌∷◌, ℕ, Bool, true, false, List, [], Option, Some, None, Result, Ok, Err, map, codes};
+ghost use Rattle.std.specs.Prelude.{◌≡◌, ◌↔◌, ◌++◌, ◌∷◌, ℕ, Bool, true, false, List, [], Option, Some, None, Result, Ok, Err, map, option_map, codes};
+ghost use Rattle.reg_text.specs.declared.item.LineItem.{LineItem};
+ghost use Rattle.reg_text.specs.Reading.{edits_of, key_after};
 ghost use Rattle.std.specs.List.{All};
 ghost use Rattle.nt_bytes.specs.declared.version.HiveVersion.{HiveVersion};
 ghost use Rattle.nt_edge.specs.Disk.{DiskState};
@@ -15,7 +17,7 @@ ghost use Rattle.command_parts.specs.declared.inputs.HiveFiles.{HiveFiles};
 ghost use Rattle.command_parts.specs.declared.refusal.Refusal.{Refusal};
 ghost use Rattle.command_parts.specs.declared.status.Status.{Status};
 ghost use Rattle.command_parts.specs.Saves.{Saves};
-ghost use Rattle.import_steps.specs.Current.{SetSteps, step_in, deletes_current, set_steps};
+ghost use Rattle.import_steps.specs.Current.{SetSteps, path_in, step_in, deletes_current, set_steps};
 ghost use Rattle.import_steps.specs.Encoding.{unmarked, utf16_of};
 ghost use Rattle.import_steps.specs.Left.{is_void, left_of};
 ghost use Rattle.text_commands.specs.declared.said.How.{How};
@@ -23,7 +25,7 @@ ghost use Rattle.text_commands.specs.declared.said.Said.{Said};
 ghost use Rattle.text_commands.specs.Changed.{steps_in, change_made, change_for};
 ghost use Rattle.text_commands.specs.ImportLines.{number_line, said_text};
 ghost use Rattle.text_commands.specs.Imported.{EndsImport};
-ghost use Rattle.import_laws.specs.Options.{encoded, announced, names_current, IsOfText};
+ghost use Rattle.import_laws.specs.Options.{encoded, announced, item_in, edits_in, names_current, IsOfText};
 
 /// A text in UTF-8 has the edits, or the first fault, of the same text in UTF-16 (`reads`), and `import` ends as with that
 /// (`ends`). The mark before it makes no difference (`mark`).
@@ -37,8 +39,13 @@ pub fn a_text_in_utf8_is_read_as_in_utf16()
 {}
 
 /// With `--current` a change is that by the edits with the set's name in place of `CurrentControlSet`, where none of them deletes the
-/// set by that name; and the number of the set is said first (`change`, `said`). No edit that is made names that key (`none_named`).
+/// set by that name; and the number of the set is said first (`change`, `said`). Line by line these are the edits of the text in which
+/// that name is written in each line of a key (`lines`, `keys`). No edit that is made names `CurrentControlSet` (`none_named`).
 pub fn the_name_of_the_current_set_is_written_out()
+    ensures lines { (set : List ℕ) (key : Option (List (List ℕ))) (item : LineItem)
+        → edits_in set (edits_of key item) ≡ edits_of (option_map (path_in set) key) (item_in set item) }
+    ensures keys { (set : List ℕ) (key : Option (List (List ℕ))) (item : LineItem)
+        → option_map (path_in set) (key_after key item) ≡ key_after (option_map (path_in set) key) (item_in set item) }
     ensures change { (n : ℕ) (lenient : Bool) (s : HiveState) (steps : List Step) → is_usable s.tree n ≡ true
         → All (λ step. deletes_current step ≡ false) steps
         → change_for (Some (Number n)) lenient s steps

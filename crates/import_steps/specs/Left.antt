@@ -38,12 +38,12 @@ with_void left = record { steps = left.steps; passed = left.passed + 1 }
 abbrev pub with_kept : Step → LeftSteps → LeftSteps
 with_kept step left = record { steps = step ∷ left.steps; passed = left.passed }
 
--- what is left after a step that isn't passed over, by the tree that it makes
+-- the steps that are left after one that isn't passed over, by the tree that it makes
 abbrev pub left_after : Step → List Step → Option Tree → (Tree → LeftSteps) → LeftSteps
 left_after step steps (Some u) next = with_kept step (next u)
 left_after step steps None next = record { steps = step ∷ steps; passed = 0 }
 
--- what is left of steps on a tree
+-- the steps of a list that are left on a tree
 abbrev pub left_of : Tree → List Step → LeftSteps
 left_of t [] = record { steps = []; passed = 0 }
 left_of t (step ∷ steps) =

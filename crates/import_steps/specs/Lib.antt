@@ -2,3 +2,6 @@ pub mod Current
 pub mod Encoding
 pub mod Left
 pub mod Made
+pub mod Marks
+pub mod Verdict
+pub mod Views

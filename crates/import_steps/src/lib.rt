@@ -8,6 +8,9 @@
 mod current;
 mod encoding;
 mod left;
+mod marks;
+mod seen;
+mod verdict;
 
 pub use current::{SetSteps, set_steps};
 pub use encoding::utf16_of;

@@ -85,7 +85,7 @@ pub record Change : Type 0 where
 abbrev pub change_by : Option ℕ → Option ℕ → HiveState → Result Tree ImportStop → Change
 change_by current passed s edit = record { said = said_of current passed (done_by s edit); state = state_by s edit }
 
--- the change by steps of which so many were passed over, if that is asked for
+-- the change by these steps, and how many were passed over before, if that is asked for
 abbrev pub change_left : Option ℕ → Option ℕ → HiveState → SetSteps → Change
 change_left current passed s made = change_by current passed s (tree_by made.protected (edited s.version s.tree made.steps))
 

@@ -30,7 +30,7 @@ use reg_text::{RegFault, RegFaultKind, RegStop, read_reg};
 use reg_tree::Steps;
 use std::alloc::{AllocError, Global};
 
-/// Makes the edits, says what was done, and saves the files.
+/// Makes the edits, prints what was done, and saves the files.
 fn import_steps<H: Host, B: Bench>(
     alloc: Global,
     files: &HiveFiles,
@@ -53,7 +53,7 @@ fn import_steps<H: Host, B: Bench>(
     finish(lines.as_slice(), saves, host, bench)
 }
 
-/// Says the fault of the text.
+/// Prints the fault of the text.
 fn refuse_text<H: Host>(alloc: Global, fault: RegFault, host: &mut H) -> Status
     ensures { TellsFault fault result (H.state host.old) (H.state host.new) }
 {

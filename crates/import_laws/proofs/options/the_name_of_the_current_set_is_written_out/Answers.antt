@@ -1,5 +1,11 @@
-use Rattle.import_laws.proofs.OptionLemmas.{set_written, said_before, none_named}
+use Rattle.import_laws.proofs.OptionLemmas.{line_written, key_written, set_written, said_before, none_named}
 use Rattle.import_laws.proofs.options.the_name_of_the_current_set_is_written_out.Goals as goal
+
+pub returns-clause-lines : goal.returns-clause-lines
+returns-clause-lines c = line_written
+
+pub returns-clause-keys : goal.returns-clause-keys
+returns-clause-keys c = key_written
 
 pub returns-clause-change : goal.returns-clause-change
 returns-clause-change c = set_written
