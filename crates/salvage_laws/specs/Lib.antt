@@ -1,0 +1,5 @@
+pub mod Told
+pub mod Apart
+pub mod Fails
+pub mod Left
+pub mod LeftKeys
