@@ -183,7 +183,7 @@ NamedAlike form name cells seen names at more (Ok r) =
 NamedAlike form name cells seen names at more (Err kind) =
     walk cells seen (named_checks form name cells names at more) ≡ Err (fault_at kind at)
 
-named-so : {F : Type 0} (names : List (List ℕ)) (name : List ℕ) (f g : F) → unless_named names name f ≡ done g
+pub named-so : {F : Type 0} (names : List (List ℕ)) (name : List ℕ) (f g : F) → unless_named names name f ≡ done g
     → (list_any (folds_same name) names ≡ false) × (f ≡ g)
 named-so {F} names name f g e = go (list_any (folds_same name) names) refl e
   where

@@ -29,7 +29,7 @@ use Rattle.salvage_walk.specs.Fronts.{Front, front_part, values_front, list_fron
 use Rattle.salvage_walk.specs.Values.{bytes_part, segments_part, big_part, celled_part, data_where, data_part, item_of, value_part}
 use Rattle.salvage_walk.specs.Walked.{Walked, say, using}
 use Rattle.salvage_walk.specs.Steps.{class_done, class_step, security_done, security_step, item_names, value_done, value_next, values_next, values_done, said_short, values_step, Entries, list_done, leaf_next, leaves_next, no_entries, entries_below, lists_done, lists_step, counted, entries_step}
-use Rattle.salvage_walk.specs.Keys.{Judge, key_names, with_child, keys_next, key_below, found_key, key_done, key_line, judged_key, root_below, other_done, other_at, other_root, root_part}
+use Rattle.salvage_walk.specs.Keys.{Judge, key_names, with_child, keys_next, key_below, found_key, key_done, key_line, judged_key, root_below, other_done, other_at, other_root, root_done, root_part, salvaged, least_root}
 use Rattle.salvage_laws.specs.Apart.{share_bytes, IsApart, AreApart}
 use Rattle.salvage_laws.proofs.PartViews.{Gained, again, fresh, gained-more, PartView, part-view, FrontView, front-view}
 
@@ -400,3 +400,17 @@ other-follows hive w (Some at) = by (root_part hive w.claims at) (part-adds (nod
         (root-follows hive at (say w (lines.RootAt at)) r a)
     by (Err kind) a = follows-say w lines.NoRoot
 other-follows hive w None = follows-say w lines.NoRoot
+
+pub salvaged-follows : (hive : Ground) (root : ℕ) → Follows (record { claims = []; lines = [] }) (salvaged hive root).1
+unfolding salvaged
+salvaged-follows hive root = by (root_part hive [] root) (part-adds (node_form true []) node_long false hive [] root)
+  where
+    begun : Walked
+    begun = record { claims = []; lines = [] }
+
+    by : (r : Result (KeyNode × List Claim) HiveFaultKind) → AddsOf [] r → Follows begun (root_done hive root begun r).1
+    by (Ok r) a = root-follows hive root begun r a
+    by (Err kind) a =
+        let told = say begun (lines.Root (fault_at kind root)) in
+        follows-after begun told (other_root hive told (least_root hive hive.slots 0)).1
+        (follows-say begun (lines.Root (fault_at kind root))) (other-follows hive told (least_root hive hive.slots 0))

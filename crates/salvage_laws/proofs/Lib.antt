@@ -5,3 +5,6 @@ pub mod Grows
 pub mod Alike
 pub mod Going
 pub mod KeysGoing
+pub mod Wider
+pub mod Leaving
+pub mod LeavingKeys
