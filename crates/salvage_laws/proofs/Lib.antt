@@ -8,3 +8,5 @@ pub mod KeysGoing
 pub mod Wider
 pub mod Leaving
 pub mod LeavingKeys
+pub mod WholeBins
+pub mod WholeCells
