@@ -10,3 +10,6 @@ pub mod Leaving
 pub mod LeavingKeys
 pub mod WholeBins
 pub mod WholeCells
+pub mod FoundLemmas
+pub mod SectorLemmas
+pub mod PlainLemmas

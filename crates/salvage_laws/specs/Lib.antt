@@ -3,3 +3,4 @@ pub mod Apart
 pub mod Fails
 pub mod Left
 pub mod LeftKeys
+pub mod Plain
