@@ -351,9 +351,9 @@ plain-refused save hive log fault plain l = by (plain-view save hive log plain) 
     by : PlainView save hive log → LoadFault (image_of hive log) fault → first_reported (salvaged_hive save hive log) ≡ Some fault
     by (is_refused f e d) (inl k) = d ∙ ap (λ g. Some g) (err-one (recovered_of (image_of hive log)) f fault e k)
     by (is_refused f e d) (inr k) = absurd (ok-err (recovered_of (image_of hive log)) k.0 f k.1 e)
-    by (is_held r e clean bytes small faults log_none broken lines tree version) (inl k) =
+    by (is_held r e clean bytes small faults log_none broken lines tree _) (inl k) =
         absurd (ok-err (recovered_of (image_of hive log)) r fault e k)
-    by (is_held r e clean bytes small faults log_none broken lines tree version) (inr k) =
+    by (is_held r e clean bytes small faults log_none broken lines tree _) (inr k) =
         let same = ok-one (recovered_of (image_of hive log)) k.0 r k.1 e in
         found-reported (salvaged_hive save hive log) (found_as r) faults log_none broken lines
         ∙ fault-so r fault bytes small (subst (λ (x : Recovered). HeldFault x fault) same k.2)
@@ -369,7 +369,7 @@ plain-silent save hive log plain i = by (plain-view save hive log plain)
         → (s : HiveState) × Loads (image_of hive log) s false × ((salvaged_hive save hive log).tree ≡ Some s.tree)
     by (is_refused f e d) =
         absurd (none-some f (first_reported (salvaged_hive save hive log)) d (silent-none (salvaged_hive save hive log) i))
-    by (is_held r e clean bytes small faults log_none broken lines tree version) =
+    by (is_held r e clean bytes small faults log_none broken lines tree _) =
         let none = sym (found-reported (salvaged_hive save hive log) (found_as r) faults log_none broken lines)
         ∙ silent-none (salvaged_hive save hive log) i in
         let h = silent-holds r bytes small none in (
