@@ -1,6 +1,6 @@
 -- Where no cell is loose, the walk of salvage and the checks of a load go alike up to the first fault.
-use Rattle.std.proofs.Common.{◌≡◌, ◌⊎◌, inl, inr, ℕ, zero, suc, ◌+◌, ◌-◌, ◌*◌, ◌/◌, min, Bool, true, false, cond, eqb, List, [], ◌∷◌, ◌++◌, length, drop, map, Option, Some, None, Result, Ok, Err, refl, sym, ap, subst, ◌∙◌, append_assoc, append-nil, arith, eq-eqb}
-use Rattle.std.specs.Prelude.{◌==◌, ◌&&◌, ◌<◌, not, find, nat_lt, MatchBool}
+use Rattle.std.proofs.Common.{◌≡◌, ℕ, ◌+◌, ◌-◌, ◌*◌, ◌/◌, min, Bool, true, false, cond, eqb, List, [], ◌∷◌, ◌++◌, length, drop, Option, Some, None, Result, Ok, Err, refl, sym, ap, subst, ◌∙◌, arith, eq-eqb}
+use Rattle.std.specs.Prelude.{◌==◌, ◌&&◌, not, nat_lt, MatchBool}
 use Rattle.std.specs.Option.{option_or}
 use Rattle.std.specs.List.{list_any}
 use Rattle.std.specs.Ordering.{nat_cmp}
@@ -8,31 +8,24 @@ use Rattle.std.specs.Cmp.{nat_cmp_total, unsigned_ties}
 use Rattle.std.specs.FinMap as map
 use Rattle.std.proofs.lemmas.Bool.{eqb-true}
 use Rattle.std.proofs.lemmas.Bool.Decides.{nat_tests}
-use Rattle.std.proofs.lemmas.List.{map_push}
 use Rattle.std.proofs.lemmas.List.Folds.{find-append}
 use Rattle.nt_bytes.specs.Fields.{u16_in}
 use Rattle.nt_bytes.specs.Folding.{folds_same}
-use Rattle.nt_bytes.specs.declared.fault.HiveFault.{HiveFault}
 use Rattle.nt_bytes.specs.declared.fault.HiveFaultKind.{HiveFaultKind}
-use Rattle.nt_bytes.specs.declared.fault.HiveFaultKind.TheVariants.{Shared, FormShort, FormSign, FormKind, DoubleName, Count, TooDeep}
+use Rattle.nt_bytes.specs.declared.fault.HiveFaultKind.TheVariants.{Shared, FormShort, FormKind, DoubleName}
 use Rattle.hive_model.specs.Base.{fault_at}
-use Rattle.hive_model.specs.Bins.{Cells, with_place}
-use Rattle.hive_model.specs.Forms.{◌>>=◌, bytes_in}
+use Rattle.hive_model.specs.Bins.{Cells}
+use Rattle.hive_model.specs.Forms.{◌>>=◌}
 use Rattle.hive_model.specs.Lists.{ListKind, Li, Lf, Lh, Ri, SubkeyList, numbers_in, list_of, list_at, offsets_in}
-use Rattle.hive_model.specs.Walk.{Check, uses, tests, reading, found, below_of, use_as, failing, name_check, is_list_of_lists, leaf_at}
-use Rattle.hive_read.specs.Walked.{Seen, clashes as meets, marked, check, walk}
-use Rattle.hive_read.proofs.FormFacts.{then-so, unless}
-use Rattle.hive_read.proofs.Walks.{walk-append}
+use Rattle.hive_model.specs.Walk.{Check, reading, below_of, use_as, name_check, is_list_of_lists, leaf_at}
+use Rattle.hive_read.specs.Walked.{Seen, clashes as meets, walk}
+use Rattle.hive_read.proofs.FormFacts.{then-so}
 use Rattle.salvage_bins.specs.Ground.{Ground}
 use Rattle.salvage_walk.specs.declared.claims.Claim.{Claim}
-use Rattle.salvage_walk.specs.declared.lines.WalkLine.{WalkLine}
 use Rattle.salvage_walk.specs.Uses.{claim_of, clashes, overlaps, claim_at}
 use Rattle.salvage_walk.specs.Parts.{part, unless_named}
 use Rattle.salvage_walk.specs.Fronts.{Front, front_of, values_front, kind_front, list_front, leaf_front, kind_or_short, front_part}
-use Rattle.salvage_walk.specs.Walked.{Walked, say}
-use Rattle.salvage_laws.specs.Told.{line_fault}
 use Rattle.salvage_laws.proofs.PartViews.{done, failed, Gained, again, fresh, Covered, Made, Refused, absent, taken, unformed, covered, PartView, part-view, Unread, none_there, list_taken, no_list, list_covered, FrontView, front-view}
-use Rattle.salvage_laws.proofs.Grows.{Follows}
 
 -- no cell is loose
 abbrev pub NoneLoose : Ground → Type 0

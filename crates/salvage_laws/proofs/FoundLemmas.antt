@@ -1,10 +1,10 @@
 -- What is found in bins data is what a load finds.
-use Rattle.std.proofs.Common.{◌≡◌, ◌≤◌, ◌⊎◌, inl, inr, ℕ, Bool, false, List, [], ◌∷◌, length, Option, Some, None, refl, sym, ap, ap₂, subst, ◌∙◌}
+use Rattle.std.proofs.Common.{◌≡◌, ◌≤◌, ◌⊎◌, inl, inr, ℕ, false, List, [], length, Option, Some, None, refl, sym, ap, ap₂, subst, ◌∙◌}
 use Rattle.nt_bytes.specs.declared.fault.HiveFault.{HiveFault}
 use Rattle.nt_bytes.specs.declared.version.HiveVersion.{HiveVersion}
 use Rattle.hive_model.specs.Base.{version_of}
 use Rattle.hive_model.specs.Bins.{Bin, IsBins, BinsFault, Cells, look_up, or_else}
-use Rattle.hive_model.specs.Load.{Holds, WalkFault, HeldFault}
+use Rattle.hive_model.specs.Load.{Holds, HeldFault}
 use Rattle.hive_model.specs.Recovery.{Recovered}
 use Rattle.hive_model.specs.Stands.{IsWellFormed}
 use Rattle.hive_model.specs.State.{HiveState}
@@ -17,14 +17,14 @@ use Rattle.hive_read.proofs.Standing.{stands-where-none-fails}
 use Rattle.hive_read.proofs.Wellformed.{well-formed-passes}
 use Rattle.salvage_bins.specs.declared.layout.BrokenBin.{BrokenBin}
 use Rattle.salvage_bins.specs.Ground.{Ground}
-use Rattle.salvage_bins.specs.Layout.{Laid, layout_of}
+use Rattle.salvage_bins.specs.Layout.{layout_of}
 use Rattle.salvage_walk.specs.declared.lines.WalkLine.{WalkLine}
 use Rattle.salvage_walk.specs.Keys.{salvaged}
 use Rattle.salvage_file.specs.declared.salvaging.BinsFound.{BinsFound}
 use Rattle.salvage_file.specs.Salvage.{ground_in, found_by, found_in}
 use Rattle.salvage_laws.specs.Told.{first_told, first_broken, first_found}
 use Rattle.salvage_laws.proofs.KeysGoing.{told-first, silent-so, tree-so}
-use Rattle.salvage_laws.proofs.WholeBins.{marked, whole_marks, layout-whole, layout-broken}
+use Rattle.salvage_laws.proofs.WholeBins.{marked, layout-whole, layout-broken}
 use Rattle.salvage_laws.proofs.WholeCells.{none-loose, same-cells}
 
 abbrev found_of : List BrokenBin → List WalkLine → Option Tree → BinsFound

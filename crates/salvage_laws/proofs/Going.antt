@@ -1,7 +1,6 @@
 -- The parts of a tree: salvage goes through them as the checks of a load do, up to the first fault.
-use Rattle.std.proofs.Common.{◌≡◌, ℕ, zero, suc, ◌+◌, ◌-◌, Bool, true, false, cond, eqb, List, [], ◌∷◌, ◌++◌, length, map, Option, Some, None, Result, Ok, Err, refl, sym, ap, subst, ◌∙◌, append_assoc, append-nil, eq-eqb}
-use Rattle.std.specs.Prelude.{◌==◌, ◌&&◌, not, is_some, MatchBool, if◌then◌else◌}
-use Rattle.std.proofs.lemmas.Bool.{eqb-true}
+use Rattle.std.proofs.Common.{◌≡◌, ℕ, ◌+◌, ◌-◌, Bool, true, false, cond, List, [], ◌∷◌, ◌++◌, Option, Some, None, Result, Ok, Err, refl, sym, ap, subst, ◌∙◌, append_assoc, append-nil}
+use Rattle.std.specs.Prelude.{◌==◌, is_some, MatchBool}
 use Rattle.std.proofs.lemmas.List.{map_push}
 use Rattle.nt_bytes.specs.declared.fault.HiveFault.{HiveFault}
 use Rattle.nt_bytes.specs.declared.fault.HiveFaultKind.{HiveFaultKind}
@@ -12,11 +11,11 @@ use Rattle.hive_model.specs.BigData.{BigData}
 use Rattle.hive_model.specs.Forms.{◌>>=◌, bytes_in}
 use Rattle.hive_model.specs.KeyNode.{KeyNode}
 use Rattle.hive_model.specs.KeyValue.{KeyValue, key_value_at, data_inside}
-use Rattle.hive_model.specs.Lists.{SubkeyList, list_at, offsets_in}
+use Rattle.hive_model.specs.Lists.{offsets_in}
 use Rattle.hive_model.specs.Security.{SecurityCell, security_at}
 use Rattle.hive_model.specs.Size.{segment_bytes, is_big, segment_part}
 use Rattle.hive_model.specs.Tree.{Item}
-use Rattle.hive_model.specs.Walk.{Check, reading, nowhere, below_of, use_as, names_of, big_data_of, is_list_of_lists, leaf_at, joined_at, entries_of, entries_at, class_checks, security_checks, segments_checks, big_checks, data_checks, value_checks, values_in_turn, values_checks, leaves_checks, entries_checks}
+use Rattle.hive_model.specs.Walk.{Check, reading, nowhere, below_of, use_as, names_of, big_data_of, class_checks, security_checks, segments_checks, big_checks, data_checks, value_checks, values_in_turn, values_checks}
 use Rattle.hive_model.specs.Stands.{class_of, security_of, data_or, joined_segments, big_bytes_at, data_of, item_at, items_at, values_of}
 use Rattle.hive_read.specs.Walked.{Seen, walk}
 use Rattle.hive_read.proofs.Walks.{walk-append, walk-off, walk-below}
@@ -24,18 +23,16 @@ use Rattle.hive_read.proofs.ValueWalks.{item-stands, item-named}
 use Rattle.salvage_bins.specs.Ground.{Ground}
 use Rattle.salvage_walk.specs.declared.claims.Claim.{Claim}
 use Rattle.salvage_walk.specs.declared.lines.WalkLine.{WalkLine}
-use Rattle.salvage_walk.specs.declared.lines.WalkLine.TheVariants as lines
-use Rattle.salvage_walk.specs.declared.lines.KeyPart.{KeyPart}
 use Rattle.salvage_walk.specs.declared.lines.KeyPart.TheVariants as parts
 use Rattle.salvage_walk.specs.Parts.{part, value_form, value_long, security_long, bytes_long, big_long, offsets_long}
-use Rattle.salvage_walk.specs.Fronts.{Front, front_part, values_front, list_front, leaf_front}
+use Rattle.salvage_walk.specs.Fronts.{Front, front_part, values_front}
 use Rattle.salvage_walk.specs.Values.{bytes_part, segments_part, big_part, celled_part, data_where, data_part, item_of, value_part}
 use Rattle.salvage_walk.specs.Walked.{Walked, say, using}
-use Rattle.salvage_walk.specs.Steps.{part_line, class_done, class_step, security_done, security_step, value_line, item_names, value_done, value_next, values_next, values_done, said_short, values_step, Entries, more_entries, list_done, leaf_next, leaves_next, no_entries, entries_below, lists_done, lists_step}
+use Rattle.salvage_walk.specs.Steps.{part_line, class_done, class_step, security_done, security_step, value_line, item_names, value_done, value_next, values_next, values_done, said_short, values_step}
 use Rattle.salvage_laws.specs.Told.{line_fault}
-use Rattle.salvage_laws.proofs.PartViews.{done, failed}
-use Rattle.salvage_laws.proofs.Grows.{Follows, follows-after, value-follows, values-follow, leaf-follows, leaves-follow, below-follow}
-use Rattle.salvage_laws.proofs.Alike.{NoneLoose, Same, Alike, part-alike, named_checks, with_name, NamedAlike, named-alike, values-whole, list_seen, list-whole, leaf-whole, FrontAlike, front-alike}
+use Rattle.salvage_laws.proofs.PartViews.{done}
+use Rattle.salvage_laws.proofs.Grows.{Follows, values-follow}
+use Rattle.salvage_laws.proofs.Alike.{NoneLoose, Same, Alike, part-alike, named_checks, with_name, NamedAlike, named-alike, values-whole, FrontAlike, front-alike}
 
 -- ---- how a step goes
 

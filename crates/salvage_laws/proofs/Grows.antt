@@ -1,36 +1,35 @@
 -- The walk only adds: uses and lines come after those that there were, and each new use is of bytes that were free.
 use Rattle.std.proofs.Common.{◌≡◌, ◌<◌, ℕ, zero, suc, ◌+◌, ◌-◌, Bool, true, false, cond, List, [], ◌∷◌, ◌++◌, length, get_or, Option, Some, None, Result, Ok, Err, refl, sym, ap, subst, ◌∙◌, append_assoc, append-nil, arith}
 use Rattle.std.specs.Prelude.{◌==◌, ◌&&◌, not, find}
-use Rattle.std.specs.List.{AllPairs, list_any}
+use Rattle.std.specs.List.{list_any}
 use Rattle.std.proofs.lemmas.Bool.{or_parts}
 use Rattle.std.proofs.lemmas.List.Quantifiers.{all_pairs_push}
 use Rattle.nt_bytes.specs.declared.fault.HiveFault.{HiveFault}
 use Rattle.nt_bytes.specs.declared.fault.HiveFaultKind.{HiveFaultKind}
-use Rattle.nt_bytes.specs.declared.fault.HiveFaultKind.TheVariants.{TooDeep}
 use Rattle.hive_model.specs.Base.{fault_at}
 use Rattle.hive_model.specs.Bins.{with_place}
 use Rattle.hive_model.specs.Forms.{◌>>=◌, bytes_in}
-use Rattle.hive_model.specs.KeyNode.{KeyNode, key_node_at}
+use Rattle.hive_model.specs.KeyNode.{KeyNode}
 use Rattle.hive_model.specs.KeyValue.{KeyValue, data_inside}
 use Rattle.hive_model.specs.Lists.{offsets_in}
 use Rattle.hive_model.specs.Security.{SecurityCell, security_at}
 use Rattle.hive_model.specs.Size.{segment_bytes, is_big, segment_part}
 use Rattle.hive_model.specs.Tree.{Item, Tree}
-use Rattle.hive_model.specs.Walk.{nowhere, reading, big_data_of, is_list_of_lists}
+use Rattle.hive_model.specs.Walk.{nowhere, big_data_of, is_list_of_lists}
 use Rattle.salvage_bins.specs.Ground.{Ground}
 use Rattle.salvage_walk.specs.declared.claims.Claim.{Claim}
 use Rattle.salvage_walk.specs.declared.lines.WalkLine.{WalkLine}
 use Rattle.salvage_walk.specs.declared.lines.WalkLine.TheVariants as lines
 use Rattle.salvage_walk.specs.declared.lines.KeyPart.{KeyPart}
 use Rattle.salvage_walk.specs.declared.lines.KeyPart.TheVariants as parts
-use Rattle.salvage_walk.specs.Uses.{claim_of, lies_in, overlaps, claim_at, claimed}
+use Rattle.salvage_walk.specs.Uses.{lies_in, overlaps, claim_at}
 use Rattle.salvage_walk.specs.Parts.{part, node_form, node_long, value_form, value_long, security_long, bytes_long, big_long, offsets_long}
 use Rattle.salvage_walk.specs.Fronts.{Front, front_part, values_front, list_front, leaf_front}
 use Rattle.salvage_walk.specs.Values.{bytes_part, segments_part, big_part, celled_part, data_where, data_part, item_of, value_part}
 use Rattle.salvage_walk.specs.Walked.{Walked, say, using}
 use Rattle.salvage_walk.specs.Steps.{class_done, class_step, security_done, security_step, item_names, value_done, value_next, values_next, values_done, said_short, values_step, Entries, list_done, leaf_next, leaves_next, no_entries, entries_below, lists_done, lists_step, counted, entries_step}
-use Rattle.salvage_walk.specs.Keys.{Judge, key_names, with_child, keys_next, key_below, found_key, key_done, key_line, judged_key, root_below, other_done, other_at, other_root, root_done, root_part, salvaged, least_root}
-use Rattle.salvage_laws.specs.Apart.{share_bytes, IsApart, AreApart}
+use Rattle.salvage_walk.specs.Keys.{Judge, key_names, with_child, keys_next, key_below, found_key, key_done, judged_key, root_below, other_done, other_root, root_done, root_part, salvaged, least_root}
+use Rattle.salvage_laws.specs.Apart.{IsApart, AreApart}
 use Rattle.salvage_laws.proofs.PartViews.{Gained, again, fresh, gained-more, PartView, part-view, FrontView, front-view}
 
 -- ---- uses that are apart

@@ -1,6 +1,6 @@
 -- Keys: salvage goes through them as the checks of a load do, up to the first fault.
-use Rattle.std.proofs.Common.{◌≡◌, ℕ, zero, suc, ◌+◌, Bool, true, false, cond, eqb, List, [], ◌∷◌, ◌++◌, length, map, Option, Some, None, Result, Ok, Err, refl, sym, ap, subst, ◌∙◌, append_assoc, append-nil}
-use Rattle.std.specs.Prelude.{◌==◌, ◌&&◌, not, MatchBool, if◌then◌else◌}
+use Rattle.std.proofs.Common.{◌≡◌, ℕ, zero, suc, ◌+◌, Bool, true, false, cond, List, [], ◌∷◌, ◌++◌, length, Option, Some, None, Result, Ok, Err, refl, sym, ap, subst, ◌∙◌, append_assoc, append-nil}
+use Rattle.std.specs.Prelude.{◌==◌, ◌&&◌, not, MatchBool}
 use Rattle.std.specs.FinMap as map
 use Rattle.std.proofs.lemmas.Bool.{eqb-true}
 use Rattle.std.proofs.lemmas.List.{map_push}
@@ -14,13 +14,12 @@ use Rattle.hive_model.specs.KeyNode.{KeyNode, key_node_at}
 use Rattle.hive_model.specs.Lists.{SubkeyList, list_at}
 use Rattle.hive_model.specs.Tree.{Tree, key, trees, head}
 use Rattle.hive_model.specs.Walk.{Check, tests, reading, below_of, use_as, failing, names_of, is_list_of_lists, node_at, leaf_at, joined_at, entries_of, entries_at, class_checks, security_checks, values_checks, leaves_checks, entries_checks, keys_in_turn, children_checks, below_node, key_checks, all_checks, first_fault}
-use Rattle.hive_model.specs.Stands.{class_of, security_of, values_of, ListsChildren, KeyStands, Stands, AllStand, IsWellFormed}
+use Rattle.hive_model.specs.Stands.{class_of, security_of, values_of, ListsChildren, Stands, AllStand, IsWellFormed}
 use Rattle.hive_read.specs.Walked.{Seen, walk, KeyRead}
 use Rattle.hive_read.proofs.Walks.{walk-off, walk-below}
 use Rattle.hive_read.proofs.KeyWalks.{node-plain}
 use Rattle.hive_read.proofs.Firsts.{Agrees, remembers-none, walk-first}
 use Rattle.hive_read.proofs.One.{one_stands}
-use Rattle.hive_read.proofs.Standing.{stands-where-none-fails, well_formed}
 use Rattle.hive_read.proofs.Wellformed.{well-formed-passes}
 use Rattle.salvage_bins.specs.Ground.{Ground}
 use Rattle.salvage_walk.specs.declared.claims.Claim.{Claim}
@@ -31,10 +30,9 @@ use Rattle.salvage_walk.specs.Parts.{part, node_form, node_long}
 use Rattle.salvage_walk.specs.Fronts.{Front, front_part, list_front, leaf_front}
 use Rattle.salvage_walk.specs.Walked.{Walked, say, using}
 use Rattle.salvage_walk.specs.Steps.{part_line, class_step, security_step, values_step, said_short, Entries, more_entries, list_done, leaf_next, leaves_next, no_entries, entries_below, lists_done, lists_step, counted, entries_step}
-use Rattle.salvage_walk.specs.Keys.{Judge, key_line, key_names, with_child, keys_next, head_of, key_below, found_key, key_done, judged_key, root_below, other_root, root_done, root_part, salvaged, least_root}
+use Rattle.salvage_walk.specs.Keys.{Judge, key_line, key_names, with_child, keys_next, head_of, key_below, found_key, key_done, judged_key, other_root, root_done, root_part, salvaged, least_root}
 use Rattle.salvage_laws.specs.Told.{line_fault, first_told}
-use Rattle.salvage_laws.proofs.PartViews.{done, failed}
-use Rattle.salvage_laws.proofs.Grows.{Follows, follows-self, follows-after, class-follows, security-follows, items-follow, leaves-follow, below-follow, counted-follows, entries-follow, FollowsBy, keys-follow, key-follows, judged-follows, other-follows}
+use Rattle.salvage_laws.proofs.Grows.{follows-after, security-follows, items-follow, leaves-follow, below-follow, counted-follows, entries-follow, FollowsBy, keys-follow, judged-follows, other-follows}
 use Rattle.salvage_laws.proofs.Alike.{NoneLoose, Same, same-none, named_checks, with_name, NamedAlike, named-alike, list_seen, list-whole, leaf-whole, FrontAlike, front-alike}
 use Rattle.salvage_laws.proofs.Going.{Begins, begins-more, begins-first, Goes, goes-then, goes-as, goes-map, class-goes, security-goes, items-go}
 

@@ -1,14 +1,13 @@
 -- What each step of the walk leaves of its part.
-use Rattle.std.proofs.Common.{◌≡◌, ◌⊎◌, inl, inr, ℕ, zero, suc, ◌+◌, Bool, true, false, cond, List, [], ◌∷◌, ◌++◌, length, Option, Some, None, Result, Ok, Err, refl, sym, ap, subst, ◌∙◌, append_assoc, append-nil}
+use Rattle.std.proofs.Common.{◌≡◌, inl, inr, ℕ, ◌+◌, Bool, true, false, cond, List, [], ◌∷◌, ◌++◌, length, Some, Result, Ok, Err, refl, sym, ap, subst, ◌∙◌, append_assoc, append-nil}
 use Rattle.std.specs.Prelude.{◌==◌, ◌&&◌, not}
 use Rattle.std.specs.Option.{option_or}
 use Rattle.std.proofs.lemmas.List.{map_push}
 use Rattle.std.proofs.lemmas.List.Folds.{find-append}
 use Rattle.nt_bytes.specs.declared.fault.HiveFault.{HiveFault}
 use Rattle.nt_bytes.specs.declared.fault.HiveFaultKind.{HiveFaultKind}
-use Rattle.nt_bytes.specs.declared.fault.HiveFaultKind.TheVariants.{FormShort}
 use Rattle.hive_model.specs.Base.{fault_at}
-use Rattle.hive_model.specs.Forms.{◌>>=◌, bytes_in}
+use Rattle.hive_model.specs.Forms.{bytes_in}
 use Rattle.hive_model.specs.KeyNode.{KeyNode}
 use Rattle.hive_model.specs.KeyValue.{key_value_at}
 use Rattle.hive_model.specs.Security.{SecurityCell, security_at}
@@ -26,12 +25,12 @@ use Rattle.salvage_walk.specs.Parts.{part, security_long, bytes_long}
 use Rattle.salvage_walk.specs.Fronts.{Front, front_part, values_front, list_front, leaf_front}
 use Rattle.salvage_walk.specs.Values.{bytes_part, value_part}
 use Rattle.salvage_walk.specs.Walked.{Walked, say, using}
-use Rattle.salvage_walk.specs.Steps.{part_line, class_done, class_step, security_done, security_step, value_line, item_names, value_done, value_next, values_next, values_done, said_short, values_step, Entries, more_entries, list_done, leaf_next, leaves_next, no_entries, entries_below, lists_done, lists_step, counted, entries_step}
-use Rattle.salvage_laws.specs.Fails.{Fails, FailsAt, ListFails, ItemFails}
-use Rattle.salvage_laws.specs.Left.{item_uses, class_uses, ClassLeft, class_stands, class_lost, SecurityLeft, security_none, security_first, security_again, security_lost, short_lines, ItemsLeft, ValuesLeft, values_none, values_listed, values_lost, ListLeft, list_read, list_lost, Split, LeavesLeft, ListsLeft, own_entries, entries_of_lists, lists_lost, is_silent, count_lines, EntriesLeft, entries_none, entries_named}
+use Rattle.salvage_walk.specs.Steps.{part_line, class_done, class_step, security_done, security_step, value_line, item_names, value_done, value_next, values_next, values_done, said_short, values_step, Entries, list_done, leaf_next, leaves_next, no_entries, lists_done, lists_step, counted, entries_step}
+use Rattle.salvage_laws.specs.Fails.{ItemFails}
+use Rattle.salvage_laws.specs.Left.{item_uses, ClassLeft, class_stands, class_lost, SecurityLeft, security_none, security_first, security_again, security_lost, short_lines, ItemsLeft, ValuesLeft, values_none, values_listed, values_lost, ListLeft, list_read, list_lost, LeavesLeft, ListsLeft, own_entries, entries_of_lists, lists_lost, is_silent, EntriesLeft, entries_none, entries_named}
 use Rattle.salvage_laws.proofs.PartViews.{Gained, again, fresh, Made, PartView, part-view, FrontView, front-view}
-use Rattle.salvage_laws.proofs.Grows.{Adds, Follows, value-follows, values-follow, short-follows, leaf-follows, leaves-follow, below-follow, counted-follows}
-use Rattle.salvage_laws.proofs.Wider.{Wider, Upto, upto-adds, clash-upto, wider-upto, fails-upto, list-fails, gained-now, made-reads, LeftOf, BytesUsed, Lost, bytes-left, ItemUsed, ItemLost, value-left}
+use Rattle.salvage_laws.proofs.Grows.{Follows, values-follow, leaves-follow, counted-follows}
+use Rattle.salvage_laws.proofs.Wider.{Upto, upto-adds, wider-upto, fails-upto, list-fails, gained-now, made-reads, LeftOf, BytesUsed, Lost, bytes-left, ItemUsed, ItemLost, value-left}
 
 -- ---- how a step leaves its part
 

@@ -1,5 +1,5 @@
 -- What the walk leaves of keys, and of the whole tree.
-use Rattle.std.proofs.Common.{◌≡◌, ◌⊎◌, inl, inr, ℕ, zero, suc, ◌+◌, ◌*◌, ◌/◌, ◌%◌, Bool, true, false, cond, List, [], ◌∷◌, ◌++◌, length, Option, Some, None, Result, Ok, Err, refl, sym, ap, ap₂, subst, ◌∙◌, append_assoc, append-nil, arith}
+use Rattle.std.proofs.Common.{◌≡◌, inl, inr, ℕ, zero, suc, ◌+◌, Bool, true, false, cond, List, [], ◌∷◌, ◌++◌, length, Option, Some, None, Result, Ok, Err, refl, sym, ap, subst, ◌∙◌, append_assoc, arith}
 use Rattle.std.specs.Prelude.{◌==◌, ◌&&◌, not}
 use Rattle.std.specs.List.{list_any}
 use Rattle.std.proofs.lemmas.List.{map_push}
@@ -16,19 +16,18 @@ use Rattle.salvage_bins.specs.Ground.{Ground}
 use Rattle.salvage_walk.specs.declared.claims.Claim.{Claim}
 use Rattle.salvage_walk.specs.declared.lines.WalkLine.{WalkLine}
 use Rattle.salvage_walk.specs.declared.lines.WalkLine.TheVariants as lines
-use Rattle.salvage_walk.specs.Uses.{claim_of, clashes, overlaps, claim_at}
+use Rattle.salvage_walk.specs.Uses.{claim_at}
 use Rattle.salvage_walk.specs.Parts.{part, unless_named, node_form, node_long}
 use Rattle.salvage_walk.specs.Walked.{Walked, say, using}
 use Rattle.salvage_walk.specs.Steps.{class_step, security_step, values_step, entries_step}
-use Rattle.salvage_walk.specs.Keys.{Judge, key_line, key_names, with_child, keys_next, head_of, key_below, found_key, key_done, judged_key, root_below, other_done, other_at, other_root, root_done, root_part, salvaged, least_root, has_root_flag}
-use Rattle.salvage_laws.specs.Apart.{IsApart, AreApart}
-use Rattle.salvage_laws.specs.Fails.{Fails, is_wrong, is_used, is_covered, ChildFails, too_deep, node_fails}
-use Rattle.salvage_laws.specs.Left.{ClassLeft, SecurityLeft, ValuesLeft, EntriesLeft}
-use Rattle.salvage_laws.specs.LeftKeys.{Leaving, NextStands, NextFails, KeysLeft, KeyLeft, TreeLeft, RootLeft, IsSalvage, at_its_place, at_another, at_none}
+use Rattle.salvage_walk.specs.Keys.{Judge, key_line, key_names, with_child, keys_next, head_of, key_below, key_done, judged_key, other_done, other_root, root_done, root_part, salvaged, least_root, has_root_flag}
+use Rattle.salvage_laws.specs.Apart.{AreApart}
+use Rattle.salvage_laws.specs.Fails.{Fails, ChildFails, too_deep, node_fails}
+use Rattle.salvage_laws.specs.LeftKeys.{KeysLeft, KeyLeft, TreeLeft, RootLeft, IsSalvage, at_its_place, at_another, at_none}
 use Rattle.salvage_laws.proofs.PartViews.{done, Made, Refused, absent, taken, unformed, covered, PartView, part-view}
-use Rattle.salvage_laws.proofs.Grows.{Adds, Follows, follows-self, follows-say, follows-after, class-follows, security-follows, items-follow, entries-follow, FollowsBy, child-follows, keys-follow, key-follows, judged-follows, salvaged-follows}
+use Rattle.salvage_laws.proofs.Grows.{security-follows, items-follow, entries-follow, FollowsBy, keys-follow, judged-follows, salvaged-follows}
 use Rattle.salvage_laws.proofs.Alike.{named-so}
-use Rattle.salvage_laws.proofs.Wider.{Upto, upto-adds, fails-upto, gained-now, made-reads}
+use Rattle.salvage_laws.proofs.Wider.{Upto, fails-upto, gained-now, made-reads}
 use Rattle.salvage_laws.proofs.Leaving.{Leaves, join, nothing-more, upto-before, class-left, security-left, values-left, entries-left}
 
 module _ (hive : Ground) (used : List Claim) where

@@ -13,3 +13,10 @@ pub mod WholeCells
 pub mod FoundLemmas
 pub mod SectorLemmas
 pub mod PlainLemmas
+pub mod MarksApart
+pub mod FormLong
+pub mod UsesLie
+pub mod BytesApart
+pub mod SavedLemmas
+pub mod LogLemmas
+pub mod RecoveredLemmas

@@ -1,14 +1,12 @@
 -- A hive that needs no log is salvaged as it loads.
 use Rattle.std.proofs.Common.{◌≡◌, inl, inr, ℕ, ◌+◌, ◌-◌, ◌*◌, ◌/◌, ◌%◌, ◌<◌, ◌≤◌, Bool, true, false, cond, List, [], ◌∷◌, ◌++◌, length, take, drop, replicate, Option, Some, None, Result, Ok, Err, refl, sym, ap, ap₂, subst, ◌∙◌, arith, eq-eqb}
-use Rattle.std.specs.Prelude.{◌==◌, ◌&&◌, ◌||◌, not, nat_le, nat_lt, nat_eq, codes, slice_index}
-use Rattle.std.specs.List.{starts_with}
+use Rattle.std.specs.Prelude.{◌==◌, ◌&&◌, ◌||◌, not, nat_le, nat_lt}
 use Rattle.std.proofs.lemmas.Bool.{cases_lt, lt-ltb, le-ltb}
 use Rattle.std.proofs.lemmas.Bool.Decides.{nat_tests}
 use Rattle.std.proofs.lemmas.List.{length-take, length-drop, drop-drop, drop-take, take-take}
 use Rattle.nt_bytes.specs.Fields.{u32_in}
 use Rattle.nt_bytes.specs.declared.fault.HiveFault.{HiveFault}
 use Rattle.nt_bytes.specs.declared.fault.HiveFaultKind.TheVariants as kinds
-use Rattle.nt_bytes.specs.declared.version.HiveVersion.{HiveVersion}
 use Rattle.nt_bytes.specs.declared.version.HiveVersion.TheVariants.{V3, V5}
 use Rattle.hive_model.specs.Base.{Base, checksum_of, is_minor, version_of, fault_at, is_bins_size, base_checks, first_failing, fields_of, unless_fault, base_of}
 use Rattle.hive_model.specs.Bins.{or_else}
@@ -16,7 +14,7 @@ use Rattle.hive_model.specs.Carries.{Carries}
 use Rattle.hive_model.specs.Forms.{◌>>=◌}
 use Rattle.hive_model.specs.Image.{Image, Bytes, image_of}
 use Rattle.hive_model.specs.Load.{Holds, HeldFault, Loads, LoadFault}
-use Rattle.hive_model.specs.Recovery.{Recovered, primary_in, sector, read_bin, gathered, recovered_with, by_primary, base_at, base_in, recovered_of}
+use Rattle.hive_model.specs.Recovery.{Recovered, primary_in, sector, recovered_with, base_at, base_in, recovered_of}
 use Rattle.hive_model.specs.State.{HiveState}
 use Rattle.hive_model.proofs.BaseLemmas.{IsChecked, base_in_checked}
 use Rattle.hive_cells.proofs.Tools.{IsBytes, IsBytes-drop, IsBytes-take}
@@ -24,14 +22,15 @@ use Rattle.hive_log.proofs.Appending.{IsSized, sized}
 use Rattle.hive_log.proofs.Finding.{by_fault, by_clean, carries_recovered}
 use Rattle.log_parts.specs.Filled.{filled}
 use Rattle.log_parts.specs.Wide.{is_wide_size}
-use Rattle.salvage_file.specs.declared.opening.FileState.TheVariants.{Clean, AsIs}
+use Rattle.salvage_file.specs.declared.opening.FileState.TheVariants.{Clean}
 use Rattle.salvage_file.specs.declared.opening.Opened.{Opened}
 use Rattle.salvage_file.specs.declared.salvaging.BinsFound.{BinsFound}
 use Rattle.salvage_file.specs.declared.salvaging.SalvagedHive.{SalvagedHive}
 use Rattle.salvage_file.specs.Faults.{head_of, has_signature, checks_of, unless, failing, base_faults, bins_length, bins_of}
 use Rattle.salvage_file.specs.Opened.{is_short, as_is, dirty_as, opened_as, opened}
 use Rattle.salvage_file.specs.Recovery.{recovery}
-use Rattle.salvage_file.specs.Salvage.{version_in, found_in, hive_by, salvaged_hive}
+use Rattle.salvage_file.specs.Salvage.{version_in, found_in, saving_as, hive_by, salvaged_hive}
+use Rattle.salvage_file.specs.Saving.{kept_base}
 use Rattle.salvage_laws.specs.Plain.{IsPlain}
 use Rattle.salvage_laws.specs.Told.{first_told, first_broken, first_found, first_base, log_fault, first_reported, IsSilent}
 use Rattle.salvage_laws.proofs.FoundLemmas.{holds-so, fault-so, silent-holds}
@@ -57,43 +56,45 @@ same-size size small =
     (at-most size 268431360 (omega (arith, small)) ∙ sym (at-most size 16777216 small))
 
 -- the first fault of the base block is that of a load
-base-first : (block : List ℕ) → u32_in block 40 ≤ 16777216 → first_base (base_faults block 0) ≡ first_failing (base_checks block 0)
+base-first : (block : List ℕ) (kind : ℕ) → u32_in block 40 ≤ 16777216
+    → first_base (base_faults block kind) ≡ first_failing (base_checks block kind)
 unfolding base_faults
-base-first block small = go (has_signature block)
+base-first block kind small = go (has_signature block)
   where
     others : Bool → List (Bool × HiveFault)
     others size =
         (u32_in block 508 == checksum_of block, fault_at kinds.Checksum 508)
         ∷ (u32_in block 20 == 1, fault_at kinds.Version 20)
         ∷ (is_minor (u32_in block 24), fault_at kinds.Version 24)
-        ∷ (u32_in block 28 == 0, fault_at kinds.FileType 28)
+        ∷ (u32_in block 28 == kind, fault_at kinds.FileType 28)
         ∷ (u32_in block 32 == 1, fault_at kinds.FileType 32)
         ∷ (size, fault_at kinds.Size 40)
         ∷ []
 
-    go : (b : Bool) → first_base (cond b (failing (checks_of block 0)) (fault_at kinds.NotRegf 0 ∷ []))
+    go : (b : Bool) → first_base (cond b (failing (checks_of block kind)) (fault_at kinds.NotRegf 0 ∷ []))
         ≡ cond b (first_failing (others (is_bins_size (u32_in block 40)))) (Some (fault_at kinds.NotRegf 0))
-    go true = failing-first (checks_of block 0) ∙ ap (λ b. first_failing (others b)) (same-size (u32_in block 40) small)
+    go true = failing-first (checks_of block kind) ∙ ap (λ b. first_failing (others b)) (same-size (u32_in block 40) small)
     go false = refl
 
 small-size : (block : List ℕ) → (fields_of block).size ≤ 16777216 → u32_in block 40 ≤ 16777216
 unfolding fields_of
 small-size block small = small
 
-base-refused : (block : List ℕ) (f : HiveFault) (more : List HiveFault) → (fields_of block).size ≤ 16777216 → base_faults block 0 ≡ f ∷ more
-    → base_of block 0 ≡ Err f
+pub base-refused : (block : List ℕ) (kind : ℕ) (f : HiveFault) (more : List HiveFault) → (fields_of block).size ≤ 16777216
+    → base_faults block kind ≡ f ∷ more → base_of block kind ≡ Err f
 unfolding base_of
-base-refused block f more small e =
-    ap (λ o. unless_fault o (fields_of block)) (sym (base-first block (small-size block small)) ∙ ap first_base e)
+base-refused block kind f more small e =
+    ap (λ o. unless_fault o (fields_of block)) (sym (base-first block kind (small-size block small)) ∙ ap first_base e)
 
-base-sound : (block : List ℕ) → (fields_of block).size ≤ 16777216 → base_faults block 0 ≡ [] → base_of block 0 ≡ Ok (fields_of block)
+pub base-sound : (block : List ℕ) (kind : ℕ) → (fields_of block).size ≤ 16777216 → base_faults block kind ≡ []
+    → base_of block kind ≡ Ok (fields_of block)
 unfolding base_of
-base-sound block small e =
-    ap (λ o. unless_fault o (fields_of block)) (sym (base-first block (small-size block small)) ∙ ap first_base e)
+base-sound block kind small e =
+    ap (λ o. unless_fault o (fields_of block)) (sym (base-first block kind (small-size block small)) ∙ ap first_base e)
 
-zeros-faulty : base_faults (replicate 512 0) 0 ≡ fault_at kinds.NotRegf 0 ∷ []
+pub zeros-faulty : (kind : ℕ) → base_faults (replicate 512 0) kind ≡ fault_at kinds.NotRegf 0 ∷ []
 unfolding base_faults
-zeros-faulty = refl
+zeros-faulty kind = refl
 
 fault-one : (f g : HiveFault) (more : List HiveFault) → f ∷ [] ≡ g ∷ more → f ≡ g
 fault-one f g more e = cc
@@ -114,18 +115,29 @@ version-same minor is = go (minor == 3) refl (minor == 5) refl is
     go false e true f is = refl
     go false e false f is = absurd cc
 
+-- without a fault there is a signature
+signed-so : (block : List ℕ) → base_faults block 0 ≡ [] → has_signature block ≡ true
+unfolding base_faults
+signed-so block e = go (has_signature block) e
+  where
+    go : (b : Bool) → cond b (failing (checks_of block 0)) (fault_at kinds.NotRegf 0 ∷ []) ≡ [] → b ≡ true
+    go true e = refl
+    go false e = absurd cc
+
 -- ---- a hive that needs no log
 
 -- what a load makes of it, and what is reported
 pub data PlainView (save : Bool) (hive log : List ℕ) : Type 0 where
   is_refused : (f : HiveFault) → recovered_of (image_of hive log) ≡ Err f → first_reported (salvaged_hive save hive log) ≡ Some f
       → PlainView save hive log
-  is_held : (r : Recovered) → recovered_of (image_of hive log) ≡ Ok r → r.dirty ≡ false → IsBytes r.bins → length r.bins ≤ 16777216
+  is_held : (r : Recovered) → recovered_of (image_of hive log) ≡ Ok r → r.dirty ≡ false → (IsBytes hive → IsBytes r.bins) → length r.bins ≤ 16777216
       → (salvaged_hive save hive log).faults ≡ [] → (salvaged_hive save hive log).log ≡ None
       → (salvaged_hive save hive log).broken ≡ (found_in (version_of r.base.minor) r.bins r.base.root).broken
       → (salvaged_hive save hive log).lines ≡ (found_in (version_of r.base.minor) r.bins r.base.root).lines
       → (salvaged_hive save hive log).tree ≡ (found_in (version_of r.base.minor) r.bins r.base.root).tree
-      → (salvaged_hive save hive log).version ≡ version_of r.base.minor → PlainView save hive log
+      → (salvaged_hive save hive log).version ≡ version_of r.base.minor
+      → (salvaged_hive save hive log).saving ≡ saving_as save r.base (version_of r.base.minor) (salvaged_hive save hive log).tree
+      → PlainView save hive log
 
 module _ (save : Bool) (hive log : List ℕ) (plain : IsPlain hive) where
   abbrev file : List ℕ
@@ -163,9 +175,9 @@ module _ (save : Bool) (hive log : List ℕ) (plain : IsPlain hive) where
       elim (cases_lt (length file) 512) [
         | inl lt ↦
             let same = fault-one (fault_at kinds.NotRegf 0) f more
-            (sym (ap (λ l. base_faults l 0) (head-none lt) ∙ zeros-faulty) ∙ e) in
+            (sym (ap (λ l. base_faults l 0) (head-none lt) ∙ zeros-faulty 0) ∙ e) in
             block-none lt ∙ ap (λ g. Err g) same
-        | inr le ↦ block-some le ∙ ap (λ r. r >>= λ b. Ok (Some b)) (base-refused front f more plain.small e)
+        | inr le ↦ block-some le ∙ ap (λ r. r >>= λ b. Ok (Some b)) (base-refused front 0 f more plain.small e)
       ]
 
   faulty-out : (f : HiveFault) (more : List HiveFault) → base_faults front 0 ≡ f ∷ more
@@ -179,12 +191,12 @@ module _ (save : Bool) (hive log : List ℕ) (plain : IsPlain hive) where
     long : 512 ≤ length file
     long =
         elim (cases_lt (length file) 512) [
-          | inl lt ↦ absurd (not-sound (fault_at kinds.NotRegf 0) (sym zeros-faulty ∙ ap (λ l. base_faults l 0) (sym (head-none lt)) ∙ sound))
+          | inl lt ↦ absurd (not-sound (fault_at kinds.NotRegf 0) (sym (zeros-faulty 0) ∙ ap (λ l. base_faults l 0) (sym (head-none lt)) ∙ sound))
           | inr le ↦ le
         ]
 
     has : base_in image ≡ Ok (Some base)
-    has = block-some long ∙ ap (λ r. r >>= λ b. Ok (Some b)) (base-sound front plain.small sound)
+    has = block-some long ∙ ap (λ r. r >>= λ b. Ok (Some b)) (base-sound front 0 plain.small sound)
 
     checked : IsChecked 0 base
     checked = base_in_checked image base has
@@ -197,6 +209,9 @@ module _ (save : Bool) (hive log : List ℕ) (plain : IsPlain hive) where
 
     even : base.first ≡ base.second
     even = plain.even sound
+
+    signed : has_signature front ≡ true
+    signed = signed-so front sound
 
     out : salvaged_hive save hive log ≡ hive_by save front (as_is file base Clean [] false None)
     unfolding salvaged_hive opened
@@ -274,13 +289,17 @@ module _ (save : Bool) (hive log : List ℕ) (plain : IsPlain hive) where
       is-long : PlainView save hive log
       is-long =
           is_held (record { base = base; bins = bins; dirty = false }) read refl
-          (IsBytes-take (bins_length base.size) (drop 4096 file) (IsBytes-drop 4096 file (filled-bytes hive plain.bytes)))
+          (λ bytes. IsBytes-take (bins_length base.size) (drop 4096 file) (IsBytes-drop 4096 file (filled-bytes hive bytes)))
           (omega (arith, bins-long, size.high))
           (ap (λ (s : SalvagedHive). s.faults) report) (ap (λ (s : SalvagedHive). s.log) report)
           (ap (λ (s : SalvagedHive). s.broken) report ∙ ap (λ v. (found_in v bins base.root).broken) version)
           (ap (λ (s : SalvagedHive). s.lines) report ∙ ap (λ v. (found_in v bins base.root).lines) version)
           (ap (λ (s : SalvagedHive). s.tree) report ∙ ap (λ v. (found_in v bins base.root).tree) version)
           (ap (λ (s : SalvagedHive). s.version) report ∙ version)
+          (ap (λ (s : SalvagedHive). s.saving) report
+          ∙ ap (λ b. saving_as save (kept_base b base) (version_in base.minor) (found_in (version_in base.minor) bins base.root).tree) signed
+          ∙ ap (λ v. saving_as save base v (found_in (version_in base.minor) bins base.root).tree) version
+          ∙ ap (saving_as save base (version_of base.minor)) (sym (ap (λ (s : SalvagedHive). s.tree) report)))
 
     sound-view : PlainView save hive log
     sound-view =
@@ -298,10 +317,10 @@ module _ (save : Bool) (hive log : List ℕ) (plain : IsPlain hive) where
 
 -- ---- what follows
 
-ok-err : (o : Result Recovered HiveFault) (r : Recovered) (f : HiveFault) → o ≡ Ok r → o ≡ Err f → ⊥
+pub ok-err : (o : Result Recovered HiveFault) (r : Recovered) (f : HiveFault) → o ≡ Ok r → o ≡ Err f → ⊥
 ok-err o r f e d = absurd cc
 
-ok-one : (o : Result Recovered HiveFault) (r s : Recovered) → o ≡ Ok r → o ≡ Ok s → r ≡ s
+pub ok-one : (o : Result Recovered HiveFault) (r s : Recovered) → o ≡ Ok r → o ≡ Ok s → r ≡ s
 ok-one o r s e d = cc
 
 err-one : (o : Result Recovered HiveFault) (f g : HiveFault) → o ≡ Err f → o ≡ Err g → f ≡ g
@@ -322,7 +341,7 @@ plain-loads save hive log s dirty plain l = by (plain-view save hive log plain)
   where
     by : PlainView save hive log → Reports (salvaged_hive save hive log) s
     by (is_refused f e d) = absurd (ok-err (recovered_of (image_of hive log)) l.recovered f l.read e)
-    by (is_held r e clean bytes small faults log_none broken lines tree version) =
+    by (is_held r e clean bytes small faults log_none broken lines tree version _) =
         let same = ok-one (recovered_of (image_of hive log)) l.recovered r l.read e in
         let holds = subst (λ (x : Recovered). Holds x s) same l.holds in
         let found = holds-so r s holds in (
@@ -344,35 +363,35 @@ found-reported s found faults log broken lines =
     ∙ ap (λ o. or_else (log_fault o) (or_else (first_broken s.broken) (first_told s.lines))) log
     ∙ ap₂ (λ bs ls. or_else (first_broken bs) (first_told ls)) broken lines
 
-pub plain-refused : (save : Bool) (hive log : List ℕ) (fault : HiveFault) → IsPlain hive → LoadFault (image_of hive log) fault
+pub plain-refused : (save : Bool) (hive log : List ℕ) (fault : HiveFault) → IsBytes hive → IsPlain hive → LoadFault (image_of hive log) fault
     → first_reported (salvaged_hive save hive log) ≡ Some fault
-plain-refused save hive log fault plain l = by (plain-view save hive log plain) l
+plain-refused save hive log fault all plain l = by (plain-view save hive log plain) l
   where
     by : PlainView save hive log → LoadFault (image_of hive log) fault → first_reported (salvaged_hive save hive log) ≡ Some fault
     by (is_refused f e d) (inl k) = d ∙ ap (λ g. Some g) (err-one (recovered_of (image_of hive log)) f fault e k)
     by (is_refused f e d) (inr k) = absurd (ok-err (recovered_of (image_of hive log)) k.0 f k.1 e)
-    by (is_held r e clean bytes small faults log_none broken lines tree _) (inl k) =
+    by (is_held r e clean bytes small faults log_none broken lines tree _ _) (inl k) =
         absurd (ok-err (recovered_of (image_of hive log)) r fault e k)
-    by (is_held r e clean bytes small faults log_none broken lines tree _) (inr k) =
+    by (is_held r e clean bytes small faults log_none broken lines tree _ _) (inr k) =
         let same = ok-one (recovered_of (image_of hive log)) k.0 r k.1 e in
         found-reported (salvaged_hive save hive log) (found_as r) faults log_none broken lines
-        ∙ fault-so r fault bytes small (subst (λ (x : Recovered). HeldFault x fault) same k.2)
+        ∙ fault-so r fault (bytes all) small (subst (λ (x : Recovered). HeldFault x fault) same k.2)
 
 silent-none : (s : SalvagedHive) → IsSilent s → first_reported s ≡ None
 silent-none s i = found-reported s (record { broken = []; lines = []; tree = None }) i.faults i.log i.broken i.lines
 
-pub plain-silent : (save : Bool) (hive log : List ℕ) → IsPlain hive → IsSilent (salvaged_hive save hive log)
+pub plain-silent : (save : Bool) (hive log : List ℕ) → IsBytes hive → IsPlain hive → IsSilent (salvaged_hive save hive log)
     → (s : HiveState) × Loads (image_of hive log) s false × ((salvaged_hive save hive log).tree ≡ Some s.tree)
-plain-silent save hive log plain i = by (plain-view save hive log plain)
+plain-silent save hive log all plain i = by (plain-view save hive log plain)
   where
     by : PlainView save hive log
         → (s : HiveState) × Loads (image_of hive log) s false × ((salvaged_hive save hive log).tree ≡ Some s.tree)
     by (is_refused f e d) =
         absurd (none-some f (first_reported (salvaged_hive save hive log)) d (silent-none (salvaged_hive save hive log) i))
-    by (is_held r e clean bytes small faults log_none broken lines tree _) =
+    by (is_held r e clean bytes small faults log_none broken lines tree _ _) =
         let none = sym (found-reported (salvaged_hive save hive log) (found_as r) faults log_none broken lines)
         ∙ silent-none (salvaged_hive save hive log) i in
-        let h = silent-holds r bytes small none in (
+        let h = silent-holds r (bytes all) small none in (
           h.0,
           record { recovered = r; read = e; was_dirty = sym clean; holds = h.1 },
           tree ∙ ap (λ (f : BinsFound). f.tree) (holds-so r h.0 h.1),

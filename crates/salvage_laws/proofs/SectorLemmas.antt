@@ -1,13 +1,12 @@
 -- The sectors of a hive's file, as its image and as whole sectors.
-use Rattle.std.proofs.Common.{◌≡◌, inl, inr, ℕ, zero, suc, ◌+◌, ◌-◌, ◌*◌, ◌/◌, ◌%◌, ◌<◌, ◌≤◌, Bool, true, false, cond, List, [], ◌∷◌, ◌++◌, length, take, drop, replicate, Option, Some, None, Result, Ok, Err, refl, sym, ap, ◌∙◌, arith, append-nil}
+use Rattle.std.proofs.Common.{◌≡◌, inl, inr, ℕ, zero, suc, ◌+◌, ◌-◌, ◌*◌, ◌%◌, ◌<◌, ◌≤◌, cond, List, [], ◌∷◌, ◌++◌, length, take, drop, replicate, Some, None, Ok, Err, sym, ap, ◌∙◌, arith, append-nil}
 use Rattle.std.specs.Prelude.{nat_lt, slice_index}
 use Rattle.std.proofs.lemmas.Bool.{cases_lt, lt-ltb, le-ltb}
 use Rattle.std.proofs.lemmas.List.{length-append, length-replicate, length-drop, length-take, take_all, take-append-le, drop-append-le}
-use Rattle.nt_bytes.specs.declared.fault.HiveFault.{HiveFault}
 use Rattle.nt_bytes.specs.declared.fault.HiveFaultKind.TheVariants as kinds
 use Rattle.hive_model.specs.Base.{fault_at}
-use Rattle.hive_model.specs.Image.{Content, Bytes, padded, sector_of, image_of}
-use Rattle.hive_model.specs.Recovery.{primary_in, bytes_or, read_bin, joined, gathered}
+use Rattle.hive_model.specs.Image.{Bytes, padded, sector_of, image_of}
+use Rattle.hive_model.specs.Recovery.{primary_in, log_in, bytes_or, read_bin, joined, gathered}
 use Rattle.log_parts.specs.Filled.{filled}
 
 -- ---- whole sectors
@@ -44,23 +43,37 @@ sector-is hive at whole there =
           ∙ sym (take-append-le 512 xs (replicate n 0) le) ∙ sym moved
     ]
 
--- the image's sectors are those of the whole file
+-- the sectors of a file's image are those of the whole file
+content-there : (bytes : List ℕ) (n : ℕ) → n < 65536 → 512 * n < length (filled bytes)
+    → cond (nat_lt n 65536) (sector_of bytes n) None ≡ Some (Bytes (take 512 (drop (512 * n) (filled bytes))))
+content-there bytes n few there =
+    let f = filled-whole bytes in
+    let inside : 512 * n < length bytes = omega (arith, f.0, f.2, there) in
+    ap (λ t. cond t (sector_of bytes n) None) (lt-ltb n 65536 few)
+    ∙ ap (λ t. cond t (Some (Bytes (padded (take 512 (drop (512 * n) bytes))))) None) (lt-ltb (512 * n) (length bytes) inside)
+    ∙ ap (λ b. Some (Bytes b)) (sector-is bytes (512 * n) (omega arith) inside)
+
+content-absent : (bytes : List ℕ) (n : ℕ) → n < 65536 → length (filled bytes) ≤ 512 * n → cond (nat_lt n 65536) (sector_of bytes n) None ≡ None
+content-absent bytes n few past =
+    let f = filled-whole bytes in
+    ap (λ t. cond t (sector_of bytes n) None) (lt-ltb n 65536 few)
+    ∙ ap (λ t. cond t (Some (Bytes (padded (take 512 (drop (512 * n) bytes))))) None)
+    (le-ltb (512 * n) (length bytes) (omega (arith, f.1, past)))
+
 pub sector-there : (hive log : List ℕ) (n : ℕ) → n < 65536 → 512 * n < length (filled hive)
     → primary_in (image_of hive log) n ≡ Some (Bytes (take 512 (drop (512 * n) (filled hive))))
-sector-there hive log n few there =
-    let f = filled-whole hive in
-    let inside : 512 * n < length hive = omega (arith, f.0, f.2, there) in
-    ap (λ t. cond t (sector_of hive n) None) (lt-ltb n 65536 few)
-    ∙ ap (λ t. cond t (Some (Bytes (padded (take 512 (drop (512 * n) hive))))) None) (lt-ltb (512 * n) (length hive) inside)
-    ∙ ap (λ b. Some (Bytes b)) (sector-is hive (512 * n) (omega arith) inside)
+sector-there hive log n few there = content-there hive n few there
 
 pub sector-absent : (hive log : List ℕ) (n : ℕ) → n < 65536 → length (filled hive) ≤ 512 * n
     → primary_in (image_of hive log) n ≡ None
-sector-absent hive log n few past =
-    let f = filled-whole hive in
-    ap (λ t. cond t (sector_of hive n) None) (lt-ltb n 65536 few)
-    ∙ ap (λ t. cond t (Some (Bytes (padded (take 512 (drop (512 * n) hive))))) None)
-    (le-ltb (512 * n) (length hive) (omega (arith, f.1, past)))
+sector-absent hive log n few past = content-absent hive n few past
+
+pub log-there : (hive log : List ℕ) (n : ℕ) → n < 65536 → 512 * n < length (filled log)
+    → log_in (image_of hive log) n ≡ Some (Bytes (take 512 (drop (512 * n) (filled log))))
+log-there hive log n few there = content-there log n few there
+
+pub log-absent : (hive log : List ℕ) (n : ℕ) → n < 65536 → length (filled log) ≤ 512 * n → log_in (image_of hive log) n ≡ None
+log-absent hive log n few past = content-absent log n few past
 
 -- a run of sectors that the file has not all
 pub gathered-short : (hive log : List ℕ) (i n : ℕ) → 0 < n → 8 + i + n ≤ 65536 → length (filled hive) < 512 * (8 + i + n)
@@ -85,13 +98,13 @@ gathered-short hive log i (suc n) some few short =
 
 -- ---- bytes
 
-bytes-joined : (xs ys : List ℕ) → ((k : ℕ) → slice_index xs k < 256) → ((k : ℕ) → slice_index ys k < 256) → (k : ℕ)
+pub bytes-joined : (xs ys : List ℕ) → ((k : ℕ) → slice_index xs k < 256) → ((k : ℕ) → slice_index ys k < 256) → (k : ℕ)
     → slice_index (xs ++ ys) k < 256
 bytes-joined [] ys hx hy k = hy k
 bytes-joined (x ∷ xs) ys hx hy zero = hx zero
 bytes-joined (x ∷ xs) ys hx hy (suc k) = bytes-joined xs ys (λ j. hx (suc j)) hy k
 
-zeros-bytes : (n k : ℕ) → slice_index (replicate n 0) k < 256
+pub zeros-bytes : (n k : ℕ) → slice_index (replicate n 0) k < 256
 zeros-bytes zero k = omega arith
 zeros-bytes (suc n) zero = omega arith
 zeros-bytes (suc n) (suc k) = zeros-bytes n k

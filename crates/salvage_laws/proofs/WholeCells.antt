@@ -1,18 +1,16 @@
 -- The cells of bins that are whole are those that a load reads.
-use Rattle.std.proofs.Common.{◌≡◌, ⊎_elim, inl, inr, ℕ, zero, suc, ◌+◌, ◌-◌, ◌*◌, ◌/◌, ◌%◌, ◌<◌, ◌≤◌, Bool, true, false, cond, eqb, ltb, List, [], ◌∷◌, map, length, get_or, Option, Some, None, Result, Ok, Err, refl, sym, ap, subst, ◌∙◌, arith}
+use Rattle.std.proofs.Common.{◌≡◌, ℕ, zero, suc, ◌+◌, ◌-◌, ◌/◌, ◌%◌, ◌<◌, ◌≤◌, Bool, true, false, cond, List, [], ◌∷◌, length, get_or, Option, Some, None, Ok, Err, refl, sym, ap, ◌∙◌, arith}
 use Rattle.std.specs.Prelude.{◌==◌, ◌&&◌, nat_le, nat_lt, slice_range, slice_index_or}
 use Rattle.std.proofs.lemmas.Bool.{lt-ltb, le-ltb, eqb-true, eq-eqb}
 use Rattle.std.proofs.lemmas.Bool.Decides.{nat_tests}
 use Rattle.nt_bytes.specs.Fields.{u32_in}
 use Rattle.nt_bytes.specs.declared.version.HiveVersion.{HiveVersion}
-use Rattle.nt_bytes.specs.declared.fault.HiveFaultKind.{HiveFaultKind}
-use Rattle.nt_bytes.specs.declared.fault.HiveFaultKind.TheVariants.{OutOfRange, FreeCell}
-use Rattle.hive_model.specs.Bins.{Cell, Bin, cell_size, head_number, magnitude, spelled, IsCell, IsBins, cell_at, payload_of, payload_at, Cells, look_up}
+use Rattle.nt_bytes.specs.declared.fault.HiveFaultKind.TheVariants.{FreeCell}
+use Rattle.hive_model.specs.Bins.{Cell, Bin, cell_size, head_number, magnitude, IsCell, IsBins, cell_at, payload_of, payload_at, look_up}
 use Rattle.hive_cells.specs.Reading.{marks as marks_of, bins_of, IsKept}
 use Rattle.hive_cells.proofs.Again.{bins_of_again}
-use Rattle.hive_cells.proofs.Spots.{There, begins_there, none_there, none_between, ReadAt, read_at}
-use Rattle.salvage_bins.specs.declared.layout.Mark.{Mark}
-use Rattle.salvage_bins.specs.declared.layout.Mark.TheVariants.{Nothing, InBin, Loose}
+use Rattle.hive_cells.proofs.Spots.{begins_there, none_there, none_between, ReadAt, read_at}
+use Rattle.salvage_bins.specs.declared.layout.Mark.TheVariants.{Nothing}
 use Rattle.salvage_bins.specs.Ground.{mark_at, payload_here, payload_by, is_loose}
 use Rattle.salvage_laws.proofs.WholeBins.{in_bin, marked}
 

@@ -1,5 +1,5 @@
 -- Why parts are refused, and by which uses of the whole result.
-use Rattle.std.proofs.Common.{◌≡◌, ◌⊎◌, inl, inr, ℕ, ◌+◌, ◌-◌, Bool, true, false, cond, not, List, [], ◌∷◌, ◌++◌, length, Option, Some, None, Result, Ok, Err, refl, sym, ap, subst, ◌∙◌, append_assoc, append-nil}
+use Rattle.std.proofs.Common.{◌≡◌, inl, inr, ℕ, ◌+◌, ◌-◌, Bool, true, false, cond, List, [], ◌∷◌, ◌++◌, Option, Some, None, Result, Ok, Err, refl, sym, ap, subst, ◌∙◌, append_assoc, append-nil}
 use Rattle.std.specs.Prelude.{◌==◌, ◌&&◌, ◌||◌, is_some}
 use Rattle.std.specs.Option.{option_or}
 use Rattle.std.specs.List.{list_any}
@@ -7,8 +7,6 @@ use Rattle.std.proofs.lemmas.List.Folds.{find-append, list_any-append}
 use Rattle.nt_bytes.specs.Folding.{folds_same}
 use Rattle.nt_bytes.specs.declared.fault.HiveFault.{HiveFault}
 use Rattle.nt_bytes.specs.declared.fault.HiveFaultKind.{HiveFaultKind}
-use Rattle.nt_bytes.specs.declared.fault.HiveFaultKind.TheVariants.{Shared}
-use Rattle.hive_model.specs.Base.{fault_at}
 use Rattle.hive_model.specs.BigData.{BigData}
 use Rattle.hive_model.specs.Bins.{with_place}
 use Rattle.hive_model.specs.Forms.{◌>>=◌, bytes_in}
@@ -25,11 +23,11 @@ use Rattle.salvage_bins.specs.Ground.{Ground}
 use Rattle.salvage_walk.specs.declared.claims.Claim.{Claim}
 use Rattle.salvage_walk.specs.Uses.{claim_of, clashes, lies_in, overlaps, claim_at}
 use Rattle.salvage_walk.specs.Parts.{part, unless_named, value_form, value_long, bytes_long, big_long, offsets_long}
-use Rattle.salvage_walk.specs.Fronts.{Front, front_part}
+use Rattle.salvage_walk.specs.Fronts.{Front}
 use Rattle.salvage_walk.specs.Values.{bytes_part, segments_part, big_part, celled_part, data_where, data_part, item_of, value_part}
 use Rattle.salvage_laws.specs.Fails.{Fails, is_wrong, is_used, is_covered, ListFails, list_wrong, list_used, list_covered, FailsAt, SegmentFails, BigFails, cell_fails, segments_unlisted, segment_fails, ItemFails, value_fails, big_fails, data_fails}
-use Rattle.salvage_laws.specs.Left.{uses_below, segments_uses, big_uses, data_uses, item_uses}
-use Rattle.salvage_laws.proofs.PartViews.{done, Gained, again, fresh, Covered, Made, Refused, absent, taken, unformed, covered, PartView, part-view, Unread, none_there, list_taken, no_list, list_covered as unread_covered, FrontView}
+use Rattle.salvage_laws.specs.Left.{segments_uses, big_uses, data_uses, item_uses}
+use Rattle.salvage_laws.proofs.PartViews.{done, Gained, again, fresh, Made, Refused, absent, taken, unformed, covered, PartView, part-view, Unread, none_there, list_taken, no_list, list_covered as unread_covered}
 use Rattle.salvage_laws.proofs.Grows.{Adds}
 use Rattle.salvage_laws.proofs.Alike.{named-so}
 
@@ -238,7 +236,7 @@ module _ (hive : Ground) where
   unfolding big_bytes_at
   big-is n at big offsets part all m o e j = rw (m, o, j) (ap done (sym e))
 
-  uses-are : (n at : ℕ) (big : BigData) (offsets : List ℕ) → reading (big_data_of n) hive.cells at ≡ Ok big
+  pub uses-are : (n at : ℕ) (big : BigData) (offsets : List ℕ) → reading (big_data_of n) hive.cells at ≡ Ok big
       → reading (offsets_in big.segments) hive.cells big.list ≡ Ok offsets
       → big_uses hive n at ≡ claim_at hive false at (big_long big) ∷ claim_at hive false big.list (offsets_long offsets) ∷ segments_uses hive n offsets
   uses-are n at big offsets m o = rw (m, o) refl
@@ -337,7 +335,7 @@ module _ (hive : Ground) where
       go (Some d) n = (refl, sym (append-nil mine))
       go None n = big (is_big hive.cells.version v.size) refl n
 
-  item-uses-are : (at : ℕ) (v : KeyValue) → reading key_value_at hive.cells at ≡ Ok v
+  pub item-uses-are : (at : ℕ) (v : KeyValue) → reading key_value_at hive.cells at ≡ Ok v
       → item_uses hive at ≡ claim_at hive false at (value_long v) ∷ data_uses hive v
   item-uses-are at v e = rw e refl
 

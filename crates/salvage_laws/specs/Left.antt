@@ -2,7 +2,7 @@
 --
 -- Each part stands in cells that have its form, which no other part uses; or it is left out, with a line whose fault it has. Uses are the
 -- cells of the parts that stand, each once, in the order of the walk: of a security cell only the first use.
-use Rattle.std.specs.Prelude.{◌≡◌, ◌⊎◌, ℕ, zero, suc, ◌+◌, ◌-◌, ◌==◌, ◌&&◌, not, Bool, true, false, is_some, if◌then◌else◌, List, [], ◌∷◌, ◌++◌, length, Some, Result, Ok, Err}
+use Rattle.std.specs.Prelude.{◌≡◌, ◌⊎◌, ℕ, ◌+◌, ◌-◌, ◌==◌, ◌&&◌, not, Bool, true, false, is_some, if◌then◌else◌, List, [], ◌∷◌, ◌++◌, length, Some, Result, Ok, Err}
 use Rattle.std.specs.List.{list_any}
 use Rattle.nt_bytes.specs.Folding.{folds_same}
 use Rattle.nt_bytes.specs.declared.fault.HiveFault.{HiveFault}
@@ -10,14 +10,14 @@ use Rattle.nt_bytes.specs.declared.fault.HiveFaultKind.{HiveFaultKind}
 use Rattle.nt_bytes.specs.declared.fault.HiveFaultKind.TheVariants.{FormShort}
 use Rattle.hive_model.specs.Base.{fault_at}
 use Rattle.hive_model.specs.Forms.{bytes_in}
-use Rattle.hive_model.specs.KeyNode.{KeyNode, key_node_at}
+use Rattle.hive_model.specs.KeyNode.{KeyNode}
 use Rattle.hive_model.specs.KeyValue.{KeyValue, key_value_at, data_inside}
 use Rattle.hive_model.specs.Lists.{offsets_in}
 use Rattle.hive_model.specs.Security.{SecurityCell, security_at}
 use Rattle.hive_model.specs.Size.{segment_bytes, is_big, segment_part}
-use Rattle.hive_model.specs.Stands.{tree_flags, class_of, item_at}
-use Rattle.hive_model.specs.Tree.{Item, Head, Tree, key, trees, head}
-use Rattle.hive_model.specs.Walk.{reading, nowhere, node_at, big_data_of, is_list_of_lists}
+use Rattle.hive_model.specs.Stands.{class_of, item_at}
+use Rattle.hive_model.specs.Tree.{Item}
+use Rattle.hive_model.specs.Walk.{reading, nowhere, big_data_of, is_list_of_lists}
 use Rattle.salvage_bins.specs.Ground.{Ground}
 use Rattle.salvage_walk.specs.declared.claims.Claim.{Claim}
 use Rattle.salvage_walk.specs.declared.lines.WalkLine.{WalkLine}
@@ -25,11 +25,10 @@ use Rattle.salvage_walk.specs.declared.lines.WalkLine.TheVariants as lines
 use Rattle.salvage_walk.specs.declared.lines.KeyPart.{KeyPart}
 use Rattle.salvage_walk.specs.declared.lines.KeyPart.TheVariants as parts
 use Rattle.salvage_walk.specs.Uses.{claim_of, claim_at}
-use Rattle.salvage_walk.specs.Parts.{node_long, value_long, security_long, big_long, offsets_long}
+use Rattle.salvage_walk.specs.Parts.{value_long, security_long, big_long, offsets_long}
 use Rattle.salvage_walk.specs.Fronts.{Front, values_front, list_front, leaf_front}
 use Rattle.salvage_walk.specs.Steps.{part_line, value_line}
-use Rattle.salvage_walk.specs.Keys.{key_line}
-use Rattle.salvage_laws.specs.Fails.{Fails, ListFails, ItemFails, ChildFails}
+use Rattle.salvage_laws.specs.Fails.{Fails, ListFails, ItemFails}
 
 -- ---- the uses of a value
 

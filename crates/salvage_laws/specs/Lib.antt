@@ -4,3 +4,4 @@ pub mod Fails
 pub mod Left
 pub mod LeftKeys
 pub mod Plain
+pub mod Bytes
