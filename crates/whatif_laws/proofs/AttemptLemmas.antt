@@ -311,7 +311,7 @@ over_stays (suc n) usable c gone =
 -- ---- the attempts
 
 -- the course after an attempt that went well or not
-abbrev stepped_by : List Told → List (List ℕ × ℕ) → Start → Bool → ℕ → Entry → Bool → Course
+abbrev pub stepped_by : List Told → List (List ℕ × ℕ) → Start → Bool → ℕ → Entry → Bool → Course
 stepped_by told fs s usable k e ok = record {
   told = told ++ record { name = e.name; fate = cond ok Started (Failed (judgement_as (cond ok book.Ignore (judgement_of e.control s.on_good usable)))) } ∷ [];
   machine = judged (cond ok book.Ignore (judgement_of e.control s.on_good usable)) (record {

@@ -6,3 +6,4 @@ pub mod PlayLemmas
 pub mod SwitchedLemmas
 pub mod CompareLemmas
 pub mod LostLemmas
+pub mod GoLemmas
