@@ -68,12 +68,19 @@ with_asked asked name r old new some a = λ tells.
 
 -- ---- the first hive
 
+zero_more : (k : ℕ) → k ≡ 0 + k
+zero_more k = omega arith
+
 -- it loads
 pub loaded_asked : (files : HiveFiles) (asked : DiffAsked) (root : Tree) (sequence : ℕ) (version : HiveVersion)
     (r : Result Finding Obstacle) (old new : HostState) → ChecksAs (image_in files) (Ok (root, sequence, version))
     → AsksWith asked r old new → AsksAfter files asked r old new
 loaded_asked files asked root sequence version r old new loads a = λ tells.
-    inr (inl (record { state = state_of root sequence version; dirty = loads.0 }, loads.1, a tells))
+    inr (inl (
+      record { state = state_of root sequence version; dirty = loads.0 },
+      loads.1,
+      subst (λ (n : ℕ). AsksUntil n r old.gets new.gets) (zero_more (asks_with old.files asked.with asked.with_log)) (a tells),
+    ))
 
 -- it has a fault
 pub fault_asked : (files : HiveFiles) (asked : DiffAsked) (fault : HiveFault) (why : Refusal) (host : HostState)
@@ -103,7 +110,7 @@ behind_on : (files : HiveFiles) (n k : ℕ) (r : Result Finding Obstacle) (g m h
 behind_on files n k r g m h before (inl fault) =
     inl (fault.0, fault.1, behind_until n n 0 r g m h (none_more n) before fault.2)
 behind_on files n k r g m h before (inr (inl loads)) =
-    inr (inl (loads.0, loads.1, behind_until (n + k) n k r g m h refl before loads.2))
+    inr (inl (loads.0, loads.1, behind_until (n + k) n (0 + k) r g m h (ap (λ (i : ℕ). n + i) (zero_more k)) before loads.2))
 behind_on files n k r g m h before (inr (inr halt)) =
     inr (inr (halt.0, behind_until n n 0 r g m h (none_more n) before halt.1))
 
@@ -151,12 +158,12 @@ unfound_asked asked o old new looks asks = λ tells.
 pub told_asked : (asked : DiffAsked) (r : Result Finding Obstacle) (status : Status) (old mid new : HostState)
     → AsksSearch asked r old mid → ((n g h : ℕ) → AsksUntil n r g h → h ≡ more n g) → (IsHalted r → ⊥)
     → new.gets ≡ mid.gets → (status ≡ statuses.ReadFault → ⊥) → AsksDiff asked status old new
-told_asked asked r status old mid new search whole open same unread = λ tells.
+told_asked asked r status old mid new search whole halts same unread = λ tells.
     in_more (hive_in old.files asked.hive asked.log) (asks_hive old.files asked.hive asked.log)
     (asks_with old.files asked.with asked.with_log) (λ n. AsksUntil n r old.gets mid.gets)
     (λ n. AsksBy n (stop_in status) old.gets new.gets) (IsHalted r) ((status ≡ statuses.Memory) ⊎ (status ≡ statuses.ReadFault))
     (λ n a. asks_on n (stop_in status) old.gets mid.gets new.gets (λ e. unread (not_read status e)) (whole n old.gets mid.gets a) same)
-    (λ halted. absurd (open halted)) (search tells)
+    (λ halted. absurd (halts halted)) (search tells)
 
 halted_kinds : (stop : HostStop) → IsHalted (Err (Stopped stop))
     → ((stopped_as stop ≡ statuses.Memory) ⊎ (stopped_as stop ≡ statuses.ReadFault))

@@ -1,6 +1,6 @@
 -- What a search for the answer leaves, step by step.
 use Rattle.std.proofs.Common.{◌≡◌, ◌⊎◌, inl, inr, ℕ, true, None, Some, refl, sym, ap, subst, ◌∙◌}
-use Rattle.std.specs.Prelude.{List, Result, Ok, Err, IfOk, IfErr}
+use Rattle.std.specs.Prelude.{List, Option, Result, Ok, Err, IfOk, IfErr}
 use Rattle.nt_bytes.specs.declared.fault.HiveFault.{HiveFault}
 use Rattle.nt_bytes.specs.declared.version.HiveVersion.{HiveVersion}
 use Rattle.nt_edge.specs.Disk.{new_state}
@@ -19,20 +19,23 @@ use Rattle.command_parts.specs.declared.refusal.Obstacle.TheVariants.{Refused, S
 use Rattle.command_parts.specs.declared.status.Status.{Status}
 use Rattle.command_parts.specs.declared.status.Status.TheVariants as statuses
 use Rattle.command_parts.specs.Decides.{Decides}
+use Rattle.command_parts.specs.Inputs.{hive_in}
 use Rattle.command_parts.specs.Leaves.{Leaves, Looks, CountsBy, CountsObstacle, stop_in, stopped_as}
 use Rattle.command_parts.specs.Placed.{image_in}
 use Rattle.command_parts.specs.Refusals.{Answer, Ends, IsToldAs, refusal, refusal_status}
 use Rattle.command_parts.specs.Saves.{no_saves}
 use Rattle.command_parts.proofs.DecideLemmas.{nothing_saved, untouched_by}
 use Rattle.command_parts.proofs.LeaveLemmas.{keeps_then, files_then, counts_by, stop_counts}
+use Rattle.line_text.specs.declared.form.ReportForm.{ReportForm}
+use Rattle.command_words.specs.Words.{DiffAsked}
 use Rattle.diff_command.specs.declared.command.Finding.{Finding}
-use Rattle.diff_command.specs.Answer.{Allowed, IsOnImage, IsOnFiles, EndsAllowed, finding_answer, AllowsResult, IsFinding, FindsBy, SeeksBy}
+use Rattle.diff_command.specs.Answer.{Allowed, with_fault, IsOnImage, IsOnFiles, IsSame, IsOther, IsSecondBy, IsSecond, EndsAllowed, finding_answer, AllowsResult, FindsBy, SeeksBy}
 
 -- ---- what is found, without a call of the host
 
 -- each answer that the one allows the other does too
 finds_more : (p q : Allowed) (r : Result Finding Obstacle) → ((a : Answer) → p a → q a) → FindsBy p r → FindsBy q r
-finds_more p q (Ok f) more found = (more (finding_answer f) found.0, found.1)
+finds_more p q (Ok f) more found = (more (finding_answer f) found.0, found.1, found.2)
 finds_more p q (Err (Refused why)) more found = more (refusal why) found
 finds_more p q (Err (Stopped stop)) more found = found
 
@@ -68,10 +71,15 @@ found_unwritten p (Ok f) found = tt
 found_unwritten p (Err (Refused why)) found = λ e. absurd cc
 found_unwritten p (Err (Stopped stop)) found = λ e. absurd cc
 
-found_ends : (p : Allowed) (r : Result Finding Obstacle) → FindsBy p r → IsFinding r
+found_ends : (p : Allowed) (r : Result Finding Obstacle) → FindsBy p r → IfOk r (λ f. stop_in f.status ≡ None)
 found_ends p (Ok f) found = found.1
 found_ends p (Err (Refused why)) found = tt
 found_ends p (Err (Stopped stop)) found = tt
+
+found_used : (p : Allowed) (r : Result Finding Obstacle) → FindsBy p r → IfOk r (λ f. f.status ≡ statuses.Usage → ⊥)
+found_used p (Ok f) found = found.2
+found_used p (Err (Refused why)) found = tt
+found_used p (Err (Stopped stop)) found = tt
 
 -- no call of the host was made
 pub finding_seeks : (is : Files → Allowed) (r : Result Finding Obstacle) (host : HostState) → FindsBy (is host.files) r
@@ -83,7 +91,8 @@ finding_seeks is r host found = record {
   answers = λ tells. found_allows (is host.files) r found;
   counts = found_counts (is host.files) r host host found (record { reads = refl; writes = refl });
   unwritten = found_unwritten (is host.files) r found;
-  finding = found_ends (is host.files) r found;
+  ends = found_ends (is host.files) r found;
+  used = found_used (is host.files) r found;
 }
 
 allows_more : (p q : Allowed) (r : Result Finding Obstacle) → ((a : Answer) → p a → q a) → AllowsResult p r → AllowsResult q r
@@ -101,7 +110,8 @@ seeks_more p q r old new more s = record {
   answers = λ tells. allows_more (p old.files) (q old.files) r (more old.files) (s.answers tells);
   counts = s.counts;
   unwritten = s.unwritten;
-  finding = s.finding;
+  ends = s.ends;
+  used = s.used;
 }
 
 counts_result : (r : Result Finding Obstacle) (old mid new : HostState) → KeepsHost old mid → KeepsCounts old mid
@@ -109,6 +119,15 @@ counts_result : (r : Result Finding Obstacle) (old mid new : HostState) → Keep
 counts_result (Ok f) old mid new keeps kept c = counts_by None old mid new keeps kept c
 counts_result (Err (Refused why)) old mid new keeps kept c = counts_by None old mid new keeps kept c
 counts_result (Err (Stopped stop)) old mid new keeps kept c = counts_by (Some stop) old mid new keeps kept c
+
+-- after the hive was loaded
+pub loaded_seeks : (image : Image) (told : HiveFault → Answer) (rest : Files → Tree → Allowed) (root : Tree) (sequence : ℕ)
+    (version : HiveVersion) (r : Result Finding Obstacle) (old new : HostState)
+    → ChecksAs image (Ok (root, sequence, version)) → SeeksBy (λ held. rest held root) r old new
+    → SeeksBy (λ held. IsOnImage image told (rest held)) r old new
+loaded_seeks image told rest root sequence version r old new loads s =
+    seeks_more (λ held. rest held root) (λ held. IsOnImage image told (rest held)) r old new
+    (λ held a is. inr (record { state = state_of root sequence version; dirty = loads.0 }, loads.1, is)) s
 
 -- the files were got, and then the search went on
 pub got_seeks : (wanted : Files → Result HiveFiles Refusal) (told : HiveFault → Answer) (rest : Files → Tree → Allowed) (files : HiveFiles)
@@ -126,7 +145,8 @@ got_seeks wanted told rest files r old mid new looks s = record {
       (s.answers (looks.keeps.tells ∙ tells)));
   counts = counts_result r old mid new looks.keeps looks.counts s.counts;
   unwritten = s.unwritten;
-  finding = s.finding;
+  ends = s.ends;
+  used = s.used;
 }
 
 -- the files were not got
@@ -152,8 +172,47 @@ unfound_seeks wanted told rest o old new looks = record {
   answers = λ tells. unfound_allows (wanted old.files) told (rest old.files) o old new tells looks;
   counts = unfound_counts o old new looks.counts;
   unwritten = looks.unwritten;
-  finding = tt;
+  ends = tt;
+  used = tt;
 }
+
+-- ---- the second hive
+
+-- none is named
+pub alone_seeks : (form : ReportForm) (asked : DiffAsked) (first : Tree) (r : Result Finding Obstacle) (host : HostState) → asked.with ≡ None
+    → FindsBy (IsSame form asked first) r → SeeksBy (λ held. IsSecond form asked held first) r host host
+alone_seeks form asked first r host none found =
+    finding_seeks (λ held. IsSecond form asked held first) r host
+    (finds_more (IsSame form asked first) (IsSecond form asked host.files first) r
+    (λ a is. subst (λ (name : Option (List ℕ)). IsSecondBy form asked host.files first name a) (sym none) is) found)
+
+-- one is named
+pub named_seeks : (form : ReportForm) (asked : DiffAsked) (first : Tree) (name : List ℕ) (r : Result Finding Obstacle) (old new : HostState)
+    → asked.with ≡ Some name
+    → SeeksBy (λ held. IsOnFiles (hive_in held name asked.with_log) with_fault (IsOther form asked first)) r old new
+    → SeeksBy (λ held. IsSecond form asked held first) r old new
+named_seeks form asked first name r old new some s =
+    seeks_more (λ held. IsOnFiles (hive_in held name asked.with_log) with_fault (IsOther form asked first))
+    (λ held. IsSecond form asked held first) r old new
+    (λ held a is. subst (λ (with' : Option (List ℕ)). IsSecondBy form asked held first with' a) (sym some) is) s
+
+-- its files were got
+pub other_seeks : (form : ReportForm) (asked : DiffAsked) (first : Tree) (name : List ℕ) (files : HiveFiles) (r : Result Finding Obstacle)
+    (old mid : HostState) → asked.with ≡ Some name → Looks (hive_in old.files name asked.with_log) (Ok files) old mid
+    → FindsBy (IsOnImage (image_in files) with_fault (IsOther form asked first)) r
+    → SeeksBy (λ held. IsSecond form asked held first) r old mid
+other_seeks form asked first name files r old mid some looks found =
+    named_seeks form asked first name r old mid some
+    (got_seeks (λ held. hive_in held name asked.with_log) with_fault (λ held. IsOther form asked first) files r old mid mid looks
+    (finding_seeks (λ held. IsOnImage (image_in files) with_fault (IsOther form asked first)) r mid found))
+
+-- they were not got
+pub lost_seeks : (form : ReportForm) (asked : DiffAsked) (first : Tree) (name : List ℕ) (o : Obstacle) (old new : HostState)
+    → asked.with ≡ Some name → Looks {A = HiveFiles} (hive_in old.files name asked.with_log) (Err o) old new
+    → SeeksBy (λ held. IsSecond form asked held first) (Err o) old new
+lost_seeks form asked first name o old new some looks =
+    named_seeks form asked first name (Err o) old new some
+    (unfound_seeks (λ held. hive_in held name asked.with_log) with_fault (λ held. IsOther form asked first) o old new looks)
 
 -- ---- the end
 
@@ -174,6 +233,13 @@ told_decides is r answer status old mid new s allowed kept leaves files = record
   off = refl;
   untouched = untouched_by status new_state refl;
 }
+
+-- what is no stop of the environment is no read fault
+pub no_read : (status : Status) → stop_in status ≡ None → status ≡ statuses.ReadFault → ⊥
+no_read status ends is = absurd (none_read (subst (λ (s : Status). stop_in s ≡ None) is ends))
+  where
+    none_read : stop_in statuses.ReadFault ≡ None → ⊥
+    none_read e = absurd cc
 
 stop_kinds : (stop : HostStop) → (stop ≡ Write → ⊥) → ((stopped_as stop ≡ statuses.Memory) ⊎ (stopped_as stop ≡ statuses.ReadFault))
 stop_kinds Read unwritten = inr refl

@@ -106,13 +106,10 @@ AllowsResult is (Ok f) = is (finding_answer f)
 AllowsResult is (Err (Refused why)) = is (refusal why)
 AllowsResult is (Err (Stopped stop)) = Unit {0}
 
--- no stop of the environment is the status of what is found
-abbrev pub IsFinding : Result Finding Obstacle → Type 0
-IsFinding result = IfOk result (λ f. stop_in f.status ≡ None)
-
--- without a call of the host: what is found is allowed, or there was no memory
+-- without a call of the host: what is found is allowed, with a status that is neither a stop of the environment nor bad usage; or there was no
+-- memory
 abbrev pub FindsBy : Allowed → Result Finding Obstacle → Type 0
-FindsBy is (Ok f) = is (finding_answer f) × (stop_in f.status ≡ None)
+FindsBy is (Ok f) = is (finding_answer f) × (stop_in f.status ≡ None) × (f.status ≡ statuses.Usage → ⊥)
 FindsBy is (Err (Refused why)) = is (refusal why)
 FindsBy is (Err (Stopped stop)) = stop ≡ NoMemory
 
@@ -124,4 +121,5 @@ pub record SeeksBy (is : Files → Allowed) (result : Result Finding Obstacle) (
   pub answers : old.tells ≡ true → AllowsResult (is old.files) result
   pub counts : CountsObstacle result old new
   pub unwritten : IfErr result (λ obstacle. obstacle ≡ Stopped Write → ⊥)
-  pub finding : IsFinding result
+  pub ends : IfOk result (λ f. stop_in f.status ≡ None)
+  pub used : IfOk result (λ f. f.status ≡ statuses.Usage → ⊥)

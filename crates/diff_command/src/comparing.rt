@@ -3,10 +3,11 @@
 ghost use Rattle.std.specs.Prelude.{◌≡◌, ◌==◌, ◌++◌, not, None, IfOk, IfSome, OnOk, if◌then◌else◌};
 ghost use Rattle.std.specs.Option.{option_copied};
 ghost use Rattle.hive_model.specs.Valid.{HoldsKeys};
+ghost use Rattle.start_model.specs.Sets.{select_numbers_of};
 ghost use Rattle.command_parts.specs.Leaves.{stop_in};
 ghost use Rattle.command_words.specs.Views.{diff_seen};
 ghost use Rattle.diff_command.specs.Answer.{finding_answer};
-ghost use Rattle.diff_command.specs.Compared.{both_trees, both_found, found_lines, lines_answer, same_answer, other_answer};
+ghost use Rattle.diff_command.specs.Compared.{both_trees, both_found, found_lines, lines_answer, first_number, same_number, other_number, same_answer, other_answer};
 
 use crate::command::Finding;
 use command_parts::Status;
@@ -77,6 +78,7 @@ fn put_found(
 fn status_of(differences: u64) -> Status
     ensures same { result ≡ (if not (differences == 0) then Status.Found else Status.Done) }
     ensures ends { stop_in result ≡ None }
+    ensures kept { result ≡ Status.Usage → ⊥ }
 {
     if differences != 0 {
         Status::Found
@@ -89,6 +91,7 @@ fn status_of(differences: u64) -> Status
 fn finding_of(alloc: Global, form: ReportForm, lines: DiffLines) -> Result<Finding, AllocError>
     ensures answer { IfOk result (λ f. finding_answer f ≡ lines_answer form lines) }
     ensures ends { IfOk result (λ f. stop_in f.status ≡ None) }
+    ensures kept { IfOk result (λ f. f.status ≡ Status.Usage → ⊥) }
 {
     let closed = close(lines)?;
     let text = lines_text(alloc, form, closed.lines.as_slice())?;
@@ -112,10 +115,47 @@ fn found(
     requires second { HoldsKeys b.now }
     ensures answer { IfOk result (λ f. finding_answer f ≡ lines_answer form (found_lines all a.now n b.now m)) }
     ensures ends { IfOk result (λ f. stop_in f.status ≡ None) }
+    ensures kept { IfOk result (λ f. f.status ≡ Status.Usage → ⊥) }
 {
     let mut lines = DiffLines::new(alloc);
     put_found(alloc, all, a, n, b, m, &mut lines)?;
     finding_of(alloc, form, lines)
+}
+
+// ---- the numbers of the sets
+
+/// The set that the next boot takes.
+fn default_number(root: &Key) -> u32
+    ensures { result ≡ (select_numbers_of root.now).default }
+{
+    select_numbers(root).default
+}
+
+fn good_number(root: &Key) -> u32
+    ensures { result ≡ (select_numbers_of root.now).good }
+{
+    select_numbers(root).good
+}
+
+/// The set of the first hive.
+fn first_number(words: DiffWords<'_>, root: &Key) -> u32
+    ensures { result ≡ first_number (diff_seen words.entry) root.now }
+{
+    words.set.unwrap_or(default_number(root))
+}
+
+/// The second set in the same hive.
+fn same_number(words: DiffWords<'_>, root: &Key) -> u32
+    ensures { result ≡ same_number (diff_seen words.entry) root.now }
+{
+    words.with_set.unwrap_or(good_number(root))
+}
+
+/// The second set in a hive of its own.
+fn other_number(words: DiffWords<'_>, root: &Key) -> u32
+    ensures { result ≡ other_number (diff_seen words.entry) root.now }
+{
+    words.with_set.unwrap_or(default_number(root))
 }
 
 /// What is found of two sets of one hive.
@@ -128,10 +168,10 @@ pub(crate) fn found_alone(
     requires { HoldsKeys root.now }
     ensures answer { IfOk result (λ f. finding_answer f ≡ same_answer form (diff_seen words.entry) root.now) }
     ensures ends { IfOk result (λ f. stop_in f.status ≡ None) }
+    ensures kept { IfOk result (λ f. f.status ≡ Status.Usage → ⊥) }
 {
-    let numbers = select_numbers(root);
-    let n = words.set.unwrap_or(numbers.default);
-    let m = words.with_set.unwrap_or(numbers.good);
+    let n = first_number(words, root);
+    let m = same_number(words, root);
     found(alloc, form, words.all, root, n, root, m)
 }
 
@@ -147,8 +187,9 @@ pub(crate) fn found_between(
     requires second { HoldsKeys second.now }
     ensures answer { IfOk result (λ f. finding_answer f ≡ other_answer form (diff_seen words.entry) first.now second.now) }
     ensures ends { IfOk result (λ f. stop_in f.status ≡ None) }
+    ensures kept { IfOk result (λ f. f.status ≡ Status.Usage → ⊥) }
 {
-    let n = words.set.unwrap_or(select_numbers(first).default);
-    let m = words.with_set.unwrap_or(select_numbers(second).default);
+    let n = first_number(words, first);
+    let m = other_number(words, second);
     found(alloc, form, words.all, first, n, second, m)
 }

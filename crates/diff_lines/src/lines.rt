@@ -72,9 +72,15 @@ pub enum KeyField {
 #[derive(Drop)]
 pub enum DiffLine {
     /// There is no set of this number.
-    NoSet { side: Side, number: u32 },
+    NoSet {
+        side: Side,
+        number: u32,
+    },
     /// The sets of these numbers are compared.
-    Sets { first: u32, second: u32 },
+    Sets {
+        first: u32,
+        second: u32,
+    },
     /// A service of one set alone.
     Only {
         side: Side,
@@ -99,7 +105,11 @@ pub enum DiffLine {
         second: Shown,
     },
     /// A name that one set alone has.
-    Lone { part: Part, side: Side, name: Units },
+    Lone {
+        part: Part,
+        side: Side,
+        name: Units,
+    },
     /// The tags of a group that both sets list.
     Tags {
         first: Shown,
@@ -115,9 +125,15 @@ pub enum DiffLine {
     /// The two boots are the same.
     StartsSame,
     /// Something of two keys.
-    KeyDiffers { field: KeyField, path: Names },
+    KeyDiffers {
+        field: KeyField,
+        path: Names,
+    },
     /// A value that both keys have. The two lines after it have what each has.
-    ValueDiffers { name: Units, path: Names },
+    ValueDiffers {
+        name: Units,
+        path: Names,
+    },
     /// A value of one key alone. The line after it has what it is.
     ValueOnly {
         side: Side,
@@ -125,17 +141,31 @@ pub enum DiffLine {
         path: Names,
     },
     /// The type and the data of a value.
-    Data { side: Side, kind: u32, bytes: Bytes },
+    Data {
+        side: Side,
+        kind: u32,
+        bytes: Bytes,
+    },
     /// A child of one key alone, and how many keys it is with all below it.
-    KeyOnly { side: Side, keys: u64, path: Names },
+    KeyOnly {
+        side: Side,
+        keys: u64,
+        path: Names,
+    },
     /// How many pairs of keys differ in when they were written.
-    Stamps { count: u64 },
+    Stamps {
+        count: u64,
+    },
     /// How many pairs of keys differ in their flags.
-    Flags { count: u64 },
+    Flags {
+        count: u64,
+    },
     /// Nothing differs.
     Same,
     /// How many lines before it tell of a difference.
-    Differ { count: u64 },
+    Differ {
+        count: u64,
+    },
     End,
 }
 

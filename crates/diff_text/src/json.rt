@@ -76,12 +76,7 @@ fn push_both(out: &mut Vec<u8>, first: &Shown, second: &Shown) -> Result<(), All
 }
 
 /// Appends Start, Type and ErrorControl.
-fn push_settings(
-    out: &mut Vec<u8>,
-    start: u32,
-    kind: u32,
-    control: u32,
-) -> Result<(), AllocError>
+fn push_settings(out: &mut Vec<u8>, start: u32, kind: u32, control: u32) -> Result<(), AllocError>
     ensures { OnOk result (out.new.items ≡ out.old.items ++ fields_text (settings_fields start kind control [])) }
 {
     push_u32(out, b"start", start)?;

@@ -9,9 +9,7 @@ use boot_phases::Phase;
 use boot_report::push_name;
 use diff_lines::{DiffLine, Shown, Side};
 use key_text::{DataForm, data_form, push_form, push_kind};
-use line_text::{
-    push_hex, push_number, push_numbers, push_path, push_quoted, push_quoted_texts,
-};
+use line_text::{push_hex, push_number, push_numbers, push_path, push_quoted, push_quoted_texts};
 use nt_bytes::{Names, Units};
 use std::alloc::{AllocError, Global};
 
@@ -123,12 +121,7 @@ fn push_counted(out: &mut Vec<u8>, word: &[u8], number: u32) -> Result<(), Alloc
 }
 
 /// Appends Start, Type and ErrorControl.
-fn push_settings(
-    out: &mut Vec<u8>,
-    start: u32,
-    kind: u32,
-    control: u32,
-) -> Result<(), AllocError>
+fn push_settings(out: &mut Vec<u8>, start: u32, kind: u32, control: u32) -> Result<(), AllocError>
     ensures { OnOk result (out.new.items ≡ out.old.items ++ settings_parts start kind control) }
 {
     push_counted(out, b"start", start)?;

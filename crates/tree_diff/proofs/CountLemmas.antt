@@ -10,4 +10,3 @@ pub all_keys_count : (total whole : ℕ) (rest : List Tree) → length rest < 1 
     → capped (total + keys_count (trees rest)) ≡ whole → total ≡ whole
 all_keys_count total whole [] none small is = none_left total whole small is
 all_keys_count total whole (t ∷ rest) none small is = absurd (omega (arith, none))
-

@@ -1,0 +1,4 @@
+use Rattle.diff_command.proofs.comparing.found_alone.Goals as goal
+
+pub returns-clause-answer : goal.returns-clause-answer
+returns-clause-answer c = rw (c.first_number-n.ensures, c.same_number-m.ensures) at c.found.ensures.answer

@@ -1,0 +1,2 @@
+pub mod NoneLemmas
+pub mod AgreeLemmas

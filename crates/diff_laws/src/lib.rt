@@ -1,0 +1,12 @@
+//! Laws of comparisons of two control sets.
+//!
+//! When there is no line on services, groups and boots, and when the answer is that nothing differs. Definitions: `specs/Laws.antt`. This
+//! project's own.
+#![tactic(auto)]
+
+mod laws;
+
+pub use laws::{
+    boots_are_the_same_where_they_agree, groups_have_no_line_where_they_agree, sets_that_agree_are_the_same,
+    services_have_no_line_where_they_agree,
+};
