@@ -62,7 +62,7 @@ module _ (files : HiveFiles) (saves : Saves) (how : How) (disk : DiskState) (sta
   texts_alike a b s text other same end =
       ends_alike a b s (steps_in b other)
       (subst (λ (r : Result (List Step) RegFault). EndsSteps files saves
-          (encoded a how) s r disk status old new) same end)
+      (encoded a how) s r disk status old new) same end)
 
   hives_alike : (a b : AskedEncoding) (text other : List ℕ) → steps_in a text ≡ steps_in b other
       → EndsHive files saves (encoded a how) (Ok text) disk status old new
@@ -174,7 +174,7 @@ said_before form n said none =
     let last : List ℕ = done_line form said.done in
     append_assoc first second last
     ∙ ap (λ (o : Option ℕ). first ++ (option_line form (codes "current") (codes "number") o ++ second ++ last))
-        (sym none)
+    (sym none)
 
 -- the name of a set isn't that name
 not_current : (n : ℕ) (name : List ℕ) → folds_same current_name (named_in (set_name n) name) ≡ false
@@ -218,8 +218,11 @@ left_done current passed (dones.Commit number) = refl
 
 pub done_alike : (current : Option ℕ) (s : HiveState) (made : SetSteps)
     → (change_made current true s made).said.done
-    ≡ (change_made current false s (record { steps =
-        (left_of s.tree made.steps).steps; protected = made.protected })).said.done
+    ≡ (change_made current false s (record {
+      steps =
+          (left_of s.tree made.steps).steps;
+      protected = made.protected;
+    })).said.done
 done_alike current s made =
     left_done current (Some (left_of s.tree made.steps).passed)
     (done_by s (tree_by made.protected (edited s.version s.tree (left_of s.tree made.steps).steps)))
@@ -302,8 +305,9 @@ kept_other (step ∷ steps) t of_text e =
     first : (r : Result Tree Refusal) → after_step step t ≡ r → is_void step t ≡ false → tree_after step t ≡ None
         → (r >>= (λ u. after_steps u steps)) ≡ Err no_value → ⊥
     first (Ok u) is some none q = tree_none step t u of_text.0 none is
-    first (Err why) is some none q = (let same : why ≡ no_value = cc in
-    refused_other step t of_text.0 some (is ∙ ap (λ (w : Refusal). Err w) same))
+    first (Err why) is some none q =
+        let same : why ≡ no_value = cc in
+        refused_other step t of_text.0 some (is ∙ ap (λ (w : Refusal). Err w) same)
 
     then_left : (o : Option Tree) → tree_after step t ≡ o → is_void step t ≡ false
         → ((u : Tree) → after_steps u (left_of u steps).steps ≡ Err no_value → ⊥)
@@ -311,7 +315,7 @@ kept_other (step ∷ steps) t of_text e =
     then_left None is some inner q = first (after_step step t) refl some is q
     then_left (Some u) is some inner q =
         inner u (sym (ap (λ (r : Result Tree Refusal). r >>= (λ v. after_steps v (left_of u steps).steps))
-            (tree_is step t u is)) ∙ q)
+        (tree_is step t u is)) ∙ q)
 
     go : (b : Bool) → is_void step t ≡ b → ((u : Tree) → after_steps u (left_of u steps).steps ≡ Err no_value → ⊥)
         → After (cond (is_void step t) (with_void (left_of t steps))
@@ -367,10 +371,10 @@ all_left t (step ∷ steps) none = go (is_void step t) none (λ u more. all_left
 
     go : (b : Bool)
         → (cond b (with_void (left_of t steps)) (left_after step steps (tree_after step t)
-            (λ u. left_of u steps))).passed ≡ 0
+        (λ u. left_of u steps))).passed ≡ 0
         → ((u : Tree) → (left_of u steps).passed ≡ 0 → (left_of u steps).steps ≡ steps)
         → (cond b (with_void (left_of t steps)) (left_after step steps (tree_after step t)
-            (λ u. left_of u steps))).steps
+        (λ u. left_of u steps))).steps
         ≡ step ∷ steps
     go true e inner = absurd (some (left_of t steps).passed e)
     go false e inner = then_left (tree_after step t) e inner

@@ -76,7 +76,7 @@ module _ (form : ReportForm) (words : ImportAsked) (old new : HostState) (disk :
   by_steps : (files : HiveFiles) (placed : Woken) (text : List ℕ) (r : Result (List Step) RegFault)
       → hive_in old.files words.hive words.log ≡ Ok files
       → Loads (image_in files) placed.state placed.dirty → old.files words.reg ≡ Some text
-          → steps_in words.encoding text ≡ r
+      → steps_in words.encoding text ≡ r
       → EndsSteps files (import_saves words) (import_how form words) placed.state r disk statuses.Done old.said new.said
       → LoadsAsTold form words old new (image_of hive log)
   by_steps files placed text (Err fault) named loads got reads end = absurd (unfaulty fault old.said new.said end.0)
@@ -101,7 +101,7 @@ module _ (form : ReportForm) (words : ImportAsked) (old new : HostState) (disk :
   by_text files placed (Err why) named loads got end = absurd (unrefused why old.said new.said end.0)
   by_text files placed (Ok text) named loads got end =
       by_steps files placed text (steps_in words.encoding text) named loads (file_got words.reg text
-          (old.files words.reg) got)
+      (old.files words.reg) got)
       refl end
 
   by_hive : (files : HiveFiles) → hive_in old.files words.hive words.log ≡ Ok files
@@ -116,7 +116,7 @@ module _ (form : ReportForm) (words : ImportAsked) (old new : HostState) (disk :
 
   by_end : (r : Result HiveFiles Refusal) → hive_in old.files words.hive words.log ≡ r
       → EndsImport r (import_saves words) (import_how form words) (file_in words.reg
-          (old.files words.reg)) disk statuses.Done old.said new.said
+      (old.files words.reg)) disk statuses.Done old.said new.said
       → LoadsAsTold form words old new (image_of hive log)
   by_end (Err r) named end = absurd (unrefused r old.said new.said end.0)
   by_end (Ok files) named end = by_hive files named end
