@@ -61,7 +61,8 @@ module _ (files : HiveFiles) (saves : Saves) (how : How) (disk : DiskState) (sta
       → EndsText files saves (encoded b how) s (Ok other) disk status old new
   texts_alike a b s text other same end =
       ends_alike a b s (steps_in b other)
-      (subst (λ (r : Result (List Step) RegFault). EndsSteps files saves (encoded a how) s r disk status old new) same end)
+      (subst (λ (r : Result (List Step) RegFault). EndsSteps files saves
+      (encoded a how) s r disk status old new) same end)
 
   hives_alike : (a b : AskedEncoding) (text other : List ℕ) → steps_in a text ≡ steps_in b other
       → EndsHive files saves (encoded a how) (Ok text) disk status old new
@@ -172,7 +173,8 @@ said_before form n said none =
     let second : List ℕ = option_line form (codes "passed") (codes "count") said.passed in
     let last : List ℕ = done_line form said.done in
     append_assoc first second last
-    ∙ ap (λ (o : Option ℕ). first ++ (option_line form (codes "current") (codes "number") o ++ second ++ last)) (sym none)
+    ∙ ap (λ (o : Option ℕ). first ++ (option_line form (codes "current") (codes "number") o ++ second ++ last))
+    (sym none)
 
 -- the name of a set isn't that name
 not_current : (n : ℕ) (name : List ℕ) → folds_same current_name (named_in (set_name n) name) ≡ false
@@ -208,14 +210,19 @@ none_named n steps = each_all (λ step. names_current step ≡ false) (set_steps
 
 -- ---- what is left
 
-left_done : (current passed : Option ℕ) (done : Done) → (said_of current passed done).done ≡ (said_of current None done).done
+left_done : (current passed : Option ℕ) (done : Done)
+    → (said_of current passed done).done ≡ (said_of current None done).done
 left_done current passed (dones.Refused stop) = refl
 left_done current passed dones.Nothing = refl
 left_done current passed (dones.Commit number) = refl
 
 pub done_alike : (current : Option ℕ) (s : HiveState) (made : SetSteps)
     → (change_made current true s made).said.done
-    ≡ (change_made current false s (record { steps = (left_of s.tree made.steps).steps; protected = made.protected })).said.done
+    ≡ (change_made current false s (record {
+      steps =
+          (left_of s.tree made.steps).steps;
+      protected = made.protected;
+    })).said.done
 done_alike current s made =
     left_done current (Some (left_of s.tree made.steps).passed)
     (done_by s (tree_by made.protected (edited s.version s.tree (left_of s.tree made.steps).steps)))
@@ -239,7 +246,8 @@ refused_other (set_value path name kind bytes) t of_text some e =
     ∷ (nat_lt longest_data (length bytes), data_too_long) ∷ [])
     (at_key path (of_items (with_item name kind bytes)) t)
     ((λ q. absurd cc), ((λ q. absurd cc), ((λ q. absurd cc), tt))) e
-refused_other (delete_value path name) t of_text some e = go (has_item path name t) refl some (is_none (find_key path t)) e
+refused_other (delete_value path name) t of_text some e = go (has_item path name t) refl some (is_none
+    (find_key path t)) e
   where
     x : Tree
     x = at_key path (of_items (without_first (is_item name))) t
@@ -277,7 +285,8 @@ none_ok : (r : Result Tree Refusal) (u : Tree) → result_ok r ≡ None → r �
 none_ok r u none ok = (let some : Some u ≡ None = ap result_ok (sym ok) ∙ none in absurd cc)
 
 tree_none : (step : Step) (t u : Tree) → IsOfText step → tree_after step t ≡ None → after_step step t ≡ Ok u → ⊥
-tree_none (set_value path name kind bytes) t u of_text e ok = none_ok (after_step (set_value path name kind bytes) t) u e ok
+tree_none (set_value path name kind bytes) t u of_text e ok = none_ok (after_step
+    (set_value path name kind bytes) t) u e ok
 tree_none (delete_value path name) t u of_text e ok = none_ok (after_step (delete_value path name) t) u e ok
 tree_none (make_key parent name) t u of_text e ok = none_ok (after_step (make_key parent name) t) u e ok
 tree_none (delete_key path) t u of_text e ok = none_ok (after_step (delete_key path) t) u e ok
@@ -296,15 +305,17 @@ kept_other (step ∷ steps) t of_text e =
     first : (r : Result Tree Refusal) → after_step step t ≡ r → is_void step t ≡ false → tree_after step t ≡ None
         → (r >>= (λ u. after_steps u steps)) ≡ Err no_value → ⊥
     first (Ok u) is some none q = tree_none step t u of_text.0 none is
-    first (Err why) is some none q = (let same : why ≡ no_value = cc in
-    refused_other step t of_text.0 some (is ∙ ap (λ (w : Refusal). Err w) same))
+    first (Err why) is some none q =
+        let same : why ≡ no_value = cc in
+        refused_other step t of_text.0 some (is ∙ ap (λ (w : Refusal). Err w) same)
 
     then_left : (o : Option Tree) → tree_after step t ≡ o → is_void step t ≡ false
         → ((u : Tree) → after_steps u (left_of u steps).steps ≡ Err no_value → ⊥)
         → After (left_after step steps o (λ u. left_of u steps)) → ⊥
     then_left None is some inner q = first (after_step step t) refl some is q
     then_left (Some u) is some inner q =
-        inner u (sym (ap (λ (r : Result Tree Refusal). r >>= (λ v. after_steps v (left_of u steps).steps)) (tree_is step t u is)) ∙ q)
+        inner u (sym (ap (λ (r : Result Tree Refusal). r >>= (λ v. after_steps v (left_of u steps).steps))
+        (tree_is step t u is)) ∙ q)
 
     go : (b : Bool) → is_void step t ≡ b → ((u : Tree) → after_steps u (left_of u steps).steps ≡ Err no_value → ⊥)
         → After (cond (is_void step t) (with_void (left_of t steps))
@@ -359,9 +370,11 @@ all_left t (step ∷ steps) none = go (is_void step t) none (λ u more. all_left
     then_left (Some u) e inner = ap (λ (l : List Step). step ∷ l) (inner u e)
 
     go : (b : Bool)
-        → (cond b (with_void (left_of t steps)) (left_after step steps (tree_after step t) (λ u. left_of u steps))).passed ≡ 0
+        → (cond b (with_void (left_of t steps)) (left_after step steps (tree_after step t)
+        (λ u. left_of u steps))).passed ≡ 0
         → ((u : Tree) → (left_of u steps).passed ≡ 0 → (left_of u steps).steps ≡ steps)
-        → (cond b (with_void (left_of t steps)) (left_after step steps (tree_after step t) (λ u. left_of u steps))).steps
+        → (cond b (with_void (left_of t steps)) (left_after step steps (tree_after step t)
+        (λ u. left_of u steps))).steps
         ≡ step ∷ steps
     go true e inner = absurd (some (left_of t steps).passed e)
     go false e inner = then_left (tree_after step t) e inner

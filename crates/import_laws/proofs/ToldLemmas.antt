@@ -75,7 +75,8 @@ module _ (form : ReportForm) (words : ImportAsked) (old new : HostState) (disk :
 
   by_steps : (files : HiveFiles) (placed : Woken) (text : List ℕ) (r : Result (List Step) RegFault)
       → hive_in old.files words.hive words.log ≡ Ok files
-      → Loads (image_in files) placed.state placed.dirty → old.files words.reg ≡ Some text → steps_in words.encoding text ≡ r
+      → Loads (image_in files) placed.state placed.dirty → old.files words.reg ≡ Some text
+      → steps_in words.encoding text ≡ r
       → EndsSteps files (import_saves words) (import_how form words) placed.state r disk statuses.Done old.said new.said
       → LoadsAsTold form words old new (image_of hive log)
   by_steps files placed text (Err fault) named loads got reads end = absurd (unfaulty fault old.said new.said end.0)
@@ -99,7 +100,8 @@ module _ (form : ReportForm) (words : ImportAsked) (old new : HostState) (disk :
       → LoadsAsTold form words old new (image_of hive log)
   by_text files placed (Err why) named loads got end = absurd (unrefused why old.said new.said end.0)
   by_text files placed (Ok text) named loads got end =
-      by_steps files placed text (steps_in words.encoding text) named loads (file_got words.reg text (old.files words.reg) got)
+      by_steps files placed text (steps_in words.encoding text) named loads (file_got words.reg text
+      (old.files words.reg) got)
       refl end
 
   by_hive : (files : HiveFiles) → hive_in old.files words.hive words.log ≡ Ok files
@@ -113,7 +115,8 @@ module _ (form : ReportForm) (words : ImportAsked) (old new : HostState) (disk :
   by_hive files named (inr (inr (inr fault))) = absurd (not_read fault.0)
 
   by_end : (r : Result HiveFiles Refusal) → hive_in old.files words.hive words.log ≡ r
-      → EndsImport r (import_saves words) (import_how form words) (file_in words.reg (old.files words.reg)) disk statuses.Done old.said new.said
+      → EndsImport r (import_saves words) (import_how form words) (file_in words.reg
+      (old.files words.reg)) disk statuses.Done old.said new.said
       → LoadsAsTold form words old new (image_of hive log)
   by_end (Err r) named end = absurd (unrefused r old.said new.said end.0)
   by_end (Ok files) named end = by_hive files named end
@@ -131,12 +134,14 @@ file_is file held files name bytes saved has =
     let same : saved.0 ≡ bytes = (let both : Some saved.0 ≡ Some bytes = sym saved.1 ∙ has in cc) in
     subst (IsFileOf held file) same saved.2
 
-pub saved_loads : (form : ReportForm) (words : ImportAsked) (old new : HostState) (disk : DiskState) (name other hive log : List ℕ)
+pub saved_loads : (form : ReportForm) (words : ImportAsked) (old new : HostState) (disk : DiskState)
+    (name other hive log : List ℕ)
     → DecidesImport form words statuses.Done old new disk → old.tells ≡ true
     → words.save_hive ≡ Some name → words.save_log ≡ Some other → (name ≡ other → ⊥)
     → new.files name ≡ Some hive → new.files other ≡ Some log → HasUntornBlock disk.held
     → LoadsAsTold form words old new (image_of hive log)
-saved_loads form words old new disk name other hive log decides tells hive_named log_named apart has_hive has_log untorn =
+saved_loads form words old new disk name other hive log decides tells hive_named log_named apart has_hive has_log
+    untorn =
     let saved = (decides.files tells).0 in
     let own : words.save_log ≡ Some name → ⊥ =
     λ e. apart (let both : Some name ≡ Some other = sym e ∙ log_named in cc) in

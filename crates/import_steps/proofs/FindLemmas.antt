@@ -1,5 +1,5 @@
 -- What is found under a name after one change of a list of named items.
-use Rattle.std.proofs.Common.{◌≡◌, ℕ, Bool, true, false, cond, List, [], ◌∷◌, ◌++◌, Option, Some, None, refl, sym, ap, subst, ◌∙◌}
+use Rattle.std.proofs.Common.{◌≡◌, ℕ, Bool, true, false, cond, List, [], ◌∷◌, ◌++◌, Option, Some, None, refl, sym, ap, ◌∙◌}
 use Rattle.std.specs.Prelude.{find, option_map, bytes_eq}
 use Rattle.std.specs.Option.{is_some}
 use Rattle.std.specs.Ordering.{is_gt}
@@ -48,11 +48,13 @@ module _ {X : Type 0} (name : X → List ℕ) where
       More = at_first (λ y. folds_same a (name y)) f xs
 
       go : (b : Bool) → folds_same a (name x) ≡ b → P More ≡ option_map f (P xs)
-          → P (cond (folds_same a (name x)) (f x ∷ xs) (x ∷ More)) ≡ option_map f (cond (folds_same a (name x)) (Some x) (P xs))
+          → P (cond (folds_same a (name x)) (f x ∷ xs) (x ∷ More))
+          ≡ option_map f (cond (folds_same a (name x)) (Some x) (P xs))
       go true is rest = rw is (rw (keeps x, is) refl)
       go false is rest = rw is (rw is rest)
 
-  pub found_other : (a b : List ℕ) (f : X → X) → folds_same a b ≡ false → ((x : X) → name (f x) ≡ name x) → (xs : List X)
+  pub found_other : (a b : List ℕ) (f : X → X) → folds_same a b ≡ false → ((x : X) → name (f x) ≡ name x)
+      → (xs : List X)
       → find (λ x. folds_same b (name x)) (at_first (λ x. folds_same a (name x)) f xs)
       ≡ find (λ x. folds_same b (name x)) xs
   found_other a b f differ keeps [] = refl
@@ -111,7 +113,8 @@ module _ {X : Type 0} (name : X → List ℕ) where
   pub found_last : (a : List ℕ) (xs : List X) (y : X)
       → is_some (find (λ x. folds_same a (name x)) (xs ++ y ∷ []))
       ≡ cond (is_some (find (λ x. folds_same a (name x)) xs)) true (folds_same a (name y))
-  found_last a [] y = elim (folds_same a (name y)) as (λ b. is_some (cond b (Some y) None) ≡ b) [ true ↦ refl | false ↦ refl ]
+  found_last a [] y = elim (folds_same a (name y)) as (λ b. is_some (cond b (Some y) None)
+      ≡ b) [ true ↦ refl | false ↦ refl ]
   found_last a (x ∷ xs) y =
       elim (folds_same a (name x))
       as (λ b. is_some (cond b (Some x) (find (λ z. folds_same a (name z)) (xs ++ y ∷ [])))
@@ -133,9 +136,11 @@ found_new a k (t ∷ ts) same none =
   where
     go : (b : Bool) → folds_same a (key_name t) ≡ b
         → cond (folds_same a (key_name t)) (Some t) (find (λ x. folds_same a (key_name x)) ts) ≡ None
-        → (find (λ x. folds_same a (key_name x)) ts ≡ None → find (λ x. folds_same a (key_name x)) (placed k ts) ≡ Some k)
+        → (find (λ x. folds_same a (key_name x)) ts ≡ None
+        → find (λ x. folds_same a (key_name x)) (placed k ts) ≡ Some k)
         → cond (folds_same a (key_name t)) (Some t) (find (λ x. folds_same a (key_name x)) (placed k ts)) ≡ Some k
-    go true is n rest = (let no : cond true (Some t) (find (λ x. folds_same a (key_name x)) ts) ≡ None = rw is at n in absurd cc)
+    go true is n rest = (let no : cond true (Some t) (find (λ x. folds_same a (key_name x)) ts)
+        ≡ None = rw is at n in absurd cc)
     go false is n rest = rw is (rest (rw is at n))
 
 pub found_old : (a : List ℕ) (k : Tree) (ts : List Tree) → folds_same a (key_name k) ≡ false
@@ -162,7 +167,8 @@ pub unlike_placed : (k : Tree) (ts : List Tree) → Unlike key_name ts
     → Each (λ t. folds_same (key_name k) (key_name t) ≡ false) ts → Unlike key_name (placed k ts)
 unlike_placed k [] apart new = (tt, tt)
 unlike_placed k (t ∷ ts) apart new =
-    elim (is_gt (folded_order (head t).name (head k).name)) as (λ b. Unlike key_name (cond b (k ∷ t ∷ ts) (t ∷ placed k ts))) [
+    elim (is_gt (folded_order (head t).name (head k).name)) as (λ b. Unlike key_name (cond b (k ∷ t ∷ ts)
+    (t ∷ placed k ts))) [
       | true ↦ (swapped (t ∷ ts) new, apart)
       | false ↦ (
         each_placed (λ x. folds_same (key_name x) (key_name t) ≡ false) k ts new.0 apart.0,
@@ -170,6 +176,7 @@ unlike_placed k (t ∷ ts) apart new =
       )
     ]
   where
-    swapped : (us : List Tree) → Each (λ u. folds_same (key_name k) (key_name u) ≡ false) us → Lacks key_name (key_name k) us
+    swapped : (us : List Tree) → Each (λ u. folds_same (key_name k) (key_name u) ≡ false) us
+        → Lacks key_name (key_name k) us
     swapped [] h = tt
     swapped (u ∷ us) h = (folds_swap (key_name u) (key_name k) ∙ h.0, swapped us h.1)

@@ -1,24 +1,17 @@
 -- What is seen decides about a step as the tree does, and what is marked of it shows the tree that it makes.
-use Rattle.std.proofs.Common.{◌≡◌, ℕ, ◌+◌, ◌==◌, Bool, true, false, cond, List, [], ◌∷◌, ◌++◌, length, Option, Some, None, Result, Ok, Err, refl, sym, ap, subst, ◌∙◌}
-use Rattle.std.specs.Prelude.{find, option_and_then, ◌||◌, ◌&&◌, not, nat_lt}
+use Rattle.std.proofs.Common.{◌≡◌, ℕ, ◌+◌, ◌==◌, Bool, true, false, cond, List, [], ◌∷◌, length, Option, Some, None, Result, Ok, refl, sym, ap, subst, ◌∙◌}
+use Rattle.std.specs.Prelude.{find, option_and_then, ◌||◌, nat_lt}
 use Rattle.std.specs.Option.{is_some, is_none, option_map_or}
 use Rattle.std.specs.Result.{result_ok}
-use Rattle.hive_model.specs.Tree.{Tree, key, trees, listed, children, is_named, is_item, find_key, find_item}
+use Rattle.hive_model.specs.Tree.{Tree, children, is_named, is_item, find_key, find_item}
 use Rattle.hive_model.specs.Valid.{longest_key_name, longest_value_name, longest_data, deepest_level}
-use Rattle.hive_model.specs.Edit.{Step, Refusal, no_key, no_value, bad_name, name_too_long, too_deep, data_too_long, set_value, delete_value, make_key, delete_key, copy_child, add_child, unless, at_first, without_first, of_items, of_children, at_key, with_item, has_item, has_child, is_bad_name, with_key, without_key, placed, new_key, after_step}
-use Rattle.edit_laws.proofs.InOrder.{at_key_itself}
-use Rattle.reg_tree.proofs.Sound.{key_name}
-use Rattle.reg_tree.proofs.Edited.{with_key_name, of_items_name}
-use Rattle.import_steps.specs.declared.marks.Life.TheVariants.{Made, Gone}
-use Rattle.import_steps.specs.declared.marks.Mark.TheVariants as marks
-use Rattle.import_steps.specs.declared.marks.Marks.{Marks}
+use Rattle.hive_model.specs.Edit.{Step, Refusal, no_key, bad_name, name_too_long, too_deep, data_too_long, set_value, delete_value, make_key, delete_key, copy_child, add_child, unless, without_first, of_items, at_key, with_item, has_item, is_bad_name, with_key, without_key, after_step}
 use Rattle.import_steps.specs.declared.verdict.Verdict.{Verdict}
 use Rattle.import_steps.specs.declared.verdict.Verdict.TheVariants as verdicts
 use Rattle.import_steps.specs.Left.{is_void, tree_after}
-use Rattle.import_steps.specs.Marks.{Seen, look, below, holds, IsPut, IsMarked}
-use Rattle.import_steps.specs.Verdict.{refused_where, void_where, holds_at, has_below, verdict_of, parent_of, last_of, IsGoneAt, IsMadeBelow, IsMarkedBy}
-use Rattle.import_steps.specs.Views.{seen_in}
-use Rattle.import_steps.proofs.ShowLemmas.{Shows, Agrees, ShownChild, shown_child, Stands, marked_shows, value_new, value_gone, child_new, child_gone}
+use Rattle.import_steps.specs.Marks.{Seen, look, below, holds}
+use Rattle.import_steps.specs.Verdict.{refused_where, void_where, has_below, verdict_of}
+use Rattle.import_steps.proofs.ShowLemmas.{Shows, Agrees, shown_child}
 
 -- ---- what is seen at a path
 
@@ -65,7 +58,8 @@ shown_at (name ∷ path) s t k shows at =
           shows = at_child.shows;
         }
 
-same_child : (o : Option Seen) (q : Option Tree) → Agrees (option_and_then (look []) o) (option_and_then (find_key []) q)
+same_child : (o : Option Seen) (q : Option Tree)
+    → Agrees (option_and_then (look []) o) (option_and_then (find_key []) q)
     → is_some o ≡ is_some q
 same_child None None a = refl
 same_child None (Some k) a = absurd a
@@ -90,7 +84,8 @@ JudgedBy verdicts.Made x r = r ≡ Ok x
 abbrev pub Judged : Verdict → Step → Tree → Type 0
 Judged verdicts.Void step t = is_void step t ≡ true
 Judged verdicts.Ends step t = (is_void step t ≡ false) × (tree_after step t ≡ None)
-Judged verdicts.Made step t = (is_void step t ≡ false) × ((u : Tree) × ((tree_after step t ≡ Some u) × (after_step step t ≡ Ok u)))
+Judged verdicts.Made step t = (is_void step t ≡ false) × ((u : Tree) × ((tree_after step t ≡ Some u)
+    × (after_step step t ≡ Ok u)))
 
 judged : (v : Verdict) (step : Step) (t x : Tree) → is_void step t ≡ false
     → tree_after step t ≡ result_ok (after_step step t) → JudgedBy v x (after_step step t) → Judged v step t
@@ -136,20 +131,25 @@ judge (delete_value path name) s t shows =
     Goal : Bool → Option Tree → Type 0
     Goal h q = Judged (cond h verdicts.Made verdicts.Void) (delete_value path name) t
 
-    by : (h : Bool) → has_item path name t ≡ h → is_none (find_key path t) ≡ false → Judged (cond h verdicts.Made verdicts.Void) (delete_value path name) t
+    by : (h : Bool) → has_item path name t ≡ h → is_none (find_key path t) ≡ false
+        → Judged (cond h verdicts.Made verdicts.Void) (delete_value path name) t
     by true held there = (
       rw held refl,
       (x, (rw (there, held) refl, rw (there, held) refl)),
     )
     by false held there = rw held refl
 
-    go : (q : Option Tree) → find_key path t ≡ q → Judged (cond (has_item path name t) verdicts.Made verdicts.Void) (delete_value path name) t
+    go : (q : Option Tree) → find_key path t ≡ q → Judged (cond (has_item path name t) verdicts.Made verdicts.Void)
+        (delete_value path name) t
     go None e =
-        let none : has_item path name t ≡ false = ap (λ (q : Option Tree). option_map_or (λ k. is_some (find_item name k)) q false) e in
-        subst (λ (b : Bool). Judged (cond b verdicts.Made verdicts.Void) (delete_value path name) t) (sym none) (rw none refl)
+        let none : has_item path name t ≡ false = ap (λ (q : Option Tree). option_map_or (λ k. is_some
+        (find_item name k)) q false) e in
+        subst (λ (b : Bool). Judged (cond b verdicts.Made verdicts.Void) (delete_value path name) t) (sym none)
+        (rw none refl)
     go (Some k) e = held (has_item path name t) refl
       where
-        held : (h : Bool) → has_item path name t ≡ h → Judged (cond (has_item path name t) verdicts.Made verdicts.Void) (delete_value path name) t
+        held : (h : Bool) → has_item path name t ≡ h → Judged (cond
+            (has_item path name t) verdicts.Made verdicts.Void) (delete_value path name) t
         held h is =
             subst (λ (b : Bool). Judged (cond b verdicts.Made verdicts.Void) (delete_value path name) t) (sym is)
             (by h is (ap is_none e))
@@ -172,6 +172,16 @@ judge (delete_key path) s t shows =
     go true root n none = rw root (rw root refl, rw root refl)
     go false below true none = rw (below, none) (rw (below, none) refl)
     go false below false there =
-        rw (below, there) (rw (below, there) refl, (without_key path t, (rw (below, there) refl, rw (below, there) refl)))
+        rw (below, there) (
+          rw (below, there) refl,
+          (
+            without_key path t,
+            (
+              rw (below, there) refl,
+              rw
+                  (below, there) refl,
+            ),
+          ),
+        )
 judge (copy_child from to) s t shows = (refl, refl)
 judge (add_child name tree) s t shows = (refl, refl)

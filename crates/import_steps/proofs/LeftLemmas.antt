@@ -1,5 +1,5 @@
 -- What is left of steps, one by one.
-use Rattle.std.proofs.Common.{◌≡◌, ℕ, ◌+◌, Bool, true, false, cond, List, [], ◌∷◌, ◌++◌, Option, Some, None, refl, sym, ap, subst, ◌∙◌, append_assoc, append-nil, arith}
+use Rattle.std.proofs.Common.{◌≡◌, ℕ, ◌+◌, true, false, cond, List, [], ◌∷◌, ◌++◌, Some, None, refl, sym, ap, subst, ◌∙◌, append_assoc, append-nil, arith}
 use Rattle.std.specs.Prelude.{Result, Ok, Err, IfOk, map}
 use Rattle.std.specs.List.{All}
 use Rattle.hive_model.specs.Tree.{Tree}
@@ -9,7 +9,7 @@ use Rattle.reg_tree.specs.Makes.{step_of}
 use Rattle.reg_tree.specs.declared.steps.TreeStep.{TreeStep}
 use Rattle.reg_tree.proofs.Unlike.{Each, each_from, each_all}
 use Rattle.import_steps.specs.declared.left.LeftSteps.{LeftSteps as CodeLeft}
-use Rattle.import_steps.specs.Left.{LeftSteps, is_void, tree_after, with_void, with_kept, left_after, left_of}
+use Rattle.import_steps.specs.Left.{LeftSteps, is_void, tree_after, with_void, left_after, left_of}
 use Rattle.hive_model.specs.Valid.{HoldsKeys}
 use Rattle.import_steps.specs.declared.marks.Life.TheVariants.{Kept}
 use Rattle.import_steps.specs.declared.marks.Marks.{Marks}
@@ -67,12 +67,18 @@ abbrev Before : List Step → ℕ → List Step → List Step → Tree → Tree 
 Before left n rest all b t = ahead left n (left_of t rest) ≡ left_of b all
 
 pub going_first : (b : Tree) (m : Marks) (all : List Step) → IsFresh Kept m → HoldsKeys b → Going b m [] 0 all all
-going_first b m all fresh held = record { tree = b; shows = first_shows m b fresh held; same = nothing_before (left_of b all) }
+going_first b m all fresh held = record {
+  tree = b;
+  shows = first_shows m b fresh held;
+  same = nothing_before
+      (left_of b all);
+}
   where
     nothing_before : (left : LeftSteps) → ahead [] 0 left ≡ left
     nothing_before left = rw (zero_before left.passed) refl
 
-pub going_void : (b : Tree) (m : Marks) (left : List Step) (n : ℕ) (rest all : List Step) (step : Step) (more : List Step)
+pub going_void : (b : Tree) (m : Marks) (left : List Step) (n : ℕ) (rest all : List Step) (step : Step)
+    (more : List Step)
     → Going b m left n rest all → rest ≡ step ∷ more → verdict_of step (seen_in m b) ≡ verdicts.Void
     → Going b m left (n + 1) more all
 going_void b m left n rest all step more g is verdict = record {
@@ -83,7 +89,8 @@ going_void b m left n rest all step more g is verdict = record {
       ∙ subst (λ (r : List Step). Before left n r all b g.tree) is g.same;
 }
 
-pub going_made : (b : Tree) (m n : Marks) (left : List Step) (passed : ℕ) (rest all : List Step) (step : Step) (more : List Step)
+pub going_made : (b : Tree) (m n : Marks) (left : List Step) (passed : ℕ) (rest all : List Step) (step : Step)
+    (more : List Step)
     → Going b m left passed rest all → rest ≡ step ∷ more → verdict_of step (seen_in m b) ≡ verdicts.Made
     → IsMarkedBy step b m n → Going b n (left ++ step ∷ []) passed more all
 going_made b m n left passed rest all step more g is verdict marked =
@@ -96,7 +103,8 @@ going_made b m n left passed rest all step more g is verdict marked =
           ∙ subst (λ (r : List Step). Before left passed r all b g.tree) is g.same;
     }
 
-pub going_ends : (b : Tree) (m : Marks) (left : List Step) (n : ℕ) (rest all : List Step) (step : Step) (more : List Step)
+pub going_ends : (b : Tree) (m : Marks) (left : List Step) (n : ℕ) (rest all : List Step) (step : Step)
+    (more : List Step)
     → Going b m left n rest all → rest ≡ step ∷ more → verdict_of step (seen_in m b) ≡ verdicts.Ends
     → record { steps = left ++ step ∷ more; passed = n } ≡ left_of b all
 going_ends b m left n rest all step more g is verdict =
@@ -112,7 +120,8 @@ going_done b m left n rest all g is =
 
 -- ---- the same of the steps of the code
 
-map_more : (left : List TreeStep) (step : TreeStep) → map step_of (left ++ step ∷ []) ≡ map step_of left ++ step_of step ∷ []
+map_more : (left : List TreeStep) (step : TreeStep)
+    → map step_of (left ++ step ∷ []) ≡ map step_of left ++ step_of step ∷ []
 map_more [] step = refl
 map_more (first ∷ left) step = ap (λ (l : List Step). step_of first ∷ l) (map_more left step)
 
@@ -130,7 +139,8 @@ pub judge_made : (b : Tree) (m n : Marks) (left later : List TreeStep) (passed :
 judge_made b m n left later passed rest more steps step g is verdict pushed marked =
     subst (λ (l : List Step). Going b n l passed (map step_of more) (map step_of steps))
     (sym (ap (λ (l : List TreeStep). map step_of l) pushed ∙ map_more left step))
-    (going_made b m n (map step_of left) passed (map step_of rest) (map step_of steps) (step_of step) (map step_of more) g
+    (going_made b m n (map step_of left) passed (map step_of rest) (map step_of steps) (step_of step)
+    (map step_of more) g
     (ap (λ (l : List TreeStep). map step_of l) is) verdict marked)
 
 -- ---- the keys that steps bring along

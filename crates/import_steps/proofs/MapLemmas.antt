@@ -1,5 +1,5 @@
 -- Maps by folded names, changed at one name.
-use Rattle.std.proofs.Common.{◌≡◌, ℕ, Bool, true, false, cond, List, Option, Some, None, refl, sym, ap, subst, ◌∙◌}
+use Rattle.std.proofs.Common.{◌≡◌, ℕ, Bool, true, false, cond, List, Option, Some, None, refl, sym, ap, ◌∙◌}
 use Rattle.std.specs.Global.{Vec}
 use Rattle.std.specs.BTreeMap.{BTreeMap, UpdatesBy, is_at}
 use Rattle.std.specs.Map.{lookup, IsKeyTest, AreApart, KeepsOthers}
@@ -67,7 +67,8 @@ put_in key name old new w is updates n = updated key name old new (Some w) is up
 pub put_back : {X : Type 0} (query key name : List ℕ) (old mid new : BTreeMap (Vec ℕ) X) (w : X) → query ≡ folded name
     → key ≡ folded name → UpdatesAt query old mid None → UpdatesAt key mid new (Some w)
     → (n : List ℕ) → under new n ≡ cond (folds_same name n) (Some w) (under old n)
-put_back query key name old mid new w asked is gone updates n = go (folds_same name n) (updated key name mid new (Some w) is updates n) (updated query name old mid None asked gone n)
+put_back query key name old mid new w asked is gone updates n = go (folds_same name n) (updated key name mid new
+    (Some w) is updates n) (updated query name old mid None asked gone n)
   where
     go : (b : Bool) → under new n ≡ cond b (Some w) (under mid n) → under mid n ≡ cond b None (under old n)
         → under new n ≡ cond b (Some w) (under old n)

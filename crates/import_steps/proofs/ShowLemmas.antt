@@ -10,13 +10,13 @@ use Rattle.hive_model.proofs.HeldLemmas.{held_child}
 use Rattle.reg_tree.proofs.Sound.{key_name, item_name}
 use Rattle.reg_tree.proofs.Trees.{listed_trees}
 use Rattle.reg_tree.proofs.Edited.{name_kept}
-use Rattle.reg_tree.proofs.Unlike.{Each, Unlike, unlike_from, unlike_first, unlike_gone, unlike_push, none_found, folds_swap}
+use Rattle.reg_tree.proofs.Unlike.{Unlike, unlike_from, unlike_first, unlike_gone, unlike_push, none_found, folds_swap}
 use Rattle.import_steps.specs.declared.marks.Life.{Life}
 use Rattle.import_steps.specs.declared.marks.Life.TheVariants.{Kept, Made, Gone}
 use Rattle.import_steps.specs.declared.marks.Mark.{Mark}
 use Rattle.import_steps.specs.declared.marks.Mark.TheVariants as marks
 use Rattle.import_steps.specs.declared.marks.Marks.{Marks}
-use Rattle.import_steps.specs.Marks.{under, life_of, key_at, value_at, IsFresh, IsStart, PutsKey, PutsValue, IsPut, IsMarked, Seen, living, child_by, marked_child, base_child, below, look, holds}
+use Rattle.import_steps.specs.Marks.{life_of, key_at, value_at, IsFresh, IsStart, PutsKey, PutsValue, IsPut, IsMarked, Seen, living, child_by, marked_child, base_child, below, look, holds}
 use Rattle.import_steps.proofs.MapLemmas.{one_folded}
 use Rattle.import_steps.proofs.FindLemmas.{folds_itself, found_alike, found_changed, found_other, found_gone, found_kept, found_last, found_new, found_old, unlike_placed}
 
@@ -42,7 +42,7 @@ Agrees (Some s) (Some k) = HasSeen s k
 abbrev pub Shows : Seen → Tree → Type 0
 Shows s t = (p : List (List ℕ)) → Agrees (look p s) (find_key p t)
 
-abbrev with_marks : Marks → Option Tree → Seen
+abbrev pub with_marks : Marks → Option Tree → Seen
 with_marks m base = record { marks = Some m; base = base }
 
 -- the same by the key itself and by its children
@@ -62,7 +62,7 @@ apart_held (key h ts) held = record {
   items = unlike_from item_name h.values held.0.items_differ;
 }
 
-abbrev plain : Tree → Seen
+abbrev pub plain : Tree → Seen
 plain t = record { marks = None; base = Some t }
 
 plain_shows : (p : List (List ℕ)) (t : Tree) → HoldsKeys t → Agrees (look p (plain t)) (find_key p t)
@@ -80,12 +80,13 @@ fresh_below : (m : Marks) (base : Option Tree) (n : List ℕ) → key_at m n ≡
     → below n (with_marks m base) ≡ below n (record { marks = None; base = base })
 fresh_below m base n none = ap (λ (c : Option Marks). child_by c (base_child n base)) none
 
-fresh_shows : (m : Marks) (life : Life) (base : Option Tree) (t : Tree) → IsFresh life m
+pub fresh_shows : (m : Marks) (life : Life) (base : Option Tree) (t : Tree) → IsFresh life m
     → Shows (record { marks = None; base = base }) t → Shows (with_marks m base) t
 fresh_shows m life base t fresh shows =
     shows_by (with_marks m base) t
     (record {
-      values = λ n. ap (λ (o : Option Bool). unwrap_or o (is_some (option_and_then (find_item n) base))) (fresh.no_value n)
+      values = λ n. ap (λ (o : Option Bool). unwrap_or o (is_some (option_and_then (find_item n) base)))
+          (fresh.no_value n)
           ∙ (shows []).values n;
       apart = (shows []).apart;
     })
@@ -102,7 +103,8 @@ pub first_shows : (m : Marks) (t : Tree) → IsFresh Kept m → HoldsKeys t → 
 first_shows m t fresh held = fresh_shows m Kept (Some t) t fresh (λ p. plain_shows p t held)
 
 -- a new key
-new_shows : (m : Marks) (name : List ℕ) (parent : Tree) → IsFresh Made m → Shows (with_marks m None) (new_key name parent)
+new_shows : (m : Marks) (name : List ℕ) (parent : Tree) → IsFresh Made m
+    → Shows (with_marks m None) (new_key name parent)
 new_shows m name parent fresh =
     fresh_shows m Made None (new_key name parent) fresh (bare name parent)
   where
@@ -122,7 +124,8 @@ pub shown_child : (n : List ℕ) (s : Seen) (t c : Tree) → Shows s t → find 
 shown_child n s t c shows is = go (below n s) refl (λ p. both p)
   where
     both : (p : List (List ℕ)) → Agrees (option_and_then (look p) (below n s)) (find_key p c)
-    both p = subst (λ (o : Option Tree). Agrees (option_and_then (look p) (below n s)) (option_and_then (find_key p) o)) is (shows (n ∷ p))
+    both p = subst (λ (o : Option Tree). Agrees (option_and_then (look p) (below n s)) (option_and_then
+        (find_key p) o)) is (shows (n ∷ p))
 
     go : (o : Option Seen) → below n s ≡ o
         → ((p : List (List ℕ)) → Agrees (option_and_then (look p) (below n s)) (find_key p c)) → ShownChild n s c
@@ -152,7 +155,8 @@ below_alike a b s same =
         → child_by (marked_child b m) (base_child b s.base) ≡ child_by (marked_child a m) (base_child a s.base)
     marked_alike a b None one based = ap (child_by None) based
     marked_alike a b (Some m) one based =
-        ap (λ (o : Option Marks). child_by o (base_child b s.base)) (key_alike a b m one) ∙ ap (child_by (key_at m a)) based
+        ap (λ (o : Option Marks). child_by o (base_child b s.base)) (key_alike a b m one)
+        ∙ ap (child_by (key_at m a)) based
 
 -- ---- one more mark of a key
 
@@ -189,7 +193,7 @@ values_put name there m n base (key h ts) change puts changed apart shows =
         (option_and_then (find_key p) (find (is_named a) (listed ts)))) (sym (puts.keys a)) (shows (a ∷ p))
 
 -- a child that was made or deleted, or is changed
-keys_put : (name : List ℕ) (child m n : Marks) (base : Option Tree) (h : Head) (ts : Trees) (us : List Tree)
+pub keys_put : (name : List ℕ) (child m n : Marks) (base : Option Tree) (h : Head) (ts : Trees) (us : List Tree)
     → PutsKey name child m n → Shows (with_marks m base) (key h ts) → Unlike key_name us
     → ((a : List ℕ) → folds_same name a ≡ false → find (is_named a) us ≡ find (is_named a) (listed ts))
     → ((p : List (List ℕ)) → Agrees (option_and_then (look p) (living (life_of child) child (base_child name base)))
@@ -228,14 +232,18 @@ keys_put name child m n base h ts us puts shows apart other here =
             old = rw differ refl
 
         go : (b : Bool) → folds_same name a ≡ b
-            → Agrees (option_and_then (look p) (below a (with_marks n base))) (option_and_then (find_key p) (find (is_named a) us))
+            → Agrees (option_and_then (look p) (below a (with_marks n base))) (option_and_then (find_key p) (find
+            (is_named a) us))
         go true same =
-            subst (λ (o : Option Seen). Agrees (option_and_then (look p) o) (option_and_then (find_key p) (find (is_named a) us)))
+            subst (λ (o : Option Seen). Agrees (option_and_then (look p) o) (option_and_then (find_key p) (find
+            (is_named a) us)))
             (sym (below_alike name a (with_marks n base) same ∙ at_name))
-            (subst (λ (o : Option Tree). Agrees (option_and_then (look p) (living (life_of child) child (base_child name base)))
+            (subst (λ (o : Option Tree). Agrees (option_and_then (look p) (living (life_of child) child
+            (base_child name base)))
             (option_and_then (find_key p) o)) (sym (found_alike key_name name a same us)) (here p))
         go false differ =
-            subst (λ (o : Option Seen). Agrees (option_and_then (look p) o) (option_and_then (find_key p) (find (is_named a) us)))
+            subst (λ (o : Option Seen). Agrees (option_and_then (look p) o) (option_and_then (find_key p) (find
+            (is_named a) us)))
             (sym (elsewhere differ))
             (subst (λ (o : Option Tree). Agrees (option_and_then (look p) (below a (with_marks m base)))
             (option_and_then (find_key p) o)) (sym (other a differ)) (shows (a ∷ p)))
@@ -249,7 +257,8 @@ child_new name child m n base (key h ts) fresh puts none shows =
     (unlike_placed made (listed ts) (shows []).apart.keys
     (none_found (is_named name) (listed ts) (ap is_some none)))
     (λ a differ. found_old a made (listed ts) (folds_swap a name ∙ differ))
-    (λ p. subst (λ (o : Option Tree). Agrees (option_and_then (look p) (living (life_of child) child (base_child name base)))
+    (λ p. subst (λ (o : Option Tree). Agrees (option_and_then (look p) (living (life_of child) child
+    (base_child name base)))
     (option_and_then (find_key p) o)) (sym (found_new name made (listed ts) (folds_itself name) none))
     (subst (λ (l : Life). Agrees (option_and_then (look p) (living l child (base_child name base))) (find_key p made))
     (sym fresh.life_is) (new_shows child name (key h ts) fresh p)))
@@ -265,7 +274,8 @@ child_gone name child m n base (key h ts) fresh puts shows =
     keys_put name child m n base h ts (without_first (is_named name) (listed ts)) puts shows
     (unlike_gone key_name (is_named name) (listed ts) (shows []).apart.keys)
     (λ a differ. found_kept key_name name a differ (listed ts))
-    (λ p. subst (λ (o : Option Tree). Agrees (option_and_then (look p) (living (life_of child) child (base_child name base)))
+    (λ p. subst (λ (o : Option Tree). Agrees (option_and_then (look p) (living (life_of child) child
+    (base_child name base)))
     (option_and_then (find_key p) o)) (sym (found_gone key_name name (listed ts) (shows []).apart.keys))
     (subst (λ (l : Life). Agrees (option_and_then (look p) (living l child (base_child name base))) None)
     (sym fresh.life_is) tt))
@@ -308,7 +318,8 @@ value_new name kind bytes m n base k puts shows =
         go false none = found_last item_name a vs new ∙ by (folds_same name a) refl (is_some (find (is_item a) vs)) refl
           where
             by : (v : Bool) → folds_same name a ≡ v → (w : Bool) → is_some (find (is_item a) vs) ≡ w
-                → cond (is_some (find (is_item a) vs)) true (folds_same a name) ≡ cond v true (is_some (find (is_item a) vs))
+                → cond (is_some (find (is_item a) vs)) true (folds_same a name)
+                ≡ cond v true (is_some (find (is_item a) vs))
             by true same true is = rw is refl
             by true same false is = rw is (folds_swap a name ∙ same)
             by false differ true is = rw is refl
@@ -326,7 +337,8 @@ pub value_gone : (name : List ℕ) (m n : Marks) (base : Option Tree) (k : Tree)
     → Shows (with_marks m base) k → Shows (with_marks n base) (of_items (without_first (is_item name)) k)
 value_gone name m n base k puts shows =
     values_put name false m n base k (without_first (is_item name)) puts
-    (λ a. go a (folds_same name a) refl) (unlike_gone item_name (is_item name) (head k).values (shows []).apart.items) shows
+    (λ a. go a (folds_same name a) refl) (unlike_gone item_name (is_item name) (head k).values
+    (shows []).apart.items) shows
   where
     go : (a : List ℕ) (b : Bool) → folds_same name a ≡ b
         → is_some (find (is_item a) (without_first (is_item name) (head k).values))
@@ -335,109 +347,3 @@ value_gone name m n base k puts shows =
         ap is_some (found_alike item_name name a same (without_first (is_item name) (head k).values)
         ∙ found_gone item_name name (head k).values (shows []).apart.items)
     go a false differ = ap is_some (found_kept item_name name a differ (head k).values)
-
--- ---- one more mark of the key at a path
-
--- the marks of a child before that
-started : (n : List ℕ) (m first : Marks) (base : Option Tree) (c : Tree) (s : Seen) → below n (with_marks m base) ≡ Some s
-    → IsStart (key_at m n) first → Shows s c → Shows (with_marks first s.base) c
-started n m first base c s is start shows = go (key_at m n) refl start is
-  where
-    kept_base : (o : Option Tree) → option_map (λ k. plain k) o ≡ Some s → s ≡ record { marks = None; base = s.base }
-    kept_base None e = absurd cc
-    kept_base (Some k) e = (let same : plain k ≡ s = cc in subst (λ (w : Seen). w ≡ record { marks = None; base = w.base }) same refl)
-
-    same_marks : (l : Life) (x : Marks) (o : Option Tree) → living l x o ≡ Some s → s ≡ with_marks x s.base
-    same_marks Kept x None e = absurd cc
-    same_marks Kept x (Some k) e =
-        (let same : with_marks x (Some k) ≡ s = cc in subst (λ (w : Seen). w ≡ with_marks x w.base) same refl)
-    same_marks Made x o e =
-        (let same : with_marks x None ≡ s = cc in subst (λ (w : Seen). w ≡ with_marks x w.base) same refl)
-    same_marks Gone x o e = absurd cc
-
-    go : (o : Option Marks) → key_at m n ≡ o → IsStart o first → child_by (key_at m n) (base_child n base) ≡ Some s
-        → Shows (with_marks first s.base) c
-    go None e fresh at =
-        let none : child_by None (base_child n base) ≡ Some s = rw e at at in
-        fresh_shows first Kept s.base c fresh
-        (subst (λ (w : Seen). Shows w c) (kept_base (base_child n base) none) shows)
-    go (Some x) e same at =
-        let some : living (life_of x) x (base_child n base) ≡ Some s = rw e at at in
-        subst (λ (y : Marks). Shows (with_marks y s.base) c) (sym same)
-        (subst (λ (w : Seen). Shows w c) (same_marks (life_of x) x (base_child n base) some) shows)
-
--- and where it comes from
-lives : (n : List ℕ) (m first last : Marks) (base : Option Tree) (s : Seen) → below n (with_marks m base) ≡ Some s
-    → IsStart (key_at m n) first → life_of last ≡ life_of first
-    → living (life_of last) last (base_child n base) ≡ Some (with_marks last s.base)
-lives n m first last base s is start life = go (key_at m n) refl start is
-  where
-    kept : (o : Option Tree) → option_map (λ k. plain k) o ≡ Some s
-        → living Kept last o ≡ Some (with_marks last s.base)
-    kept None e = absurd cc
-    kept (Some k) e = (let same : plain k ≡ s = cc in subst (λ (w : Seen). Some (with_marks last (Some k)) ≡ Some (with_marks last w.base)) same refl)
-
-    alive : (l : Life) (x : Marks) (o : Option Tree) → living l x o ≡ Some s → living l last o ≡ Some (with_marks last s.base)
-    alive Kept x None e = absurd cc
-    alive Kept x (Some k) e =
-        (let same : with_marks x (Some k) ≡ s = cc in subst (λ (w : Seen). Some (with_marks last (Some k)) ≡ Some (with_marks last w.base)) same refl)
-    alive Made x o e =
-        (let same : with_marks x None ≡ s = cc in subst (λ (w : Seen). Some (with_marks last None) ≡ Some (with_marks last w.base)) same refl)
-    alive Gone x o e = absurd cc
-
-    go : (o : Option Marks) → key_at m n ≡ o → IsStart o first → child_by (key_at m n) (base_child n base) ≡ Some s
-        → living (life_of last) last (base_child n base) ≡ Some (with_marks last s.base)
-    go None e fresh at =
-        let none : child_by None (base_child n base) ≡ Some s = rw e at at in
-        rw (life ∙ fresh.life_is) (kept (base_child n base) none)
-    go (Some x) e same at =
-        let some : living (life_of x) x (base_child n base) ≡ Some s = rw e at at in
-        rw (life ∙ ap life_of same) (alive (life_of x) x (base_child n base) some)
-
-put_life : (mark : Mark) (m n : Marks) → IsPut mark m n → life_of n ≡ life_of m
-put_life (marks.Key name life) m n put = put.puts.life
-put_life (marks.Value name there) m n put = put.life
-
-marked_life : (path : List (List ℕ)) (mark : Mark) (m n : Marks) → IsMarked path mark m n → life_of n ≡ life_of m
-marked_life [] mark m n is = put_life mark m n is
-marked_life (name ∷ path) mark m n is = is.puts.life
-
--- where a mark stands for a change of a key, it does for the change of the key at a path
-abbrev pub Stands : Mark → (Tree → Tree) → Tree → Type 0
-Stands mark change k = (m n : Marks) (base : Option Tree) → IsPut mark m n → Shows (with_marks m base) k
-    → Shows (with_marks n base) (change k)
-
-pub marked_shows : (path : List (List ℕ)) (mark : Mark) (change : Tree → Tree) (m n : Marks) (base : Option Tree) (t k : Tree)
-    → ((u : Tree) → key_name (change u) ≡ key_name u) → Stands mark change k → find_key path t ≡ Some k
-    → IsMarked path mark m n → Shows (with_marks m base) t → Shows (with_marks n base) (at_key path change t)
-marked_shows [] mark change m n base t k keeps stands at is shows =
-    let same : k ≡ t = cc in
-    subst (λ (u : Tree). Shows (with_marks m base) u → Shows (with_marks n base) (change u)) same (stands m n base is) shows
-marked_shows (name ∷ path) mark change m n base (key h ts) k keeps stands at is shows =
-    go (find (is_named name) (listed ts)) refl at
-    (λ first last b c below_at more old. marked_shows path mark change first last b c k keeps stands below_at more old)
-  where
-    go : (o : Option Tree) → find (is_named name) (listed ts) ≡ o → option_and_then (find_key path) o ≡ Some k
-        → ((first last : Marks) (b : Option Tree) (c : Tree) → find_key path c ≡ Some k → IsMarked path mark first last
-        → Shows (with_marks first b) c → Shows (with_marks last b) (at_key path change c))
-        → Shows (with_marks n base) (at_key (name ∷ path) change (key h ts))
-    go None e below_at inner = absurd cc
-    go (Some c) e below_at inner =
-        let first = is.first in
-        let last = is.last in
-        let child = shown_child name (with_marks m base) (key h ts) c shows e in
-        let old : Shows (with_marks first child.seen.base) c =
-        started name m first base c child.seen child.is is.start child.shows in
-        let deep : Shows (with_marks last child.seen.base) (at_key path change c) =
-        inner first last child.seen.base c below_at is.more old in
-        let lived = lives name m first last base child.seen child.is is.start (marked_life path mark first last is.more) in
-        let kept : (u : Tree) → key_name (at_key path change u) ≡ key_name u = name_kept path change keeps in
-        keys_put name last m n base h ts (at_first (is_named name) (at_key path change) (listed ts)) is.puts shows
-        (unlike_first key_name (is_named name) (at_key path change) kept (listed ts) (shows []).apart.keys)
-        (λ a differ. found_other key_name name a (at_key path change) differ kept (listed ts))
-        (λ p. subst (λ (o : Option Seen). Agrees (option_and_then (look p) o)
-        (option_and_then (find_key p) (find (is_named name) (at_first (is_named name) (at_key path change) (listed ts)))))
-        (sym lived)
-        (subst (λ (o : Option Tree). Agrees (look p (with_marks last child.seen.base)) (option_and_then (find_key p) o))
-        (sym (found_changed key_name name (at_key path change) kept (listed ts) ∙ ap (option_map (at_key path change)) e))
-        (deep p)))

@@ -1,10 +1,10 @@
 -- The marks after a step show the tree that it makes.
-use Rattle.std.proofs.Common.{◌≡◌, ℕ, suc, ◌+◌, ◌-◌, ◌≤◌, ◌==◌, Bool, true, false, cond, List, [], ◌∷◌, ◌++◌, length, take, get_or, Option, Some, None, Result, Ok, Err, refl, sym, ap, subst, ◌∙◌, arith}
-use Rattle.std.specs.Prelude.{IfOk, find, option_and_then, ◌||◌, ◌&&◌, not, nat_lt}
-use Rattle.std.specs.Option.{is_some, is_none, option_map_or}
-use Rattle.hive_model.specs.Tree.{Tree, key, trees, listed, children, is_named, is_item, find_key, find_item}
-use Rattle.hive_model.specs.Valid.{longest_key_name, longest_value_name, longest_data, deepest_level}
-use Rattle.hive_model.specs.Edit.{Step, Refusal, no_key, no_value, bad_name, name_too_long, too_deep, data_too_long, set_value, delete_value, make_key, delete_key, copy_child, add_child, unless, at_first, without_first, of_items, of_children, at_key, with_item, has_item, has_child, name_tests, with_key, without_key, placed, new_key, after_step}
+use Rattle.std.proofs.Common.{◌≡◌, ℕ, ◌+◌, ◌==◌, Bool, true, false, cond, List, [], ◌∷◌, ◌++◌, length, Option, Some, None, Result, Ok, Err, refl, sym, ap, subst, ◌∙◌}
+use Rattle.std.specs.Prelude.{IfOk, find, option_and_then, ◌||◌, not, nat_lt}
+use Rattle.std.specs.Option.{is_some, is_none}
+use Rattle.hive_model.specs.Tree.{Tree, key, children, is_named, is_item, find_key}
+use Rattle.hive_model.specs.Valid.{longest_value_name, longest_data, deepest_level}
+use Rattle.hive_model.specs.Edit.{Step, Refusal, no_key, no_value, name_too_long, too_deep, data_too_long, set_value, delete_value, make_key, delete_key, copy_child, add_child, unless, at_first, without_first, of_items, of_children, at_key, with_item, has_item, name_tests, with_key, without_key, placed, new_key, after_step}
 use Rattle.edit_laws.proofs.InOrder.{at_key_itself}
 use Rattle.reg_tree.proofs.Sound.{key_name}
 use Rattle.reg_tree.proofs.Edited.{with_key_name, of_items_name}
@@ -12,11 +12,12 @@ use Rattle.import_steps.specs.declared.marks.Life.TheVariants.{Made, Gone}
 use Rattle.import_steps.specs.declared.marks.Mark.TheVariants as marks
 use Rattle.import_steps.specs.declared.marks.Marks.{Marks}
 use Rattle.import_steps.specs.declared.verdict.Verdict.TheVariants as verdicts
-use Rattle.import_steps.specs.Marks.{Seen, IsMarked}
+use Rattle.import_steps.specs.Marks.{IsMarked}
 use Rattle.import_steps.specs.Verdict.{has_below, verdict_of, parent_of, last_of, IsGoneAt, IsMadeBelow, IsMarkedBy}
 use Rattle.import_steps.specs.Views.{seen_in}
 use Rattle.import_steps.proofs.JudgeLemmas.{child_same}
-use Rattle.import_steps.proofs.ShowLemmas.{Shows, Stands, marked_shows, value_new, value_gone, child_new, child_gone}
+use Rattle.import_steps.proofs.ShowLemmas.{Shows, value_new, value_gone, child_new, child_gone}
+use Rattle.import_steps.proofs.MarkedLemmas.{Stands, marked_shows}
 
 -- what a step made that wasn't refused, and the first of its tests
 made_by : (first : Bool) (why : Refusal) (tests : List (Bool × Refusal)) (x u : Tree)
@@ -36,7 +37,8 @@ made_by first why tests x u e = go first e
     go false e = (refl, all tests e)
 
 -- the key at a path that is there
-key_there : (path : List (List ℕ)) (t : Tree) → is_none (find_key path t) ≡ false → (k : Tree) × (find_key path t ≡ Some k)
+key_there : (path : List (List ℕ)) (t : Tree) → is_none (find_key path t) ≡ false
+    → (k : Tree) × (find_key path t ≡ Some k)
 key_there path t there = go (find_key path t) refl there
   where
     go : (o : Option Tree) → find_key path t ≡ o → is_none o ≡ false → (k : Tree) × (find_key path t ≡ Some k)
@@ -60,7 +62,8 @@ parent_there name (next ∷ path) t k at =
   where
     go : (o : Option Tree) → find (is_named name) (children t) ≡ o
         → option_and_then (find_key (next ∷ path)) o ≡ Some k
-        → ((c : Tree) → find_key (next ∷ path) c ≡ Some k → (p : Tree) × (find_key (parent_of (next ∷ path)) c ≡ Some p))
+        → ((c : Tree) → find_key (next ∷ path) c ≡ Some k
+        → (p : Tree) × (find_key (parent_of (next ∷ path)) c ≡ Some p))
         → (p : Tree) × (find_key (name ∷ parent_of (next ∷ path)) t ≡ Some p)
     go None e deep inner = absurd cc
     go (Some c) e deep inner =
@@ -94,7 +97,8 @@ made_shows : (parent : List (List ℕ)) (name : List ℕ) (m n : Marks) (b t k :
 made_shows parent name m n b t k true at is same shows =
     let kept : at_key parent (with_key name) t ≡ t =
     at_key_itself (with_key name) parent t k at (with_old name k (sym is)) in
-    subst (λ (u : Tree). Shows (seen_in n b) u) (sym kept) (subst (λ (x : Marks). Shows (seen_in x b) t) (sym same) shows)
+    subst (λ (u : Tree). Shows (seen_in n b) u) (sym kept) (subst (λ (x : Marks). Shows (seen_in x b) t)
+    (sym same) shows)
 made_shows parent name m n b t k false at is marked shows =
     marked_shows parent (marks.Key name Made) (with_key name) m n (Some b) t k (with_key_name name)
     (stands_new name k (sym is)) at marked shows
@@ -110,7 +114,11 @@ pub step_shows : (step : Step) (m n : Marks) (b t u : Tree) → verdict_of step 
     → after_step step t ≡ Ok u → IsMarkedBy step b m n → Shows (seen_in m b) t → Shows (seen_in n b) u
 step_shows (set_value path name kind bytes) m n b t u is made marked shows =
     let p = made_by (is_none (find_key path t)) no_key
-    ((nat_lt longest_value_name (length name), name_too_long) ∷ (nat_lt longest_data (length bytes), data_too_long) ∷ [])
+    ((nat_lt longest_value_name (length name), name_too_long) ∷ (
+      nat_lt longest_data
+          (length bytes),
+      data_too_long,
+    ) ∷ [])
     (at_key path (of_items (with_item name kind bytes)) t) u made in
     let k = key_there path t p.0 in
     subst (λ (v : Tree). Shows (seen_in n b) v) p.1
@@ -140,7 +148,8 @@ step_shows (delete_key (name ∷ path)) m n b t u is made marked shows =
     let k = key_there whole t (not_root (length whole == 0) (is_none (find_key whole t)) p.0) in
     let above = parent_there name path t k.0 k.1 in
     subst (λ (v : Tree). Shows (seen_in n b) v) (sym (without_last name path t) ∙ p.1)
-    (marked_shows (parent_of whole) (marks.Key (last_of whole) Gone) (of_children (without_first (is_named (last_of whole))))
+    (marked_shows (parent_of whole) (marks.Key (last_of whole) Gone) (of_children (without_first (is_named
+    (last_of whole))))
     m n (Some b) t above.0 (of_children_name (without_first (is_named (last_of whole))))
     (stands_gone (last_of whole) above.0) above.1 marked shows)
 step_shows (copy_child from to) m n b t u is made marked shows = absurd (never_made is)

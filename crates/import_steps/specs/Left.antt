@@ -6,7 +6,7 @@ use Rattle.std.specs.Prelude.{ℕ, ◌+◌, ◌==◌, ◌&&◌, Bool, false, not
 use Rattle.std.specs.Option.{is_none}
 use Rattle.std.specs.Result.{result_ok}
 use Rattle.hive_model.specs.Tree.{Tree, find_key}
-use Rattle.hive_model.specs.Edit.{Step, Refusal, set_value, delete_value, make_key, delete_key, copy_child, add_child, has_item, after_step}
+use Rattle.hive_model.specs.Edit.{Step, set_value, delete_value, make_key, delete_key, copy_child, add_child, has_item, after_step}
 
 -- the step deletes a key or a value that the tree doesn't have; one that would delete the root is refused
 abbrev pub is_void : Step → Tree → Bool

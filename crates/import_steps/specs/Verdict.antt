@@ -1,5 +1,5 @@
 -- What is to be done with a step, by what is seen? (this project's own)
-use Rattle.std.specs.Prelude.{◌≡◌, ℕ, ◌+◌, ◌==◌, ◌||◌, Bool, true, false, if◌then◌else◌, nat_lt, List, [], ◌∷◌, length, Option, Some, None, option_and_then}
+use Rattle.std.specs.Prelude.{◌≡◌, ℕ, ◌+◌, ◌==◌, ◌||◌, Bool, true, false, if◌then◌else◌, nat_lt, List, [], ◌∷◌, length, Some, option_and_then}
 use Rattle.std.specs.Option.{is_none, is_some, option_map_or}
 use Rattle.hive_model.specs.Tree.{Tree}
 use Rattle.hive_model.specs.Valid.{longest_key_name, longest_value_name, longest_data, deepest_level}

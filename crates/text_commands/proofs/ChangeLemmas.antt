@@ -1,12 +1,10 @@
 -- What becomes of a disk by an import.
 use Rattle.std.proofs.Common.{◌≡◌, ◌⊎◌, inr, ⊎_elim, ℕ, ◌+◌, Bool, true, false, cond, not, List, [], Option, Some, None, Result, Ok, Err, refl, sym, ap, subst, ◌∙◌, arith}
-use Rattle.std.specs.Prelude.{◌↔◌, nat_lt, IfOk}
+use Rattle.std.specs.Prelude.{◌↔◌, IfOk}
 use Rattle.std.specs.Bool.{Decides}
 use Rattle.std.proofs.lemmas.Bool.{false≢true}
 use Rattle.hive_model.specs.Base.{Base, version_of}
-use Rattle.hive_model.specs.Edit.{Step, Refusal, no_key, no_value, bad_name, exists, name_too_long, too_deep, data_too_long, full, after_steps, most_bulk, edited}
-use Rattle.hive_model.specs.Forms.{◌>>=◌}
-use Rattle.hive_model.specs.Size.{bulk_of}
+use Rattle.hive_model.specs.Edit.{Step, Refusal, no_key, no_value, bad_name, exists, name_too_long, too_deep, data_too_long, full, edited}
 use Rattle.hive_model.specs.Image.{Image, IsCrashImage}
 use Rattle.hive_model.specs.Load.{Loads, state_of}
 use Rattle.hive_model.specs.State.{HiveState}
@@ -20,7 +18,6 @@ use Rattle.nt_edge.specs.Disk.{DiskState, History}
 use Rattle.nt_edge.specs.Bench.{woken}
 use Rattle.nt_edge.proofs.Images.{still_crash}
 use Rattle.run_laws.proofs.SameLemmas.{same-Decides}
-use Rattle.nt_bytes.specs.declared.version.HiveVersion.{HiveVersion}
 use Rattle.start_model.specs.Sets.{is_usable}
 use Rattle.reg_tree.specs.declared.stop.EditStop.{EditStop}
 use Rattle.reg_tree.specs.declared.stop.EditStop.TheVariants as stops
@@ -36,8 +33,8 @@ use Rattle.text_commands.specs.declared.said.How.{How}
 use Rattle.text_commands.specs.declared.said.ImportStop.{ImportStop}
 use Rattle.text_commands.specs.declared.said.ImportStop.TheVariants as import_stops
 use Rattle.text_commands.specs.declared.said.Said.{Said}
-use Rattle.text_commands.specs.Changed.{Change, as_edited, as_protected, tree_by, done_by, state_by, said_of, change_by, change_left, change_made, change_in, change_for, number_in, change_of}
-use Rattle.text_commands.specs.Imports.{Settles, IsRefusedAs, EndsProtected, IsMade, MakesTree, Makes, MakesSteps, usable_in, MakesIn, SaysOf, Unmoved, Changes, ChangesHeld, ChangesAwake, ImportsOn}
+use Rattle.text_commands.specs.Changed.{Change, as_edited, as_protected, done_by, state_by, said_of, change_left, change_made, change_in, change_for, number_in, change_of}
+use Rattle.text_commands.specs.Imports.{Settles, IsRefusedAs, EndsProtected, IsMade, MakesTree, Makes, MakesSteps, usable_in, MakesIn, SaysOf, Changes, ChangesHeld, ChangesAwake, ImportsOn}
 
 -- with nothing in flight only what is held may be left
 still_loads : (disk : DiskState) (s : HiveState) (dirty : Bool) → disk.flight ≡ [] → Loads disk.held s dirty
@@ -177,7 +174,8 @@ never_made s (Err data_too_long) = refl
 never_made s (Err full) = refl
 
 -- nothing was done to the disk
-pub protected_ends : {E : Type 0} (tells : Bool) (protected : Bool) (result : Result Done E) (h : Session) (steps : List Step)
+pub protected_ends : {E : Type 0} (tells : Bool) (protected : Bool) (result : Result Done E) (h : Session)
+    (steps : List Step)
     (disk : DiskState) → protected ≡ true → (tells ≡ true → disk.flight ≡ [])
     → (tells ≡ true → Loads disk.held (loaded_state h) false) → IfOk result (EndsProtected (loaded_state h) steps)
     → tells ≡ true → IfOk result (MakesTree protected (loaded_state h) steps disk)
@@ -213,7 +211,8 @@ left_said s current protected steps left passed tree is are =
     ap (λ (l : LeftSteps). change_left current (Some l.passed) s (record { steps = l.steps; protected = protected }))
     (are ∙ ap (λ (t : Tree). left_of t steps) is)
 
-pub left_made : {E : Type 0} (s : HiveState) (current : Option ℕ) (protected : Bool) (steps left : List Step) (passed : ℕ)
+pub left_made : {E : Type 0} (s : HiveState) (current : Option ℕ) (protected : Bool) (steps left : List Step)
+    (passed : ℕ)
     (tree : Tree) (done : Result Done E) (said : Result Said E) (disk : DiskState)
     → tree ≡ s.tree → record { steps = left; passed = passed } ≡ left_of tree steps
     → IfOk done (MakesTree protected s left disk) → SaysOf current (Some passed) done said
@@ -232,14 +231,16 @@ set_made s n lenient steps number (Ok said) disk is made =
     go (is_usable s.tree n) refl
     (subst (λ (o : Option ℕ). MakesIn o lenient s steps disk said) is made)
   where
-    go : (b : Bool) → is_usable s.tree n ≡ b → MakesIn (cond (is_usable s.tree n) (Some n) None) lenient s steps disk said
+    go : (b : Bool) → is_usable s.tree n ≡ b → MakesIn (cond (is_usable s.tree n)
+        (Some n) None) lenient s steps disk said
         → Makes (change_in n lenient s steps) disk said
     go true e m = rw e (rw e at m)
     go false e m = rw e (rw e at m)
 set_made s n lenient steps number (Err e) disk is made = tt
 
 pub set_changes : {E : Type 0} (how : How) (set : AskedSet) (s : HiveState) (steps : List Step) (number : Option ℕ)
-    (result : Result Said E) (disk : DiskState) → how.current ≡ Some set → number ≡ usable_in (number_in set s.tree) s.tree
+    (result : Result Said E) (disk : DiskState) → how.current ≡ Some set
+        → number ≡ usable_in (number_in set s.tree) s.tree
     → IfOk result (MakesIn number how.lenient s steps disk) → IfOk result (Changes how s steps disk)
 set_changes how set s steps number result disk asked is made =
     subst (λ (o : Option AskedSet). IfOk result (Makes (change_for o how.lenient s steps) disk)) (sym asked)
@@ -263,7 +264,8 @@ woken_held files image old is crash =
     let P : DiskState → Type 0 = λ d. IsCrashImage d.held d.flight image in
     still_crash (image_in files) image (subst P is crash)
 
-woken_history : {E : Type 0} (how : How) (files : HiveFiles) (steps : List Step) (result : Result Said E) (image : Image)
+woken_history : {E : Type 0} (how : How) (files : HiveFiles) (steps : List Step) (result : Result Said E)
+    (image : Image)
     (old mid new : DiskState) → old ≡ placed_disk files
     → mid ≡ woken image old → ChangesAwake how steps result mid new
     → new.history ≡ (woken image (placed_disk files)).history
@@ -336,12 +338,14 @@ edit_settles tells (Ok done) h k steps old new still loads made base unchanged c
 edit_settles tells (Err e) h k steps old new still loads made base unchanged changed settles told = tt
 
 -- they were refused
-pub edit_refused : {E : Type 0} (tells : Bool) (result : Result Done E) (h : Session) (steps : List Step) (stop : EditStop)
+pub edit_refused : {E : Type 0} (tells : Bool) (result : Result Done E) (h : Session) (steps : List Step)
+    (stop : EditStop)
     (disk : DiskState) → (tells ≡ true → disk.flight ≡ []) → (tells ≡ true → Loads disk.held (loaded_state h) false)
     → IsRefused (edited (version_of h.base.minor) h.tree steps) stop → IsRefusedAs stop result
     → tells ≡ true → IfOk result (MakesTree false (loaded_state h) steps disk)
 edit_refused tells (Ok done) h steps stop disk still loads is refused told =
-    refused_made (loaded_state h) (edited (version_of h.base.minor) h.tree steps) stop done disk (still told) (loads told)
+    refused_made (loaded_state h) (edited (version_of h.base.minor) h.tree steps) stop done disk (still told)
+        (loads told)
     is refused
 edit_refused tells (Err e) h steps stop disk still loads is refused told = tt
 

@@ -1,7 +1,6 @@
 -- What `import` leaves.
 use Rattle.std.proofs.Common.{◌≡◌, ◌≤◌, ◌++◌, inl, inr, ℕ, zero, suc, false, List, Option, None, Some, refl, sym, ap, subst, ◌∙◌, arith}
 use Rattle.std.specs.Prelude.{Result, Ok, Err}
-use Rattle.nt_bytes.specs.declared.fault.HiveFault.{HiveFault}
 use Rattle.nt_bytes.specs.declared.version.HiveVersion.{HiveVersion}
 use Rattle.hive_model.specs.Edit.{Step}
 use Rattle.hive_model.specs.Image.{Image}
@@ -28,7 +27,6 @@ use Rattle.command_parts.proofs.DecideLemmas.{told_unused, told_unread, refused_
 use Rattle.command_parts.proofs.LeaveLemmas.{no_front, keeps_then, counts_by}
 use Rattle.text_commands.proofs.ImportAskLemmas.{text_asked}
 use Rattle.line_text.specs.declared.form.ReportForm.{ReportForm}
-use Rattle.command_words.specs.declared.asked.AskedEncoding.{AskedEncoding}
 use Rattle.text_commands.specs.declared.said.How.{How}
 use Rattle.text_commands.specs.declared.said.Said.{Said}
 use Rattle.text_commands.specs.Changed.{Change, steps_in, change_of}
@@ -89,7 +87,8 @@ said_done text old new (inr none) = absurd none
 
 ends_change : (files : HiveFiles) (saves : Saves) (form : ReportForm) (change : Change) (status : Status)
     (text old new : List ℕ) (taken : ℕ) (disk : DiskState) → IsToldAs statuses.Done status
-    → text ≡ said_text form change.said → taken ≤ saved_count saves → (status ≡ statuses.Done → taken ≡ saved_count saves)
+    → text ≡ said_text form change.said → taken ≤ saved_count saves → (status ≡ statuses.Done
+        → taken ≡ saved_count saves)
     → IsImported files change.state taken disk
     → Ends (done_with text) status old new → EndsChange files saves form change disk status old new
 ends_change files saves form change status text old new taken disk (inl is) same few all made end =
@@ -156,7 +155,8 @@ read_hive files saves how (Ok steps) text disk status old new loads is (inl end)
     inr (inl (end.0, end.1, rw is end.2))
 read_hive files saves how (Ok steps) text disk status old new loads is (inr end) = inr (inr (inl end))
 
-pub found_file : (files : HiveFiles) (saves : Saves) (how : How) (name text : List ℕ) (status : Status) (old mid new : HostState)
+pub found_file : (files : HiveFiles) (saves : Saves) (how : How) (name text : List ℕ) (status : Status)
+    (old mid new : HostState)
     (disk : DiskState) → IsLoadable files
     → Looks (file_in name (old.files name)) (Ok text) old mid → Asks old mid
     → DecidesText files saves how text status mid new disk
@@ -205,7 +205,8 @@ checked image x judged = (record { state = state_of judged.0 x.0 x.1; dirty = ju
 
 -- ---- after the search for the hive
 
-stopped_import : (wanted : Result HiveFiles Refusal) (saves : Saves) (how : How) (text : Result (List ℕ) Refusal) (stop : HostStop)
+stopped_import : (wanted : Result HiveFiles Refusal) (saves : Saves) (how : How) (text : Result (List ℕ) Refusal)
+    (stop : HostStop)
     (disk : DiskState) (old new : List ℕ) → disk ≡ new_state
     → new ≡ old → (stop ≡ Write → ⊥) → EndsImport wanted saves how text disk (stopped_as stop) old new
 stopped_import (Ok files) saves how text stop disk old new fresh same unwritten =
@@ -215,15 +216,18 @@ stopped_import (Err r) saves how text Write disk old new fresh same unwritten = 
 stopped_import (Err r) saves how text Memory disk old new fresh same unwritten =
     (inr (no_front (refusal_text r) old new same), fresh)
 
-pub unfound_import : (form : ReportForm) (words : ImportAsked) (stop : HostStop) (old new : HostState) (disk : DiskState) → disk ≡ new_state
+pub unfound_import : (form : ReportForm) (words : ImportAsked) (stop : HostStop) (old new : HostState)
+    (disk : DiskState) → disk ≡ new_state
     → Looks {A = HiveFiles} (hive_in old.files words.hive words.log) (Err (Stopped stop)) old new
     → DecidesImport form words (stopped_as stop) old new disk
 unfound_import form words stop old new disk fresh a =
     stopped_decides (hive_in old.files words.hive words.log)
-    (λ w s o n. EndsImport w (import_saves words) (import_how form words) (file_in words.reg (old.files words.reg)) disk s o n)
+    (λ w s o n. EndsImport w (import_saves words) (import_how form words) (file_in words.reg
+        (old.files words.reg)) disk s o n)
     (import_saves words)
     stop old new disk fresh
-    (λ o n same unwritten. stopped_import (hive_in old.files words.hive words.log) (import_saves words) (import_how form words)
+    (λ o n same unwritten. stopped_import (hive_in old.files words.hive words.log) (import_saves words)
+        (import_how form words)
     (file_in words.reg (old.files words.reg)) stop disk o n fresh same unwritten) a
 
 -- hive and log were found
@@ -241,13 +245,17 @@ found_import form words files status old mid new disk a b =
         keeps = keeps_then old mid new a.keeps l.keeps;
         counts = counts_by (stop_in status) old mid new a.keeps a.counts l.counts;
         said = λ tells.
-            let here : EndsHive files saves how (file_in words.reg (mid.files words.reg)) disk status mid.said new.said =
+            let here : EndsHive files saves how (file_in words.reg
+                (mid.files words.reg)) disk status mid.said new.said =
             l.said (a.keeps.tells ∙ tells) in
-            subst (λ (w : Result HiveFiles Refusal). EndsImport w saves how (file_in words.reg (old.files words.reg)) disk
+            subst (λ (w : Result HiveFiles Refusal). EndsImport w saves how (file_in words.reg
+                (old.files words.reg)) disk
             status old.said new.said) (sym (a.found tells))
-            (subst (λ (m : List ℕ). EndsHive files saves how (file_in words.reg (old.files words.reg)) disk status m new.said)
+            (subst (λ (m : List ℕ). EndsHive files saves how (file_in words.reg
+                (old.files words.reg)) disk status m new.said)
             (a.unsaid tells)
-            (subst (λ (f : Files). EndsHive files saves how (file_in words.reg (f words.reg)) disk status mid.said new.said)
+            (subst (λ (f : Files). EndsHive files saves how (file_in words.reg
+                (f words.reg)) disk status mid.said new.said)
             (a.files tells) here));
       };
       files = λ tells. subst (λ (f : Files). FilesAs saves status disk.held f new.files) (a.files tells)

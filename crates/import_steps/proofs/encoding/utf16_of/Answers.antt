@@ -1,7 +1,3 @@
-use Rattle.std.proofs.Common.{◌≡◌, ap, sym, subst, ◌∙◌, true, List, ℕ}
-use Rattle.std.specs.Str.{is_utf8, IsUtf8}
-use Rattle.std.proofs.lemmas.Str.{is_utf8-from_IsUtf8, IsUtf8-from_is_utf8}
-use Rattle.import_steps.specs.Encoding.{unmarked, wide_text}
 use Rattle.import_steps.proofs.TextLemmas.{same_text, no_text}
 use Rattle.import_steps.proofs.encoding.utf16_of.Goals as goal
 

@@ -7,7 +7,8 @@ use Rattle.import_steps.proofs.left.judge_all.Given as goal
 abbrev pub invariant-steps : goal.invariant-steps
 invariant-steps l = record {
   few : l.passed + length (into_iter_items l.rest) ≤ length l.fn.steps;
-  made : Going l.tree l.marks (map step_of l.left) l.passed (map step_of (into_iter_items l.rest)) (map step_of l.fn.steps);
+  made : Going l.tree l.marks (map step_of l.left) l.passed (map step_of (into_iter_items l.rest))
+      (map step_of l.fn.steps);
 }
 
 abbrev pub decreases-steps : goal.decreases-steps

@@ -27,6 +27,7 @@ returns t c =
         values = λ n. ap (λ m. under m n) c.of.ensures.values_are;
         keys = λ n. ap (λ m. under m n) c.of.ensures.keys_are
             ∙ put_back c.as_slice-2.result.now c.into_vec.result.items name old c.remove.new.self c.insert.new.self
-            c.in_ok-last.last query (c.into_vec.ensures ∙ key) c.remove.ensures.updates c.in_ok-insert.ensures.updates n;
+            c.in_ok-last.last query (c.into_vec.ensures
+            ∙ key) c.remove.ensures.updates c.in_ok-insert.ensures.updates n;
       };
     })

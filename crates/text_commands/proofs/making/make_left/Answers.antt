@@ -1,4 +1,4 @@
-use Rattle.std.proofs.Common.{Some, map}
+use Rattle.std.proofs.Common.{map}
 use Rattle.reg_tree.specs.Makes.{step_of}
 use Rattle.hive_store.specs.Loading.{loaded_state}
 use Rattle.text_commands.proofs.ChangeLemmas.{left_made}

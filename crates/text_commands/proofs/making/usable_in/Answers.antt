@@ -1,6 +1,4 @@
-use Rattle.std.proofs.Common.{arith, ap, ◌∙◌}
-use Rattle.std.specs.Option.{is_some}
-use Rattle.hive_model.specs.Tree.{find_key}
+use Rattle.std.proofs.Common.{arith}
 use Rattle.text_commands.specs.Changed.{number_in}
 use Rattle.text_commands.proofs.UsableLemmas.{usable, unusable}
 use Rattle.text_commands.proofs.making.usable_in.Goals as goal
