@@ -24,7 +24,7 @@ module _ (hive log : List ℕ) where
   abbrev image : Image
   image = image_of hive log
 
-  read-there : (n : ℕ) → n < 65536 → 512 * n < length text → read_log image n ≡ Ok (sector text n)
+  pub read-there : (n : ℕ) → n < 65536 → 512 * n < length text → read_log image n ≡ Ok (sector text n)
   unfolding sector
   read-there n few there =
       ap (bytes_or (fault_at kinds.LogShort (512 * n)) (fault_at kinds.LogUnreadable (512 * n))) (log-there hive log n few there)
@@ -90,7 +90,7 @@ rank-few f (suc n) = go (f n) (rank-few f n)
     go true h = omega (arith, h)
     go false h = omega (arith, h)
 
-rank-more : (f : ℕ → Bool) (i n : ℕ) → i < n → f i ≡ true → rank f i + 1 ≤ rank f n
+pub rank-more : (f : ℕ → Bool) (i n : ℕ) → i < n → f i ≡ true → rank f i + 1 ≤ rank f n
 rank-more f i zero lt e = absurd (omega (arith, lt))
 rank-more f i (suc n) lt e =
     elim (cases_lt i n) [
@@ -120,7 +120,7 @@ lacks bits have (suc n) e = go (has_rest bits have n) refl (bits n) refl e (λ d
         → (i : ℕ) × (i < suc n) × (bits i ≡ false) × (have ≤ i)
     go false d b f e h = let r = h d in (r.0, omega (arith, r.1), r.2, r.3)
     go true d true f e h = absurd cc
-    go true d false f e h = (n, omega arith, f, not-above have n e)
+    go true d false f e h = (n, omega arith, f, not-above n have e)
 
 -- where none lacks, each is the log's or the hive's
 pub each-there : (bits : ℕ → Bool) (have n : ℕ) → has_rest bits have n ≡ true → (i : ℕ) → i < n → bits i ≡ false → i < have

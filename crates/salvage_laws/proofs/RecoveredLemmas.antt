@@ -30,7 +30,7 @@ use Rattle.salvage_file.specs.declared.recovery.RecoveredHive.{RecoveredHive}
 use Rattle.salvage_file.specs.Faults.{head_of, base_faults, bins_length, bins_of}
 use Rattle.salvage_file.specs.Recovery.{log_stop, recovered_bins, beside, by_reading, by_logged as read_logged, by_faults, recovery}
 use Rattle.salvage_laws.proofs.LogLemmas.{run-there, run-short, one-there, one-absent, read-there, bit-same, rank-same, rank-few, rank-more, picked-on, picked-off, lacks, each-there, IsOr, run-lacks, chosen, Written, written}
-use Rattle.salvage_laws.proofs.PlainLemmas.{base-refused, base-sound, same-size}
+use Rattle.salvage_laws.proofs.BlockLemmas.{base-refused, base-sound, same-size}
 use Rattle.salvage_laws.proofs.SectorLemmas.{filled-whole, sector-there, sector-absent, log-there, log-absent, bytes-joined, zeros-bytes}
 
 -- what recovery answers for it
