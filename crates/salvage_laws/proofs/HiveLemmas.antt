@@ -1,22 +1,19 @@
 -- A hive, clean or not, is salvaged as it loads.
-use Rattle.std.proofs.Common.{◌≡◌, ◌⊎◌, inl, inr, ℕ, ◌+◌, ◌-◌, ◌*◌, ◌/◌, ◌≤◌, Bool, true, false, cond, not, List, [], ◌∷◌, ◌++◌, length, take, drop, replicate, Option, Some, None, Result, Ok, Err, refl, sym, ap, ap₂, subst, ◌∙◌, arith}
-use Rattle.std.specs.Prelude.{◌==◌, ◌&&◌, ◌||◌, nat_eq, nat_le, codes}
+use Rattle.std.proofs.Common.{◌≡◌, inl, inr, ℕ, ◌+◌, ◌-◌, ◌*◌, ◌/◌, ◌≤◌, Bool, true, false, cond, not, List, [], ◌∷◌, ◌++◌, length, drop, replicate, Some, None, Result, Ok, Err, refl, sym, ap, subst, ◌∙◌, arith}
+use Rattle.std.specs.Prelude.{◌==◌, ◌||◌, nat_eq, nat_le, codes}
 use Rattle.std.specs.List.{starts_with}
 use Rattle.std.proofs.lemmas.Bool.{eqb-true, eqb-false, ne_eqb}
 use Rattle.std.proofs.lemmas.List.{length-take}
 use Rattle.nt_bytes.specs.declared.fault.HiveFault.{HiveFault}
-use Rattle.nt_bytes.specs.declared.fault.HiveFaultKind.{HiveFaultKind}
 use Rattle.nt_bytes.specs.declared.fault.HiveFaultKind.TheVariants as kinds
-use Rattle.hive_model.specs.Base.{Base, is_minor, version_of, fault_at, fields_of, base_of, is_bins_size}
+use Rattle.hive_model.specs.Base.{Base, is_minor, version_of, fault_at, fields_of}
 use Rattle.hive_model.specs.Image.{Image, image_of}
 use Rattle.hive_model.specs.Load.{Holds, HeldFault, Loads, LoadsAs, LoadFault}
 use Rattle.hive_model.specs.Recovery.{Recovered, first_dirty, recovered_of}
 use Rattle.hive_model.specs.State.{HiveState}
-use Rattle.hive_model.proofs.BaseLemmas.{IsChecked, base_checked}
+use Rattle.hive_model.proofs.BaseLemmas.{base_checked}
 use Rattle.hive_cells.proofs.Tools.{IsBytes}
-use Rattle.hive_log.proofs.Appending.{sized}
 use Rattle.hive_log.proofs.Finding.{by_unfinished}
-use Rattle.log_parts.specs.declared.fault.LogFault.{LogFault}
 use Rattle.log_parts.specs.declared.fault.LogFaultKind.TheVariants as logs
 use Rattle.log_parts.specs.Filled.{filled}
 use Rattle.log_parts.specs.Pages.{put_pages}
@@ -25,17 +22,16 @@ use Rattle.dirt_log.specs.Dirt.{bits_of, has_rest, needed, dirt_checks, first_fa
 use Rattle.dirt_log.specs.declared.reading.OldReading.{OldReading}
 use Rattle.dirt_log.specs.declared.reading.OldReading.TheVariants.{Broken, OtherStamp, OtherNumber, Whole}
 use Rattle.salvage_file.specs.declared.opening.FileState.TheVariants.{Clean as CleanState, AsIs}
-use Rattle.salvage_file.specs.declared.opening.Opened.{Opened}
 use Rattle.salvage_file.specs.declared.recovery.LogStop.{LogStop}
 use Rattle.salvage_file.specs.declared.recovery.RecoveredHive.{RecoveredHive}
 use Rattle.salvage_file.specs.declared.salvaging.BinsFound.{BinsFound}
 use Rattle.salvage_file.specs.declared.salvaging.SalvagedHive.{SalvagedHive}
 use Rattle.salvage_file.specs.Faults.{head_of, base_faults, bins_length, bins_of, unless}
 use Rattle.salvage_file.specs.Opened.{is_short, as_is, is_size, dirty_as, opened_as, opened}
-use Rattle.salvage_file.specs.Recovery.{log_stop, recovered_bins, beside, by_reading, by_logged as read_logged, by_faults, recovery}
-use Rattle.salvage_file.specs.Salvage.{version_in, found_in, hive_by, salvaged_hive}
-use Rattle.salvage_laws.specs.Plain.{IsPlain, AreSmall}
-use Rattle.salvage_laws.specs.Told.{first_base, log_fault, first_broken, first_told, first_found, first_reported, IsSilent, TellsFirst}
+use Rattle.salvage_file.specs.Recovery.{log_stop, recovered_bins, beside, by_reading, by_faults, recovery}
+use Rattle.salvage_file.specs.Salvage.{found_in, hive_by, salvaged_hive}
+use Rattle.salvage_laws.specs.Plain.{AreSmall}
+use Rattle.salvage_laws.specs.Told.{first_reported, IsSilent, TellsFirst}
 use Rattle.salvage_laws.proofs.BlockLemmas.{same-size, base-sound, version-same, sound-block}
 use Rattle.salvage_laws.proofs.FoundLemmas.{holds-so, fault-so, silent-holds}
 use Rattle.salvage_laws.proofs.PlainLemmas.{PlainView, is_refused, is_held, plain-view, ok-err, ok-one, err-one, none-some, Reports, found_as, found-reported, silent-none}

@@ -1,19 +1,19 @@
 -- The sectors of a log, and the bins data that it gives, as recovery reads them and as salvage does.
-use Rattle.std.proofs.Common.{◌≡◌, inl, inr, ℕ, zero, suc, ◌+◌, ◌-◌, ◌*◌, ◌/◌, ◌%◌, ◌<◌, ◌≤◌, Bool, true, false, cond, List, [], ◌∷◌, ◌++◌, length, take, drop, replicate, get_or, Option, Some, None, Result, Ok, Err, refl, sym, ap, ap₂, subst, ◌∙◌, arith}
-use Rattle.std.specs.Prelude.{◌&&◌, ◌||◌, ◌^◌, ◌==◌, nat_lt, nat_le}
-use Rattle.std.proofs.lemmas.Bool.{cases_lt, lt-ltb, le-ltb, ltb-true, and_parts}
-use Rattle.std.proofs.lemmas.List.{length-append, length-replicate, length-drop, length-take, drop-drop, drop-take, take-take, get_or-drop, get_or-take}
+use Rattle.std.proofs.Common.{◌≡◌, inl, inr, ℕ, zero, suc, ◌+◌, ◌-◌, ◌*◌, ◌/◌, ◌%◌, ◌<◌, ◌≤◌, Bool, true, false, cond, List, ◌∷◌, ◌++◌, length, take, drop, get_or, Result, Ok, Err, refl, sym, ap, ap₂, subst, ◌∙◌, arith}
+use Rattle.std.specs.Prelude.{◌&&◌, ◌||◌, ◌^◌, ◌==◌, nat_lt}
+use Rattle.std.proofs.lemmas.Bool.{cases_lt, ltb-true, and_parts}
+use Rattle.std.proofs.lemmas.List.{length-append, length-drop, length-take, drop-drop, drop-take, take-take, get_or-drop, get_or-take}
 use Rattle.nt_bytes.specs.declared.fault.HiveFault.{HiveFault}
 use Rattle.nt_bytes.specs.declared.fault.HiveFaultKind.TheVariants as kinds
 use Rattle.hive_model.specs.Base.{fault_at}
 use Rattle.hive_model.specs.Image.{Image, image_of}
-use Rattle.hive_model.specs.Recovery.{Sectors, sector, bytes_or, read_bin, read_log, joined, gathered, bit, one_if, rank, picked, first_dirty}
-use Rattle.hive_log.proofs.Runs.{gathered_is, gathered_whole, gathered_same, sector_front, sector_back, sector_long, sector_whole}
+use Rattle.hive_model.specs.Recovery.{Sectors, sector, bytes_or, read_bin, read_log, joined, gathered, bit, one_if, rank, picked}
+use Rattle.hive_log.proofs.Runs.{gathered_is, sector_front, sector_back, sector_long, sector_whole}
 use Rattle.hive_read.proofs.FormFacts.{not-above}
 use Rattle.log_parts.specs.Filled.{filled}
-use Rattle.log_parts.specs.Pages.{Page, put_at, put_pages}
+use Rattle.log_parts.specs.Pages.{put_at, put_pages}
 use Rattle.dirt_log.specs.Dirt.{has_rest, marked_pages}
-use Rattle.salvage_laws.proofs.SectorLemmas.{filled-whole, sector-there, sector-absent, log-there, log-absent}
+use Rattle.salvage_laws.proofs.SectorLemmas.{filled-whole, log-there, log-absent}
 
 -- ---- the log
 

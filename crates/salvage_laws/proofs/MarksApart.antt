@@ -1,8 +1,7 @@
 -- Cells that begin where the layout has a mark lie apart, but for two loose ones.
-use Rattle.std.proofs.Common.{◌≡◌, inl, inr, ℕ, zero, suc, ◌+◌, ◌-◌, ◌*◌, ◌/◌, ◌%◌, ◌<◌, ◌≤◌, Bool, true, false, cond, eqb, List, [], ◌∷◌, ◌++◌, length, drop, get_or, Result, Ok, Err, refl, sym, ap, subst, ◌∙◌, arith, append-nil}
+use Rattle.std.proofs.Common.{◌≡◌, inl, inr, ℕ, zero, suc, ◌+◌, ◌-◌, ◌*◌, ◌/◌, ◌%◌, ◌<◌, ◌≤◌, Bool, true, false, cond, List, [], ◌∷◌, ◌++◌, length, drop, get_or, Result, Ok, Err, refl, sym, ap, subst, ◌∙◌, arith}
 use Rattle.std.specs.Prelude.{◌&&◌, ◌==◌, nat_le}
 use Rattle.std.proofs.lemmas.Bool.{cases_lt}
-use Rattle.std.proofs.lemmas.Bool.Decides.{nat_tests}
 use Rattle.std.proofs.lemmas.List.{length-append, length-drop, drop-drop, get_or_append_left, get_or-append_right}
 use Rattle.nt_bytes.specs.Fields.{u32_in}
 use Rattle.nt_bytes.specs.declared.fault.HiveFault.{HiveFault}
@@ -16,7 +15,7 @@ use Rattle.salvage_bins.specs.declared.layout.Mark.TheVariants.{Nothing, InBin, 
 use Rattle.salvage_bins.specs.Ground.{is_loose}
 use Rattle.salvage_bins.specs.Whole.{slot_mark, cell_marks, bin_marks}
 use Rattle.salvage_bins.specs.Loose.{mark_where, loose_marks, names_itself, loose_length}
-use Rattle.salvage_bins.specs.Layout.{Laid, Stretch, joined, stretch, stretch_of, laid, layout_of}
+use Rattle.salvage_bins.specs.Layout.{Stretch, joined, stretch, stretch_of, laid, layout_of}
 
 -- a cell begins here
 abbrev pub begins : Mark → Bool

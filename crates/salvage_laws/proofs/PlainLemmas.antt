@@ -1,20 +1,16 @@
 -- A hive that needs no log is salvaged as it loads.
-use Rattle.std.proofs.Common.{◌≡◌, inl, inr, ℕ, ◌+◌, ◌-◌, ◌*◌, ◌/◌, ◌%◌, ◌<◌, ◌≤◌, Bool, true, false, cond, List, [], ◌∷◌, ◌++◌, length, take, drop, replicate, Option, Some, None, Result, Ok, Err, refl, sym, ap, ap₂, subst, ◌∙◌, arith, eq-eqb}
-use Rattle.std.specs.Prelude.{◌==◌, ◌&&◌, ◌||◌, not, nat_le, nat_lt}
+use Rattle.std.proofs.Common.{◌≡◌, inl, inr, ℕ, ◌+◌, ◌-◌, ◌*◌, ◌/◌, ◌<◌, ◌≤◌, Bool, true, false, cond, List, [], ◌∷◌, length, take, drop, Option, Some, None, Result, Ok, Err, refl, sym, ap, ap₂, subst, ◌∙◌, arith, eq-eqb}
+use Rattle.std.specs.Prelude.{◌&&◌, not, nat_lt}
 use Rattle.std.proofs.lemmas.Bool.{cases_lt, lt-ltb, le-ltb}
-use Rattle.std.proofs.lemmas.Bool.Decides.{nat_tests}
 use Rattle.std.proofs.lemmas.List.{length-take, length-drop, drop-drop, drop-take, take-take}
-use Rattle.nt_bytes.specs.Fields.{u32_in}
 use Rattle.nt_bytes.specs.declared.fault.HiveFault.{HiveFault}
 use Rattle.nt_bytes.specs.declared.fault.HiveFaultKind.TheVariants as kinds
-use Rattle.nt_bytes.specs.declared.version.HiveVersion.TheVariants.{V3, V5}
-use Rattle.hive_model.specs.Base.{Base, checksum_of, is_minor, version_of, fault_at, is_bins_size, base_checks, first_failing, fields_of, unless_fault, base_of}
+use Rattle.hive_model.specs.Base.{Base, version_of, fault_at, fields_of}
 use Rattle.hive_model.specs.Bins.{or_else}
 use Rattle.hive_model.specs.Carries.{Carries}
-use Rattle.hive_model.specs.Forms.{◌>>=◌}
 use Rattle.hive_model.specs.Image.{Image, Bytes, image_of}
 use Rattle.hive_model.specs.Load.{Holds, HeldFault, Loads, LoadFault}
-use Rattle.hive_model.specs.Recovery.{Recovered, primary_in, sector, recovered_with, base_at, base_in, recovered_of}
+use Rattle.hive_model.specs.Recovery.{Recovered, primary_in, sector, recovered_with, base_in, recovered_of}
 use Rattle.hive_model.specs.State.{HiveState}
 use Rattle.hive_model.proofs.BaseLemmas.{IsChecked, base_in_checked}
 use Rattle.hive_cells.proofs.Tools.{IsBytes, IsBytes-drop, IsBytes-take}
@@ -26,7 +22,7 @@ use Rattle.salvage_file.specs.declared.opening.FileState.TheVariants.{Clean}
 use Rattle.salvage_file.specs.declared.opening.Opened.{Opened}
 use Rattle.salvage_file.specs.declared.salvaging.BinsFound.{BinsFound}
 use Rattle.salvage_file.specs.declared.salvaging.SalvagedHive.{SalvagedHive}
-use Rattle.salvage_file.specs.Faults.{head_of, has_signature, checks_of, unless, failing, base_faults, bins_length, bins_of}
+use Rattle.salvage_file.specs.Faults.{head_of, has_signature, unless, base_faults, bins_length, bins_of}
 use Rattle.salvage_file.specs.Opened.{is_short, as_is, dirty_as, opened_as, opened}
 use Rattle.salvage_file.specs.Recovery.{recovery}
 use Rattle.salvage_file.specs.Salvage.{version_in, found_in, saving_as, hive_by, salvaged_hive}
@@ -35,7 +31,7 @@ use Rattle.salvage_laws.specs.Plain.{IsPlain}
 use Rattle.salvage_laws.specs.Told.{first_told, first_broken, first_found, first_base, log_fault, first_reported, IsSilent}
 use Rattle.salvage_laws.proofs.BlockLemmas.{same-size, version-same, signed-so, faulty-block, sound-block}
 use Rattle.salvage_laws.proofs.FoundLemmas.{holds-so, fault-so, silent-holds}
-use Rattle.salvage_laws.proofs.SectorLemmas.{filled-whole, sector-there, sector-absent, gathered-short, filled-bytes}
+use Rattle.salvage_laws.proofs.SectorLemmas.{sector-there, gathered-short, filled-bytes}
 
 -- ---- a hive that needs no log
 
