@@ -60,14 +60,8 @@ from-plain save hive log (is_held r e clean bytes small faults none broken lines
 abbrev gives : RecoveredHive → Result RecoveredHive LogStop
 gives r = Ok r
 
-abbrev stops : LogStop → Result RecoveredHive LogStop
-stops s = Err s
-
 give-same : (a b : RecoveredHive) → gives a ≡ gives b → a ≡ b
 give-same a b e = cc
-
-stop-same : (a b : LogStop) → stops a ≡ stops b → a ≡ b
-stop-same a b e = cc
 
 -- the hive that a whole log makes
 reading-gives : (file log : List ℕ) (logged : Base) (o : OldReading) (r : RecoveredHive) → by_reading file log logged o ≡ Ok r
@@ -141,8 +135,10 @@ unfolding recovery
 log-gives file hive log r small e = go (length log == 0) e
   where
     given : base_faults (head_of log) 1 ≡ []
-        → IsGiven file log (record { base = record (fields_of (head_of log)) { kind = 0 };
-          bins = recovered_bins file log (fields_of (head_of log)).size })
+        → IsGiven file log (record {
+          base = record (fields_of (head_of log)) { kind = 0 };
+          bins = recovered_bins file log (fields_of (head_of log)).size;
+        })
     given e =
         let logged = fields_of (head_of log) in
         let checked = base_checked (head_of log) 1 logged (base-sound (head_of log) 1 small e) in

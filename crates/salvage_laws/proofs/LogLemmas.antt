@@ -168,7 +168,7 @@ run-lacks at fault from (suc n) i low high e each =
 
 -- ---- pages that are written
 
--- sectors of a file with one of its sectors put anew
+-- the sectors of a file of which one is replaced
 module _ (file bytes : List ℕ) (k : ℕ) (long : length bytes ≡ 512) (room : 512 * k + 512 ≤ length file) where
   abbrev put : List ℕ
   put = put_at file (512 * k) bytes

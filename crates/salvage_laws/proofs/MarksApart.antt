@@ -50,18 +50,6 @@ size-on bytes m k =
 
 -- ---- marks in sequence
 
-none-begins : (marks : List Mark) (k : ℕ) → length marks ≤ k → mark_of marks k ≡ Nothing
-none-begins [] k h = refl
-none-begins (m ∷ ms) zero h = absurd (omega (arith, h))
-none-begins (m ∷ ms) (suc k) h = none-begins ms k (omega (arith, h))
-
-begun-within : (marks : List Mark) (k : ℕ) → begins (mark_of marks k) ≡ true → k < length marks
-begun-within marks k e =
-    elim (cases_lt k (length marks)) [
-      | inl lt ↦ lt
-      | inr le ↦ let n : false ≡ true = ap begins (sym (none-begins marks k le)) ∙ e in absurd cc
-    ]
-
 nothing-tidy : (bytes : List ℕ) → AreTidy [] bytes
 nothing-tidy bytes = record { least = λ k e. absurd cc; within = λ k e. absurd cc; apart = λ j k lt e f n. absurd cc }
 
@@ -121,9 +109,6 @@ record LooseTidy (marks : List Mark) (bytes : List ℕ) : Type 0 where
   pub least : (k : ℕ) → begins (mark_of marks k) ≡ true → 8 ≤ size_of bytes k
   pub within : (k : ℕ) → begins (mark_of marks k) ≡ true → 8 * k + size_of bytes k ≤ 8 * length marks
   pub loose : (k : ℕ) → begins (mark_of marks k) ≡ true → is_loose (mark_of marks k) ≡ true
-
-size-here : (bytes : List ℕ) → size_of bytes 0 ≡ magnitude (u32_in bytes 0)
-size-here bytes = refl
 
 size-next : (bytes : List ℕ) (k : ℕ) → size_of (drop 8 bytes) k ≡ size_of bytes (suc k)
 size-next bytes k = let e : 1 + k ≡ suc k = omega arith in size-on bytes 1 k ∙ ap (size_of bytes) e

@@ -22,7 +22,8 @@ use Rattle.salvage_walk.specs.Parts.{node_long, value_long, security_long, big_l
 use Rattle.salvage_walk.specs.Fronts.{values_front, list_front, leaf_front}
 use Rattle.salvage_walk.specs.Walked.{Walked}
 use Rattle.salvage_laws.specs.Bytes.{LiesInCell}
-use Rattle.salvage_laws.specs.Left.{segments_uses, big_uses, data_uses, item_uses, class_uses, ClassLeft, class_stands, class_lost, SecurityLeft, security_none, security_first, security_again, security_lost, ItemsLeft, ValuesLeft, values_none, values_listed, values_lost, ListLeft, list_read, list_lost, LeavesLeft, ListsLeft, own_entries, entries_of_lists, lists_lost, EntriesLeft, entries_none, entries_named}
+use Rattle.salvage_laws.specs.Left.{segments_uses, big_uses, data_uses, item_uses, class_uses, ClassLeft, class_stands, class_lost, SecurityLeft, security_none, security_first, security_again, security_lost, ItemsLeft, ValuesLeft, values_none, values_listed, values_lost}
+use Rattle.salvage_laws.specs.LeftLists.{ListLeft, list_read, list_lost, LeavesLeft, ListsLeft, own_entries, entries_of_lists, lists_lost, EntriesLeft, entries_none, entries_named}
 use Rattle.salvage_laws.specs.LeftKeys.{Leaving, KeysLeft, KeyLeft, TreeLeft, IsSalvage, at_its_place, at_another, at_none}
 use Rattle.salvage_laws.proofs.PartViews.{done}
 use Rattle.salvage_laws.proofs.FormLong.{IsNoLonger, node-long, value-long, security-long, bytes-fit, big-long, offsets-long, front_long, values-front-long, list-front-long, leaf-front-long}
