@@ -1,19 +1,18 @@
 -- No byte of bins data is used twice.
-use Rattle.std.proofs.Common.{◌≡◌, ◌⊎◌, inl, inr, ℕ, ◌+◌, ◌-◌, ◌*◌, ◌/◌, ◌%◌, ◌<◌, ◌≤◌, Bool, true, false, cond, List, length, get_or, Result, Ok, Err, refl, sym, ap, ◌∙◌, arith}
+use Rattle.std.proofs.Common.{◌≡◌, inl, inr, ℕ, ◌+◌, ◌-◌, ◌*◌, ◌/◌, ◌%◌, ◌<◌, ◌≤◌, Bool, true, false, cond, List, length, get_or, Ok, refl, sym, ap, ◌∙◌, arith}
 use Rattle.std.specs.Prelude.{◌==◌, ◌&&◌, nat_le, nat_lt, drop, slice_range}
 use Rattle.std.proofs.lemmas.Bool.{cases_lt, eqb-true, eqb-false, and_parts}
 use Rattle.std.proofs.lemmas.Bool.Decides.{nat_tests}
 use Rattle.std.proofs.lemmas.List.{length-take}
 use Rattle.nt_bytes.specs.Fields.{u32_in}
 use Rattle.nt_bytes.specs.declared.version.HiveVersion.{HiveVersion}
-use Rattle.nt_bytes.specs.declared.fault.HiveFaultKind.{HiveFaultKind}
 use Rattle.nt_bytes.specs.declared.fault.HiveFaultKind.TheVariants.{FreeCell}
 use Rattle.hive_model.specs.Bins.{magnitude}
 use Rattle.hive_cells.proofs.Tools.{IsBytes}
 use Rattle.hive_read.proofs.FormFacts.{unless, ok_same, not-above}
 use Rattle.salvage_bins.specs.declared.layout.Mark.{Mark}
 use Rattle.salvage_bins.specs.declared.layout.Mark.TheVariants.{Nothing, InBin, Loose}
-use Rattle.salvage_bins.specs.Ground.{Ground, mark_at, payload_here, payload_by, is_loose}
+use Rattle.salvage_bins.specs.Ground.{Ground, payload_here, payload_by, is_loose}
 use Rattle.salvage_bins.specs.Layout.{layout_of}
 use Rattle.salvage_walk.specs.declared.claims.Claim.{Claim}
 use Rattle.salvage_walk.specs.Keys.{salvaged}

@@ -1,8 +1,7 @@
 -- No form uses more bytes than its cell has.
-use Rattle.std.proofs.Common.{◌≡◌, ℕ, ◌+◌, ◌-◌, ◌*◌, ◌/◌, ◌%◌, ◌<◌, ◌≤◌, min, Bool, true, false, cond, List, [], ◌∷◌, length, take, drop, Result, Ok, Err, refl, sym, ap, subst, ◌∙◌, arith}
+use Rattle.std.proofs.Common.{◌≡◌, ℕ, ◌+◌, ◌-◌, ◌*◌, ◌/◌, ◌≤◌, min, Bool, true, false, cond, List, [], ◌∷◌, length, take, drop, Result, Ok, Err, subst, ◌∙◌, arith}
 use Rattle.std.specs.Prelude.{◌==◌, ◌&&◌, not, nat_lt, slice_range}
-use Rattle.std.proofs.lemmas.Bool.Decides.{nat_tests}
-use Rattle.std.proofs.lemmas.List.{length-take, length-drop}
+use Rattle.std.proofs.lemmas.List.{length-take}
 use Rattle.nt_bytes.specs.Fields.{u16_in, u32_in}
 use Rattle.nt_bytes.specs.Text.{wide_of}
 use Rattle.nt_bytes.specs.declared.fault.HiveFaultKind.{HiveFaultKind}
@@ -17,7 +16,7 @@ use Rattle.hive_model.specs.Size.{segment_count}
 use Rattle.hive_model.specs.StoredNames.{stored_name, has_half_unit, is_bad_key_name, is_bad_value_name, key_name_at, value_name_at}
 use Rattle.hive_model.specs.Walk.{node_at, big_data_of, is_list_of_lists}
 use Rattle.hive_read.proofs.FormFacts.{then-so, unless, ok_same, not-above, offsets-length}
-use Rattle.salvage_walk.specs.Parts.{name_bytes, node_long, value_long, security_long, bytes_long, big_long, offsets_long}
+use Rattle.salvage_walk.specs.Parts.{name_bytes, node_long, value_long, security_long, big_long, offsets_long}
 use Rattle.salvage_walk.specs.Fronts.{Front, front_of, values_front, kind_front, list_front, leaf_front, kind_or_short}
 use Rattle.salvage_laws.proofs.PartViews.{done}
 

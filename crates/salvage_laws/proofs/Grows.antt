@@ -28,7 +28,7 @@ use Rattle.salvage_walk.specs.Fronts.{Front, front_part, values_front, list_fron
 use Rattle.salvage_walk.specs.Values.{bytes_part, segments_part, big_part, celled_part, data_where, data_part, item_of, value_part}
 use Rattle.salvage_walk.specs.Walked.{Walked, say, using}
 use Rattle.salvage_walk.specs.Steps.{class_done, class_step, security_done, security_step, item_names, value_done, value_next, values_next, values_done, said_short, values_step, Entries, list_done, leaf_next, leaves_next, no_entries, entries_below, lists_done, lists_step, counted, entries_step}
-use Rattle.salvage_walk.specs.Keys.{Judge, key_names, with_child, keys_next, key_below, found_key, key_done, judged_key, root_below, other_done, other_root, root_done, root_part, salvaged, least_root}
+use Rattle.salvage_walk.specs.Keys.{Judge, key_names, with_child, keys_next, key_below, key_done, judged_key, root_below, other_done, other_root, root_done, root_part, salvaged, least_root}
 use Rattle.salvage_laws.specs.Apart.{IsApart, AreApart}
 use Rattle.salvage_laws.proofs.PartViews.{Gained, again, fresh, gained-more, PartView, part-view, FrontView, front-view}
 
@@ -364,9 +364,6 @@ key-follows judge hive above path node at w h =
     (follows-after security.1 values.1 children.1 (items-follow hive path node security.1)
     (follows-after values.1 entries.1 children.1 (entries-follow hive path node at values.1)
     (keys-follow judge security.0 path 1 entries.0 [] entries.1 h))))
-
-pub found-follows : (w : Walked) (r : Tree × Walked) → Follows w r.1 → Follows w (found_key r).1
-found-follows w r f = f
 
 pub judged-follows : (left : ℕ) (hive : Ground) → FollowsBy (judged_key left hive)
 unfolding judged_key

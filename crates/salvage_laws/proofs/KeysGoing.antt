@@ -261,8 +261,11 @@ module _ (hive : Ground) (none : NoneLoose hive) where
       number e true s after d t m true c =
           goes-map (KeysMore e.0.offsets []) (Means false) (walk cells after (keys_in_turn checks cells [] e.0.offsets))
           (keys_next judge own path 1 e.0.offsets [] e.1)
-          (λ k. (e.0.offsets, (m, eqb-true (length e.0.offsets) node.child_count c),
-          subst (λ (ts : List Tree). AllStand cells e.0.offsets (trees ts)) (sym k.1) k.2))
+          (λ k. (
+            e.0.offsets,
+            (m, eqb-true (length e.0.offsets) node.child_count c),
+            subst (λ (ts : List Tree). AllStand cells e.0.offsets (trees ts)) (sym k.1) k.2,
+          ))
           (keys-go left judge own path 1 e.0.offsets [] e.1 after alike follow d t)
       number e true s after d t m false c =
           begins-more (fault_at Count at) (say e.1 (lines.Nothing at path))
@@ -323,17 +326,21 @@ module _ (hive : Ground) (none : NoneLoose hive) where
       (λ two d s own. goes-then (λ vs. values_of cells node ≡ Ok vs) (Stands cells at) cells two (values_checks cells node) checks values
       (t, children.1) (items-go hive none path node security.1 two d s) in_entries
       (λ three d s vs. goes-as (Children node) (Stands cells at) (walk cells three checks) children t
-      (λ k. (k.0, record {
-        node = node;
-        read = node-plain root cells at node read;
-        name = refl;
-        flags = refl;
-        stamp = refl;
-        class = c;
-        security = own;
-        values = vs;
-        children = k.1;
-      }, k.2))
+      (λ k. (
+        k.0,
+        record {
+          node = node;
+          read = node-plain root cells at node read;
+          name = refl;
+          flags = refl;
+          stamp = refl;
+          class = c;
+          security = own;
+          values = vs;
+          children = k.1;
+        },
+        k.2,
+      ))
       (children-go left judge security.0 path node at values.1 three alike follow d s))))
 
   key-told : (path : List (List ℕ)) (i : ℕ) (fault : HiveFault) (r : Result KeyNode HiveFaultKind)

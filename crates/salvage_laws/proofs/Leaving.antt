@@ -27,7 +27,8 @@ use Rattle.salvage_walk.specs.Values.{bytes_part, value_part}
 use Rattle.salvage_walk.specs.Walked.{Walked, say, using}
 use Rattle.salvage_walk.specs.Steps.{part_line, class_done, class_step, security_done, security_step, value_line, item_names, value_done, value_next, values_next, values_done, said_short, values_step, Entries, list_done, leaf_next, leaves_next, no_entries, lists_done, lists_step, counted, entries_step}
 use Rattle.salvage_laws.specs.Fails.{ItemFails}
-use Rattle.salvage_laws.specs.Left.{item_uses, ClassLeft, class_stands, class_lost, SecurityLeft, security_none, security_first, security_again, security_lost, short_lines, ItemsLeft, ValuesLeft, values_none, values_listed, values_lost, ListLeft, list_read, list_lost, LeavesLeft, ListsLeft, own_entries, entries_of_lists, lists_lost, is_silent, EntriesLeft, entries_none, entries_named}
+use Rattle.salvage_laws.specs.Left.{item_uses, ClassLeft, class_stands, class_lost, SecurityLeft, security_none, security_first, security_again, security_lost, short_lines, ItemsLeft, ValuesLeft, values_none, values_listed, values_lost}
+use Rattle.salvage_laws.specs.LeftLists.{ListLeft, list_read, list_lost, LeavesLeft, ListsLeft, own_entries, entries_of_lists, lists_lost, is_silent, EntriesLeft, entries_none, entries_named}
 use Rattle.salvage_laws.proofs.PartViews.{Gained, again, fresh, Made, PartView, part-view, FrontView, front-view}
 use Rattle.salvage_laws.proofs.Grows.{Follows, values-follow, leaves-follow, counted-follows}
 use Rattle.salvage_laws.proofs.Wider.{Upto, upto-adds, wider-upto, fails-upto, list-fails, gained-now, made-reads, LeftOf, BytesUsed, Lost, bytes-left, ItemUsed, ItemLost, value-left}
@@ -41,10 +42,6 @@ pub record Leaves (w v : Walked) (Means : List Claim → List WalkLine → Type 
   pub uses_are : v.claims ≡ w.claims ++ uses
   pub said_is : v.lines ≡ w.lines ++ said
   pub means : Means uses said
-
-pub leaves-map : (w v : Walked) (M N : List Claim → List WalkLine → Type 0)
-    → ((uses : List Claim) (said : List WalkLine) → M uses said → N uses said) → Leaves w v M → Leaves w v N
-leaves-map w v M N h l = record { uses = l.uses; said = l.said; uses_are = l.uses_are; said_is = l.said_is; means = h l.uses l.said l.means }
 
 -- a sequence in two parts
 pub join : {A : Type 0} (a b c x y : List A) → b ≡ a ++ x → c ≡ b ++ y → c ≡ a ++ (x ++ y)
@@ -191,9 +188,17 @@ module _ (hive : Ground) (used : List Claim) where
     means = (
       r.0 ∷ l.means.0,
       l.means.1 ∙ append_assoc values (r.0 ∷ []) l.means.0,
-      inl (r.0, l.means.0, l.uses, refl, refl, s.0, s.2,
-          subst (λ (ns : List (List ℕ)). ItemsLeft hive used path (i + 1) ns rest l.means.0 l.uses l.said)
-          (map_push (λ (v : Item). v.name) values r.0) l.means.2),
+      inl (
+        r.0,
+        l.means.0,
+        l.uses,
+        refl,
+        refl,
+        s.0,
+        s.2,
+        subst (λ (ns : List (List ℕ)). ItemsLeft hive used path (i + 1) ns rest l.means.0 l.uses l.said)
+            (map_push (λ (v : Item). v.name) values r.0) l.means.2,
+      ),
     );
   }
 

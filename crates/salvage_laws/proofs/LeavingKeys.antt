@@ -256,11 +256,12 @@ module _ (hive : Ground) (used : List Claim) where
           → Upto (key_done (judged_key left hive) hive above path i at w r).1.claims used
           → ChildLeft (suc left) above path names i at w (key_done (judged_key left hive) hive above path i at w r)
       by each (Ok r) m u =
-          let read = node-plain false names at r.0 (made-reads (node_form false names) node_long false hive w.claims at r.0 r.1 m) in
-          (cell-left left false names above (λ (node : KeyNode). path ++ node.name ∷ []) at w r (judged_key left hive) each
-          (judged-follows left hive) m u,
-          ap (λ n. list_any (folds_same n) names)
-          (head-named (judged_key left hive) above (path ++ r.0.name ∷ []) r.0 at (using w r.1)) ∙ read.1)
+          let read = node-plain false names at r.0 (made-reads (node_form false names) node_long false hive w.claims at r.0 r.1 m) in (
+            cell-left left false names above (λ (node : KeyNode). path ++ node.name ∷ []) at w r (judged_key left hive) each
+                (judged-follows left hive) m u,
+            ap (λ n. list_any (folds_same n) names)
+                (head-named (judged_key left hive) above (path ++ r.0.name ∷ []) r.0 at (using w r.1)) ∙ read.1,
+          )
       by each (Err k) m u =
           (k, node_fails (fails-upto (node_form false names) node_long false hive w.claims used at k u m), refl)
 

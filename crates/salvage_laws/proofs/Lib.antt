@@ -12,6 +12,7 @@ pub mod WholeBins
 pub mod WholeCells
 pub mod FoundLemmas
 pub mod SectorLemmas
+pub mod BlockLemmas
 pub mod PlainLemmas
 pub mod MarksApart
 pub mod FormLong
@@ -20,3 +21,4 @@ pub mod BytesApart
 pub mod SavedLemmas
 pub mod LogLemmas
 pub mod RecoveredLemmas
+pub mod HiveLemmas

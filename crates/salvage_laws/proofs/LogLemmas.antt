@@ -1,19 +1,19 @@
 -- The sectors of a log, and the bins data that it gives, as recovery reads them and as salvage does.
-use Rattle.std.proofs.Common.{◌≡◌, inl, inr, ℕ, zero, suc, ◌+◌, ◌-◌, ◌*◌, ◌/◌, ◌%◌, ◌<◌, ◌≤◌, Bool, true, false, cond, List, [], ◌∷◌, ◌++◌, length, take, drop, replicate, get_or, Option, Some, None, Result, Ok, Err, refl, sym, ap, ap₂, subst, ◌∙◌, arith}
-use Rattle.std.specs.Prelude.{◌&&◌, ◌||◌, ◌^◌, ◌==◌, nat_lt, nat_le}
-use Rattle.std.proofs.lemmas.Bool.{cases_lt, lt-ltb, le-ltb, ltb-true, and_parts}
-use Rattle.std.proofs.lemmas.List.{length-append, length-replicate, length-drop, length-take, drop-drop, drop-take, take-take, get_or-drop, get_or-take}
+use Rattle.std.proofs.Common.{◌≡◌, inl, inr, ℕ, zero, suc, ◌+◌, ◌-◌, ◌*◌, ◌/◌, ◌%◌, ◌<◌, ◌≤◌, Bool, true, false, cond, List, ◌∷◌, ◌++◌, length, take, drop, get_or, Result, Ok, Err, refl, sym, ap, ap₂, subst, ◌∙◌, arith}
+use Rattle.std.specs.Prelude.{◌&&◌, ◌||◌, ◌^◌, ◌==◌, nat_lt}
+use Rattle.std.proofs.lemmas.Bool.{cases_lt, ltb-true, and_parts}
+use Rattle.std.proofs.lemmas.List.{length-append, length-drop, length-take, drop-drop, drop-take, take-take, get_or-drop, get_or-take}
 use Rattle.nt_bytes.specs.declared.fault.HiveFault.{HiveFault}
 use Rattle.nt_bytes.specs.declared.fault.HiveFaultKind.TheVariants as kinds
 use Rattle.hive_model.specs.Base.{fault_at}
 use Rattle.hive_model.specs.Image.{Image, image_of}
-use Rattle.hive_model.specs.Recovery.{Sectors, sector, bytes_or, read_bin, read_log, joined, gathered, bit, one_if, rank, picked, first_dirty}
-use Rattle.hive_log.proofs.Runs.{gathered_is, gathered_whole, gathered_same, sector_front, sector_back, sector_long, sector_whole}
+use Rattle.hive_model.specs.Recovery.{Sectors, sector, bytes_or, read_bin, read_log, joined, gathered, bit, one_if, rank, picked}
+use Rattle.hive_log.proofs.Runs.{gathered_is, sector_front, sector_back, sector_long, sector_whole}
 use Rattle.hive_read.proofs.FormFacts.{not-above}
 use Rattle.log_parts.specs.Filled.{filled}
-use Rattle.log_parts.specs.Pages.{Page, put_at, put_pages}
+use Rattle.log_parts.specs.Pages.{put_at, put_pages}
 use Rattle.dirt_log.specs.Dirt.{has_rest, marked_pages}
-use Rattle.salvage_laws.proofs.SectorLemmas.{filled-whole, sector-there, sector-absent, log-there, log-absent}
+use Rattle.salvage_laws.proofs.SectorLemmas.{filled-whole, log-there, log-absent}
 
 -- ---- the log
 
@@ -24,7 +24,7 @@ module _ (hive log : List ℕ) where
   abbrev image : Image
   image = image_of hive log
 
-  read-there : (n : ℕ) → n < 65536 → 512 * n < length text → read_log image n ≡ Ok (sector text n)
+  pub read-there : (n : ℕ) → n < 65536 → 512 * n < length text → read_log image n ≡ Ok (sector text n)
   unfolding sector
   read-there n few there =
       ap (bytes_or (fault_at kinds.LogShort (512 * n)) (fault_at kinds.LogUnreadable (512 * n))) (log-there hive log n few there)
@@ -90,7 +90,7 @@ rank-few f (suc n) = go (f n) (rank-few f n)
     go true h = omega (arith, h)
     go false h = omega (arith, h)
 
-rank-more : (f : ℕ → Bool) (i n : ℕ) → i < n → f i ≡ true → rank f i + 1 ≤ rank f n
+pub rank-more : (f : ℕ → Bool) (i n : ℕ) → i < n → f i ≡ true → rank f i + 1 ≤ rank f n
 rank-more f i zero lt e = absurd (omega (arith, lt))
 rank-more f i (suc n) lt e =
     elim (cases_lt i n) [
@@ -120,7 +120,7 @@ lacks bits have (suc n) e = go (has_rest bits have n) refl (bits n) refl e (λ d
         → (i : ℕ) × (i < suc n) × (bits i ≡ false) × (have ≤ i)
     go false d b f e h = let r = h d in (r.0, omega (arith, r.1), r.2, r.3)
     go true d true f e h = absurd cc
-    go true d false f e h = (n, omega arith, f, not-above have n e)
+    go true d false f e h = (n, omega arith, f, not-above n have e)
 
 -- where none lacks, each is the log's or the hive's
 pub each-there : (bits : ℕ → Bool) (have n : ℕ) → has_rest bits have n ≡ true → (i : ℕ) → i < n → bits i ≡ false → i < have
@@ -168,7 +168,7 @@ run-lacks at fault from (suc n) i low high e each =
 
 -- ---- pages that are written
 
--- sectors of a file with one of its sectors put anew
+-- the sectors of a file of which one is replaced
 module _ (file bytes : List ℕ) (k : ℕ) (long : length bytes ≡ 512) (room : 512 * k + 512 ≤ length file) where
   abbrev put : List ℕ
   put = put_at file (512 * k) bytes

@@ -1,8 +1,7 @@
 -- Cells that begin where the layout has a mark lie apart, but for two loose ones.
-use Rattle.std.proofs.Common.{◌≡◌, inl, inr, ℕ, zero, suc, ◌+◌, ◌-◌, ◌*◌, ◌/◌, ◌%◌, ◌<◌, ◌≤◌, Bool, true, false, cond, eqb, List, [], ◌∷◌, ◌++◌, length, drop, get_or, Result, Ok, Err, refl, sym, ap, subst, ◌∙◌, arith, append-nil}
+use Rattle.std.proofs.Common.{◌≡◌, inl, inr, ℕ, zero, suc, ◌+◌, ◌-◌, ◌*◌, ◌/◌, ◌%◌, ◌<◌, ◌≤◌, Bool, true, false, cond, List, [], ◌∷◌, ◌++◌, length, drop, get_or, Result, Ok, Err, refl, sym, ap, subst, ◌∙◌, arith}
 use Rattle.std.specs.Prelude.{◌&&◌, ◌==◌, nat_le}
 use Rattle.std.proofs.lemmas.Bool.{cases_lt}
-use Rattle.std.proofs.lemmas.Bool.Decides.{nat_tests}
 use Rattle.std.proofs.lemmas.List.{length-append, length-drop, drop-drop, get_or_append_left, get_or-append_right}
 use Rattle.nt_bytes.specs.Fields.{u32_in}
 use Rattle.nt_bytes.specs.declared.fault.HiveFault.{HiveFault}
@@ -16,7 +15,7 @@ use Rattle.salvage_bins.specs.declared.layout.Mark.TheVariants.{Nothing, InBin, 
 use Rattle.salvage_bins.specs.Ground.{is_loose}
 use Rattle.salvage_bins.specs.Whole.{slot_mark, cell_marks, bin_marks}
 use Rattle.salvage_bins.specs.Loose.{mark_where, loose_marks, names_itself, loose_length}
-use Rattle.salvage_bins.specs.Layout.{Laid, Stretch, joined, stretch, stretch_of, laid, layout_of}
+use Rattle.salvage_bins.specs.Layout.{Stretch, joined, stretch, stretch_of, laid, layout_of}
 
 -- a cell begins here
 abbrev pub begins : Mark → Bool
@@ -50,18 +49,6 @@ size-on bytes m k =
     ap magnitude (word-on bytes (8 * m) (8 * k) ∙ ap (u32_in bytes) e)
 
 -- ---- marks in sequence
-
-none-begins : (marks : List Mark) (k : ℕ) → length marks ≤ k → mark_of marks k ≡ Nothing
-none-begins [] k h = refl
-none-begins (m ∷ ms) zero h = absurd (omega (arith, h))
-none-begins (m ∷ ms) (suc k) h = none-begins ms k (omega (arith, h))
-
-begun-within : (marks : List Mark) (k : ℕ) → begins (mark_of marks k) ≡ true → k < length marks
-begun-within marks k e =
-    elim (cases_lt k (length marks)) [
-      | inl lt ↦ lt
-      | inr le ↦ let n : false ≡ true = ap begins (sym (none-begins marks k le)) ∙ e in absurd cc
-    ]
 
 nothing-tidy : (bytes : List ℕ) → AreTidy [] bytes
 nothing-tidy bytes = record { least = λ k e. absurd cc; within = λ k e. absurd cc; apart = λ j k lt e f n. absurd cc }
@@ -122,9 +109,6 @@ record LooseTidy (marks : List Mark) (bytes : List ℕ) : Type 0 where
   pub least : (k : ℕ) → begins (mark_of marks k) ≡ true → 8 ≤ size_of bytes k
   pub within : (k : ℕ) → begins (mark_of marks k) ≡ true → 8 * k + size_of bytes k ≤ 8 * length marks
   pub loose : (k : ℕ) → begins (mark_of marks k) ≡ true → is_loose (mark_of marks k) ≡ true
-
-size-here : (bytes : List ℕ) → size_of bytes 0 ≡ magnitude (u32_in bytes 0)
-size-here bytes = refl
 
 size-next : (bytes : List ℕ) (k : ℕ) → size_of (drop 8 bytes) k ≡ size_of bytes (suc k)
 size-next bytes k = let e : 1 + k ≡ suc k = omega arith in size-on bytes 1 k ∙ ap (size_of bytes) e

@@ -1,20 +1,16 @@
 -- A hive that needs no log is salvaged as it loads.
-use Rattle.std.proofs.Common.{◌≡◌, inl, inr, ℕ, ◌+◌, ◌-◌, ◌*◌, ◌/◌, ◌%◌, ◌<◌, ◌≤◌, Bool, true, false, cond, List, [], ◌∷◌, ◌++◌, length, take, drop, replicate, Option, Some, None, Result, Ok, Err, refl, sym, ap, ap₂, subst, ◌∙◌, arith, eq-eqb}
-use Rattle.std.specs.Prelude.{◌==◌, ◌&&◌, ◌||◌, not, nat_le, nat_lt}
+use Rattle.std.proofs.Common.{◌≡◌, inl, inr, ℕ, ◌+◌, ◌-◌, ◌*◌, ◌/◌, ◌<◌, ◌≤◌, Bool, true, false, cond, List, [], ◌∷◌, length, take, drop, Option, Some, None, Result, Ok, Err, refl, sym, ap, ap₂, subst, ◌∙◌, arith, eq-eqb}
+use Rattle.std.specs.Prelude.{◌&&◌, not, nat_lt}
 use Rattle.std.proofs.lemmas.Bool.{cases_lt, lt-ltb, le-ltb}
-use Rattle.std.proofs.lemmas.Bool.Decides.{nat_tests}
 use Rattle.std.proofs.lemmas.List.{length-take, length-drop, drop-drop, drop-take, take-take}
-use Rattle.nt_bytes.specs.Fields.{u32_in}
 use Rattle.nt_bytes.specs.declared.fault.HiveFault.{HiveFault}
 use Rattle.nt_bytes.specs.declared.fault.HiveFaultKind.TheVariants as kinds
-use Rattle.nt_bytes.specs.declared.version.HiveVersion.TheVariants.{V3, V5}
-use Rattle.hive_model.specs.Base.{Base, checksum_of, is_minor, version_of, fault_at, is_bins_size, base_checks, first_failing, fields_of, unless_fault, base_of}
+use Rattle.hive_model.specs.Base.{Base, version_of, fault_at, fields_of}
 use Rattle.hive_model.specs.Bins.{or_else}
 use Rattle.hive_model.specs.Carries.{Carries}
-use Rattle.hive_model.specs.Forms.{◌>>=◌}
 use Rattle.hive_model.specs.Image.{Image, Bytes, image_of}
 use Rattle.hive_model.specs.Load.{Holds, HeldFault, Loads, LoadFault}
-use Rattle.hive_model.specs.Recovery.{Recovered, primary_in, sector, recovered_with, base_at, base_in, recovered_of}
+use Rattle.hive_model.specs.Recovery.{Recovered, primary_in, sector, recovered_with, base_in, recovered_of}
 use Rattle.hive_model.specs.State.{HiveState}
 use Rattle.hive_model.proofs.BaseLemmas.{IsChecked, base_in_checked}
 use Rattle.hive_cells.proofs.Tools.{IsBytes, IsBytes-drop, IsBytes-take}
@@ -26,103 +22,16 @@ use Rattle.salvage_file.specs.declared.opening.FileState.TheVariants.{Clean}
 use Rattle.salvage_file.specs.declared.opening.Opened.{Opened}
 use Rattle.salvage_file.specs.declared.salvaging.BinsFound.{BinsFound}
 use Rattle.salvage_file.specs.declared.salvaging.SalvagedHive.{SalvagedHive}
-use Rattle.salvage_file.specs.Faults.{head_of, has_signature, checks_of, unless, failing, base_faults, bins_length, bins_of}
+use Rattle.salvage_file.specs.Faults.{head_of, has_signature, unless, base_faults, bins_length, bins_of}
 use Rattle.salvage_file.specs.Opened.{is_short, as_is, dirty_as, opened_as, opened}
 use Rattle.salvage_file.specs.Recovery.{recovery}
 use Rattle.salvage_file.specs.Salvage.{version_in, found_in, saving_as, hive_by, salvaged_hive}
 use Rattle.salvage_file.specs.Saving.{kept_base}
 use Rattle.salvage_laws.specs.Plain.{IsPlain}
 use Rattle.salvage_laws.specs.Told.{first_told, first_broken, first_found, first_base, log_fault, first_reported, IsSilent}
+use Rattle.salvage_laws.proofs.BlockLemmas.{same-size, version-same, signed-so, faulty-block, sound-block}
 use Rattle.salvage_laws.proofs.FoundLemmas.{holds-so, fault-so, silent-holds}
-use Rattle.salvage_laws.proofs.SectorLemmas.{filled-whole, sector-there, sector-absent, gathered-short, filled-bytes}
-
--- ---- the base block
-
-failing-first : (checks : List (Bool × HiveFault)) → first_base (failing checks) ≡ first_failing checks
-failing-first [] = refl
-failing-first (check ∷ checks) = go check.0 (failing-first checks)
-  where
-    go : (b : Bool) → first_base (failing checks) ≡ first_failing checks
-        → first_base (unless b check.1 ++ failing checks) ≡ cond b (first_failing checks) (Some check.1)
-    go true h = h
-    go false h = refl
-
-at-most : (a b : ℕ) → a ≤ b → nat_le a b ≡ true
-at-most a b h = grind (arith, nat_tests)
-
-same-size : (size : ℕ) → size ≤ 16777216 → is_wide_size size ≡ is_bins_size size
-same-size size small =
-    ap (λ b. (size % 4096 == 0) && (nat_le 4096 size && b))
-    (at-most size 268431360 (omega (arith, small)) ∙ sym (at-most size 16777216 small))
-
--- the first fault of the base block is that of a load
-base-first : (block : List ℕ) (kind : ℕ) → u32_in block 40 ≤ 16777216
-    → first_base (base_faults block kind) ≡ first_failing (base_checks block kind)
-unfolding base_faults
-base-first block kind small = go (has_signature block)
-  where
-    others : Bool → List (Bool × HiveFault)
-    others size =
-        (u32_in block 508 == checksum_of block, fault_at kinds.Checksum 508)
-        ∷ (u32_in block 20 == 1, fault_at kinds.Version 20)
-        ∷ (is_minor (u32_in block 24), fault_at kinds.Version 24)
-        ∷ (u32_in block 28 == kind, fault_at kinds.FileType 28)
-        ∷ (u32_in block 32 == 1, fault_at kinds.FileType 32)
-        ∷ (size, fault_at kinds.Size 40)
-        ∷ []
-
-    go : (b : Bool) → first_base (cond b (failing (checks_of block kind)) (fault_at kinds.NotRegf 0 ∷ []))
-        ≡ cond b (first_failing (others (is_bins_size (u32_in block 40)))) (Some (fault_at kinds.NotRegf 0))
-    go true = failing-first (checks_of block kind) ∙ ap (λ b. first_failing (others b)) (same-size (u32_in block 40) small)
-    go false = refl
-
-small-size : (block : List ℕ) → (fields_of block).size ≤ 16777216 → u32_in block 40 ≤ 16777216
-unfolding fields_of
-small-size block small = small
-
-pub base-refused : (block : List ℕ) (kind : ℕ) (f : HiveFault) (more : List HiveFault) → (fields_of block).size ≤ 16777216
-    → base_faults block kind ≡ f ∷ more → base_of block kind ≡ Err f
-unfolding base_of
-base-refused block kind f more small e =
-    ap (λ o. unless_fault o (fields_of block)) (sym (base-first block kind (small-size block small)) ∙ ap first_base e)
-
-pub base-sound : (block : List ℕ) (kind : ℕ) → (fields_of block).size ≤ 16777216 → base_faults block kind ≡ []
-    → base_of block kind ≡ Ok (fields_of block)
-unfolding base_of
-base-sound block kind small e =
-    ap (λ o. unless_fault o (fields_of block)) (sym (base-first block kind (small-size block small)) ∙ ap first_base e)
-
-pub zeros-faulty : (kind : ℕ) → base_faults (replicate 512 0) kind ≡ fault_at kinds.NotRegf 0 ∷ []
-unfolding base_faults
-zeros-faulty kind = refl
-
-fault-one : (f g : HiveFault) (more : List HiveFault) → f ∷ [] ≡ g ∷ more → f ≡ g
-fault-one f g more e = cc
-
-not-sound : (f : HiveFault) → f ∷ [] ≡ [] → ⊥
-not-sound f e = cc
-
-version-same : (minor : ℕ) → is_minor minor ≡ true → version_in minor ≡ version_of minor
-version-same minor is = go (minor == 3) refl (minor == 5) refl is
-  where
-    both : minor ≡ 3 → (minor == 5) ≡ false
-    both e = ap (λ n. n == 5) e
-
-    go : (a : Bool) → (minor == 3) ≡ a → (b : Bool) → (minor == 5) ≡ b → (a || b) ≡ true → cond a V3 V5 ≡ cond b V5 V3
-    go true e true f is = let three : minor ≡ 3 = grind (arith, nat_tests, e) in
-        let k : false ≡ true = sym (both three) ∙ f in absurd cc
-    go true e false f is = refl
-    go false e true f is = refl
-    go false e false f is = absurd cc
-
--- without a fault there is a signature
-signed-so : (block : List ℕ) → base_faults block 0 ≡ [] → has_signature block ≡ true
-unfolding base_faults
-signed-so block e = go (has_signature block) e
-  where
-    go : (b : Bool) → cond b (failing (checks_of block 0)) (fault_at kinds.NotRegf 0 ∷ []) ≡ [] → b ≡ true
-    go true e = refl
-    go false e = absurd cc
+use Rattle.salvage_laws.proofs.SectorLemmas.{sector-there, gathered-short, filled-bytes}
 
 -- ---- a hive that needs no log
 
@@ -152,34 +61,6 @@ module _ (save : Bool) (hive log : List ℕ) (plain : IsPlain hive) where
   abbrev base : Base
   base = fields_of front
 
-  head-none : length file < 512 → front ≡ replicate 512 0
-  head-none lt = ap (λ b. cond b (replicate 512 0) (take 512 file)) (lt-ltb (length file) 512 lt)
-
-  head-some : 512 ≤ length file → front ≡ take 512 file
-  head-some le = ap (λ b. cond b (replicate 512 0) (take 512 file)) (le-ltb (length file) 512 le)
-
-  block-none : length file < 512 → base_in image ≡ Err (fault_at kinds.NotRegf 0)
-  block-none lt =
-      let f = filled-whole hive in
-      ap base_at (sector-absent hive log 0 (omega arith) (omega (arith, f.0, lt)))
-
-  block-some : 512 ≤ length file → base_in image ≡ (base_of front 0 >>= λ b. Ok (Some b))
-  block-some le =
-      ap base_at (sector-there hive log 0 (omega arith) (omega (arith, le)))
-      ∙ ap (λ l. base_of l 0 >>= λ b. Ok (Some b)) (sym (head-some le))
-
-  -- ---- with a fault of its base block
-
-  faulty-in : (f : HiveFault) (more : List HiveFault) → base_faults front 0 ≡ f ∷ more → base_in image ≡ Err f
-  faulty-in f more e =
-      elim (cases_lt (length file) 512) [
-        | inl lt ↦
-            let same = fault-one (fault_at kinds.NotRegf 0) f more
-            (sym (ap (λ l. base_faults l 0) (head-none lt) ∙ zeros-faulty 0) ∙ e) in
-            block-none lt ∙ ap (λ g. Err g) same
-        | inr le ↦ block-some le ∙ ap (λ r. r >>= λ b. Ok (Some b)) (base-refused front 0 f more plain.small e)
-      ]
-
   faulty-out : (f : HiveFault) (more : List HiveFault) → base_faults front 0 ≡ f ∷ more
       → first_reported (salvaged_hive save hive log) ≡ Some f
   unfolding salvaged_hive opened
@@ -188,15 +69,8 @@ module _ (save : Bool) (hive log : List ℕ) (plain : IsPlain hive) where
   -- ---- without one
 
   module _ (sound : base_faults front 0 ≡ []) where
-    long : 512 ≤ length file
-    long =
-        elim (cases_lt (length file) 512) [
-          | inl lt ↦ absurd (not-sound (fault_at kinds.NotRegf 0) (sym (zeros-faulty 0) ∙ ap (λ l. base_faults l 0) (sym (head-none lt)) ∙ sound))
-          | inr le ↦ le
-        ]
-
     has : base_in image ≡ Ok (Some base)
-    has = block-some long ∙ ap (λ r. r >>= λ b. Ok (Some b)) (base-sound front 0 plain.small sound)
+    has = sound-block hive log plain.small sound
 
     checked : IsChecked 0 base
     checked = base_in_checked image base has
@@ -313,7 +187,7 @@ module _ (save : Bool) (hive log : List ℕ) (plain : IsPlain hive) where
     where
       by : (fs : List HiveFault) → base_faults front 0 ≡ fs → PlainView save hive log
       by [] e = sound-view e
-      by (f ∷ more) e = is_refused f (by_fault image f (faulty-in f more e)) (faulty-out f more e)
+      by (f ∷ more) e = is_refused f (by_fault image f (faulty-block hive log plain.small f more e)) (faulty-out f more e)
 
 -- ---- what follows
 
@@ -323,16 +197,16 @@ ok-err o r f e d = absurd cc
 pub ok-one : (o : Result Recovered HiveFault) (r s : Recovered) → o ≡ Ok r → o ≡ Ok s → r ≡ s
 ok-one o r s e d = cc
 
-err-one : (o : Result Recovered HiveFault) (f g : HiveFault) → o ≡ Err f → o ≡ Err g → f ≡ g
+pub err-one : (o : Result Recovered HiveFault) (f g : HiveFault) → o ≡ Err f → o ≡ Err g → f ≡ g
 err-one o f g e d = cc
 
-none-some : (f : HiveFault) (o : Option HiveFault) → o ≡ Some f → o ≡ None → ⊥
+pub none-some : (f : HiveFault) (o : Option HiveFault) → o ≡ Some f → o ≡ None → ⊥
 none-some f o e d = absurd cc
 
-abbrev found_as : Recovered → BinsFound
+abbrev pub found_as : Recovered → BinsFound
 found_as r = found_in (version_of r.base.minor) r.bins r.base.root
 
-abbrev Reports : SalvagedHive → HiveState → Type 0
+abbrev pub Reports : SalvagedHive → HiveState → Type 0
 Reports s state = IsSilent s × (s.tree ≡ Some state.tree) × (s.version ≡ state.version)
 
 pub plain-loads : (save : Bool) (hive log : List ℕ) (s : HiveState) (dirty : Bool) → IsPlain hive → Loads (image_of hive log) s dirty
@@ -356,7 +230,7 @@ plain-loads save hive log s dirty plain l = by (plain-view save hive log plain)
         )
 
 -- the first fault of a report without those of the file
-found-reported : (s : SalvagedHive) (found : BinsFound) → s.faults ≡ [] → s.log ≡ None → s.broken ≡ found.broken → s.lines ≡ found.lines
+pub found-reported : (s : SalvagedHive) (found : BinsFound) → s.faults ≡ [] → s.log ≡ None → s.broken ≡ found.broken → s.lines ≡ found.lines
     → first_reported s ≡ first_found found
 found-reported s found faults log broken lines =
     ap (λ fs. or_else (first_base fs) (or_else (log_fault s.log) (or_else (first_broken s.broken) (first_told s.lines)))) faults
@@ -377,7 +251,7 @@ plain-refused save hive log fault all plain l = by (plain-view save hive log pla
         found-reported (salvaged_hive save hive log) (found_as r) faults log_none broken lines
         ∙ fault-so r fault (bytes all) small (subst (λ (x : Recovered). HeldFault x fault) same k.2)
 
-silent-none : (s : SalvagedHive) → IsSilent s → first_reported s ≡ None
+pub silent-none : (s : SalvagedHive) → IsSilent s → first_reported s ≡ None
 silent-none s i = found-reported s (record { broken = []; lines = []; tree = None }) i.faults i.log i.broken i.lines
 
 pub plain-silent : (save : Bool) (hive log : List ℕ) → IsBytes hive → IsPlain hive → IsSilent (salvaged_hive save hive log)

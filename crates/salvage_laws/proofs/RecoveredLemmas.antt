@@ -1,18 +1,18 @@
 -- What a log makes of a hive is what recovery makes of it.
-use Rattle.std.proofs.Common.{◌≡◌, inl, inr, ℕ, zero, suc, ◌+◌, ◌-◌, ◌*◌, ◌/◌, ◌%◌, ◌<◌, ◌≤◌, Bool, true, false, cond, List, [], ◌∷◌, ◌++◌, length, take, drop, replicate, get_or, Option, Some, None, Result, Ok, Err, refl, sym, ap, ap₂, subst, ◌∙◌, arith, eq-eqb}
-use Rattle.std.specs.Prelude.{◌==◌, ◌&&◌, ◌||◌, nat_eq, nat_lt, nat_le, codes}
+use Rattle.std.proofs.Common.{◌≡◌, inl, inr, ℕ, zero, suc, ◌+◌, ◌-◌, ◌*◌, ◌/◌, ◌%◌, ◌<◌, ◌≤◌, Bool, true, false, cond, List, [], ◌∷◌, ◌++◌, length, take, drop, replicate, Option, Some, None, Result, Ok, Err, refl, sym, ap, ap₂, subst, ◌∙◌, arith, eq-eqb}
+use Rattle.std.specs.Prelude.{◌==◌, ◌&&◌, ◌||◌, nat_eq, nat_le, codes}
 use Rattle.std.specs.List.{starts_with}
 use lib.Pointwise.{pointwise}
-use Rattle.std.proofs.lemmas.Bool.{cases_lt, lt-ltb, le-ltb, eqb-true}
+use Rattle.std.proofs.lemmas.Bool.{cases_lt, le-ltb, eqb-true}
 use Rattle.std.proofs.lemmas.Bool.Decides.{nat_tests}
 use Rattle.std.proofs.lemmas.List.{length-append, length-replicate, length-drop, length-take, drop-drop, drop-take, take-take}
 use Rattle.nt_bytes.specs.declared.fault.HiveFault.{HiveFault}
 use Rattle.nt_bytes.specs.declared.fault.HiveFaultKind.TheVariants as kinds
 use Rattle.hive_model.specs.Base.{Base, fault_at, fields_of, base_of, is_bins_size}
 use Rattle.hive_model.specs.Forms.{◌>>=◌}
-use Rattle.hive_model.specs.Image.{Image, Bytes, image_of}
-use Rattle.hive_model.specs.Recovery.{Recovered, Sectors, log_in, sector, bytes_or, read_bin, read_log, joined, gathered, recovered_with, bit, rank, bitmap_sectors, first_dirty, picked, by_bits, front_in, bitmap_in, closed_by, goes_with, by_logged, as_log_base, logged_in, by_log}
-use Rattle.hive_model.proofs.BaseLemmas.{IsChecked, base_checked}
+use Rattle.hive_model.specs.Image.{Image, image_of}
+use Rattle.hive_model.specs.Recovery.{Recovered, sector, bytes_or, read_bin, read_log, joined, gathered, recovered_with, bit, rank, bitmap_sectors, first_dirty, picked, by_bits, front_in, bitmap_in, closed_by, goes_with, by_logged, as_log_base, logged_in, by_log}
+use Rattle.hive_model.proofs.BaseLemmas.{base_checked}
 use Rattle.hive_cells.proofs.Tools.{IsBytes, IsBytes-drop, IsBytes-take}
 use Rattle.hive_log.proofs.Appending.{IsSized, sized}
 use Rattle.hive_log.proofs.Finding.{bin_read}
@@ -24,13 +24,13 @@ use Rattle.log_parts.specs.Pages.{put_at, put_pages}
 use Rattle.log_parts.specs.Wide.{is_wide_size}
 use Rattle.dirt_log.specs.Dirt.{bits_of, has_rest, needed, dirt_checks, first_failing, whole_or, old_reading_of, marked_pages, old_pages_of, fault_at as log_fault_at}
 use Rattle.dirt_log.specs.declared.reading.OldReading.{OldReading}
-use Rattle.dirt_log.specs.declared.reading.OldReading.TheVariants.{Broken, OtherStamp, OtherNumber, Whole}
+use Rattle.dirt_log.specs.declared.reading.OldReading.TheVariants.{Broken, OtherStamp, OtherNumber}
 use Rattle.salvage_file.specs.declared.recovery.LogStop.{LogStop}
 use Rattle.salvage_file.specs.declared.recovery.RecoveredHive.{RecoveredHive}
-use Rattle.salvage_file.specs.Faults.{head_of, base_faults, bins_length, bins_of}
-use Rattle.salvage_file.specs.Recovery.{log_stop, recovered_bins, beside, by_reading, by_logged as read_logged, by_faults, recovery}
+use Rattle.salvage_file.specs.Faults.{head_of, base_faults, bins_length}
+use Rattle.salvage_file.specs.Recovery.{log_stop, recovered_bins, by_reading, by_logged as read_logged, by_faults, recovery}
 use Rattle.salvage_laws.proofs.LogLemmas.{run-there, run-short, one-there, one-absent, read-there, bit-same, rank-same, rank-few, rank-more, picked-on, picked-off, lacks, each-there, IsOr, run-lacks, chosen, Written, written}
-use Rattle.salvage_laws.proofs.PlainLemmas.{base-refused, base-sound, same-size}
+use Rattle.salvage_laws.proofs.BlockLemmas.{base-refused, base-sound, same-size}
 use Rattle.salvage_laws.proofs.SectorLemmas.{filled-whole, sector-there, sector-absent, log-there, log-absent, bytes-joined, zeros-bytes}
 
 -- what recovery answers for it

@@ -1,6 +1,5 @@
 -- What is saved is salvaged as it is.
-use Rattle.std.proofs.Common.{◌≡◌, ℕ, ◌+◌, ◌-◌, ◌*◌, ◌/◌, ◌%◌, ◌≤◌, Bool, true, false, cond, List, [], ◌∷◌, ◌++◌, length, take, replicate, Option, Some, None, Result, Ok, Err, refl, sym, ap, subst, ◌∙◌, arith, append-nil}
-use Rattle.std.specs.Prelude.{nat_lt}
+use Rattle.std.proofs.Common.{◌≡◌, ℕ, ◌-◌, ◌*◌, ◌/◌, ◌%◌, ◌≤◌, Bool, true, false, cond, List, ◌++◌, length, take, replicate, Option, Some, None, Ok, refl, sym, ap, subst, ◌∙◌, arith, append-nil}
 use Rattle.std.proofs.lemmas.Bool.{le-ltb}
 use Rattle.nt_bytes.specs.declared.fault.HiveFault.{HiveFault}
 use Rattle.nt_bytes.specs.declared.version.HiveVersion.{HiveVersion}
@@ -18,11 +17,10 @@ use Rattle.hive_pack.specs.Numbers.{HasNumbers}
 use Rattle.hive_pack.proofs.Sized.{packed_is_sized}
 use Rattle.log_parts.specs.Filled.{filled}
 use Rattle.regf_base.specs.Fitting.{NumbersFit, TextsFit}
-use Rattle.salvage_file.specs.declared.saving.Saving.{Saving}
 use Rattle.salvage_file.specs.declared.saving.Saving.TheVariants.{Full, Saved}
 use Rattle.salvage_file.specs.Faults.{head_of}
 use Rattle.salvage_file.specs.Salvage.{saving_as, salvaged_hive}
-use Rattle.salvage_file.specs.Saving.{minor_of, saved_base, saved_file}
+use Rattle.salvage_file.specs.Saving.{saved_base, saved_file}
 use Rattle.salvage_laws.specs.Plain.{IsPlain}
 use Rattle.salvage_laws.specs.Told.{IsSilent}
 use Rattle.salvage_laws.proofs.LoadLemmas.{minor_fits, good, first_sector, file_long, saved_read, saved_loads}

@@ -1,43 +1,30 @@
 -- Each use of what is salvaged lies in its cell.
-use Rattle.std.proofs.Common.{◌≡◌, ◌⊎◌, inl, inr, ℕ, zero, suc, ◌+◌, ◌-◌, ◌*◌, ◌/◌, ◌%◌, ◌<◌, ◌≤◌, Bool, true, false, cond, eqb, List, [], ◌∷◌, ◌++◌, length, take, drop, get_or, Option, Some, None, Result, Ok, Err, refl, sym, ap, subst, ◌∙◌, arith}
-use Rattle.std.specs.Prelude.{◌==◌, ◌&&◌, nat_le, nat_lt, is_some, slice_range, slice_index_or}
+use Rattle.std.proofs.Common.{◌≡◌, inl, inr, ℕ, zero, suc, ◌+◌, ◌-◌, Bool, true, false, cond, List, [], ◌∷◌, ◌++◌, Option, Some, None, Result, Ok, refl, sym, subst, arith}
+use Rattle.std.specs.Prelude.{◌==◌, is_some}
 use Rattle.std.specs.List.{All}
-use Rattle.std.proofs.lemmas.Bool.{cases_lt, eqb-true, eqb-false}
-use Rattle.std.proofs.lemmas.Bool.Decides.{nat_tests}
-use Rattle.std.proofs.lemmas.List.{length-take}
 use Rattle.std.proofs.lemmas.List.Elements.{All-append, All-cons, All-nil}
-use Rattle.nt_bytes.specs.Fields.{u32_in}
 use Rattle.nt_bytes.specs.declared.fault.HiveFaultKind.{HiveFaultKind}
-use Rattle.nt_bytes.specs.declared.version.HiveVersion.{HiveVersion}
-use Rattle.hive_model.specs.BigData.{BigData}
-use Rattle.hive_model.specs.Bins.{magnitude}
 use Rattle.hive_model.specs.Forms.{◌>>=◌, bytes_in}
 use Rattle.hive_model.specs.KeyNode.{KeyNode}
 use Rattle.hive_model.specs.KeyValue.{KeyValue, key_value_at, data_inside}
 use Rattle.hive_model.specs.Lists.{offsets_in}
-use Rattle.hive_model.specs.Security.{SecurityCell, security_at}
+use Rattle.hive_model.specs.Security.{security_at}
 use Rattle.hive_model.specs.Size.{segment_bytes, is_big, segment_part}
 use Rattle.hive_model.specs.Stands.{class_of, data_or, joined_segments, big_bytes_at, data_of, item_at}
 use Rattle.hive_model.specs.Tree.{Item, Tree}
 use Rattle.hive_model.specs.Walk.{reading, node_at, big_data_of}
-use Rattle.hive_cells.proofs.Tools.{IsBytes}
 use Rattle.hive_read.proofs.FormFacts.{then-so}
-use Rattle.salvage_bins.specs.declared.layout.Mark.{Mark}
-use Rattle.salvage_bins.specs.declared.layout.Mark.TheVariants.{Nothing, InBin, Loose}
-use Rattle.salvage_bins.specs.Ground.{Ground, mark_at, payload_here, payload_by, is_loose}
-use Rattle.salvage_bins.specs.Layout.{layout_of}
+use Rattle.salvage_bins.specs.Ground.{Ground}
 use Rattle.salvage_walk.specs.declared.claims.Claim.{Claim}
 use Rattle.salvage_walk.specs.declared.lines.WalkLine.{WalkLine}
-use Rattle.salvage_walk.specs.Uses.{lies_in, claim_at}
+use Rattle.salvage_walk.specs.Uses.{claim_at}
 use Rattle.salvage_walk.specs.Parts.{node_long, value_long, security_long, big_long, offsets_long}
-use Rattle.salvage_walk.specs.Fronts.{Front, values_front, list_front, leaf_front}
+use Rattle.salvage_walk.specs.Fronts.{values_front, list_front, leaf_front}
 use Rattle.salvage_walk.specs.Walked.{Walked}
-use Rattle.salvage_walk.specs.Keys.{salvaged}
-use Rattle.salvage_file.specs.Salvage.{ground_in}
-use Rattle.salvage_laws.specs.Apart.{share_bytes, IsApart, AreApart}
-use Rattle.salvage_laws.specs.Bytes.{LiesInCell, HaveNoByte, UseNoByteTwice}
-use Rattle.salvage_laws.specs.Left.{uses_below, segments_uses, big_uses, data_uses, item_uses, class_uses, ClassLeft, class_stands, class_lost, SecurityLeft, security_none, security_first, security_again, security_lost, ItemsLeft, ValuesLeft, values_none, values_listed, values_lost, ListLeft, list_read, list_lost, LeavesLeft, ListsLeft, own_entries, entries_of_lists, lists_lost, EntriesLeft, entries_none, entries_named}
-use Rattle.salvage_laws.specs.LeftKeys.{Leaving, NextStands, NextFails, KeysLeft, KeyLeft, TreeLeft, IsSalvage, at_its_place, at_another, at_none}
+use Rattle.salvage_laws.specs.Bytes.{LiesInCell}
+use Rattle.salvage_laws.specs.Left.{segments_uses, big_uses, data_uses, item_uses, class_uses, ClassLeft, class_stands, class_lost, SecurityLeft, security_none, security_first, security_again, security_lost, ItemsLeft, ValuesLeft, values_none, values_listed, values_lost}
+use Rattle.salvage_laws.specs.LeftLists.{ListLeft, list_read, list_lost, LeavesLeft, ListsLeft, own_entries, entries_of_lists, lists_lost, EntriesLeft, entries_none, entries_named}
+use Rattle.salvage_laws.specs.LeftKeys.{Leaving, KeysLeft, KeyLeft, TreeLeft, IsSalvage, at_its_place, at_another, at_none}
 use Rattle.salvage_laws.proofs.PartViews.{done}
 use Rattle.salvage_laws.proofs.FormLong.{IsNoLonger, node-long, value-long, security-long, bytes-fit, big-long, offsets-long, front_long, values-front-long, list-front-long, leaf-front-long}
 use Rattle.salvage_laws.proofs.Wider.{uses-are, item-uses-are}

@@ -212,9 +212,13 @@ module _ (hive : Ground) where
       (λ x u. left-map (SegmentsUsed (bytes ++ x.0) (n - segment_bytes) more x.1) (SegmentsUsed bytes n (at ∷ more) claims)
       (SegmentsLost (n - segment_bytes) more x.1) (SegmentsLost n (at ∷ more) claims)
       (segments_part hive (bytes ++ x.0) (n - segment_bytes) more x.1)
-      (λ all after j. (x.0 ++ j.0, j.1 ∙ append_assoc bytes x.0 j.0, both x.0 j.0 u.0 j.2,
-      j.3 ∙ ap (λ cs. cs ++ segments_uses hive (n - segment_bytes) more) u.1
-      ∙ append_assoc claims (c ∷ []) (segments_uses hive (n - segment_bytes) more)))
+      (λ all after j. (
+        x.0 ++ j.0,
+        j.1 ∙ append_assoc bytes x.0 j.0,
+        both x.0 j.0 u.0 j.2,
+        j.3 ∙ ap (λ cs. cs ++ segments_uses hive (n - segment_bytes) more) u.1
+            ∙ append_assoc claims (c ∷ []) (segments_uses hive (n - segment_bytes) more),
+      ))
       (λ fault l used w. inr (l (used ++ c ∷ [])
       (subst (λ (cs : List Claim). Wider cs (used ++ c ∷ [])) (sym u.1) (wider-push claims used c w))))
       (segments-left (bytes ++ x.0) (n - segment_bytes) more x.1))
@@ -257,12 +261,14 @@ module _ (hive : Ground) where
       (λ fault l used w. segments_unlisted big.0 u.0 (l (used ++ first big.0 ∷ []) (one big u.1 used w)))
       (λ list v. left-map (SegmentsUsed [] n list.0 list.1) (BigUsed n claims at) (SegmentsLost n list.0 list.1) (BigLost n claims at)
       (segments_part hive [] n list.0 list.1)
-      (λ all after j. (big-is n at big.0 list.0 j.0 all u.0 v.0 j.1 j.2,
-      j.3 ∙ ap (λ cs. cs ++ segments_uses hive n list.0) v.1
-      ∙ ap (λ cs. (cs ++ second big.0 list.0 ∷ []) ++ segments_uses hive n list.0) u.1
-      ∙ append_assoc (claims ++ first big.0 ∷ []) (second big.0 list.0 ∷ []) (segments_uses hive n list.0)
-      ∙ append_assoc claims (first big.0 ∷ []) (second big.0 list.0 ∷ segments_uses hive n list.0)
-      ∙ ap (λ us. claims ++ us) (sym (uses-are n at big.0 list.0 u.0 v.0))))
+      (λ all after j. (
+        big-is n at big.0 list.0 j.0 all u.0 v.0 j.1 j.2,
+        j.3 ∙ ap (λ cs. cs ++ segments_uses hive n list.0) v.1
+            ∙ ap (λ cs. (cs ++ second big.0 list.0 ∷ []) ++ segments_uses hive n list.0) u.1
+            ∙ append_assoc (claims ++ first big.0 ∷ []) (second big.0 list.0 ∷ []) (segments_uses hive n list.0)
+            ∙ append_assoc claims (first big.0 ∷ []) (second big.0 list.0 ∷ segments_uses hive n list.0)
+            ∙ ap (λ us. claims ++ us) (sym (uses-are n at big.0 list.0 u.0 v.0)),
+      ))
       (λ fault l used w. segment_fails big.0 list.0 u.0 v.0
       (l ((used ++ first big.0 ∷ []) ++ second big.0 list.0 ∷ [])
       (subst (λ (cs : List Claim). Wider cs ((used ++ first big.0 ∷ []) ++ second big.0 list.0 ∷ [])) (sym v.1)
@@ -365,8 +371,10 @@ module _ (hive : Ground) where
       (λ v u. then-left (DataUsed v.0 v.1) (ItemUsed names claims at) (ItemLost names claims at) (ItemLost names claims at)
       (data_part v.0 hive v.1) (λ bytes. Ok (item_of v.0 bytes.0, bytes.1)) (data-left names claims at v.0 v.1 u.0 u.1) (λ fault l. l)
       (λ b d.
-      let plain = value-plain names at v.0 u.0 in
-      (item-stands hive.cells at v.0 b.0 plain.0 d.0,
-      d.1 ∙ ap (λ cs. cs ++ data_uses hive v.0) u.1
-      ∙ append_assoc claims (claim_at hive false at (value_long v.0) ∷ []) (data_uses hive v.0)
-      ∙ ap (λ us. claims ++ us) (sym (item-uses-are at v.0 plain.0)), plain.1)))
+      let plain = value-plain names at v.0 u.0 in (
+        item-stands hive.cells at v.0 b.0 plain.0 d.0,
+        d.1 ∙ ap (λ cs. cs ++ data_uses hive v.0) u.1
+            ∙ append_assoc claims (claim_at hive false at (value_long v.0) ∷ []) (data_uses hive v.0)
+            ∙ ap (λ us. claims ++ us) (sym (item-uses-are at v.0 plain.0)),
+        plain.1,
+      )))

@@ -1,8 +1,8 @@
 -- What is left of a tree in damaged cells, in which cells, and what is said of the rest?
 --
--- Each part stands in cells that have its form, which no other part uses; or it is left out, with a line whose fault it has. Uses are the
+-- Each part is in cells that have its form, which no other part uses; or it is left out, with a line whose fault it has. Uses are the
 -- cells of the parts that stand, each once, in the order of the walk: of a security cell only the first use.
-use Rattle.std.specs.Prelude.{◌≡◌, ◌⊎◌, ℕ, ◌+◌, ◌-◌, ◌==◌, ◌&&◌, not, Bool, true, false, is_some, if◌then◌else◌, List, [], ◌∷◌, ◌++◌, length, Some, Result, Ok, Err}
+use Rattle.std.specs.Prelude.{◌≡◌, ◌⊎◌, ℕ, ◌+◌, ◌-◌, ◌==◌, Bool, true, false, is_some, if◌then◌else◌, List, [], ◌∷◌, ◌++◌, length, Some, Result, Ok, Err}
 use Rattle.std.specs.List.{list_any}
 use Rattle.nt_bytes.specs.Folding.{folds_same}
 use Rattle.nt_bytes.specs.declared.fault.HiveFault.{HiveFault}
@@ -17,16 +17,15 @@ use Rattle.hive_model.specs.Security.{SecurityCell, security_at}
 use Rattle.hive_model.specs.Size.{segment_bytes, is_big, segment_part}
 use Rattle.hive_model.specs.Stands.{class_of, item_at}
 use Rattle.hive_model.specs.Tree.{Item}
-use Rattle.hive_model.specs.Walk.{reading, nowhere, big_data_of, is_list_of_lists}
+use Rattle.hive_model.specs.Walk.{reading, nowhere, big_data_of}
 use Rattle.salvage_bins.specs.Ground.{Ground}
 use Rattle.salvage_walk.specs.declared.claims.Claim.{Claim}
 use Rattle.salvage_walk.specs.declared.lines.WalkLine.{WalkLine}
-use Rattle.salvage_walk.specs.declared.lines.WalkLine.TheVariants as lines
 use Rattle.salvage_walk.specs.declared.lines.KeyPart.{KeyPart}
 use Rattle.salvage_walk.specs.declared.lines.KeyPart.TheVariants as parts
 use Rattle.salvage_walk.specs.Uses.{claim_of, claim_at}
 use Rattle.salvage_walk.specs.Parts.{value_long, security_long, big_long, offsets_long}
-use Rattle.salvage_walk.specs.Fronts.{Front, values_front, list_front, leaf_front}
+use Rattle.salvage_walk.specs.Fronts.{Front, values_front}
 use Rattle.salvage_walk.specs.Steps.{part_line, value_line}
 use Rattle.salvage_laws.specs.Fails.{Fails, ListFails, ItemFails}
 
@@ -106,7 +105,7 @@ ItemsLeft hive used path i names (at ∷ more) items uses said =
     ⊎ ((fault : HiveFault) × (later : List WalkLine) × (said ≡ value_line path i fault (reading key_value_at hive.cells at) ∷ later)
     × ItemFails hive used names at fault × ItemsLeft hive used path (i + 1) names more items uses later)
 
--- the values of a key, of as many entries as its list has
+-- the values of a key, by the entries that its list has
 pub data ValuesLeft (hive : Ground) (used : List Claim) (path : List (List ℕ)) (node : KeyNode) (items : List Item) (uses : List Claim)
     (said : List WalkLine) : Type 0 where
   values_none : (node.value_count == 0) ≡ true → items ≡ [] → uses ≡ [] → said ≡ [] → ValuesLeft hive used path node items uses said
@@ -118,65 +117,3 @@ pub data ValuesLeft (hive : Ground) (used : List Claim) (path : List (List ℕ))
   values_lost : (kind : HiveFaultKind) → (node.value_count == 0) ≡ false
       → ListFails (values_front node.value_count) hive used node.value_list kind → items ≡ [] → uses ≡ []
       → said ≡ part_line parts.Values path (fault_at kind node.value_list) ∷ [] → ValuesLeft hive used path node items uses said
-
--- ---- lists of children
-
--- the entries of a list, or none
-pub data ListLeft (form : List ℕ → Result Front HiveFaultKind) (hive : Ground) (used : List Claim) (path : List (List ℕ)) (at : ℕ)
-    (offsets : List ℕ) (uses : List Claim) (said : List WalkLine) : Type 0 where
-  list_read : (list : Front) → reading form hive.cells at ≡ Ok list → offsets ≡ list.offsets
-      → uses ≡ claim_at hive false at list.long ∷ [] → said ≡ short_lines list.short parts.Keys path at
-      → ListLeft form hive used path at offsets uses said
-  list_lost : (kind : HiveFaultKind) → ListFails form hive used at kind → offsets ≡ [] → uses ≡ []
-      → said ≡ part_line parts.Keys path (fault_at kind at) ∷ [] → ListLeft form hive used path at offsets uses said
-
--- two sequences of each
-pub record Split (offsets : List ℕ) (uses : List Claim) (said : List WalkLine) (First : List ℕ → List Claim → List WalkLine → Type 0)
-    (Rest : List ℕ → List Claim → List WalkLine → Type 0) : Type 0 where
-  pub first_offsets : List ℕ
-  pub first_uses : List Claim
-  pub first_said : List WalkLine
-  pub rest_offsets : List ℕ
-  pub rest_uses : List Claim
-  pub rest_said : List WalkLine
-  pub offsets_are : offsets ≡ first_offsets ++ rest_offsets
-  pub uses_are : uses ≡ first_uses ++ rest_uses
-  pub said_is : said ≡ first_said ++ rest_said
-  pub first : First first_offsets first_uses first_said
-  pub rest : Rest rest_offsets rest_uses rest_said
-
--- those of the lists at these offsets
-abbrev pub LeavesLeft : Ground → List Claim → List (List ℕ) → List ℕ → List ℕ → List Claim → List WalkLine → Type 0
-LeavesLeft hive used path [] offsets uses said = (offsets ≡ []) × (uses ≡ []) × (said ≡ [])
-LeavesLeft hive used path (at ∷ more) offsets uses said =
-    Split offsets uses said (ListLeft leaf_front hive used path at) (LeavesLeft hive used path more)
-
--- the entries that a key's list names: its own, or those of its lists
-pub data ListsLeft (hive : Ground) (used : List Claim) (path : List (List ℕ)) (at : ℕ) (offsets : List ℕ) (uses : List Claim)
-    (said : List WalkLine) : Type 0 where
-  own_entries : (list : Front) → reading list_front hive.cells at ≡ Ok list → is_list_of_lists list.kind ≡ false
-      → offsets ≡ list.offsets → uses ≡ claim_at hive false at list.long ∷ [] → said ≡ short_lines list.short parts.Keys path at
-      → ListsLeft hive used path at offsets uses said
-  entries_of_lists : (list : Front) (later : List Claim) (rest : List WalkLine) → reading list_front hive.cells at ≡ Ok list
-      → is_list_of_lists list.kind ≡ true → uses ≡ claim_at hive false at list.long ∷ later
-      → said ≡ short_lines list.short parts.Keys path at ++ rest → LeavesLeft hive used path list.offsets offsets later rest
-      → ListsLeft hive used path at offsets uses said
-  lists_lost : (kind : HiveFaultKind) → ListFails list_front hive used at kind → offsets ≡ [] → uses ≡ []
-      → said ≡ part_line parts.Keys path (fault_at kind at) ∷ [] → ListsLeft hive used path at offsets uses said
-
-abbrev pub is_silent : List WalkLine → Bool
-is_silent [] = true
-is_silent (line ∷ more) = false
-
--- the line of a key whose lists have no fault, and another number of entries than it counts
-abbrev pub count_lines : KeyNode → List (List ℕ) → ℕ → List ℕ → List WalkLine → List WalkLine
-count_lines node path at offsets said =
-    if is_silent said && not (length offsets == node.child_count) then lines.Nothing at path ∷ [] else []
-
--- the entries of a key; a count of 0 means none
-pub data EntriesLeft (hive : Ground) (used : List Claim) (path : List (List ℕ)) (node : KeyNode) (at : ℕ) (offsets : List ℕ)
-    (uses : List Claim) (said : List WalkLine) : Type 0 where
-  entries_none : (node.child_count == 0) ≡ true → offsets ≡ [] → uses ≡ [] → said ≡ []
-      → EntriesLeft hive used path node at offsets uses said
-  entries_named : (first : List WalkLine) → (node.child_count == 0) ≡ false → ListsLeft hive used path node.child_list offsets uses first
-      → said ≡ first ++ count_lines node path at offsets first → EntriesLeft hive used path node at offsets uses said

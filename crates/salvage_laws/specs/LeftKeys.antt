@@ -17,7 +17,8 @@ use Rattle.salvage_walk.specs.Parts.{node_form, node_long}
 use Rattle.salvage_walk.specs.Walked.{Walked}
 use Rattle.salvage_walk.specs.Keys.{key_line, least_root}
 use Rattle.salvage_laws.specs.Fails.{Fails, ChildFails}
-use Rattle.salvage_laws.specs.Left.{ClassLeft, SecurityLeft, ValuesLeft, EntriesLeft}
+use Rattle.salvage_laws.specs.Left.{ClassLeft, SecurityLeft, ValuesLeft}
+use Rattle.salvage_laws.specs.LeftLists.{EntriesLeft}
 
 -- what is said of a key at an offset, and of all below it: the tree that stands, its uses and its lines
 abbrev pub Leaving : Type 1

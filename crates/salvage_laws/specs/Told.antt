@@ -1,7 +1,7 @@
 -- Which fault does a report say first?
-use Rattle.std.specs.Prelude.{◌≡◌, List, [], ◌∷◌, Option, Some, None}
+use Rattle.std.specs.Prelude.{◌≡◌, ◌⊎◌, List, [], ◌∷◌, Option, Some, None}
 use Rattle.nt_bytes.specs.declared.fault.HiveFault.{HiveFault}
-use Rattle.nt_bytes.specs.declared.fault.HiveFaultKind.TheVariants.{Count}
+use Rattle.nt_bytes.specs.declared.fault.HiveFaultKind.TheVariants.{Count, Size}
 use Rattle.hive_model.specs.Base.{fault_at}
 use Rattle.hive_model.specs.Bins.{or_else}
 use Rattle.salvage_bins.specs.declared.layout.BrokenBin.{BrokenBin}
@@ -58,3 +58,8 @@ pub record IsSilent (s : SalvagedHive) : Type 0 where
   pub log : s.log ≡ None
   pub broken : s.broken ≡ []
   pub lines : s.lines ≡ []
+
+-- this fault is said first; or first that the file is too short, and then that the log has this fault
+abbrev pub TellsFirst : SalvagedHive → HiveFault → Type 0
+TellsFirst s fault =
+    (first_reported s ≡ Some fault) ⊎ ((first_reported s ≡ Some (fault_at Size 40)) × (log_fault s.log ≡ Some fault))

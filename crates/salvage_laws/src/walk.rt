@@ -22,7 +22,7 @@ pub fn the_walk_refuses_what_a_load_refuses()
         → (salvaged hive root).0 ≡ Some t }
 {}
 
-/// Each key and value that is salvaged stands in allocated cells that have its form, with these fields, at its path, and no byte is used
+/// Each key and value that is salvaged is in allocated cells that have its form, with these fields, at its path, and no byte is used
 /// twice, but of security. Each other part has a line, and its fault is one of the part's own cells, name or level, or of a cell or name
 /// that the result has. There is no other line.
 pub fn what_is_salvaged_stands_and_the_rest_has_a_line()
