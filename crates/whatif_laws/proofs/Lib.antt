@@ -7,3 +7,4 @@ pub mod SwitchedLemmas
 pub mod CompareLemmas
 pub mod LostLemmas
 pub mod GoLemmas
+pub mod ReportLemmas
