@@ -17,11 +17,7 @@ use reg_tree::Key;
 use std::alloc::Global;
 
 /// The report on the hive's tree, or the hive's first fault.
-fn report_on(
-    alloc: Global,
-    inputs: &ControlInputs,
-    form: ReportForm,
-) -> Result<Bytes, Obstacle>
+fn report_on(alloc: Global, inputs: &ControlInputs, form: ReportForm) -> Result<Bytes, Obstacle>
     ensures { ReportsAs form inputs.now result }
 {
     match read(alloc, &inputs.hive) {

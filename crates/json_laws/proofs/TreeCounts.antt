@@ -6,7 +6,7 @@ use Rattle.tree_text.specs.TreeObjects.{ValueLine, level_below, value_lines, key
 
 value_count : (level : ℕ) (values : List Item) → length (value_lines level values) ≡ length values
 unfolding value_lines
-value_count level values = length-map (ValueLine level) values
+value_count level values = length-map values (ValueLine level)
 
 mutual
   pub line_count : (level : ℕ) (t : Tree) → length (key_lines level t) ≡ key_count t + item_count t

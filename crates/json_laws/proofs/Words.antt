@@ -171,6 +171,7 @@ verdict_units OtherLoader = word_units (verdict_word OtherLoader) refl
 verdict_units NoSystem = word_units (verdict_word NoSystem) refl
 verdict_units NoControlSet = word_units (verdict_word NoControlSet) refl
 verdict_units NoLastKnownGood = word_units (verdict_word NoLastKnownGood) refl
+
 -- two words for a flag
 abbrev pub flags : List Bool
 flags = true ∷ false ∷ []

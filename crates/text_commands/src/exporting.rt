@@ -82,12 +82,7 @@ fn exported_in(alloc: Global, form: ReportForm, key: &Key) -> Result<Vec<u8>, Al
 }
 
 /// A key that has a text.
-fn with_text(
-    alloc: Global,
-    form: ReportForm,
-    key: &Key,
-    text: Bytes,
-) -> Result<Outcome, AllocError>
+fn with_text(alloc: Global, form: ReportForm, key: &Key, text: Bytes) -> Result<Outcome, AllocError>
     ensures { IfOk result (λ e. export_with e.put e.status e.line ≡ text_export form key.now (Ok text)) }
 {
     let line = exported_in(alloc, form, key)?;
