@@ -188,7 +188,7 @@ module _ (waits : List (List (List ℕ))) (proper : AreProper waits) where
   round_cycle q lq h empty =
       let r = round_found q lq h in none_in r.0 (subst (λ (cs : List (List ℕ)). Contains cs r.0) empty r.1)
 
-  -- a place that comes to one leads on
+  -- a place that reaches one leads on
   leads_some : (q f : ℕ) → q < length waits → f < length waits → comes_to (leads waits) (length waits) q f ≡ true
       → is_stuck waits q ≡ true
   leads_some q f lq lf h = elim (cases_Bool (is_stuck waits q)) [

@@ -91,7 +91,7 @@ phase_tells Done = refl
 
 -- ---- a phase to its end
 
--- who starts in the phase that a course stands in
+-- who starts in the phase that a course is in
 abbrev pub phase_run : Start → Ran Entry
 phase_run s = run need_of (length s.waiting) s.started s.waiting
 

@@ -104,7 +104,7 @@ turn_ind Plan Q step pre (m ∷ ms) all t n c =
       | inr j ↦ subst Q (alone_from m x j) (step pre m all t.0 t.1)
     ]) t.2 n (subst (λ (l : List Need). Contains l n) (sym (append_assoc pre (m ∷ []) ms)) c)
 
--- of a plan those start in turn, and what is left of it is not ready
+-- of a plan those start in turn, and what remains of it is not ready
 pub record IsPhase (Plan : Need → Type 0) (pre new left : List Need) : Type 0 where
   pub turn : InTurn Plan pre new
   pub each : (n : Need) → Plan n → Contains new n ⊎ Contains left n

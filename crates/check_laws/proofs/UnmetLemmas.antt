@@ -120,7 +120,7 @@ module _ (rows : List Staged) (apart : RowsApart rows) where
 
   -- ---- what is ready isn't stuck
 
-  -- it stands at no stuck place
+  -- it is at no stuck place
   abbrev pub IsFree : Need → Type 0
   IsFree m = (p : ℕ) (r : Staged) → slice_get rows p ≡ Some r → need_of r.entry ≡ m → is_stuck (waits_of rows) p ≡ true → ⊥
 

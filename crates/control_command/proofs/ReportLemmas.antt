@@ -1,4 +1,4 @@
--- What is said of commands, in sequence.
+-- What is printed for commands, in sequence.
 use Rattle.std.proofs.Common.{◌≡◌, ℕ, ◌+◌, List, ◌++◌, Option, Some, refl, sym, ap, ◌∙◌, subst}
 use Rattle.std.specs.Prelude.{codes, Result, Ok, Err, OnOk, IfOk}
 use Rattle.std.specs.Option.{option_map_or}

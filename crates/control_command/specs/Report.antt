@@ -1,8 +1,8 @@
--- What is said of each command? (this project's own; JSON is RFC 8259)
+-- What is printed for each command? (this project's own; JSON is RFC 8259)
 --
 --     started NAME    stopped NAME    running NAME    refused COMMAND NAME WORD [NAME]    verdict no-control-set    end
 --
--- The words that end in `_in` are of one of the two forms; those without it are of the text.
+-- The terms that end in `_in` are of one of the two forms; those without it are of the text.
 use Rattle.std.specs.Prelude.{◌≡◌, ℕ, List, [], ◌∷◌, ◌++◌, Option, codes}
 use Rattle.std.specs.Option.{option_map_or}
 use Rattle.std.specs.List.{flat_map}
@@ -90,7 +90,7 @@ no_set_lines_in forms.Json = line_json (VerdictLine NoControlSet) ++ line_json E
 
 -- ---- a command
 
--- what is said of a command, and what is known of the services then
+-- what is printed for a command, and what is known of the services then
 pub record Answered : Type 0 where
   pub text : List ℕ
   pub state : ControlState
@@ -129,7 +129,7 @@ pub record Adds (answer : Answered) (control : ControlState) (old new : List ℕ
 
 -- ---- the report
 
--- what is said of each command, in sequence
+-- what is printed for each command, in sequence
 abbrev pub answers_in : ReportForm → ControlState → List ControlCommand → List ℕ
 answers_in form c [] = end_line_in form
 answers_in form c (command ∷ more) = (answer_in form c command).text ++ answers_in form (answer_in form c command).state more
@@ -141,7 +141,7 @@ answers_to c commands = answers_in forms.Text c commands
 abbrev pub default_set : Tree → Option Tree
 default_set tree = usable_set tree (select_numbers_of tree).default
 
--- what is said of the commands on the services of this tree
+-- what is printed for the commands on the services of this tree
 abbrev pub report_in : ReportForm → Tree → List ControlCommand → List ℕ
 report_in form tree commands = option_map_or (λ set. answers_in form (control_of set) commands) (default_set tree) (no_set_lines_in form)
 

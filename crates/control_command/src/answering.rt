@@ -1,4 +1,4 @@
-//! What is said of the commands.
+//! What is printed for the commands.
 
 ghost use Rattle.std.specs.Prelude.{◌≡◌, ◌++◌, IfOk, OnOk, codes};
 ghost use Rattle.hive_model.specs.Valid.{HoldsKeys};
@@ -110,7 +110,7 @@ fn answer(
     }
 }
 
-/// What is said of the commands on the services of this set.
+/// What is printed for the commands on the services of this set.
 fn answers(
     alloc: Global,
     form: ReportForm,
@@ -129,7 +129,7 @@ fn answers(
     Ok(Bytes::from_vec(out))
 }
 
-/// What is said where Default names no usable set.
+/// What is printed where Default names no usable set.
 fn no_set(alloc: Global, form: ReportForm) -> Result<Bytes, AllocError>
     ensures { IfOk result (λ t. t ≡ no_set_lines_in form) }
 {
@@ -138,7 +138,7 @@ fn no_set(alloc: Global, form: ReportForm) -> Result<Bytes, AllocError>
     Ok(Bytes::from_vec(out))
 }
 
-/// What is said of the commands on the services of this tree in one of the two forms. The tree's keys must be those that a hive can
+/// What is printed for the commands on the services of this tree in one of the two forms. The tree's keys must be those that a hive can
 /// hold.
 pub fn report(
     alloc: Global,

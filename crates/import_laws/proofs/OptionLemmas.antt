@@ -208,7 +208,7 @@ each_unnamed n (step ∷ steps) =
 pub none_named : (n : ℕ) (steps : List Step) → All (λ step. names_current step ≡ false) (set_steps n steps).steps
 none_named n steps = each_all (λ step. names_current step ≡ false) (set_steps n steps).steps (each_unnamed n steps)
 
--- ---- what is left
+-- ---- what remains
 
 left_done : (current passed : Option ℕ) (done : Done)
     → (said_of current passed done).done ≡ (said_of current None done).done

@@ -39,7 +39,7 @@ pub fn a_text_in_utf8_is_read_as_in_utf16()
 {}
 
 /// With `--current` a change is that by the edits with the set's name in place of `CurrentControlSet`, where none of them deletes the
-/// set by that name; and the number of the set is said first (`change`, `said`). Line by line these are the edits of the text in which
+/// set by that name; and the number of the set is printed first (`change`, `said`). Line by line these are the edits of the text in which
 /// that name is written in each line of a key (`lines`, `keys`). No edit that is made names `CurrentControlSet` (`none_named`).
 pub fn the_name_of_the_current_set_is_written_out()
     ensures lines { (set : List ℕ) (key : Option (List (List ℕ))) (item : LineItem)

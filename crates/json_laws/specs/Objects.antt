@@ -48,7 +48,7 @@ pub record IsObject (o : Object) : Type 0 where
   pub word : is_word o.word ≡ true
   pub fields : AllByRecursion IsField o.fields
 
--- ---- what is told
+-- ---- what an object determines
 
 -- a list without anything is one value, whether numbers or texts are left out in it
 abbrev pub told_value : Value → Value

@@ -1,4 +1,4 @@
--- What is asked of a line of `show`, so that its object tells it? (this project's own)
+-- What is asked of a line of `show`, so that its object determines it? (this project's own)
 use Rattle.std.specs.Prelude.{ℕ, List, length}
 use Rattle.std.specs.List.{AllByRecursion}
 use Rattle.hex.specs.Hex.{IsBytes}

@@ -7,7 +7,7 @@ ghost use Rattle.line_objects.specs.Objects.{line_json};
 ghost use Rattle.json_laws.specs.Lines.{IsStartLine, AreStartLines};
 ghost use Rattle.json_laws.specs.Objects.{IsPrintableLine};
 
-/// The object of a line of a start tells the line, and where it ends: two lines with one object are one line, and so have one text.
+/// The object of a line of a start determines the line, and where it ends: two lines with one object are one line, and so have one text.
 pub fn an_object_tells_its_line()
     ensures { (a b : Line) (after more : List ℕ) → IsStartLine a → IsStartLine b → line_json a ++ after ≡ line_json b ++ more → (a ≡ b) × (after ≡ more) }
 {}

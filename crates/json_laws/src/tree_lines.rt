@@ -6,7 +6,7 @@ ghost use Rattle.tree_text.specs.TreeObjects.{TreeLine, line_json, lines_json, k
 ghost use Rattle.json_laws.specs.TreeLines.{IsTreeLine, AreTreeLines};
 ghost use Rattle.json_laws.specs.Objects.{IsPrintableLine};
 
-/// The object of a line of `show` tells the line, and where it ends.
+/// The object of a line of `show` determines the line, and where it ends.
 pub fn an_object_tells_its_key_or_value()
     ensures { (a b : TreeLine) (after more : List ℕ) → IsTreeLine a → IsTreeLine b → line_json a ++ after ≡ line_json b ++ more
         → (a ≡ b) × (after ≡ more) }
@@ -22,7 +22,7 @@ pub fn a_key_or_value_is_printed_in_ascii()
     ensures { (l : TreeLine) → IsTreeLine l → IsPrintableLine (line_json l) }
 {}
 
-/// Each key and each value has an object, as each has a line of the text: there are as many of both.
+/// Each key and each value has an object, as each has a line of the text: there are the same number of both.
 pub fn each_key_and_value_is_an_object()
     ensures { (level : ℕ) (t : Tree) → length (key_lines level t) ≡ key_count t + item_count t }
 {}

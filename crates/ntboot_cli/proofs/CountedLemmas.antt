@@ -184,7 +184,7 @@ asks_counted names.Diff look = by_text look (codes "--hive")
     (λ hive. and_then (paired (look (codes "--with")) (look (codes "--with-log"))) (diff_with look hive))
     (λ hive. by_then IsCounted (diff_with look hive) (paired (look (codes "--with")) (look (codes "--with-log"))) (λ with. tt))
 
--- ---- the words
+-- ---- the reading
 
 by_if : (b : Bool) (x y : Reading) → ReadsCounted x → ReadsCounted y → ReadsCounted (if b then x else y)
 by_if true x y p q = p

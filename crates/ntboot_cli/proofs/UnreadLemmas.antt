@@ -1,4 +1,4 @@
--- There was no memory for the words: nothing was printed and nothing done, which every command allows.
+-- There was no memory for the command line: nothing was printed and nothing done, which every command allows.
 use Rattle.std.proofs.Common.{◌≡◌, inl, inr, ℕ, Bool, true, false, List, Option, None, Some, refl, sym, subst, arith}
 use Rattle.std.specs.Prelude.{Result, Ok, Err}
 use Rattle.nt_edge.specs.Disk.{DiskState, new_state}

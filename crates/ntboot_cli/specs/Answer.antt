@@ -267,7 +267,7 @@ MakesAlone form usual words status old new disk =
     let saves : Saves = record { hive = words.save_hive; log = None } in
     DecidesAlone (EndsMade form usual words.count saves disk) saves status old new disk
 
--- all that is said of the whole call
+-- all that holds of the whole call
 pub record TopDecides (asked : Reading) (status : Status) (old new : HostState) (disk : DiskState) : Type 0 where
   pub leaves : Leaves (EndsWords asked old.files new.files disk) status old new
   pub files : old.tells ≡ true → LeavesFiles asked status disk.held old.files new.files

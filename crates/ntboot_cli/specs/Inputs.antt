@@ -1,6 +1,6 @@
 -- What a command reads, or the first obstacle. This project's own.
 --
--- The words come first. Of `run` then: the system's path, without a reading; the script, absent or without a reading; boot.ini,
+-- The command line comes first. Of `run` then: the system's path, without a reading; the script, absent or without a reading; boot.ini,
 -- absent, too long or with too many entries; the hive, absent; its log, absent. Of `show`: the hive and its log. What is in hive
 -- and log is judged after all of them.
 use Rattle.std.specs.Prelude.{◌≡◌, ◌+◌, ℕ, true, List, Option, Some, None, Result, Ok, Err}
@@ -30,7 +30,7 @@ abbrev pub events_in : Result (List Event) ScriptFault → Result (List Event) R
 events_in (Err fault) = Err (BadScript fault)
 events_in (Ok events) = Ok events
 
--- what the words and files have for a run, or the first obstacle
+-- what options and files have for a run, or the first obstacle
 abbrev pub inputs_in : RunAsked → Files → Result Inputs Refusal
 inputs_in words files = do
   system ← system_in (arc_of words.system)

@@ -40,7 +40,7 @@ fn form(json: bool) -> ReportForm
     }
 }
 
-/// Reads the words, and does what they ask for.
+/// Reads the command line, and does what it asks for.
 fn obey<H: Host, B: Bench>(alloc: Global, words: &[&str], host: &mut H, bench: &mut B) -> Status
     requires fresh { B.state bench.old ≡ new_state }
     ensures { TopDecides (reading_of (map (λ w. w.now) words.now)) result (H.state host.old) (H.state host.new) (B.state bench.new) }
@@ -70,7 +70,7 @@ fn obey<H: Host, B: Bench>(alloc: Global, words: &[&str], host: &mut H, bench: &
     }
 }
 
-/// Reads the words, then the files that they name, and says the report, the tree or the line that the command has, or the one line
+/// Reads the command line, then the files that it names, and prints the report, the tree or the line that the command has, or the one line
 /// of the first obstacle; then it saves the files that the command line names. A run is on the disk, to which nothing was done yet, and
 /// which is off afterwards.
 pub fn ntboot<H: Host, B: Bench>(

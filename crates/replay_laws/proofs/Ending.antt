@@ -76,7 +76,7 @@ unfolding replay_of
 replay_of_hive file files hive P reads holds =
     subst (λ (r : Result Base HiveFault). IfOk (replayed_as file files r) P) (sym reads) holds
 
--- ---- what is left is the file as it was, or clean
+-- ---- what remains is the file as it was, or clean
 
 abbrev pub Leaves : List ℕ → Base → Outcome → Type 0
 Leaves file hive o = ((o.file ≡ file) × ((o.first ≡ hive.first) × (o.second ≡ hive.second))) ⊎ (o.first ≡ o.second)
@@ -88,7 +88,7 @@ replay_leaves file files hive reads =
     (outcome_is file files hive (Leaves file hive) (λ said. inl (refl, (refl, refl))) (λ said some. inr refl)
     (λ said c none is. inr refl))
 
--- ---- what is said at the end
+-- ---- what is reported at the end
 
 one_some : {A : Type 0} → ◌≡◌ {A = ℕ} 1 0 → A
 one_some e = absurd cc

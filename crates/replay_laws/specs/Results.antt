@@ -100,7 +100,7 @@ pub record IsByOld (file : List ℕ) (files : List LogFile) (hive : Base) (o : O
 abbrev pub IsMade : List ℕ → List LogFile → Base → Outcome → Type 0
 IsMade file files hive o = IsLeft file hive o ⊎ (IsByEntries file files hive o ⊎ IsByOld file files hive o)
 
--- ---- what is said of it
+-- ---- what is reported of it
 
 -- The last line has how many entries or old logs were applied, and the result's numbers. Where none was, the hive is as it was;
 -- else it is clean.

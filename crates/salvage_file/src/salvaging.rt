@@ -24,12 +24,12 @@ use std::alloc::{AllocError, Global};
 pub struct BinsFound {
     pub broken: Row<BrokenBin>,
     pub lines: Row<WalkLine>,
-    /// What is said while keys are looked for by their parents.
+    /// What is printed while keys are looked for by their parents.
     pub said: Row<ParentLine>,
     pub tree: Option<Key>,
 }
 
-/// What is salvaged of a damaged hive, and what is said of it.
+/// What is salvaged of a damaged hive, and what is printed for it.
 #[derive(Drop)]
 pub struct SalvagedHive {
     /// The two numbers of its base block.
@@ -43,7 +43,7 @@ pub struct SalvagedHive {
     pub log: Option<LogStop>,
     pub broken: Row<BrokenBin>,
     pub lines: Row<WalkLine>,
-    /// What is said while keys are looked for by their parents.
+    /// What is printed while keys are looked for by their parents.
     pub said: Row<ParentLine>,
     pub tree: Option<Key>,
     /// What is saved, where that is asked for.

@@ -390,7 +390,7 @@ module _ (hive : Ground) (none : NoneLoose hive) where
 
   -- ---- the root
 
-  -- this tree stands at the root
+  -- this tree is at the root
   abbrev IsRoot : ℕ → Option Tree → Type 0
   IsRoot root o = (t : Tree) × (o ≡ Some t) × Stands cells root t
 
@@ -439,7 +439,7 @@ module _ (hive : Ground) (none : NoneLoose hive) where
       by (Ok seen) first g a = ap first_told g.0 ∙ sym a
       by (Err fault) first g a = first-so fault (salvaged hive root).1.lines g ∙ sym a
 
-  -- without a fault nothing is said, and the tree stands at the root
+  -- without a fault nothing is printed, and the tree is at the root
   stands-so : (root : ℕ) → first_fault cells root ≡ None → ((salvaged hive root).1.lines ≡ []) × IsRoot root (salvaged hive root).0
   stands-so root e =
       by (walk cells map.empty (all_checks cells root)) (first_fault cells root) e (root-goes root)

@@ -35,7 +35,7 @@ use Rattle.salvage_laws.proofs.Wider.{Upto, upto-adds, wider-upto, fails-upto, l
 
 -- ---- how a step leaves its part
 
--- between two states stand these uses and lines, of which something is said
+-- between two states stand these uses and lines, of which something is printed
 pub record Leaves (w v : Walked) (Means : List Claim → List WalkLine → Type 0) : Type 0 where
   pub uses : List Claim
   pub said : List WalkLine
@@ -307,7 +307,7 @@ module _ (hive : Ground) (used : List Claim) where
 
   -- ---- lists of children
 
-  -- further entries with these uses and lines; no list has a fault where none had before and nothing is said
+  -- further entries with these uses and lines; no list has a fault where none had before and nothing is printed
   abbrev EntriesMore : (List ℕ → List Claim → List WalkLine → Type 0) → Entries → Entries → List Claim → List WalkLine → Type 0
   EntriesMore Means e all uses said =
       (more : List ℕ) × (all.offsets ≡ e.offsets ++ more) × (all.sound ≡ (e.sound && is_silent said)) × Means more uses said
@@ -410,7 +410,7 @@ module _ (hive : Ground) (used : List Claim) where
         );
       }
 
-  -- the entries of lists that have no fault where nothing is said
+  -- the entries of lists that have no fault where nothing is printed
   abbrev ListsMean : List (List ℕ) → ℕ → Entries → List Claim → List WalkLine → Type 0
   ListsMean path at all uses said = (all.sound ≡ is_silent said) × ListsLeft hive used path at all.offsets uses said
 

@@ -48,7 +48,7 @@ module _ (hive : Ground) (used : List Claim) where
 
   -- ---- children
 
-  -- what is left of a child that was judged
+  -- what remains of a child that was judged
   abbrev ChildLeft : ℕ → List ℕ → List (List ℕ) → List (List ℕ) → ℕ → ℕ → Walked → Option Tree × Walked → Type 0
   ChildLeft left above path names i at w (Some t, v) =
       Leaves w v (TreeLeft left hive used above path at t) × (list_any (folds_same (head t).name) names ≡ false)

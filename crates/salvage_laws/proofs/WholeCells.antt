@@ -31,7 +31,7 @@ none-loose bytes starts at = go ((at % 8 == 0) && nat_le (at + 8) (length bytes)
     go true = ap is_loose (marked-at starts (at / 8)) ∙ not-loose (get_or starts (at / 8) false)
     go false = refl
 
--- the number of a cell's size, and what it says
+-- the number of a cell's size, and what it is
 allocated-head : (size : ℕ) → 8 ≤ size → size < 2147483648
     → (nat_lt (4294967296 - size) 2147483648 ≡ false) × (magnitude (4294967296 - size) ≡ size)
 allocated-head size least fits =

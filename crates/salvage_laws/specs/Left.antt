@@ -1,4 +1,4 @@
--- What is left of a tree in damaged cells, in which cells, and what is said of the rest?
+-- What remains of a tree in damaged cells, in which cells, and what is printed for the rest?
 --
 -- Each part is in cells that have its form, which no other part uses; or it is left out, with a line whose fault it has. Uses are the
 -- cells of the parts that stand, each once, in the order of the walk: of a security cell only the first use.

@@ -1,4 +1,4 @@
--- What is left of a key with all below it, in which cells, and what is said of the rest?
+-- What remains of a key with all below it, in which cells, and what is printed for the rest?
 use Rattle.std.specs.Prelude.{◌≡◌, ◌⊎◌, ℕ, zero, suc, ◌+◌, Bool, true, false, List, [], ◌∷◌, ◌++◌, Option, Some, None, Ok}
 use Rattle.std.specs.List.{list_any}
 use Rattle.nt_bytes.specs.Folding.{folds_same}
@@ -20,7 +20,7 @@ use Rattle.salvage_laws.specs.Fails.{Fails, ChildFails}
 use Rattle.salvage_laws.specs.Left.{ClassLeft, SecurityLeft, ValuesLeft}
 use Rattle.salvage_laws.specs.LeftLists.{EntriesLeft}
 
--- what is said of a key at an offset, and of all below it: the tree that stands, its uses and its lines
+-- what is printed for a key at an offset, and of all below it: the tree that stands, its uses and its lines
 abbrev pub Leaving : Type 1
 Leaving = ℕ → Tree → List Claim → List WalkLine → Type 0
 

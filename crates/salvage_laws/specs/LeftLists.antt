@@ -1,4 +1,4 @@
--- Which entries do a key's lists name, in which cells, and what is said of lists that are left out?
+-- Which entries do a key's lists name, in which cells, and what is printed for lists that are left out?
 use Rattle.std.specs.Prelude.{◌≡◌, ℕ, ◌==◌, ◌&&◌, not, Bool, true, false, if◌then◌else◌, List, [], ◌∷◌, ◌++◌, length, Result, Ok}
 use Rattle.nt_bytes.specs.declared.fault.HiveFaultKind.{HiveFaultKind}
 use Rattle.hive_model.specs.Base.{fault_at}

@@ -33,7 +33,7 @@ abbrev pub first_broken : List BrokenBin → Option HiveFault
 first_broken [] = None
 first_broken (bin ∷ more) = Some bin.fault
 
--- the first fault that is said of bins data: of a bin, or else of the walk
+-- the first fault that is printed of bins data: of a bin, or else of the walk
 abbrev pub first_found : BinsFound → Option HiveFault
 first_found found = or_else (first_broken found.broken) (first_told found.lines)
 
@@ -52,14 +52,14 @@ abbrev pub first_reported : SalvagedHive → Option HiveFault
 first_reported s =
     or_else (first_base s.faults) (or_else (log_fault s.log) (or_else (first_broken s.broken) (first_told s.lines)))
 
--- nothing is said but the hive's numbers, its version and its keys
+-- nothing is printed but the hive's numbers, its version and its keys
 pub record IsSilent (s : SalvagedHive) : Type 0 where
   pub faults : s.faults ≡ []
   pub log : s.log ≡ None
   pub broken : s.broken ≡ []
   pub lines : s.lines ≡ []
 
--- this fault is said first; or first that the file is too short, and then that the log has this fault
+-- this fault is printed first; or first that the file is too short, and then that the log has this fault
 abbrev pub TellsFirst : SalvagedHive → HiveFault → Type 0
 TellsFirst s fault =
     (first_reported s ≡ Some fault) ⊎ ((first_reported s ≡ Some (fault_at Size 40)) × (log_fault s.log ≡ Some fault))

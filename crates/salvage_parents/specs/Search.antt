@@ -1,8 +1,8 @@
--- Which keys are found by their parents, and what is said of them (this project's own)?
+-- Which keys are found by their parents, and what is printed for them (this project's own)?
 --
 -- The incomplete keys are gone through in order, and those that become so meanwhile come at the end. Of one key each key node that names
 -- it as its parent is judged as one more child, in the order of their places, with all below it; of one that is in use, or is left out
--- otherwise, nothing is said. Where one of them stands, all children of the key are put in the order of their folded names.
+-- otherwise, nothing is printed. Where one of them stands, all children of the key are put in the order of their folded names.
 use Rattle.std.specs.Prelude.{ℕ, zero, suc, ◌+◌, ◌-◌, ◌==◌, if◌then◌else◌, List, [], ◌∷◌, ◌++◌, length, map, slice_get, Option, Some, None}
 use Rattle.hive_model.specs.Tree.{Head, Tree}
 use Rattle.salvage_bins.specs.Ground.{Ground}
@@ -53,7 +53,7 @@ adopted_at hive own w notes path t = changed_at path (λ (h : Head). adopted hiv
 abbrev pub found_line : ℕ → List (List ℕ) → List ParentLine
 found_line count path = if count == 0 then [] else said.Found count path ∷ []
 
--- the tree so far, what was used, what was said, and the incomplete keys so far
+-- the tree so far, what was used, what was printed, and the incomplete keys so far
 pub record Search : Type 0 where
   pub tree : Tree
   pub used : Walked
@@ -91,7 +91,7 @@ searched hive (suc n) place s = searched_on (searched hive n (place + 1)) hive s
 abbrev pub search_from : Tree → Walked → List Incomplete → Search
 search_from t w notes = record { tree = t; used = w; said = []; notes = notes }
 
--- the tree, and what is said
+-- the tree, and what is printed
 abbrev pub tree_and_said : Search → Tree × List ParentLine
 tree_and_said s = (s.tree, s.said)
 

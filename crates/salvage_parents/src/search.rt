@@ -19,12 +19,12 @@ use salvage_walk::{Incomplete, Walk, WalkLine, WalkedTree, walk_tree};
 use std::alloc::{AllocError, Global};
 use std::collections::BTreeMap;
 
-/// What is said while keys are looked for by their parents.
+/// What is printed while keys are looked for by their parents.
 #[derive(Drop)]
 pub enum ParentLine {
     /// A line of the walk.
     Walked(WalkLine),
-    /// So many children were found of the key at this path.
+    /// This many children were found of the key at this path.
     Found(usize, Names),
 }
 
@@ -36,7 +36,7 @@ pub struct SearchedTree {
     pub said: Row<ParentLine>,
 }
 
-/// The tree so far, what is used, what was said, and the keys of which children may be missing.
+/// The tree so far, what is used, what was printed, and the keys of which children may be missing.
 #[derive(Drop)]
 pub(crate) struct Searching {
     pub(crate) draft: Draft,
@@ -191,7 +191,7 @@ fn search_by(
     }
 }
 
-/// The tree that is salvaged from a root, with the children that no list names but that name their parents, and what is said on the
+/// The tree that is salvaged from a root, with the children that no list names but that name their parents, and what is printed on the
 /// way. There is an answer for any cells; the bytes are at most 256 MiB.
 #[tactic(auto, unfolding(crate::specs::Search::salvaged_by_parents))]
 pub fn salvage_by_parents(

@@ -45,7 +45,7 @@ abbrev pub losses : List WalkLine → ℕ
 losses [] = 0
 losses (line ∷ said) = (if is_loss line then 1 else 0) + losses said
 
--- the same of the lines that are said while keys are looked for by their parents
+-- the same of the lines that are printed while keys are looked for by their parents
 abbrev pub is_said_loss : ParentLine → Bool
 is_said_loss (parents.Walked line) = is_loss line
 is_said_loss (parents.Found count path) = false

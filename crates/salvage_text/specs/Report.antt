@@ -28,7 +28,7 @@ saving_lines (Some (Saved number file)) = SavedLine number (length file) ∷ []
 abbrev pub salvaged_line : SalvagedHive → SalvageLine
 salvaged_line hive = SalvagedLine (keys_in hive.tree) (values_in hive.tree) (losses hive.lines + said_losses hive.said)
 
--- a line that is said while keys are looked for by their parents
+-- a line that is printed while keys are looked for by their parents
 abbrev pub parent_line : ParentLine → SalvageLine
 parent_line (parents.Walked line) = WalkedLine line
 parent_line (parents.Found count path) = FoundLine count path
@@ -60,7 +60,7 @@ abbrev pub are_some : {A : Type 0} → List A → Bool
 are_some [] = false
 are_some (x ∷ xs) = true
 
--- a fault was said, or saving was refused
+-- a fault was printed, or saving was refused
 abbrev pub is_found : SalvagedHive → Bool
 is_found hive =
     are_some hive.faults || is_some hive.log || are_some hive.broken || list_any is_fault hive.lines || list_any is_said_fault hive.said

@@ -130,7 +130,7 @@ fn walk_losses(lines: &[WalkLine]) -> u64
     }
 }
 
-// Does a line that is said while keys are looked for by their parents say that a part is left out?
+// Does a line that is printed while keys are looked for by their parents say that a part is left out?
 fn is_said_loss(line: &ParentLine) -> bool
     ensures { result ≡ is_said_loss line.now }
 {

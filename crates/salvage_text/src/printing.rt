@@ -170,7 +170,7 @@ fn push_parent(
     }
 }
 
-/// Appends the lines that are said while keys are looked for by their parents.
+/// Appends the lines that are printed while keys are looked for by their parents.
 pub(crate) fn push_said(
     alloc: Global,
     out: &mut Vec<u8>,

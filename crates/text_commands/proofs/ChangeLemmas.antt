@@ -188,9 +188,9 @@ protected_ends tells protected (Ok done) h steps disk is still loads ends told =
     subst (λ (b : Bool). MakesTree b s steps disk done) (sym is) (record { done_is = ends; loads = left })
 protected_ends tells protected (Err e) h steps disk is still loads ends told = tt
 
--- ---- what is said
+-- ---- what is printed
 
--- what was done with what is said of it
+-- what was done with what is printed for it
 said_made : {E : Type 0} (s : HiveState) (current passed : Option ℕ) (protected : Bool) (steps : List Step)
     (done : Result Done E) (said : Result Said E) (disk : DiskState)
     → IfOk done (MakesTree protected s steps disk) → SaysOf current passed done said

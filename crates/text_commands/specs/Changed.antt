@@ -1,4 +1,4 @@
--- What do the edits of a text make of a hive, and what is said of that? (this project's own)
+-- What do the edits of a text make of a hive, and what is printed for that? (this project's own)
 use Rattle.std.specs.Prelude.{ℕ, Bool, true, false, if◌then◌else◌, List, Option, Some, None, Result, Ok, Err}
 use Rattle.std.specs.Option.{option_map_or}
 use Rattle.hive_model.specs.Edit.{Step, Refusal, no_key, no_value, bad_name, exists, name_too_long, too_deep, data_too_long, full, edited}
@@ -71,12 +71,12 @@ abbrev pub state_by : HiveState → Result Tree ImportStop → HiveState
 state_by s (Err stop) = s
 state_by s (Ok t) = if same_tree s.tree t then s else record s { tree = t; sequence = next_number s.sequence }
 
--- how many steps were passed over is said where nothing is refused
+-- how many steps were passed over is printed where nothing is refused
 abbrev pub said_of : Option ℕ → Option ℕ → Done → Said
 said_of current passed (dones.Refused stop) = record { current = current; passed = None; done = dones.Refused stop }
 said_of current passed done = record { current = current; passed = passed; done = done }
 
--- what is said of the change, and the state that the hive has afterwards
+-- what is printed for the change, and the state that the hive has afterwards
 pub record Change : Type 0 where
   pub said : Said
   pub state : HiveState

@@ -46,7 +46,7 @@ pub record IsImported (files : HiveFiles) (state : HiveState) (saved : ℕ) (dis
 
 -- ---- the end
 
--- what is said of a change in a form, with the status
+-- what is printed for a change in a form, with the status
 abbrev pub imported : ReportForm → Change → Answer
 imported form change = record { status = statuses.Done; text = said_text form change.said }
 

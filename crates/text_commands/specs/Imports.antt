@@ -59,7 +59,7 @@ abbrev pub IsRefusedAs : {E : Type 0} → EditStop → Result Done E → Type 0
 IsRefusedAs stop (Ok done) = (done ≡ dones.Refused (import_stops.Edit stop)) × (stop ≡ stops.Memory → ⊥)
 IsRefusedAs stop (Err e) = stop ≡ stops.Memory
 
--- that much is said of what was done, or there was no memory
+-- that much is printed of what was done, or there was no memory
 abbrev pub SaysOf : {E : Type 0} → Option ℕ → Option ℕ → Result Done E → Result Said E → Type 0
 SaysOf current passed (Ok done) (Ok said) = said ≡ said_of current passed done
 SaysOf current passed (Ok done) (Err e) = ⊥
@@ -79,7 +79,7 @@ pub record IsMade (s : HiveState) (edit : Result Tree ImportStop) (disk : DiskSt
 abbrev pub MakesTree : Bool → HiveState → List Step → DiskState → Done → Type 0
 MakesTree protected s steps disk done = IsMade s (tree_by protected (edited s.version s.tree steps)) disk done
 
--- the change was made: what is said is said of it, and whatever a loss of power leaves loads as its state
+-- the change was made: what is printed is of it, and whatever a loss of power leaves loads as its state
 pub record Makes (change : Change) (disk : DiskState) (said : Said) : Type 0 where
   pub said_is : said ≡ change.said
   pub loads : EachCrash disk (λ (c : Image). Loads c change.state false)

@@ -114,7 +114,7 @@ fn edit_all<D: Disk>(
     }
 }
 
-/// What is said: how many steps were passed over only where nothing is refused.
+/// What is printed: how many steps were passed over only where nothing is refused.
 fn said_of(current: Option<u32>, passed: Option<usize>, done: Done) -> Said
     ensures { result ≡ said_of current passed done }
 {

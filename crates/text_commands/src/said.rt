@@ -1,4 +1,4 @@
-//! What is asked of an import, and what is said of it.
+//! What is asked of an import, and what is printed for it.
 
 use command_words::{AskedEncoding, AskedSet};
 use line_text::ReportForm;
@@ -36,7 +36,7 @@ pub enum Done {
     Commit(u32),
 }
 
-/// What is said of an import.
+/// What is printed for an import.
 #[derive(Clone, Copy, Debug, PartialEq, Eq)]
 pub struct Said {
     /// The set that `CurrentControlSet` stands for.

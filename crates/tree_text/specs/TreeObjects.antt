@@ -67,7 +67,7 @@ shown_lines sequence bulk root = HiveLine sequence bulk ∷ key_lines 0 root
 
 -- ---- what `show` says
 
--- what is said of a hive in one of the two forms
+-- what is printed for a hive in one of the two forms
 abbrev pub shown_in : ReportForm → ℕ → ℕ → Tree → List ℕ
 shown_in forms.Text sequence bulk root = shown_text sequence bulk root
 shown_in forms.Json sequence bulk root = lines_json (shown_lines sequence bulk root)

@@ -9,7 +9,7 @@ use line_objects::{push_end_object, push_load_object};
 use line_text::{ReportForm, close_object, open_object, push_number_field, push_word_field};
 use std::alloc::{AllocError, Global};
 
-/// What is said of the default set.
+/// What is printed for the default set.
 #[derive(Clone, Copy, Debug, PartialEq, Eq)]
 pub(crate) enum Word {
     /// No number was given.

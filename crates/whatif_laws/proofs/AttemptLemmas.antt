@@ -33,7 +33,7 @@ use Rattle.failure_effects.specs.Played.{judgement_as, told_of, is_started, is_u
 use Rattle.check_laws.proofs.TakenLemmas.{item_here}
 use Rattle.check_laws.proofs.TurnLemmas.{InTurn, turn_as, removed_from, removed_or, one_removed, past}
 
--- ---- what is told, in parts
+-- ---- what is reported, in parts
 
 pub failure_more : (a b : List Told) → failure_in (a ++ b) ≡ option_or (failure_in a) (failure_in b)
 failure_more [] b = refl

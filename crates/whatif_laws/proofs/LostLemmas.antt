@@ -51,7 +51,7 @@ use Rattle.whatif_laws.proofs.PlayLemmas.{PlanOf, Part, Full, Whole, Ends, IsPla
 use Rattle.whatif_laws.proofs.SwitchedLemmas.{off_plan}
 use Rattle.whatif_laws.proofs.CompareLemmas.{needs, InThree, in1, in2, in3, in_three, three_in, needs_three, goes_over, names_over, boot_system, boot_automatic, system_automatic, never_both}
 
--- ---- starts that come to their end
+-- ---- starts that end
 
 whole_plain : (set : Tree) (told : List Told) (n1 n2 n3 l1 l2 l3 : List Entry) → Ends None set told n1 n2 n3 l1 l2 l3
     → Whole None set n1 n2 n3 l1 l2 l3
@@ -224,7 +224,7 @@ module _ (taken : Taken) (holds : HoldsKeys taken.set) (name : List ℕ) where
       never_both set holds None (plain_told taken) plain plain_whole x y.0 i y.1
       (ap (folds_same x.name) (y.2 ∙ sym named) ∙ folds_itself x.name)
 
-  -- what is left in another start is started in the plain one, or is left there
+  -- what remains in another start is started in the plain one, or is left there
   plain_has : (phase : Phase) (new left : List Entry) (pre : List Need) → Full None set phase pre new left → (x : Entry)
       → Contains (plan_of set phase []) x → Contains new x ⊎ Contains left x
   plain_has phase new left pre full x c = elim (full.each x c) [

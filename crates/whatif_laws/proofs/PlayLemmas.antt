@@ -33,7 +33,7 @@ use Rattle.check_laws.proofs.TurnLemmas.{InTurn, turn_as, turned_each}
 use Rattle.whatif_laws.proofs.AttemptLemmas as attempt
 use Rattle.whatif_laws.proofs.AttemptLemmas.{failure_more, started_more, unmet_more, fails, State, plain, armed, spent, mach, at, IsOn, After, Tries, attempts, over_stays}
 
--- ---- what is told of those that are left
+-- ---- what is reported of those that are left
 
 left_tells : (es : List Entry) → (started_in (map play.left (map (λ (e : Entry). e.name) es)) ≡ [])
     × (unmet_in (map play.left (map (λ (e : Entry). e.name) es)) ≡ map (λ (e : Entry). e.name) es)
@@ -269,7 +269,7 @@ pub data Ends (name : Option (List ℕ)) (set : Tree) (told : List Told) (n1 n2 
   over : (j : Judgement) (x : List ℕ) → fails name x ≡ true → failure_in told ≡ Some j → goes_on j ≡ false → Ends name set told n1 n2 n3 l1 l2 l3
   whole : Whole name set n1 n2 n3 l1 l2 l3 → (fs : List (List ℕ × ℕ)) → State name told fs → Ends name set told n1 n2 n3 l1 l2 l3
 
--- what is told of a start: who was started in each phase, and who was left
+-- what is reported of a start: who was started in each phase, and who was left
 pub record IsPlay (name : Option (List ℕ)) (set : Tree) (told : List Told) : Type 0 where
   pub n1 : List Entry
   pub n2 : List Entry
@@ -363,7 +363,7 @@ module _ (name : Option (List ℕ)) (set : Tree) (holds : HoldsKeys set) where
             (phase_played usable set (phase_played usable set (phase_played usable set (at [] fs s)))) p3.after;
       }
 
--- what is told of a start on a set, with the failure of a name or without
+-- what is reported of a start on a set, with the failure of a name or without
 pub play_of : (taken : Taken) (set : Tree) → HoldsKeys set → (name : Option (List ℕ)) → IsPlay name set (played taken set name)
 unfolding played begun
 play_of taken set holds None =

@@ -58,13 +58,13 @@ pub record Opens (choice : Option ℕ → Choice) (placed : Woken) (taken : Take
   pub entry : choice None ≡ EntryTaken number path on_good
   pub begun : opening_of placed.state.version placed.state.tree (OnSet on_good) ≡ Begun taken
 
--- the entries of a report of that script are those of what is told of the start, with their words, in one order
+-- the entries of a report of that script are those of what is reported of the start, with their words, in one order
 abbrev pub TellsAsRun : Type 0
 TellsAsRun =
     (choice : Option ℕ → Choice) (placed : Woken) (taken : Taken) (name : Option (List ℕ)) → Opens choice placed taken
     → filter is_entry_line (quiet_run_of choice (script_of name) placed).lines ≡ map told_line (played taken taken.set name)
 
--- and where the disk loads as a tree of which a start takes the same set with the entry of a name off, those of what is told of that
+-- and where the disk loads as a tree of which a start takes the same set with the entry of a name off, those of what is reported of that
 abbrev pub TellsOffAsRun : Type 0
 TellsOffAsRun =
     (choice : Option ℕ → Choice) (placed : Woken) (taken : Taken) (name : List ℕ)

@@ -15,11 +15,11 @@ use Rattle.failure_effects.specs.Played.{played, started_in, unmet_in, failure_i
 use Rattle.failure_effects.specs.Switching.{off_set}
 use Rattle.whatif_laws.specs.Leaning.{leaning_on}
 
--- what is told of the start in which the first attempt of a name fails
+-- what is reported of the start in which the first attempt of a name fails
 abbrev pub fail_told : Taken → List ℕ → List Told
 fail_told taken name = played taken taken.set (Some name)
 
--- what is told of the start with the entry of a name off
+-- what is reported of the start with the entry of a name off
 abbrev pub off_told : Taken → List ℕ → List Told
 off_told taken name = played taken (off_set name taken.set) None
 
@@ -87,7 +87,7 @@ FailBlockSaysUnmet =
     → let lost : List (List ℕ) = lost_of taken name (fail_told taken name) in
     fail_block_of taken name ≡ lines.Fail j (length lost) name ∷ map (λ n. lines.Unmet n) lost
 
--- no phase takes the name: nothing is told of it
+-- no phase takes the name: nothing is reported of it
 abbrev pub IsUntold : List Told → List ℕ → Type 0
 IsUntold told name = (t : Told) → Contains told t → folds_same name t.name ≡ false
 

@@ -16,7 +16,7 @@ pub fn the_lost_of_a_failure_are_unmet_and_lean()
 {}
 
 /// The lost of a failure after which the start goes on are among the lost of the same entry off (`off`). Each of these is unmet there, or nothing
-/// is told of it, as no phase takes it (`untold`).
+/// is reported of it, as no phase takes it (`untold`).
 pub fn an_entry_off_is_no_better_than_its_failure()
     ensures off { OffIsNoBetter }
     ensures untold { LostOfOffIsUnmetOrUntold }
