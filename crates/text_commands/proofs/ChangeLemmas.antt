@@ -240,7 +240,7 @@ set_made s n lenient steps number (Err e) disk is made = tt
 
 pub set_changes : {E : Type 0} (how : How) (set : AskedSet) (s : HiveState) (steps : List Step) (number : Option ℕ)
     (result : Result Said E) (disk : DiskState) → how.current ≡ Some set
-        → number ≡ usable_in (number_in set s.tree) s.tree
+    → number ≡ usable_in (number_in set s.tree) s.tree
     → IfOk result (MakesIn number how.lenient s steps disk) → IfOk result (Changes how s steps disk)
 set_changes how set s steps number result disk asked is made =
     subst (λ (o : Option AskedSet). IfOk result (Makes (change_for o how.lenient s steps) disk)) (sym asked)
@@ -345,7 +345,7 @@ pub edit_refused : {E : Type 0} (tells : Bool) (result : Result Done E) (h : Ses
     → tells ≡ true → IfOk result (MakesTree false (loaded_state h) steps disk)
 edit_refused tells (Ok done) h steps stop disk still loads is refused told =
     refused_made (loaded_state h) (edited (version_of h.base.minor) h.tree steps) stop done disk (still told)
-        (loads told)
+    (loads told)
     is refused
 edit_refused tells (Err e) h steps stop disk still loads is refused told = tt
 

@@ -88,7 +88,7 @@ said_done text old new (inr none) = absurd none
 ends_change : (files : HiveFiles) (saves : Saves) (form : ReportForm) (change : Change) (status : Status)
     (text old new : List ℕ) (taken : ℕ) (disk : DiskState) → IsToldAs statuses.Done status
     → text ≡ said_text form change.said → taken ≤ saved_count saves → (status ≡ statuses.Done
-        → taken ≡ saved_count saves)
+    → taken ≡ saved_count saves)
     → IsImported files change.state taken disk
     → Ends (done_with text) status old new → EndsChange files saves form change disk status old new
 ends_change files saves form change status text old new taken disk (inl is) same few all made end =
@@ -223,11 +223,11 @@ pub unfound_import : (form : ReportForm) (words : ImportAsked) (stop : HostStop)
 unfound_import form words stop old new disk fresh a =
     stopped_decides (hive_in old.files words.hive words.log)
     (λ w s o n. EndsImport w (import_saves words) (import_how form words) (file_in words.reg
-        (old.files words.reg)) disk s o n)
+    (old.files words.reg)) disk s o n)
     (import_saves words)
     stop old new disk fresh
     (λ o n same unwritten. stopped_import (hive_in old.files words.hive words.log) (import_saves words)
-        (import_how form words)
+    (import_how form words)
     (file_in words.reg (old.files words.reg)) stop disk o n fresh same unwritten) a
 
 -- hive and log were found
@@ -246,16 +246,16 @@ found_import form words files status old mid new disk a b =
         counts = counts_by (stop_in status) old mid new a.keeps a.counts l.counts;
         said = λ tells.
             let here : EndsHive files saves how (file_in words.reg
-                (mid.files words.reg)) disk status mid.said new.said =
+            (mid.files words.reg)) disk status mid.said new.said =
             l.said (a.keeps.tells ∙ tells) in
             subst (λ (w : Result HiveFiles Refusal). EndsImport w saves how (file_in words.reg
-                (old.files words.reg)) disk
+            (old.files words.reg)) disk
             status old.said new.said) (sym (a.found tells))
             (subst (λ (m : List ℕ). EndsHive files saves how (file_in words.reg
-                (old.files words.reg)) disk status m new.said)
+            (old.files words.reg)) disk status m new.said)
             (a.unsaid tells)
             (subst (λ (f : Files). EndsHive files saves how (file_in words.reg
-                (f words.reg)) disk status mid.said new.said)
+            (f words.reg)) disk status mid.said new.said)
             (a.files tells) here));
       };
       files = λ tells. subst (λ (f : Files). FilesAs saves status disk.held f new.files) (a.files tells)

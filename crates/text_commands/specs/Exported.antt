@@ -7,7 +7,7 @@ use Rattle.std.specs.Fmt.{decimal}
 use Rattle.nt_bytes.specs.declared.fault.HiveFault.{HiveFault}
 use Rattle.nt_edge.specs.Host.{Files, HostState, Puts, KeepsOthers}
 use Rattle.hive_model.specs.Load.{Loads, LoadFault}
-use Rattle.hive_model.specs.Tree.{Tree, key_count, find_key, item_count}
+use Rattle.hive_model.specs.Tree.{Tree, key, key_count, find_key, item_count}
 use Rattle.start_model.specs.Possible.{Woken}
 use Rattle.reg_text.specs.declared.stop.RegFault.{RegFault}
 use Rattle.reg_text.specs.declared.stop.RegFaultKind.{RegFaultKind}

@@ -96,5 +96,5 @@ import_how form words = record { form = form; encoding = words.encoding; current
 abbrev pub DecidesImport : ReportForm → ImportAsked → Status → HostState → HostState → DiskState → Type 0
 DecidesImport form words status old new disk =
     Decides (EndsImport (hive_in old.files words.hive words.log) (import_saves words) (import_how form words)
-        (file_in words.reg (old.files words.reg)) disk)
+    (file_in words.reg (old.files words.reg)) disk)
     (import_saves words) status old new disk

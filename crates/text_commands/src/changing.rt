@@ -32,7 +32,12 @@ fn change<D: Disk>(alloc: Global, how: How, steps: Steps, disk: &mut D) -> Resul
 }
 
 /// Changes the hive on the disk, which is on, and turns it off.
-fn change_awake<B: Bench>(alloc: Global, how: How, steps: Steps, bench: &mut B) -> Result<Said, AllocError>
+fn change_awake<B: Bench>(
+    alloc: Global,
+    how: How,
+    steps: Steps,
+    bench: &mut B,
+) -> Result<Said, AllocError>
     requires on { (B.state bench.old).on ≡ true }
     requires still { (B.state bench.old).flight ≡ [] }
     requires fits { All Fits (map step_of steps) }
@@ -44,7 +49,12 @@ fn change_awake<B: Bench>(alloc: Global, how: How, steps: Steps, bench: &mut B) 
 }
 
 /// Wakes the disk, changes the hive on it, and turns it off.
-fn change_on<B: Bench>(alloc: Global, how: How, steps: Steps, bench: &mut B) -> Result<Said, AllocError>
+fn change_on<B: Bench>(
+    alloc: Global,
+    how: How,
+    steps: Steps,
+    bench: &mut B,
+) -> Result<Said, AllocError>
     requires off { (B.state bench.old).on ≡ false }
     requires fits { All Fits (map step_of steps) }
     ensures changed { (files : FilesModel) → B.state bench.old ≡ placed_disk files → ImportsOn how files (map step_of steps) result (B.state bench.new) }

@@ -267,11 +267,7 @@ fn make_in<D: Disk>(
             set_steps(alloc, n, steps)?,
             disk,
         ),
-        None => Ok(said_of(
-            None,
-            None,
-            Done::Refused(ImportStop::NoControlSet),
-        )),
+        None => Ok(said_of(None, None, Done::Refused(ImportStop::NoControlSet))),
     }
 }
 
@@ -310,4 +306,3 @@ pub(crate) fn change_loaded<D: Disk>(
         ),
     }
 }
-

@@ -21,12 +21,12 @@ returns-in-Err-Stopped-clause-decides g c =
     (hive_in old.files (import_seen c.args.words).hive (import_seen c.args.words).log) (Err o) old new)
     c.in-Err-Stopped.field-0-is c.in-Err-Stopped.ensures.looks in
     let done = unfound_import c.args.form (import_seen c.args.words) c.in-Err-Stopped.stop old new
-        (g.B.Disk.state c.args.bench.now)
+    (g.B.Disk.state c.args.bench.now)
     c.requires.fresh looks in
     let told : c.stopped.result ≡ stopped_as c.in-Err-Stopped.stop =
     rw c.in-Err-Stopped.field-0-is at c.stopped.ensures in
     subst (λ (s : Status). DecidesImport c.args.form (import_seen c.args.words) s old new
-        (g.B.Disk.state c.args.bench.now))
+    (g.B.Disk.state c.args.bench.now))
     (sym told) done
 
 pub returns-in-Err-Stopped-clause-asked : goal.returns-in-Err-Stopped-clause-asked
@@ -52,6 +52,6 @@ returns-in-Ok-clause-asked g c =
 pub returns-in-Ok-clause-decides : goal.returns-in-Ok-clause-decides
 returns-in-Ok-clause-decides g c =
     found_import c.args.form (import_seen c.args.words) c.in-Ok.files c.import_hive.result
-        (g.H.Host.state c.args.host.now)
+    (g.H.Host.state c.args.host.now)
     (g.H.Host.state c.hive_in.new.host) (g.H.Host.state c.import_hive.new.host) (g.B.Disk.state c.import_hive.new.bench)
     c.in-Ok.ensures.looks c.import_hive.ensures
