@@ -106,11 +106,7 @@ fn push_found_fields(out: &mut Vec<u8>, count: usize, path: &[Units]) -> Result<
 }
 
 /// Appends how many children of the key at a path were found by their parent.
-pub(crate) fn push_found(
-    out: &mut Vec<u8>,
-    count: usize,
-    path: &[Units],
-) -> Result<(), AllocError>
+pub(crate) fn push_found(out: &mut Vec<u8>, count: usize, path: &[Units]) -> Result<(), AllocError>
     ensures { OnOk result (out.new.items ≡ out.old.items ++ line_json (FoundLine count path.now)) }
 {
     open_object(out, b"found")?;

@@ -6,8 +6,8 @@ ghost use Rattle.salvage_text.specs.Report.{file_in, file_lines, is_found, is_re
 
 use crate::counting::{has_fault, has_said_fault, keys_in, losses, values_in};
 use crate::printing::{
-    push_bases, push_bins, push_end, push_log, push_refused, push_said, push_salvaged,
-    push_saved, push_sequence, push_version, push_walk,
+    push_bases, push_bins, push_end, push_log, push_refused, push_said, push_salvaged, push_saved,
+    push_sequence, push_version, push_walk,
 };
 use line_text::ReportForm;
 use nt_bytes::Bytes;
