@@ -1,6 +1,6 @@
 //! Laws of a hive that needs no log.
 
-ghost use Rattle.std.specs.Prelude.{◌≡◌, ◌<◌, ℕ, Bool, false, List, Some, slice_index};
+ghost use Rattle.std.specs.Prelude.{◌≡◌, ◌<◌, ℕ, Bool, false, List, Some, None, slice_index};
 ghost use Rattle.nt_bytes.specs.declared.fault.HiveFault.{HiveFault};
 ghost use Rattle.hive_model.specs.Image.{image_of};
 ghost use Rattle.hive_model.specs.Load.{Loads, LoadFault};
@@ -19,6 +19,6 @@ pub fn a_plain_hive_is_salvaged_as_it_loads()
         → LoadFault (image_of hive log) fault
         → first_reported (salvaged_hive save hive log) ≡ Some fault }
     ensures silent { (save : Bool) (hive log : List ℕ) → ((k : ℕ) → slice_index hive k < 256) → IsPlain hive
-        → IsSilent (salvaged_hive save hive log)
+        → first_reported (salvaged_hive save hive log) ≡ None
         → (s : HiveState) × Loads (image_of hive log) s false × ((salvaged_hive save hive log).tree ≡ Some s.tree) }
 {}
