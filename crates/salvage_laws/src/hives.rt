@@ -9,9 +9,9 @@ ghost use Rattle.salvage_file.specs.Salvage.{salvaged_hive};
 ghost use Rattle.salvage_laws.specs.Plain.{AreSmall};
 ghost use Rattle.salvage_laws.specs.Told.{first_reported, IsSilent, TellsFirst};
 
-/// Of a hive and a log of up to 16 MiB no fault is said exactly where it loads, clean or recovered, and the tree is then the one that is
-/// loaded. Where a load has a fault, the first one that is said has that kind and that place; but where the log has it, that the hive's file
-/// is too short may be said before.
+/// Of a hive and a log of up to 16 MiB no fault is reported exactly where it loads, clean or recovered, and the tree is then the one that
+/// is loaded. Where a load has a fault, the first one that is reported has that kind and that place; but where the log has it, that the
+/// hive's file is too short may be reported before.
 pub fn a_hive_is_salvaged_as_it_loads()
     ensures loads { (save : Bool) (hive log : List ℕ) (s : HiveState) (dirty : Bool) → AreSmall hive log → Loads (image_of hive log) s dirty
         → IsSilent (salvaged_hive save hive log) × ((salvaged_hive save hive log).tree ≡ Some s.tree)

@@ -9,8 +9,8 @@ ghost use Rattle.salvage_file.specs.Salvage.{salvaged_hive};
 ghost use Rattle.salvage_laws.specs.Plain.{IsPlain};
 ghost use Rattle.salvage_laws.specs.Told.{first_reported, IsSilent};
 
-/// Of a hive of up to 16 MiB that is clean, or whose base block has a fault, no fault is said exactly where it loads, and the tree is then
-/// the one that is loaded. Where a load has a fault, the first one that is said has that kind and that place.
+/// Of a hive of up to 16 MiB that is clean, or whose base block has a fault, no fault is reported exactly where it loads, and the tree is
+/// then the one that is loaded. Where a load has a fault, the first one that is reported has that kind and that place.
 pub fn a_plain_hive_is_salvaged_as_it_loads()
     ensures loads { (save : Bool) (hive log : List ℕ) (s : HiveState) (dirty : Bool) → IsPlain hive → Loads (image_of hive log) s dirty
         → IsSilent (salvaged_hive save hive log) × ((salvaged_hive save hive log).tree ≡ Some s.tree)
