@@ -31,10 +31,10 @@ use Rattle.salvage_file.specs.Opened.{is_short, as_is, is_size, dirty_as, opened
 use Rattle.salvage_file.specs.Recovery.{log_stop, recovered_bins, beside, by_reading, by_faults, recovery}
 use Rattle.salvage_file.specs.Salvage.{found_in, hive_by, salvaged_hive}
 use Rattle.salvage_laws.specs.Plain.{AreSmall}
-use Rattle.salvage_laws.specs.Told.{first_reported, IsSilent, TellsFirst}
+use Rattle.salvage_laws.specs.Told.{first_reported, TellsFirst}
 use Rattle.salvage_laws.proofs.BlockLemmas.{same-size, base-sound, version-same, sound-block}
 use Rattle.salvage_laws.proofs.FoundLemmas.{holds-so, fault-so, silent-holds}
-use Rattle.salvage_laws.proofs.PlainLemmas.{PlainView, is_refused, is_held, plain-view, ok-err, ok-one, err-one, none-some, Reports, found_as, found-reported, silent-none}
+use Rattle.salvage_laws.proofs.PlainLemmas.{PlainView, is_refused, is_held, plain-view, ok-err, ok-one, err-one, none-some, Reports, found_as, found-reported}
 use Rattle.salvage_laws.proofs.RecoveredLemmas.{as_recovered, recovered-bytes, recovery-same}
 use Rattle.salvage_laws.proofs.SectorLemmas.{filled-bytes}
 
@@ -302,19 +302,19 @@ hive-refused save hive log fault hb lb small l = by (hive-view save hive log sma
         inl (found-reported (salvaged_hive save hive log) (found_as r) faults log_none broken lines
         ∙ fault-so r fault (bytes hb lb) few (subst (λ (x : Recovered). HeldFault x fault) same k.2))
 
-tells-some : (s : SalvagedHive) (f : HiveFault) → TellsFirst s f → IsSilent s → ⊥
-tells-some s f (inl e) i = none-some f (first_reported s) e (silent-none s i)
-tells-some s f (inr e) i = none-some (fault_at kinds.Size 40) (first_reported s) e.0 (silent-none s i)
+tells-some : (s : SalvagedHive) (f : HiveFault) → TellsFirst s f → first_reported s ≡ None → ⊥
+tells-some s f (inl e) i = none-some f (first_reported s) e i
+tells-some s f (inr e) i = none-some (fault_at kinds.Size 40) (first_reported s) e.0 i
 
-pub hive-silent : (save : Bool) (hive log : List ℕ) → IsBytes hive → IsBytes log → AreSmall hive log → IsSilent (salvaged_hive save hive log)
+pub hive-silent : (save : Bool) (hive log : List ℕ) → IsBytes hive → IsBytes log → AreSmall hive log
+    → first_reported (salvaged_hive save hive log) ≡ None
     → (s : HiveState) × LoadsAs (image_of hive log) s × ((salvaged_hive save hive log).tree ≡ Some s.tree)
 hive-silent save hive log hb lb small i = by (hive-view save hive log small)
   where
     by : HiveView save hive log → (s : HiveState) × LoadsAs (image_of hive log) s × ((salvaged_hive save hive log).tree ≡ Some s.tree)
     by (view_refused f e d) = absurd (tells-some (salvaged_hive save hive log) f d i)
     by (view_held r e bytes few faults log_none broken lines tree v) =
-        let none = sym (found-reported (salvaged_hive save hive log) (found_as r) faults log_none broken lines)
-        ∙ silent-none (salvaged_hive save hive log) i in
+        let none = sym (found-reported (salvaged_hive save hive log) (found_as r) faults log_none broken lines) ∙ i in
         let h = silent-holds r (bytes hb lb) few none in (
           h.0,
           (r.dirty, record { recovered = r; read = e; was_dirty = refl; holds = h.1 }),

@@ -214,8 +214,8 @@ module _ (hive : Ground) (used : List Claim) where
           values = c.means;
           lists = d.means;
           children = e.means.2;
-          uses_are = refl;
-          said_is = refl;
+          uses_are = refl {a = claim_at hive false at (node_long node) ∷ (a.uses ++ (b.uses ++ (c.uses ++ (d.uses ++ e.uses))))};
+          said_is = refl {a = a.said ++ (b.said ++ (c.said ++ (d.said ++ e.said)))};
         };
       }
 

@@ -251,20 +251,17 @@ plain-refused save hive log fault all plain l = by (plain-view save hive log pla
         found-reported (salvaged_hive save hive log) (found_as r) faults log_none broken lines
         ∙ fault-so r fault (bytes all) small (subst (λ (x : Recovered). HeldFault x fault) same k.2)
 
-pub silent-none : (s : SalvagedHive) → IsSilent s → first_reported s ≡ None
-silent-none s i = found-reported s (record { broken = []; lines = []; tree = None }) i.faults i.log i.broken i.lines
-
-pub plain-silent : (save : Bool) (hive log : List ℕ) → IsBytes hive → IsPlain hive → IsSilent (salvaged_hive save hive log)
+pub plain-silent : (save : Bool) (hive log : List ℕ) → IsBytes hive → IsPlain hive
+    → first_reported (salvaged_hive save hive log) ≡ None
     → (s : HiveState) × Loads (image_of hive log) s false × ((salvaged_hive save hive log).tree ≡ Some s.tree)
 plain-silent save hive log all plain i = by (plain-view save hive log plain)
   where
     by : PlainView save hive log
         → (s : HiveState) × Loads (image_of hive log) s false × ((salvaged_hive save hive log).tree ≡ Some s.tree)
     by (is_refused f e d) =
-        absurd (none-some f (first_reported (salvaged_hive save hive log)) d (silent-none (salvaged_hive save hive log) i))
+        absurd (none-some f (first_reported (salvaged_hive save hive log)) d i)
     by (is_held r e clean bytes small faults log_none broken lines tree _ _) =
-        let none = sym (found-reported (salvaged_hive save hive log) (found_as r) faults log_none broken lines)
-        ∙ silent-none (salvaged_hive save hive log) i in
+        let none = sym (found-reported (salvaged_hive save hive log) (found_as r) faults log_none broken lines) ∙ i in
         let h = silent-holds r (bytes all) small none in (
           h.0,
           record { recovered = r; read = e; was_dirty = sym clean; holds = h.1 },

@@ -10,7 +10,7 @@ ghost use Rattle.salvage_file.specs.Salvage.{found_in};
 ghost use Rattle.salvage_laws.specs.Told.{first_found};
 
 /// In bins data that hold a state nothing is wrong, and its tree is salvaged. In others of bytes, of up to 16 MiB, the first fault that is
-/// printed is the one that a load has first. Where none is printed they hold a state.
+/// reported is the one that a load has first. Where none is reported they hold a state.
 pub fn what_is_found_is_what_a_load_finds()
     ensures holds { (r : Recovered) (s : HiveState) → Holds r s
         → found_in (version_of r.base.minor) r.bins r.base.root ≡ record { broken = []; lines = []; tree = Some s.tree } }

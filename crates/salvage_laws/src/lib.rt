@@ -1,6 +1,6 @@
 //! What the definitions of `salvage` amount to.
 //!
-//! Laws alone: what is printed for a damaged hive is what a load would refuse first, what is salvaged is in cells of the hive and the rest
+//! Laws alone: what is reported of a damaged hive is what a load would refuse first, what is salvaged is in cells of the hive and the rest
 //! has a line, and what is saved loads as exactly the tree that was salvaged.
 #![tactic(auto)]
 

@@ -11,7 +11,7 @@ ghost use Rattle.salvage_laws.specs.Apart.{AreApart};
 ghost use Rattle.salvage_laws.specs.LeftKeys.{IsSalvage};
 ghost use Rattle.salvage_laws.specs.Told.{first_told};
 
-/// Of cells in bins that are whole the walk says first what a load would refuse, and where; without a fault it prints nothing, and the
+/// Of cells in bins that are whole the walk reports first what a load would refuse, and where; without a fault it reports nothing, and the
 /// tree is the one that a load answers.
 pub fn the_walk_refuses_what_a_load_refuses()
     ensures first { (hive : Ground) (root : ℕ) → ((at : ℕ) → hive.loose at ≡ false)
