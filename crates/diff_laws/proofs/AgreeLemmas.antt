@@ -46,7 +46,7 @@ or_right : (a b : Bool) → b ≡ true → (a || b) ≡ true
 or_right true b e = refl
 or_right false b e = e
 
-and_of : (a b : Bool) → a ≡ true → b ≡ true → (a && b) ≡ true
+pub and_of : (a b : Bool) → a ≡ true → b ≡ true → (a && b) ≡ true
 and_of true b e f = f
 and_of false b e f = e
 
@@ -75,7 +75,7 @@ same_flip [] (m ∷ ms) = refl
 same_flip (n ∷ ns) [] = refl
 same_flip (n ∷ ns) (m ∷ ms) = λ i. names_flip n m i && same_flip ns ms i
 
-same_has : (ns ms : List (List ℕ)) → names_same ns ms ≡ true → has_all ns ms ≡ true
+pub same_has : (ns ms : List (List ℕ)) → names_same ns ms ≡ true → has_all ns ms ≡ true
 same_has ns ms same = has_all_any ns ms ∙ same_any ns ms same
 
 kept_all : (p : List ℕ → Bool) (ns : List (List ℕ)) → list_all p ns ≡ true → filter p ns ≡ ns
@@ -211,7 +211,7 @@ boots_agree_so a b =
 
 -- ---- the whole
 
-nil_of : (lines : List DiffLine) → is_none lines ≡ true → lines ≡ []
+pub nil_of : (lines : List DiffLine) → is_none lines ≡ true → lines ≡ []
 nil_of [] e = refl
 nil_of (line ∷ lines) e = absurd (false≢true e)
 

@@ -1,2 +1,5 @@
 pub mod NoneLemmas
 pub mod AgreeLemmas
+pub mod OwnLemmas
+pub mod OwnLines
+pub mod OwnTrees

@@ -1,6 +1,7 @@
 //! The laws. Each has its statement in `specs/Laws.antt`.
 
 ghost use Rattle.diff_laws.specs.Laws.{ServicesAgree, GroupsAgree, BootsAgree, SetsAgree};
+ghost use Rattle.diff_laws.specs.Own.{OwnServices, OwnGroups, OwnTree};
 
 /// There is no line on the services exactly where both sets have services of the same names in the same order, and each has the same in every
 /// field as the other set's service of its name.
@@ -23,4 +24,12 @@ pub fn boots_are_the_same_where_they_agree()
 /// Where services, groups and boots agree, the lines are `sets`, `starts same`, `same` and `end`.
 pub fn sets_that_agree_are_the_same()
     ensures same { SetsAgree }
+{}
+
+/// A set compared with itself has no line on services (`services`) and none on groups (`groups`), and where all keys and values are compared none on
+/// those (`tree`). Each key of the set must be one that a hive can hold.
+pub fn a_set_is_like_itself()
+    ensures services { OwnServices }
+    ensures groups { OwnGroups }
+    ensures tree { OwnTree }
 {}
