@@ -8,3 +8,4 @@ pub mod CompareLemmas
 pub mod LostLemmas
 pub mod GoLemmas
 pub mod ReportLemmas
+pub mod BlockReportLemmas

@@ -1,9 +1,9 @@
 -- Which lines of a report tell what became of entries? (this project's own)
-use Rattle.std.specs.Prelude.{◌≡◌, ℕ, Bool, true, false, List, [], ◌∷◌, map, filter, Option, Some, None}
-use Rattle.hive_model.specs.Tree.{Tree}
+use Rattle.std.specs.Prelude.{◌≡◌, ℕ, Bool, true, false, not, ◌&&◌, List, [], ◌∷◌, map, filter, slice_get, Option, Some, None, option_map}
+use Rattle.std.specs.List.{list_any, filter_map}
+use Rattle.nt_bytes.specs.Folding.{folds_same}
 use Rattle.start_model.specs.Boot.{Choice, EntryTaken}
 use Rattle.start_model.specs.Events.{Event, BootNow, Go, Fail}
-use Rattle.start_model.specs.Lines as book
 use Rattle.start_model.specs.Lines.{Line, TryWord, TryLine, TryOk, TryIgnored, TryLogged, TryFallBack, TryStop, UnmetLine}
 use Rattle.start_model.specs.Possible.{Woken}
 use Rattle.start_model.specs.Quiet.{quiet_run_of}
@@ -16,9 +16,9 @@ use Rattle.failure_effects.specs.declared.told.Fate.{Fate}
 use Rattle.failure_effects.specs.declared.told.Fate.TheVariants as fates
 use Rattle.failure_effects.specs.declared.told.Told.{Told}
 use Rattle.failure_effects.specs.Opening.{opening_of}
-use Rattle.failure_effects.specs.Played.{played}
+use Rattle.failure_effects.specs.Played.{played, failure_in}
 use Rattle.failure_effects.specs.Switching.{off_set}
-use Rattle.whatif_laws.specs.Starts.{off_told}
+use Rattle.whatif_laws.specs.Starts.{fail_told, off_told, lost_of}
 
 -- the line is that of an attempt, or of an entry that is unmet
 abbrev pub is_entry_line : Line → Bool
@@ -70,3 +70,48 @@ TellsOffAsRun =
     (choice : Option ℕ → Choice) (placed : Woken) (taken : Taken) (name : List ℕ)
     → Opens choice placed (record taken { set = off_set name taken.set })
     → filter is_entry_line (quiet_run_of choice boot_and_go placed).lines ≡ map told_line (off_told taken name)
+
+-- ---- blocks by two reports
+
+-- the name of a `try` line with `ok`
+abbrev pub ok_name : Line → Option (List ℕ)
+ok_name (TryLine name TryOk) = Some name
+ok_name line = None
+
+-- the word of a `try` line without `ok`
+abbrev pub bad_word : Line → Option TryWord
+bad_word (TryLine name TryOk) = None
+bad_word (TryLine name word) = Some word
+bad_word line = None
+
+-- the names that were started, in the order of the report
+abbrev pub ok_names : List Line → List (List ℕ)
+ok_names lines = filter_map ok_name lines
+
+-- the names, other than this one, that the first report starts and the second doesn't
+abbrev pub missing_names : List ℕ → List Line → List Line → List (List ℕ)
+missing_names name first second =
+    filter (λ n. not (folds_same name n) && not (list_any (folds_same n) (ok_names second))) (ok_names first)
+
+-- the lines of the report of that script
+abbrev pub report_of : (Option ℕ → Choice) → Woken → Option (List ℕ) → List Line
+report_of choice placed name = (quiet_run_of choice (script_of name) placed).lines
+
+-- the lost of a failure are the names that its report doesn't start and the plain report does
+abbrev pub LostAreMissing : Type 0
+LostAreMissing =
+    (choice : Option ℕ → Choice) (placed : Woken) (taken : Taken) (name : List ℕ) → Opens choice placed taken
+    → lost_of taken name (fail_told taken name) ≡ missing_names name (report_of choice placed None) (report_of choice placed (Some name))
+
+-- the judgement of a failure is the word of the first attempt that fails in its report
+abbrev pub JudgementIsWord : Type 0
+JudgementIsWord =
+    (choice : Option ℕ → Choice) (placed : Woken) (taken : Taken) (name : List ℕ) → Opens choice placed taken
+    → option_map word_of (failure_in (fail_told taken name)) ≡ slice_get (filter_map bad_word (report_of choice placed (Some name))) 0
+
+-- the lost of an entry that is off are those that the report of such a tree doesn't start
+abbrev pub LostOfOffAreMissing : Type 0
+LostOfOffAreMissing =
+    (choice other : Option ℕ → Choice) (placed off : Woken) (taken : Taken) (name : List ℕ) → Opens choice placed taken
+    → Opens other off (record taken { set = off_set name taken.set })
+    → lost_of taken name (off_told taken name) ≡ missing_names name (report_of choice placed None) (report_of other off None)

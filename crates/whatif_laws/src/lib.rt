@@ -14,4 +14,4 @@ pub use lost::{
     the_lost_of_a_failure_are_unmet_and_lean, the_unmet_of_a_block_are_newly_unmet,
 };
 pub use off::an_entry_that_is_off_has_start_four;
-pub use reports::what_is_told_is_what_a_run_reports;
+pub use reports::{a_block_is_what_two_reports_differ_in, what_is_told_is_what_a_run_reports};
