@@ -32,7 +32,7 @@ bad_kept (lines.TryLine name outcome ∷ ls) = ap (cons_option (bad_word (lines.
 bad_kept (lines.UnmetLine name ∷ ls) = bad_kept ls
 bad_kept (l ∷ ls) = bad_kept ls
 
--- ---- what is told, as lines
+-- ---- what is reported, as lines
 
 word_bad : (name : List ℕ) (j : Judgement) (ls : List (List ℕ)) → cons_option (ok_name (lines.TryLine name (word_of j))) ls ≡ ls
 word_bad name judgements.Ignore ls = refl
