@@ -1,4 +1,4 @@
--- What remains of steps, one by one.
+-- What is left of steps, one by one.
 use Rattle.std.proofs.Common.{◌≡◌, ℕ, ◌+◌, true, false, cond, List, [], ◌∷◌, ◌++◌, Some, None, refl, sym, ap, subst, ◌∙◌, append_assoc, append-nil, arith}
 use Rattle.std.specs.Prelude.{Result, Ok, Err, IfOk, map}
 use Rattle.std.specs.List.{All}
@@ -57,7 +57,7 @@ all_taken done n t = rw (append-nil, nothing_more) refl
 
 -- ---- between two steps
 
--- the tree that the steps so far have made is shown, and what remains of the rest on it is what remains of all
+-- the tree that the steps so far have made is shown, and what is left of the rest on it is what is left of all
 pub record Going (b : Tree) (m : Marks) (left : List Step) (passed : ℕ) (rest all : List Step) : Type 0 where
   pub tree : Tree
   pub shows : Shows (seen_in m b) tree

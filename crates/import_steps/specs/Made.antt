@@ -1,4 +1,4 @@
--- What the calls answer, in the terms of the definitions.
+-- What the calls answer, in the words of the definitions.
 use Rattle.std.specs.Prelude.{map}
 use Rattle.reg_tree.specs.Makes.{step_of}
 use Rattle.import_steps.specs.Current.{SetSteps}
