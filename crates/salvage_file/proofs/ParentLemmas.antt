@@ -1,5 +1,5 @@
 -- The tree in which keys are found by their parents can be held by a hive, where payloads are bytes and its bulk is not too great.
-use Rattle.std.proofs.Common.{◌≡◌, ℕ, zero, suc, ◌+◌, ◌-◌, ◌<◌, ◌≤◌, Bool, true, false, cond, List, [], ◌∷◌, ◌++◌, length, map, Option, Some, None, refl, sym, ap, subst, ◌∙◌, arith}
+use Rattle.std.proofs.Common.{◌≡◌, ℕ, zero, suc, ◌+◌, ◌-◌, ◌<◌, ◌≤◌, Bool, true, false, cond, List, [], ◌∷◌, length, Option, Some, None, refl, sym, ap, subst, ◌∙◌, arith}
 use Rattle.std.specs.Prelude.{◌==◌, slice_get}
 use Rattle.std.proofs.lemmas.Bool.{or_parts}
 use Rattle.std.specs.List.{list_any}
@@ -9,23 +9,23 @@ use Rattle.std.specs.declared.cmp.Ordering.TheVariants.{Less, Equal, Greater}
 use Rattle.nt_bytes.specs.Folding.{folds_same, folded_order}
 use Rattle.nt_bytes.specs.declared.version.HiveVersion.{HiveVersion}
 use Rattle.hive_model.specs.Size.{bulk_of}
-use Rattle.hive_model.specs.Tree.{Head, Tree, Trees, key, trees, listed, head, is_named}
-use Rattle.hive_model.specs.Valid.{HoldsKeys, IsValid, levels}
+use Rattle.hive_model.specs.Tree.{Head, Tree, key, listed, head, is_named}
+use Rattle.hive_model.specs.Valid.{IsValid, levels}
 use Rattle.hive_read.proofs.ValidTrees.{AreBytes}
 use Rattle.reg_tree.proofs.Unlike.{Each, Unlike, Lacks, each_push, unlike_push, lacks_from}
 use Rattle.reg_tree.proofs.Sound.{key_name, IsNamed, Sound, Parts, parts, whole, sound_from, valid_back}
 use Rattle.salvage_bins.specs.Ground.{Ground}
 use Rattle.salvage_walk.specs.declared.lines.Incomplete.{Incomplete}
 use Rattle.salvage_walk.specs.Walked.{Walked}
-use Rattle.salvage_walk.specs.Keys.{Judge, judged_key, key_names, with_child, salvaged}
+use Rattle.salvage_walk.specs.Keys.{judged_key, key_names, with_child, salvaged}
 use Rattle.salvage_walk.specs.Incomplete.{incomplete}
 use Rattle.salvage_walk.specs.Found.{unsaid, found_next}
 use Rattle.salvage_parents.specs.Naming.{naming}
 use Rattle.salvage_parents.specs.Arranged.{put_by_name, arranged_onto, arranged}
 use Rattle.salvage_parents.specs.Change.{changed_among, changed_at}
-use Rattle.salvage_parents.specs.Search.{Adopted, arranged_if, adopted_as, adopted, adopted_none, adopted_at, Search, search_done, search_step, searched_on, searched, search_from, without_lines, searched_by, salvaged_by_parents}
+use Rattle.salvage_parents.specs.Search.{adopted, adopted_none, Search, search_step, searched_on, searched, search_from, without_lines, searched_by, salvaged_by_parents}
 use Rattle.salvage_parents.proofs.ChangeLemmas.{name-kept}
-use Rattle.salvage_file.proofs.KeyLemmas.{GoodKey, JudgesWell, judged-good, salvaged-valid}
+use Rattle.salvage_file.proofs.KeyLemmas.{GoodKey, judged-good, salvaged-valid}
 
 -- ---- keys in the order of their names
 

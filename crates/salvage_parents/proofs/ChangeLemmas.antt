@@ -1,12 +1,12 @@
 -- The key that a path leads to is changed where it is.
-use Rattle.std.proofs.Common.{◌≡◌, ℕ, zero, suc, ◌+◌, ◌<◌, ◌≤◌, Bool, true, false, cond, List, [], ◌∷◌, ◌++◌, length, map, Option, Some, None, Result, Ok, Err, refl, sym, ap, subst, ◌∙◌, arith}
+use Rattle.std.proofs.Common.{◌≡◌, ℕ, zero, suc, ◌+◌, ◌<◌, ◌≤◌, Bool, true, false, cond, List, [], ◌∷◌, ◌++◌, length, Some, None, Result, Ok, Err, refl, sym, ap, subst, ◌∙◌, arith}
 use Rattle.std.specs.Prelude.{IfOk, not, nat_lt, slice_set, slice_index_or}
 use Rattle.std.specs.List.{position, position_or_len}
 use Rattle.std.proofs.lemmas.Bool.{ltb-false}
 use Rattle.std.proofs.lemmas.Bool.Decides.{nat_tests}
 use Rattle.nt_bytes.specs.Folding.{folds_same}
 use Rattle.hive_model.specs.Codes.{weight, weights}
-use Rattle.hive_model.specs.Tree.{Head, Tree, key, trees, listed, head, is_named}
+use Rattle.hive_model.specs.Tree.{Head, Tree, key, trees, head, is_named}
 use Rattle.reg_tree.proofs.Trees.{listed_trees}
 use Rattle.salvage_walk.specs.Keys.{key_names}
 use Rattle.salvage_parents.specs.Change.{changed_among, changed_at, with_children}

@@ -1,6 +1,5 @@
 -- Keys under their folded names: a map of them puts one in as the list of their values does.
-use Rattle.std.proofs.Common.{◌≡◌, ℕ, Bool, true, false, List, [], ◌∷◌, ◌++◌, refl, sym, ap, subst, ◌∙◌}
-use Rattle.std.specs.List.{All}
+use Rattle.std.proofs.Common.{◌≡◌, ℕ, List, [], ◌∷◌, refl, sym, ap, ◌∙◌}
 use Rattle.std.specs.Global.{Vec}
 use Rattle.std.specs.Map.{values_of}
 use Rattle.std.specs.BTreeMap.{insert_entry}
@@ -11,7 +10,7 @@ use Rattle.std.specs.declared.cmp.Ordering.TheVariants.{Less, Equal, Greater}
 use Rattle.nt_bytes.specs.Folding.{folded, folded_order}
 use Rattle.hive_model.specs.Tree.{Tree, head}
 use Rattle.reg_tree.proofs.Unlike.{Each, each_from, each_all}
-use Rattle.salvage_parents.specs.Arranged.{put_by_name, arranged_onto, arranged}
+use Rattle.salvage_parents.specs.Arranged.{put_by_name, arranged_onto}
 use Rattle.salvage_parents.specs.Named.{AreByName}
 
 abbrev Entry : Type 0

@@ -9,7 +9,7 @@ use Rattle.salvage_bins.specs.Ground.{Ground}
 use Rattle.salvage_walk.specs.declared.lines.WalkLine.{WalkLine}
 use Rattle.salvage_walk.specs.declared.lines.Incomplete.{Incomplete}
 use Rattle.salvage_walk.specs.Walked.{Walked}
-use Rattle.salvage_walk.specs.Keys.{Judge, judged_key, salvaged}
+use Rattle.salvage_walk.specs.Keys.{judged_key, salvaged}
 use Rattle.salvage_walk.specs.Incomplete.{notes_key, incomplete}
 use Rattle.salvage_walk.specs.Found.{found_next, found_notes}
 use Rattle.salvage_parents.specs.declared.search.ParentLine.{ParentLine}

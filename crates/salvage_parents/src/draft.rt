@@ -1,11 +1,10 @@
 //! Keys below which others are found.
 
-ghost use Rattle.std.specs.Prelude.{◌≡◌, ◌-◌, ℕ, [], IfOk, OnOk, length};
-ghost use Rattle.hive_model.specs.Tree.{Head};
+ghost use Rattle.std.specs.Prelude.{◌≡◌, ◌-◌, [], IfOk, length};
 ghost use Rattle.salvage_bins.specs.Ground.{ground_of};
 ghost use Rattle.salvage_walk.specs.Keys.{key_names};
 ghost use Rattle.salvage_walk.specs.Walked.{state_of};
-ghost use Rattle.salvage_parents.specs.Change.{changed_among, changed_at};
+ghost use Rattle.salvage_parents.specs.Change.{changed_among};
 ghost use Rattle.salvage_parents.specs.Naming.{AreNaming};
 ghost use Rattle.salvage_parents.specs.Open.{AreOpen};
 ghost use Rattle.salvage_parents.specs.Search.{adopted, adopted_at, adopted_none, arranged_if};

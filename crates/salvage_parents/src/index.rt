@@ -4,7 +4,7 @@ ghost use Rattle.std.specs.Prelude.{◌≡◌, ◌≤◌, ◌++◌, ℕ, length,
 ghost use Rattle.hive_model.specs.KeyNode.{key_node_at};
 ghost use Rattle.hive_model.specs.Walk.{reading};
 ghost use Rattle.salvage_bins.specs.Ground.{ground_of};
-ghost use Rattle.salvage_parents.specs.Naming.{AreNaming, listed, naming, parent_in, place_if};
+ghost use Rattle.salvage_parents.specs.Naming.{AreNaming, listed, parent_in, place_if};
 
 use cell_forms::read_nk;
 use nt_bytes::ReadStop;

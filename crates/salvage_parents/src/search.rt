@@ -1,10 +1,8 @@
 //! The search for keys by their parents.
 
-ghost use Rattle.std.specs.Prelude.{◌≡◌, ◌≤◌, ◌++◌, ◌/◌, ℕ, map, length, slice_get, IfOk, OnOk};
+ghost use Rattle.std.specs.Prelude.{◌≡◌, ◌≤◌, ◌++◌, ◌/◌, map, length, slice_get, IfOk, OnOk};
 ghost use Rattle.salvage_bins.specs.Ground.{ground_of};
 ghost use Rattle.salvage_walk.specs.Walked.{state_of};
-ghost use Rattle.salvage_walk.specs.Keys.{salvaged};
-ghost use Rattle.salvage_walk.specs.Incomplete.{incomplete};
 ghost use Rattle.salvage_parents.specs.Naming.{AreNaming};
 ghost use Rattle.salvage_parents.specs.Search.{found_line, salvaged_by_parents, searched, searched_by, search_from, search_step, tree_and_said};
 ghost use Rattle.salvage_parents.specs.Seen.{search_seen};

@@ -8,5 +8,5 @@ pub mod Keys
 pub mod Incomplete
 pub mod Found
 pub mod FrontSeen
-pub mod Filter
+pub mod Placed
 pub mod Hashed

@@ -1,4 +1,4 @@
-use Rattle.std.proofs.Common.{◌≡◌, List, ap, ◌∙◌}
+use Rattle.std.proofs.Common.{List, ap, ◌∙◌}
 use Rattle.hive_model.specs.Tree.{Tree}
 use Rattle.salvage_bins.specs.Ground.{ground_of}
 use Rattle.salvage_walk.specs.Walked.{state_of}
