@@ -1,14 +1,14 @@
 -- What the options of `import` make of a text.
-use Rattle.std.proofs.Common.{◌≡◌, ℕ, suc, ◌+◌, ◌==◌, Bool, true, false, cond, inl, inr, List, [], ◌∷◌, ◌++◌, length, Option, Some, None, Result, Ok, Err, refl, sym, ap, subst, ◌∙◌, arith, append_assoc}
+use Rattle.std.proofs.Common.{◌≡◌, ℕ, ◌+◌, ◌==◌, Bool, true, false, cond, inl, inr, List, [], ◌∷◌, ◌++◌, length, Option, Some, None, Result, Ok, Err, refl, sym, ap, subst, ◌∙◌, arith, append_assoc}
 use Rattle.std.specs.Prelude.{codes, option_map, ◌↔◌, ◌&&◌, ◌||◌, map, not, nat_lt}
 use Rattle.std.specs.Result.{result_ok}
 use Rattle.std.specs.List.{All}
-use Rattle.std.specs.Option.{is_some, is_none, option_map_or}
+use Rattle.std.specs.Option.{is_none, option_map_or}
 use Rattle.std.specs.Str.{is_utf8}
 use Rattle.nt_bytes.specs.Folding.{folds_same}
 use Rattle.nt_bytes.specs.declared.version.HiveVersion.{HiveVersion}
 use Rattle.nt_edge.specs.Disk.{DiskState}
-use Rattle.hive_model.specs.Edit.{Step, Refusal, no_key, no_value, bad_name, exists, name_too_long, too_deep, data_too_long, full, set_value, delete_value, make_key, delete_key, copy_child, add_child, unless, at_key, of_items, with_item, without_first, with_key, is_bad_name, has_item, key_deleted, without_key, after_step, after_steps, most_bulk, edited}
+use Rattle.hive_model.specs.Edit.{Step, Refusal, no_key, no_value, bad_name, name_too_long, too_deep, data_too_long, full, set_value, delete_value, make_key, delete_key, copy_child, add_child, unless, at_key, of_items, with_item, without_first, with_key, is_bad_name, has_item, key_deleted, without_key, after_step, after_steps, most_bulk, edited}
 use Rattle.hive_model.specs.Forms.{◌>>=◌}
 use Rattle.hive_model.specs.Size.{bulk_of}
 use Rattle.hive_model.specs.State.{HiveState}
@@ -30,7 +30,7 @@ use Rattle.command_parts.specs.declared.status.Status.{Status}
 use Rattle.command_parts.specs.Saves.{Saves}
 use Rattle.import_steps.specs.Current.{SetSteps, current_name, named_in, path_in, step_in, deletes_current, with_step, steps_in as steps_of_set, set_steps}
 use Rattle.import_steps.specs.Encoding.{unmarked, wide_text, utf16_of}
-use Rattle.import_steps.specs.Left.{LeftSteps, is_void, tree_after, with_void, with_kept, left_after, left_of}
+use Rattle.import_steps.specs.Left.{LeftSteps, is_void, tree_after, with_void, left_after, left_of}
 use Rattle.text_commands.specs.declared.said.Done.{Done}
 use Rattle.text_commands.specs.declared.said.Done.TheVariants as dones
 use Rattle.text_commands.specs.declared.said.How.{How}
@@ -38,9 +38,9 @@ use Rattle.text_commands.specs.declared.said.ImportStop.{ImportStop}
 use Rattle.text_commands.specs.declared.said.Said.{Said}
 use Rattle.text_commands.specs.ImportLines.{number_line, option_line, done_line, said_text}
 use Rattle.line_text.specs.declared.form.ReportForm.{ReportForm}
-use Rattle.text_commands.specs.Changed.{Change, steps_in, done_by, state_by, said_of, tree_by, change_by, change_made, change_for}
+use Rattle.text_commands.specs.Changed.{steps_in, done_by, state_by, said_of, tree_by, change_by, change_made, change_for}
 use Rattle.text_commands.specs.Imported.{EndsSteps, EndsText, EndsHive, EndsImport}
-use Rattle.import_laws.specs.Options.{encoded, announced, item_in, edits_in, begins_current, names_current, IsOfText}
+use Rattle.import_laws.specs.Options.{encoded, announced, item_in, edits_in, names_current, IsOfText}
 
 -- ---- encodings
 
@@ -269,7 +269,7 @@ refused_other (delete_key path) t of_text some e =
 refused_other (copy_child from to) t of_text some e = absurd of_text
 refused_other (add_child name tree) t of_text some e = absurd of_text
 
-result_is : (r : Result Tree Refusal) (u : Tree) → result_ok r ≡ Some u → r ≡ Ok u
+pub result_is : (r : Result Tree Refusal) (u : Tree) → result_ok r ≡ Some u → r ≡ Ok u
 result_is (Ok v) u e = (let same : v ≡ u = cc in ap (λ (w : Tree). Ok w) same)
 result_is (Err why) u e = absurd cc
 

@@ -1,5 +1,5 @@
 -- Words for the laws of the options of `import`. (this project's own)
-use Rattle.std.specs.Prelude.{ℕ, Bool, false, List, [], ◌∷◌, map, Option, Some, Result, Ok, Err}
+use Rattle.std.specs.Prelude.{ℕ, ◌==◌, Bool, false, length, List, [], ◌∷◌, map, Some, Result, Ok, Err}
 use Rattle.nt_bytes.specs.Folding.{folds_same}
 use Rattle.hive_model.specs.Edit.{Step, set_value, delete_value, make_key, delete_key, copy_child, add_child}
 use Rattle.command_words.specs.declared.asked.AskedEncoding.{AskedEncoding}
@@ -43,6 +43,15 @@ names_current (make_key (above ∷ path) name) = folds_same current_name above
 names_current (delete_key path) = begins_current path
 names_current (copy_child from to) = false
 names_current (add_child name tree) = false
+
+-- the step deletes the root
+abbrev pub deletes_root : Step → Bool
+deletes_root (set_value path name kind bytes) = false
+deletes_root (delete_value path name) = false
+deletes_root (make_key parent name) = false
+deletes_root (delete_key path) = length path == 0
+deletes_root (copy_child from to) = false
+deletes_root (add_child name tree) = false
 
 -- the step is one that a text may have
 abbrev pub IsOfText : Step → Type 0

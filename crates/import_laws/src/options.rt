@@ -3,14 +3,15 @@
 ghost use Rattle.std.specs.Prelude.{◌≡◌, ◌↔◌, ◌++◌, ◌∷◌, ℕ, Bool, true, false, List, [], Option, Some, None, Result, Ok, Err, map, option_map, codes};
 ghost use Rattle.reg_text.specs.declared.item.LineItem.{LineItem};
 ghost use Rattle.reg_text.specs.Reading.{edits_of, key_after};
-ghost use Rattle.std.specs.List.{All};
+ghost use Rattle.std.specs.List.{All, list_any};
 ghost use Rattle.nt_bytes.specs.declared.version.HiveVersion.{HiveVersion};
 ghost use Rattle.nt_edge.specs.Disk.{DiskState};
-ghost use Rattle.hive_model.specs.Edit.{Step, delete_key, no_key, no_value, key_deleted, edited};
+ghost use Rattle.hive_model.specs.Edit.{Step, no_key, no_value, edited};
 ghost use Rattle.hive_model.specs.State.{HiveState};
 ghost use Rattle.hive_model.specs.Tree.{Tree};
 ghost use Rattle.start_model.specs.Sets.{is_usable, set_name};
 ghost use Rattle.line_text.specs.declared.form.ReportForm.{ReportForm};
+ghost use Rattle.command_words.specs.declared.asked.AskedEncoding.{AskedEncoding};
 ghost use Rattle.command_words.specs.declared.asked.AskedEncoding.TheVariants.{Utf16, Utf8};
 ghost use Rattle.command_words.specs.declared.asked.AskedSet.TheVariants.{Number};
 ghost use Rattle.command_parts.specs.declared.inputs.HiveFiles.{HiveFiles};
@@ -19,13 +20,13 @@ ghost use Rattle.command_parts.specs.declared.status.Status.{Status};
 ghost use Rattle.command_parts.specs.Saves.{Saves};
 ghost use Rattle.import_steps.specs.Current.{SetSteps, path_in, step_in, deletes_current, set_steps};
 ghost use Rattle.import_steps.specs.Encoding.{unmarked, utf16_of};
-ghost use Rattle.import_steps.specs.Left.{is_void, left_of};
+ghost use Rattle.import_steps.specs.Left.{left_of};
 ghost use Rattle.text_commands.specs.declared.said.How.{How};
 ghost use Rattle.text_commands.specs.declared.said.Said.{Said};
 ghost use Rattle.text_commands.specs.Changed.{steps_in, change_made, change_for};
 ghost use Rattle.text_commands.specs.ImportLines.{number_line, said_text};
 ghost use Rattle.text_commands.specs.Imported.{EndsImport};
-ghost use Rattle.import_laws.specs.Options.{encoded, announced, item_in, edits_in, names_current, IsOfText};
+ghost use Rattle.import_laws.specs.Options.{encoded, announced, item_in, edits_in, names_current, deletes_root, IsOfText};
 
 /// A text in UTF-8 has the edits, or the first fault, of the same text in UTF-16 (`reads`), and `import` ends as with that
 /// (`ends`). The mark before it makes no difference (`mark`).
@@ -57,8 +58,8 @@ pub fn the_name_of_the_current_set_is_written_out()
 {}
 
 /// With `--lenient` the hive is afterwards as the steps that are left would have it, and what was done is the same (`done`,
-/// `state`). A value that isn't there is no reason for a refusal (`no_value`), nor is a key that is to be deleted, but
-/// the root (`no_key`). Where nothing was passed over, the steps are those that were given (`all`).
+/// `state`). A value that isn't there is no reason for a refusal (`no_value`), and a key that isn't there only
+/// where the text deletes the root (`no_key`). Where nothing was passed over, the steps are those that were given (`all`).
 pub fn void_steps_are_left_out()
     ensures done { (current : Option ℕ) (s : HiveState) (made : SetSteps)
         → (change_made current true s made).said.done
@@ -68,6 +69,7 @@ pub fn void_steps_are_left_out()
         ≡ (change_made current false s (record { steps = (left_of s.tree made.steps).steps; protected = made.protected })).state }
     ensures no_value { (version : HiveVersion) (t : Tree) (steps : List Step) → All IsOfText steps
         → edited version t (left_of t steps).steps ≡ Err no_value → ⊥ }
-    ensures no_key { (path : List (List ℕ)) (t : Tree) → is_void (delete_key path) t ≡ false → key_deleted path t ≡ Err no_key → path ≡ [] }
+    ensures no_key { (version : HiveVersion) (t : Tree) (encoding : AskedEncoding) (text : List ℕ) (steps : List Step)
+        → steps_in encoding text ≡ Ok steps → edited version t (left_of t steps).steps ≡ Err no_key → list_any deletes_root steps ≡ true }
     ensures all { (t : Tree) (steps : List Step) → (left_of t steps).passed ≡ 0 → (left_of t steps).steps ≡ steps }
 {}

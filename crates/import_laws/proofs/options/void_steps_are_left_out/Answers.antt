@@ -1,5 +1,6 @@
 use Rattle.std.proofs.Common.{refl}
-use Rattle.import_laws.proofs.OptionLemmas.{done_alike, no_value_lacks, only_the_root, all_left}
+use Rattle.import_laws.proofs.ItemLemmas.{root_only}
+use Rattle.import_laws.proofs.OptionLemmas.{done_alike, no_value_lacks, all_left}
 use Rattle.import_laws.proofs.options.void_steps_are_left_out.Goals as goal
 
 pub returns-clause-done : goal.returns-clause-done
@@ -12,7 +13,7 @@ pub returns-clause-no_value : goal.returns-clause-no_value
 returns-clause-no_value c = no_value_lacks
 
 pub returns-clause-no_key : goal.returns-clause-no_key
-returns-clause-no_key c = only_the_root
+returns-clause-no_key c = root_only
 
 pub returns-clause-all : goal.returns-clause-all
 returns-clause-all c = all_left
