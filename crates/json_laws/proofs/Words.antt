@@ -63,7 +63,9 @@ outcome_units TryFallBack = word_units (outcome_word TryFallBack) refl
 outcome_units TryStop = word_units (outcome_word TryStop) refl
 
 abbrev pub events : List EventWord
-events = BootEvent ∷ GoEvent ∷ FailEvent ∷ VitalEvent ∷ SetEvent ∷ DeleteEvent ∷ MakeEvent ∷ RemoveEvent ∷ FlushEvent ∷ LogonEvent ∷ OffEvent ∷ CutEvent ∷ FaultEvent ∷ []
+events =
+    BootEvent ∷ GoEvent ∷ FailEvent ∷ VitalEvent ∷ SetEvent ∷ DeleteEvent ∷ MakeEvent ∷ RemoveEvent
+    ∷ FlushEvent ∷ LogonEvent ∷ OffEvent ∷ CutEvent ∷ FaultEvent ∷ []
 
 abbrev pub event_from : List ℕ → Option EventWord
 event_from word = pick event_word events word
@@ -99,7 +101,9 @@ event_units CutEvent = word_units (event_word CutEvent) refl
 event_units FaultEvent = word_units (event_word FaultEvent) refl
 
 abbrev pub reasons : List RefusedWord
-reasons = OffReason ∷ RunningReason ∷ EarlyReason ∷ AgainReason ∷ IdleReason ∷ ProtectedReason ∷ NoKeyReason ∷ NoValueReason ∷ BadNameReason ∷ NameTooLongReason ∷ TooDeepReason ∷ DataTooLongReason ∷ FullReason ∷ []
+reasons =
+    OffReason ∷ RunningReason ∷ EarlyReason ∷ AgainReason ∷ IdleReason ∷ ProtectedReason ∷ NoKeyReason
+    ∷ NoValueReason ∷ BadNameReason ∷ NameTooLongReason ∷ TooDeepReason ∷ DataTooLongReason ∷ FullReason ∷ []
 
 abbrev pub why_from : List ℕ → Option RefusedWord
 why_from word = pick refused_word reasons word
@@ -135,7 +139,9 @@ why_units DataTooLongReason = word_units (refused_word DataTooLongReason) refl
 why_units FullReason = word_units (refused_word FullReason) refl
 
 abbrev pub verdicts : List Verdict
-verdicts = Good ∷ GoodUnsaved ∷ Running ∷ FallBack ∷ Stopped ∷ Cut ∷ Device ∷ Full ∷ NoNumber ∷ NoEntry ∷ OtherLoader ∷ NoSystem ∷ NoControlSet ∷ NoLastKnownGood ∷ []
+verdicts =
+    Good ∷ GoodUnsaved ∷ Running ∷ FallBack ∷ Stopped ∷ Cut ∷ Device ∷ Full ∷ NoNumber ∷ NoEntry ∷ OtherLoader
+    ∷ NoSystem ∷ NoControlSet ∷ NoLastKnownGood ∷ []
 
 abbrev pub verdict_from : List ℕ → Option Verdict
 verdict_from word = pick verdict_word verdicts word

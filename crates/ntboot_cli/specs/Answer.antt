@@ -208,8 +208,10 @@ EndsWords (asks (show words) json) files after disk status old new =
     EndsShown (form_of json) (hive_in files words.hive words.log) status old new × (disk ≡ new_state)
 EndsWords (asks (make words) json) files after disk status old new =
     EndsMade (form_of json) usual_in words.count (saves_of (asks (make words) json)) disk status old new
-EndsWords (asks (safe words) json) files after disk status old new = EndsSafe (form_of json) (safe_inputs_in words files) status old new × (disk ≡ new_state)
-EndsWords (asks (control words) json) files after disk status old new = EndsControl (form_of json) (control_inputs_in words files) status old new × (disk ≡ new_state)
+EndsWords (asks (safe words) json) files after disk status old new =
+    EndsSafe (form_of json) (safe_inputs_in words files) status old new × (disk ≡ new_state)
+EndsWords (asks (control words) json) files after disk status old new =
+    EndsControl (form_of json) (control_inputs_in words files) status old new × (disk ≡ new_state)
 EndsWords (asks (twin words) json) files after disk status old new =
     EndsTwin (form_of json) (hive_in files words.hive words.alt) (stands_by words.scheme) words.default (twin_saves words) disk status old new
 EndsWords (asks (import words) json) files after disk status old new =

@@ -55,7 +55,8 @@ fn push_counts(out: &mut Vec<u8>, keys: u64, values: u64) -> Result<(), AllocErr
 }
 
 fn push_exported(out: &mut Vec<u8>, keys: u64, values: u64) -> Result<(), AllocError>
-    ensures { OnOk result (out.new.items ≡ out.old.items ++ object_text (codes "exported") ((codes "keys", Number keys) ∷ (codes "values", Number values) ∷ [])) }
+    ensures { OnOk result (out.new.items ≡ out.old.items
+        ++ object_text (codes "exported") ((codes "keys", Number keys) ∷ (codes "values", Number values) ∷ [])) }
 {
     open_object(out, b"exported")?;
     push_counts(out, keys, values)?;
