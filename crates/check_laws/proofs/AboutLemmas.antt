@@ -184,8 +184,7 @@ module _ (set : Tree) (holds : HoldsKeys set) where
       → Reason (rows_of set) (rows_apart set holds) (needs a) (needs b) (needs d) start p r
       → (other : List ℕ) × HasAbout in_order number set other × IsTakenName set other
   reason_about a b d start in_order number p r at taken (whole.wrong f c) =
-      let there = item_here (rows_of set) p r at in
-      (
+      let there = item_here (rows_of set) p r at in (
         r.entry.name,
         record {
           line = lines.About f r.entry.name;
@@ -203,8 +202,7 @@ module _ (set : Tree) (holds : HoldsKeys set) where
       let c = round_found (waits_of (rows_of set)) (good_proper (rows_of set)) q.0 q.1 q.2 in
       let s = stands_at (rows_of set) q.0 (omega (arith, q.1, length-map (rows_of set) (good_ways (rows_of set)))) in
       let there = item_here (rows_of set) q.0 s.0 s.1 in
-      let line = set_says_cycle in_order number set s.0.entry (row_entry set holds s.0 there).0 c.0 q.0 c.1 c.2 in
-      (
+      let line = set_says_cycle in_order number set s.0.entry (row_entry set holds s.0 there).0 c.0 q.0 c.1 c.2 in (
         s.0.entry.name,
         record {
           line = lines.Cycle line.0 (name_at (rows_of set) q.0);

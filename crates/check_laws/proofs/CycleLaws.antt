@@ -129,11 +129,11 @@ module _ (waits : List (List (List ℕ))) (proper : AreProper waits) where
         let b = and_parts (comes_to (leads waits) (length waits) r.0 r.0) (g r.0) r.2 in
         (r.0, range_in (length waits) r.0 r.1, b.0, b.1))
     | inr none ↦ absurd (none_stuck g on (λ q lq gq. elim (cases_Bool (comes_to (leads waits) (length waits) q q)) [
-        | inl here ↦ absurd (false≢true (sym none
-            ∙ any_from (λ q. comes_to (leads waits) (length waits) q q && g q) (range_with_len 0 (length waits)) q
-            (in_range (length waits) q lq) (and_from (comes_to (leads waits) (length waits) q q) (g q) here gq)))
-        | inr off ↦ off
-      ])
+      | inl here ↦ absurd (false≢true (sym none
+          ∙ any_from (λ q. comes_to (leads waits) (length waits) q q && g q) (range_with_len 0 (length waits)) q
+          (in_range (length waits) q lq) (and_from (comes_to (leads waits) (length waits) q q) (g q) here gq)))
+      | inr off ↦ off
+    ])
         (suc (count_by (comes_to (leads waits) (length waits) p) (range_with_len 0 (length waits)))) p lp gp st (omega arith))
   ]
 
@@ -176,8 +176,7 @@ module _ (waits : List (List (List ℕ))) (proper : AreProper waits) where
           let one : cycle_of waits f ≡ cycle_of waits q = same_cycle q f lq lf out.1 in
           let same : cycle_of waits f ≡ f ∷ fs = one ∙ e in
           let from : cycle_from waits f ≡ cycle_of waits f ∷ [] =
-          ap (λ (b : Bool). cond b (cycle_of waits f ∷ []) []) (ap (begins_with f) same ∙ eq-eqb f f refl) in
-          (
+          ap (λ (b : Bool). cond b (cycle_of waits f ∷ []) []) (ap (begins_with f) same ∙ eq-eqb f f refl) in (
             cycle_of waits f,
             flat_in (cycle_from waits) (range_with_len 0 (length waits)) f (cycle_of waits f) (in_range (length waits) f lf)
                 (subst (λ (cs : List (List ℕ)). Contains cs (cycle_of waits f)) (sym from) (first_in (cycle_of waits f) [])),
@@ -194,9 +193,9 @@ module _ (waits : List (List (List ℕ))) (proper : AreProper waits) where
   leads_some q f lq lf h = elim (cases_Bool (is_stuck waits q)) [
     | inl on ↦ on
     | inr off ↦ absurd (false≢true (comes_gives (leads waits) (length waits) q f h (λ _. false) (record {
-        begun = λ x lx st. sym off ∙ leading_stuck q x lq st;
-        closed = λ m x lm lx on st. on;
-      }) lf))
+      begun = λ x lx st. sym off ∙ leading_stuck q x lq st;
+      closed = λ m x lm lx on st. on;
+    }) lf))
   ]
 
   -- a place in a cycle is stuck
@@ -208,8 +207,7 @@ module _ (waits : List (List (List ℕ))) (proper : AreProper waits) where
       let same : c ≡ cycle_of waits f.0 = cycle_is f.0 c (begins_with f.0 (cycle_of waits f.0)) f.2 in
       let out = filter_out (are_in_cycle waits f.0) (range_with_len 0 (length waits)) q
       (subst (λ (xs : List ℕ). Contains xs q) same on) in
-      let lq = range_in (length waits) q out.0 in
-      (
+      let lq = range_in (length waits) q out.0 in (
         lq,
         leads_some q f.0 lq (range_in (length waits) f.0 f.1)
             (and_parts (comes_to (leads waits) (length waits) f.0 q) (comes_to (leads waits) (length waits) q f.0) out.1).1,

@@ -115,8 +115,7 @@ module _ (set : Tree) (holds : HoldsKeys set) where
         | inl i ↦ boot_tried 2 (omega arith) new0 one.turn name m.item i m.is
         | inr i ↦ system_tried new0 new1 two.turn name m.item i m.is
       ])))
-      (new0 ++ new1) (starts_of needs2 (labels_of (new0 ++ new1))) s2.left s2.phase in
-      (
+      (new0 ++ new1) (starts_of needs2 (labels_of (new0 ++ new1))) s2.left s2.phase in (
         ran_of needs0 [] s0.left,
         ran_of needs1 new0 s1.left,
         ran_of needs2 (new0 ++ new1) s2.left,

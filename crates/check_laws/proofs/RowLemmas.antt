@@ -51,11 +51,11 @@ first_for (n ∷ ns) x c = elim (in_cons n ns x c) [
       elim (cases_Bool (folds_same n r.0)) [
         | inl on ↦ (n, first_in n (filter (λ m. not (folds_same n m)) (first_names ns)), alike n r.0 on x ∙ r.2)
         | inr off ↦ (
-            r.0,
-            later_in n (filter (λ m. not (folds_same n m)) (first_names ns)) r.0
-                (filter_in (λ m. not (folds_same n m)) (first_names ns) r.0 r.1 (ap not off)),
-            r.2,
-          )
+          r.0,
+          later_in n (filter (λ m. not (folds_same n m)) (first_names ns)) r.0
+              (filter_in (λ m. not (folds_same n m)) (first_names ns) r.0 r.1 (ap not off)),
+          r.2,
+        )
       ])
 ]
 

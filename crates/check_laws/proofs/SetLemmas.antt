@@ -42,11 +42,11 @@ one_key keys t u differ a b one = elim (cases_lt a.0 b.0) [
       absurd (false≢true (sym (differ a.0 b.0 t h b.1)
       ∙ (λ i. folds_same (head (there i)).name (head (a.2 i)).name) ∙ folds_swap (head u).name (head t).name ∙ one))
   | inr h ↦ elim (cases_lt b.0 a.0) [
-      | inl k ↦
-          absurd (false≢true (sym (differ b.0 a.0 t k a.1) ∙ (λ i. folds_same (head (a.2 i)).name (head (there i)).name)
-          ∙ one))
-      | inr k ↦ (let same : a.0 ≡ b.0 = omega (arith, h, k) in sym a.2 ∙ ap (λ k. get_or keys k t) same ∙ there)
-    ]
+    | inl k ↦
+        absurd (false≢true (sym (differ b.0 a.0 t k a.1) ∙ (λ i. folds_same (head (a.2 i)).name (head (there i)).name)
+        ∙ one))
+    | inr k ↦ (let same : a.0 ≡ b.0 = omega (arith, h, k) in sym a.2 ∙ ap (λ k. get_or keys k t) same ∙ there)
+  ]
 ]
   where
     there : get_or keys b.0 t ≡ u
@@ -264,8 +264,7 @@ module _ (set : Tree) (holds : HoldsKeys set) where
   -- the row of an entry
   pub row_entry : (r : Staged) → Contains (rows_of set) r → Contains (entries_of set) r.entry × (r.stage ≡ stage_in names r.entry)
   row_entry r c =
-      let m = mapped_from (staged_in names) (entries_of set) r c in
-      (
+      let m = mapped_from (staged_in names) (entries_of set) r c in (
         subst (Contains (entries_of set)) (ap (λ (s : Staged). s.entry) m.is) m.there,
         sym (ap (λ (s : Staged). s.stage) m.is) ∙ ap (λ (s : Staged). stage_in names s.entry) m.is,
       )

@@ -150,12 +150,16 @@ start_told set =
     ≡ plan_of set Automatic (map (λ (e : Entry). folded e.name) a.new ++ map (λ (e : Entry). folded e.name) b.new) =
     p1.waiting ∙ (λ j. plan_of set (phase_after (p0.phase j)) (p0.tried j ++ map (λ (e : Entry). folded e.name) b.new)) in
     let started : c2.start.started ≡ map label_of a.new ++ map label_of b.new =
-    p1.started ∙ ap (λ (l : List Label). l ++ map label_of b.new) p0.started in
-    (a, b, d, record {
-      first = refl;
-      second = (λ j. run need_of (length (p0.waiting j)) (p0.started j) (p0.waiting j));
-      third = (λ j. run need_of (length (waiting j)) (started j) (waiting j));
-      told = p2.told
-          ∙ ap (λ (l : List (List ℕ)). l ++ map (λ (e : Entry). e.name) d.left)
-          (p1.told ∙ ap (λ (l : List (List ℕ)). l ++ map (λ (e : Entry). e.name) b.left) p0.told);
-    })
+    p1.started ∙ ap (λ (l : List Label). l ++ map label_of b.new) p0.started in (
+      a,
+      b,
+      d,
+      record {
+        first = refl;
+        second = (λ j. run need_of (length (p0.waiting j)) (p0.started j) (p0.waiting j));
+        third = (λ j. run need_of (length (waiting j)) (started j) (waiting j));
+        told = p2.told
+            ∙ ap (λ (l : List (List ℕ)). l ++ map (λ (e : Entry). e.name) d.left)
+            (p1.told ∙ ap (λ (l : List (List ℕ)). l ++ map (λ (e : Entry). e.name) b.left) p0.told);
+      },
+    )

@@ -49,9 +49,9 @@ placed_other r [] x c = absurd (none_in x c)
 placed_other r (s ∷ ss) x c = elim (is_before r s) as (λ b. Contains (cond b (r ∷ s ∷ ss) (s ∷ placed r ss)) x) [
   | true ↦ later_in r (s ∷ ss) x c
   | false ↦ elim (in_cons s ss x c) [
-      | inl e ↦ subst (λ (y : Rank). Contains (s ∷ placed r ss) y) e (first_in s (placed r ss))
-      | inr i ↦ later_in s (placed r ss) x (placed_other r ss x i)
-    ]
+    | inl e ↦ subst (λ (y : Rank). Contains (s ∷ placed r ss) y) e (first_in s (placed r ss))
+    | inr i ↦ later_in s (placed r ss) x (placed_other r ss x i)
+  ]
 ]
 
 pub ordered_in : (rs : List Rank) (x : Rank) → Contains rs x → Contains (ordered_of rs) x
@@ -66,9 +66,9 @@ placed_from r [] x c = in_cons r [] x c
 placed_from r (s ∷ ss) x c = elim (is_before r s) as (λ b. Contains (cond b (r ∷ s ∷ ss) (s ∷ placed r ss)) x → (r ≡ x) ⊎ Contains (s ∷ ss) x) [
   | true ↦ (λ c. in_cons r (s ∷ ss) x c)
   | false ↦ (λ c. elim (in_cons s (placed r ss) x c) [
-      | inl e ↦ inr (subst (λ (y : Rank). Contains (s ∷ ss) y) e (first_in s ss))
-      | inr i ↦ elim (placed_from r ss x i) [ inl e ↦ inl e | inr j ↦ inr (later_in s ss x j) ]
-    ])
+    | inl e ↦ inr (subst (λ (y : Rank). Contains (s ∷ ss) y) e (first_in s ss))
+    | inr i ↦ elim (placed_from r ss x i) [ inl e ↦ inl e | inr j ↦ inr (later_in s ss x j) ]
+  ])
 ] c
 
 pub ordered_from : (rs : List Rank) (x : Rank) → Contains (ordered_of rs) x → Contains rs x

@@ -82,9 +82,9 @@ pub turned_each : (Plan : Need → Type 0) (pre new : List Need) → InTurn Plan
 turned_each Plan pre [] t n c = absurd (none_in n c)
 turned_each Plan pre (m ∷ ms) t n c = elim (in_cons m ms n c) [
   | inl e ↦ subst (λ (x : Need). Plan x × (is_ready (labels_of (pre ++ m ∷ ms)) x ≡ true)) e (
-      t.0,
-      ready_wider pre (pre ++ m ∷ ms) m (λ x i. Contains-append_left pre (m ∷ ms) x i) t.1,
-    )
+    t.0,
+    ready_wider pre (pre ++ m ∷ ms) m (λ x i. Contains-append_left pre (m ∷ ms) x i) t.1,
+  )
   | inr i ↦ (let d = turned_each Plan (pre ++ m ∷ []) ms t.2 n i in
       (d.0, ap (λ (r : List Need). is_ready (labels_of r) n) (sym (append_assoc pre (m ∷ []) ms)) ∙ d.1))
 ]

@@ -212,9 +212,9 @@ module _ (rows : List Staged) (apart : RowsApart rows) where
         → Contains lefts (need_of r.entry)
     reason_left p r at taken why = elim (automatic_upto r.stage (taken_upto r.stage taken)) [
       | inl u ↦ elim (system_upto r.stage u) [
-          | inl v ↦ boot_left p r at (boot_upto r.stage v) why
-          | inr e ↦ system_left p r at e why
-        ]
+        | inl v ↦ boot_left p r at (boot_upto r.stage v) why
+        | inr e ↦ system_left p r at e why
+      ]
       | inr e ↦ automatic_left p r at e why
     ]
 
@@ -245,26 +245,26 @@ module _ (rows : List Staged) (apart : RowsApart rows) where
         → Contains (a.new ++ b.new) (need_of s.entry) ⊎ (left_set q ≡ true)
     over_system q s at u = elim (system_upto s.stage u) [
       | inl v ↦ elim (over_boot q s at v) [
-          | inl i ↦ inl (Contains-append_left a.new b.new (need_of s.entry) i)
-          | inr on ↦ inr on
-        ]
+        | inl i ↦ inl (Contains-append_left a.new b.new (need_of s.entry) i)
+        | inr on ↦ inr on
+      ]
       | inr e ↦ elim (start.system.each (need_of s.entry) (is_of System q s at e)) [
-          | inl i ↦ inl (Contains-append_right a.new b.new (need_of s.entry) i)
-          | inr i ↦ inr (left_at q s at (upto_taken System s.stage u) (in_second (need_of s.entry) i))
-        ]
+        | inl i ↦ inl (Contains-append_right a.new b.new (need_of s.entry) i)
+        | inr i ↦ inr (left_at q s at (upto_taken System s.stage u) (in_second (need_of s.entry) i))
+      ]
     ]
 
     pub over_automatic : (q : ℕ) (s : Staged) → slice_get rows q ≡ Some s → is_upto Automatic s.stage ≡ true
         → Contains ((a.new ++ b.new) ++ c.new) (need_of s.entry) ⊎ (left_set q ≡ true)
     over_automatic q s at u = elim (automatic_upto s.stage u) [
       | inl v ↦ elim (over_system q s at v) [
-          | inl i ↦ inl (Contains-append_left (a.new ++ b.new) c.new (need_of s.entry) i)
-          | inr on ↦ inr on
-        ]
+        | inl i ↦ inl (Contains-append_left (a.new ++ b.new) c.new (need_of s.entry) i)
+        | inr on ↦ inr on
+      ]
       | inr e ↦ elim (start.automatic.each (need_of s.entry) (is_of Automatic q s at e)) [
-          | inl i ↦ inl (Contains-append_right (a.new ++ b.new) c.new (need_of s.entry) i)
-          | inr i ↦ inr (left_at q s at (upto_taken Automatic s.stage u) (in_third (need_of s.entry) i))
-        ]
+        | inl i ↦ inl (Contains-append_right (a.new ++ b.new) c.new (need_of s.entry) i)
+        | inr i ↦ inr (left_at q s at (upto_taken Automatic s.stage u) (in_third (need_of s.entry) i))
+      ]
     ]
 
     pub left_some : (p : ℕ) → left_set p ≡ true → (n : Need) × Contains lefts n
@@ -311,13 +311,13 @@ module _ (rows : List Staged) (apart : RowsApart rows) where
         → folds_same r.entry.name n.name ≡ true → is_held (waits_of rows) left_set p ≡ true
     held_left right p r at n i h = elim (Contains-append_cases (a.left ++ b.left) c.left n i) [
       | inl j ↦ elim (Contains-append_cases a.left b.left n j) [
-          | inl k ↦ (let e = same_need Boot n r (item_here rows p r at) (start.boot.only n k) h in
-              left_held right Boot a.new refl over_boot p r at e.0
-              (ap (is_ready (labels_of a.new)) e.1 ∙ start.boot.unready n k))
-          | inr k ↦ (let e = same_need System n r (item_here rows p r at) (start.system.only n k) h in
-              left_held right System (a.new ++ b.new) refl over_system p r at e.0
-              (ap (is_ready (labels_of (a.new ++ b.new))) e.1 ∙ start.system.unready n k))
-        ]
+        | inl k ↦ (let e = same_need Boot n r (item_here rows p r at) (start.boot.only n k) h in
+            left_held right Boot a.new refl over_boot p r at e.0
+            (ap (is_ready (labels_of a.new)) e.1 ∙ start.boot.unready n k))
+        | inr k ↦ (let e = same_need System n r (item_here rows p r at) (start.system.only n k) h in
+            left_held right System (a.new ++ b.new) refl over_system p r at e.0
+            (ap (is_ready (labels_of (a.new ++ b.new))) e.1 ∙ start.system.unready n k))
+      ]
       | inr k ↦ (let e = same_need Automatic n r (item_here rows p r at) (start.automatic.only n k) h in
           left_held right Automatic ((a.new ++ b.new) ++ c.new) refl over_automatic p r at e.0
           (ap (is_ready (labels_of ((a.new ++ b.new) ++ c.new))) e.1 ∙ start.automatic.unready n k))
@@ -345,9 +345,9 @@ module _ (rows : List Staged) (apart : RowsApart rows) where
     pub left_row : (n : Need) → Contains lefts n → IsUpto rows Automatic n
     left_row n i = elim (Contains-append_cases (a.left ++ b.left) c.left n i) [
       | inl j ↦ elim (Contains-append_cases a.left b.left n j) [
-          | inl k ↦ of_stage Boot refl n (start.boot.only n k)
-          | inr k ↦ of_stage System refl n (start.system.only n k)
-        ]
+        | inl k ↦ of_stage Boot refl n (start.boot.only n k)
+        | inr k ↦ of_stage System refl n (start.system.only n k)
+      ]
       | inr k ↦ of_stage Automatic refl n (start.automatic.only n k)
     ]
       where

@@ -59,9 +59,9 @@ pub needs_three : (a b c : List Entry) (n : Need) → Contains ((needs a ++ need
     → (y : Entry) × Contains ((a ++ b) ++ c) y × (need_of y ≡ n)
 needs_three a b c n i = elim (Contains-append_cases (needs a ++ needs b) (needs c) n i) [
   | inl j ↦ elim (Contains-append_cases (needs a) (needs b) n j) [
-      | inl k ↦ (let m = mapped_from need_of a n k in (m.item, three_in a b c m.item (in1 m.there), m.is))
-      | inr k ↦ (let m = mapped_from need_of b n k in (m.item, three_in a b c m.item (in2 m.there), m.is))
-    ]
+    | inl k ↦ (let m = mapped_from need_of a n k in (m.item, three_in a b c m.item (in1 m.there), m.is))
+    | inr k ↦ (let m = mapped_from need_of b n k in (m.item, three_in a b c m.item (in2 m.there), m.is))
+  ]
   | inr k ↦ (let m = mapped_from need_of c n k in (m.item, three_in a b c m.item (in3 m.there), m.is))
 ]
 
@@ -91,9 +91,9 @@ module _ (nq : Option (List ℕ)) (setq : Tree) (tq : List Told) (q : IsPlay nq 
       subst (Contains (pre ++ needs new)) i.need (elim (full.each i.entry to.0) [
         | inl j ↦ Contains-append_right pre (needs new) (need_of i.entry) (mapped_to need_of new i.entry j)
         | inr r ↦ elim r [
-            | inl j ↦ absurd (false≢true (sym (full.unready i.entry j) ∙ wide))
-            | inr bad ↦ absurd (false≢true (sym to.1 ∙ bad))
-          ]
+          | inl j ↦ absurd (false≢true (sym (full.unready i.entry j) ∙ wide))
+          | inr bad ↦ absurd (false≢true (sym to.1 ∙ bad))
+        ]
       ])
 
   first : (n : Need) → Contains (needs q.n1) n → Contains now1 n

@@ -116,8 +116,7 @@ over_phase : (usable : Bool) (set : Tree) (c : Course) → c.machine.start ≡ N
     → ((phase_played usable set c).told ≡ c.told) × ((phase_played usable set c).machine.start ≡ None)
 unfolding phase_played
 over_phase usable set c gone =
-    let stays = over_stays (waiting_count c.machine) usable c gone in
-    (
+    let stays = over_stays (waiting_count c.machine) usable c gone in (
       ap (λ (x : Course). (phase_ended set x).told) stays
           ∙ ap (λ (o : Option Start). c.told ++ map play.left (option_map_or machine.unmet_in o [])) gone ∙ append-nil c.told,
       ap (λ (x : Course). (phase_ended set x).machine.start) stays ∙ ap (option_map (after_phase set)) gone,
@@ -180,8 +179,10 @@ module _ (m : RunState) where
       → map told_line (told ++ record { name = e.name; fate = Failed (judgement_as j) } ∷ [])
       ++ said (judged j (run_at (one_failure_less fs e.name) (ph phase (after_attempt s k e false))) (go_steps n))
       ≡ map told_line (rest (good_is_usable m.live) (live_set m s.number) phase
-      (record { told = told ++ record { name = e.name; fate = Failed (judgement_as j) } ∷ [];
-        machine = play.judged j (mach (one_failure_less fs e.name) (bare (ph phase (after_attempt s k e false)))) })).told
+      (record {
+        told = told ++ record { name = e.name; fate = Failed (judgement_as j) } ∷ [];
+        machine = play.judged j (mach (one_failure_less fs e.name) (bare (ph phase (after_attempt s k e false))));
+      })).told
   failed_says n says phase fs s told k e off few book.Ignore =
       says phase (one_failure_less fs e.name) (after_attempt s k e false) (told ++ record { name = e.name; fate = Failed (judgement_as book.Ignore) } ∷ []) off few
   failed_says n says phase fs s told k e off few book.Log =

@@ -310,9 +310,9 @@ module _ (taken : Taken) (holds : HoldsKeys taken.set) (name : List ℕ) where
             (let here : Contains (pre ++ needs new) n = subst (Contains (pre ++ needs new)) turn.0.need (elim (full.each e turn.0.there) [
               | inl i ↦ Contains-append_right pre (needs new) (need_of e) (mapped_to need_of new e i)
               | inr r ↦ elim r [
-                  | inl i ↦ absurd (false≢true (sym (full.unready e i) ∙ wide))
-                  | inr bad ↦ absurd (false≢true (sym off ∙ bad))
-                ]
+                | inl i ↦ absurd (false≢true (sym (full.unready e i) ∙ wide))
+                | inr bad ↦ absurd (false≢true (sym off ∙ bad))
+              ]
             ]) in
             elim (walk phase pre new left full (done ++ n ∷ []) ns turn.2 (λ m c. elim (Contains-append_cases done (n ∷ []) m c) [
               | inl i ↦ all m i
@@ -491,24 +491,24 @@ module _ (taken : Taken) (holds : HoldsKeys taken.set) (name : List ℕ) where
       elim (cases_Bool (folds_same name e.name)) [
         | inl yes' ↦ named (ap (λ (m : Need). folds_same name m.name) (sym i.need) ∙ yes') e there i.need
         | inr other ↦ elim (full.each e i.there) [
-            | inl j ↦ runs (subst (Contains now) i.need (Contains-append_right pre (needs new) (need_of e) (mapped_to need_of new e j)))
-            | inr r ↦ elim r [
-                | inr bad ↦ absurd (false≢true (sym other ∙ bad))
-                | inl j ↦
-                    (let met : is_ready (labels_of done) (need_of e) ≡ true = ap (is_ready (labels_of done)) i.need ∙ can in
-                    let both = and_parts (list_all (ready.has_name (labels_of done)) e.services) (list_all (ready.has_group (labels_of done)) e.groups) met in
-                    elim (and_cases (list_all (ready.has_name (labels_of now)) e.services) (list_all (ready.has_group (labels_of now)) e.groups) (full.unready e j)) [
-                      | inl bad ↦
-                          (let d = not_all (ready.has_name (labels_of now)) e.services bad in
-                          let m = named_from done d.0 (all_gives (ready.has_name (labels_of done)) e.services d.0 both.0 d.1) in
-                          leans e (by_name now e there other d.0 d.1 d.2 m.0 m.2 (all m.0 m.1)) i.need)
-                      | inr bad ↦
-                          (let g = not_all (ready.has_group (labels_of now)) e.groups bad in
-                          let m = member_from done g.0 (all_gives (ready.has_group (labels_of done)) e.groups g.0 both.1 g.1) in
-                          leans e (by_group now e there other g.0 g.1 g.2 m.0 m.2 (all m.0 m.1)) i.need)
-                    ])
-              ]
+          | inl j ↦ runs (subst (Contains now) i.need (Contains-append_right pre (needs new) (need_of e) (mapped_to need_of new e j)))
+          | inr r ↦ elim r [
+            | inr bad ↦ absurd (false≢true (sym other ∙ bad))
+            | inl j ↦
+                (let met : is_ready (labels_of done) (need_of e) ≡ true = ap (is_ready (labels_of done)) i.need ∙ can in
+                let both = and_parts (list_all (ready.has_name (labels_of done)) e.services) (list_all (ready.has_group (labels_of done)) e.groups) met in
+                elim (and_cases (list_all (ready.has_name (labels_of now)) e.services) (list_all (ready.has_group (labels_of now)) e.groups) (full.unready e j)) [
+                  | inl bad ↦
+                      (let d = not_all (ready.has_name (labels_of now)) e.services bad in
+                      let m = named_from done d.0 (all_gives (ready.has_name (labels_of done)) e.services d.0 both.0 d.1) in
+                      leans e (by_name now e there other d.0 d.1 d.2 m.0 m.2 (all m.0 m.1)) i.need)
+                  | inr bad ↦
+                      (let g = not_all (ready.has_group (labels_of now)) e.groups bad in
+                      let m = member_from done g.0 (all_gives (ready.has_group (labels_of done)) e.groups g.0 both.1 g.1) in
+                      leans e (by_group now e there other g.0 g.1 g.2 m.0 m.2 (all m.0 m.1)) i.need)
+                ])
           ]
+        ]
       ]
 
   module _ (w : Whole (Some name) set fail.n1 fail.n2 fail.n3 fail.l1 fail.l2 fail.l3) where
@@ -656,11 +656,10 @@ module _ (taken : Taken) (holds : HoldsKeys taken.set) (name : List ℕ) where
   pub off_lines : (other : List ℕ)
       → Contains (flat_map unmet_said (off_block_of taken name)) other ↔ IsNewlyUnmet taken (off_told taken name) other
   off_lines other = (
-    λ c. (let s = said_from (off_told taken name) (lost_of taken name (off_told taken name)) other c in
-        (
-          exact (off_told taken name) other (lost_from (off_told taken name) other s.0) off_unmet_entry s.1,
-          λ u. lost_new (off_told taken name) other s.0 u,
-        )),
+    λ c. (let s = said_from (off_told taken name) (lost_of taken name (off_told taken name)) other c in (
+      exact (off_told taken name) other (lost_from (off_told taken name) other s.0) off_unmet_entry s.1,
+      λ u. lost_new (off_told taken name) other s.0 u,
+    )),
     λ b. said_in (off_told taken name) (lost_of taken name (off_told taken name)) other (off_new other b.0 b.1) b.0,
   )
 

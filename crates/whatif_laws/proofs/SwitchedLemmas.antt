@@ -154,14 +154,13 @@ driver_off : (name : List ℕ) (set : Tree) → HoldsKeys set → (start : ℕ) 
     × (folds_same name e.name ≡ false)
 driver_off name set holds start other p e c is = elim (off_entry name set holds e (item_here (entries_of (off_set name set)) p e is)) [
   | inl four ↦ absurd (other (sym (driver_from (entries_of (off_set name set)) start [] p e c is).1 ∙ four))
-  | inr i ↦ (let q = item_place (entries_of set) e i.0 in
-      (
-        q.0,
-        passing_place (is_driver_of start []) (entries_of set) q.0 e q.1
-            (place_passes (is_driver_of start []) (entries_of (off_set name set)) p e c is),
-        q.1,
-        i.1,
-      ))
+  | inr i ↦ (let q = item_place (entries_of set) e i.0 in (
+    q.0,
+    passing_place (is_driver_of start []) (entries_of set) q.0 e q.1
+        (place_passes (is_driver_of start []) (entries_of (off_set name set)) p e c is),
+    q.1,
+    i.1,
+  ))
 ]
 
 open_set : (name : List ℕ) (set : Tree) → HoldsKeys set → AreOpenToo (entries_of (off_set name set)) [] (entries_of set) []
@@ -184,8 +183,7 @@ off_plan name set holds System e c =
 off_plan name set holds Automatic e c =
     let t = plan_from (off_set name set) Automatic [] e c in
     let a = auto_from (entries_of (off_set name set)) [] e t in
-    let late = auto_late (entries_of (off_set name set)) [] (entries_of set) [] (open_set name set holds) (entries_apart set holds) e a in
-    (
+    let late = auto_late (entries_of (off_set name set)) [] (entries_of set) [] (open_set name set holds) (entries_apart set holds) e a in (
       plan_in set Automatic [] e (auto_taken (entries_of set) [] e
           (auto_into (entries_of (off_set name set)) [] (entries_of set) [] (open_set name set holds) (entries_apart set holds) e a)),
       elim (off_entry name set holds e (item_here (entries_of (off_set name set)) t.place e t.here)) [
