@@ -1,5 +1,5 @@
 -- How are the lines of a comparison printed as objects of JSON, and in either form? (this project's own)
-use Rattle.std.specs.Prelude.{ℕ, List, [], ◌∷◌, ◌++◌, codes}
+use Rattle.std.specs.Prelude.{ℕ, List, [], ◌∷◌, codes}
 use Rattle.std.specs.List.{flat_map}
 use Rattle.boot_phases.specs.declared.phase.Phase.{Phase}
 use Rattle.line_text.specs.declared.form.ReportForm.{ReportForm}

@@ -1,6 +1,6 @@
 -- Which lines are there of two keys, without those below them? Contents are compared exactly, but for what stands with what: that is by
 -- folded names. (this project's own)
-use Rattle.std.specs.Prelude.{ℕ, ◌==◌, Bool, not, ◌&&◌, bytes_eq, List, [], ◌∷◌, ◌++◌, map, filter, position, slice_get, Option, option_and_then, if◌then◌else◌}
+use Rattle.std.specs.Prelude.{ℕ, ◌==◌, Bool, not, ◌&&◌, bytes_eq, List, [], ◌∷◌, ◌++◌, map, position, slice_get, Option, option_and_then, if◌then◌else◌}
 use Rattle.std.specs.List.{flat_map}
 use Rattle.std.specs.Option.{option_map_or}
 use Rattle.nt_bytes.specs.Counts.{capped}

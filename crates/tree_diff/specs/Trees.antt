@@ -1,5 +1,5 @@
 -- Which lines are there of the trees of two control sets? (this project's own)
-use Rattle.std.specs.Prelude.{ℕ, ◌+◌, ◌==◌, Bool, true, false, not, List, [], ◌∷◌, ◌++◌, count_by, if◌then◌else◌}
+use Rattle.std.specs.Prelude.{ℕ, ◌==◌, Bool, true, false, not, List, [], ◌∷◌, ◌++◌, count_by, if◌then◌else◌}
 use Rattle.std.specs.Option.{option_map_or}
 use Rattle.hive_model.specs.Tree.{Head, Tree, Trees, key, none, more, head, children, listed}
 use Rattle.diff_lines.specs.declared.lines.DiffLine.{DiffLine}
