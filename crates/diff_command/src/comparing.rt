@@ -30,7 +30,9 @@ fn put_both_trees(
 ) -> Result<(), AllocError>
     ensures { OnOk result (lines.new ≡ lines.old ++ both_trees (option_copied first.entry) (option_copied second.entry)) }
 {
-    if let Some(first) = first && let Some(second) = second {
+    if let Some(first) = first
+        && let Some(second) = second
+    {
         return put_trees(alloc, first, second, lines);
     }
     Ok(())

@@ -50,14 +50,13 @@ each_of P (x ∷ xs) f = (f x, each_of P xs f)
 own_find : {X : Type 0} (name : X → List ℕ) (xs : List X) → Unlike name xs
     → Each (λ x. find (λ y. folds_same (name x) (name y)) xs ≡ Some x) xs
 own_find name [] apart = tt
-own_find name (x ∷ xs) apart =
-    (
-      ap (λ (b : Bool). cond b (Some x) (find (λ y. folds_same (name x) (name y)) xs)) (folds_self (name x)),
-      each_with (λ y. folds_same (name y) (name x) ≡ false) (λ y. find (λ z. folds_same (name y) (name z)) xs ≡ Some y)
-          (λ y. find (λ z. folds_same (name y) (name z)) (x ∷ xs) ≡ Some y) xs
-          (λ y off found. ap (λ (b : Bool). cond b (Some x) (find (λ z. folds_same (name y) (name z)) xs)) off ∙ found) apart.0
-          (own_find name xs apart.1),
-    )
+own_find name (x ∷ xs) apart = (
+  ap (λ (b : Bool). cond b (Some x) (find (λ y. folds_same (name x) (name y)) xs)) (folds_self (name x)),
+  each_with (λ y. folds_same (name y) (name x) ≡ false) (λ y. find (λ z. folds_same (name y) (name z)) xs ≡ Some y)
+      (λ y. find (λ z. folds_same (name y) (name z)) (x ∷ xs) ≡ Some y) xs
+      (λ y off found. ap (λ (b : Bool). cond b (Some x) (find (λ z. folds_same (name y) (name z)) xs)) off ∙ found) apart.0
+      (own_find name xs apart.1),
+)
 
 -- what stands at the place of a name is what is found by it
 named_find : {X : Type 0} (name : X → List ℕ) (xs : List X) (n : List ℕ)

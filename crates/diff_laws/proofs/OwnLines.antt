@@ -65,10 +65,12 @@ unlike_services (t ∷ ts) apart = by (service_of t) refl (unlike_services ts ap
     by : (o : Option Service) → service_of t ≡ o → Unlike (λ s. s.entry.name) (filter_map service_of ts)
         → Unlike (λ s. s.entry.name) (cons_option o (filter_map service_of ts))
     by None is rest = rest
-    by (Some s) is rest =
-        (lacks_services s.entry.name ts
-        (each_more (λ u. folds_same (head u).name (head t).name ≡ false) (λ u. folds_same (head u).name s.entry.name ≡ false) ts
-        (λ u off. ap (folds_same (head u).name) (named_with t _ _ s is) ∙ off) apart.0), rest)
+    by (Some s) is rest = (
+      lacks_services s.entry.name ts
+          (each_more (λ u. folds_same (head u).name (head t).name ≡ false) (λ u. folds_same (head u).name s.entry.name ≡ false) ts
+          (λ u off. ap (folds_same (head u).name) (named_with t _ _ s is) ∙ off) apart.0),
+      rest,
+    )
 
 pub own_services : OwnServices
 own_services set holds =
