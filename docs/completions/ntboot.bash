@@ -4,34 +4,37 @@ _ntboot() {
     local current=${COMP_WORDS[COMP_CWORD]} before=${COMP_WORDS[COMP_CWORD-1]} command=${COMP_WORDS[1]} options= word i
     COMPREPLY=()
     if [ "$COMP_CWORD" -eq 1 ]; then
-        COMPREPLY=($(compgen -W "run show make safe control twin export import key replay check whatif salvage" -- "$current"))
+        COMPREPLY=($(compgen -W "run show make safe control twin export import key replay check whatif salvage diff" -- "$current"))
         return
     fi
     # --name=value comes as three words
     if [ "$before" = = ]; then before=${COMP_WORDS[COMP_CWORD-2]}; elif [ "$current" = = ]; then before=${COMP_WORDS[COMP_CWORD-1]} current=; fi
     case $command in
         run) options="--hive --script --log --boot-ini --system --save-hive --save-log --verbose" ;;
-        show) options="--hive --log --verbose" ;;
-        make) options="--save-hive --verbose" ;;
+        show) options="--hive --log --json --verbose" ;;
+        make) options="--save-hive --json --verbose" ;;
         safe) options="--hive --log --boot-ini --system --mode --images --json --verbose" ;;
-        control) options="--hive --log --commands --verbose" ;;
-        twin) options="--hive --alt --scheme --default --save-hive --save-alt --verbose" ;;
-        export) options="--hive --log --reg --key --verbose" ;;
-        import) options="--hive --log --reg --save-hive --save-log --verbose" ;;
+        control) options="--hive --log --commands --json --verbose" ;;
+        twin) options="--hive --alt --scheme --default --save-hive --save-alt --json --verbose" ;;
+        export) options="--hive --log --reg --key --json --verbose" ;;
+        import) options="--hive --log --reg --save-hive --save-log --encoding --current --lenient --json --verbose" ;;
         key) options="--hive --log --key --depth --security --json --verbose" ;;
         replay) options="--hive --log --log1 --log2 --save-hive --json --verbose" ;;
         check) options="--hive --log --set --order --json --verbose" ;;
         whatif) options="--hive --log --boot-ini --system --of --json --verbose" ;;
-        salvage) options="--hive --log --save-hive --json --verbose" ;;
+        salvage) options="--hive --log --save-hive --by-parent --json --verbose" ;;
+        diff) options="--hive --log --set --with --with-log --with-set --all --json --verbose" ;;
         *) return ;;
     esac
     case $before in
-        --hive|--script|--log|--boot-ini|--save-hive|--save-log|--commands|--alt|--save-alt|--reg|--log1|--log2)
+        --hive|--script|--log|--boot-ini|--save-hive|--save-log|--commands|--alt|--save-alt|--reg|--log1|--log2|--with|--with-log)
             compopt -o filenames 2> /dev/null
             mapfile -t COMPREPLY < <(compgen -f -- "$current"); return ;;
         --mode) COMPREPLY=($(compgen -W "minimal network" -- "$current")); return ;;
         --scheme) COMPREPLY=($(compgen -W "alt log" -- "$current")); return ;;
-        --system|--default|--key|--depth|--set|--of) return ;;
+        --encoding) COMPREPLY=($(compgen -W "utf-16 utf-8" -- "$current")); return ;;
+        --current) COMPREPLY=($(compgen -W "default" -- "$current")); return ;;
+        --system|--default|--key|--depth|--set|--of|--with-set) return ;;
     esac
     # an option is given once
     for word in $options; do

@@ -7,7 +7,7 @@ function __ntboot_can
     not contains -- --$argv[2] $words[3..-2]
 end
 complete -c ntboot -f
-complete -c ntboot -n 'test (count (commandline -opc)) -eq 1' -a 'run show make safe control twin export import key replay check whatif salvage'
+complete -c ntboot -n 'test (count (commandline -opc)) -eq 1' -a 'run show make safe control twin export import key replay check whatif salvage diff'
 complete -c ntboot -n '__ntboot_can run hive' -l hive -r -F
 complete -c ntboot -n '__ntboot_can run script' -l script -r -F
 complete -c ntboot -n '__ntboot_can run log' -l log -r -F
@@ -18,8 +18,10 @@ complete -c ntboot -n '__ntboot_can run save-log' -l save-log -r -F
 complete -c ntboot -n '__ntboot_can run verbose' -l verbose
 complete -c ntboot -n '__ntboot_can show hive' -l hive -r -F
 complete -c ntboot -n '__ntboot_can show log' -l log -r -F
+complete -c ntboot -n '__ntboot_can show json' -l json
 complete -c ntboot -n '__ntboot_can show verbose' -l verbose
 complete -c ntboot -n '__ntboot_can make save-hive' -l save-hive -r -F
+complete -c ntboot -n '__ntboot_can make json' -l json
 complete -c ntboot -n '__ntboot_can make verbose' -l verbose
 complete -c ntboot -n '__ntboot_can safe hive' -l hive -r -F
 complete -c ntboot -n '__ntboot_can safe log' -l log -r -F
@@ -32,6 +34,7 @@ complete -c ntboot -n '__ntboot_can safe verbose' -l verbose
 complete -c ntboot -n '__ntboot_can control hive' -l hive -r -F
 complete -c ntboot -n '__ntboot_can control log' -l log -r -F
 complete -c ntboot -n '__ntboot_can control commands' -l commands -r -F
+complete -c ntboot -n '__ntboot_can control json' -l json
 complete -c ntboot -n '__ntboot_can control verbose' -l verbose
 complete -c ntboot -n '__ntboot_can twin hive' -l hive -r -F
 complete -c ntboot -n '__ntboot_can twin alt' -l alt -r -F
@@ -39,17 +42,23 @@ complete -c ntboot -n '__ntboot_can twin scheme' -l scheme -x -a 'alt log'
 complete -c ntboot -n '__ntboot_can twin default' -l default -x
 complete -c ntboot -n '__ntboot_can twin save-hive' -l save-hive -r -F
 complete -c ntboot -n '__ntboot_can twin save-alt' -l save-alt -r -F
+complete -c ntboot -n '__ntboot_can twin json' -l json
 complete -c ntboot -n '__ntboot_can twin verbose' -l verbose
 complete -c ntboot -n '__ntboot_can export hive' -l hive -r -F
 complete -c ntboot -n '__ntboot_can export log' -l log -r -F
 complete -c ntboot -n '__ntboot_can export reg' -l reg -r -F
 complete -c ntboot -n '__ntboot_can export key' -l key -x
+complete -c ntboot -n '__ntboot_can export json' -l json
 complete -c ntboot -n '__ntboot_can export verbose' -l verbose
 complete -c ntboot -n '__ntboot_can import hive' -l hive -r -F
 complete -c ntboot -n '__ntboot_can import log' -l log -r -F
 complete -c ntboot -n '__ntboot_can import reg' -l reg -r -F
 complete -c ntboot -n '__ntboot_can import save-hive' -l save-hive -r -F
 complete -c ntboot -n '__ntboot_can import save-log' -l save-log -r -F
+complete -c ntboot -n '__ntboot_can import encoding' -l encoding -x -a 'utf-16 utf-8'
+complete -c ntboot -n '__ntboot_can import current' -l current -x -a 'default'
+complete -c ntboot -n '__ntboot_can import lenient' -l lenient
+complete -c ntboot -n '__ntboot_can import json' -l json
 complete -c ntboot -n '__ntboot_can import verbose' -l verbose
 complete -c ntboot -n '__ntboot_can key hive' -l hive -r -F
 complete -c ntboot -n '__ntboot_can key log' -l log -r -F
@@ -81,5 +90,15 @@ complete -c ntboot -n '__ntboot_can whatif verbose' -l verbose
 complete -c ntboot -n '__ntboot_can salvage hive' -l hive -r -F
 complete -c ntboot -n '__ntboot_can salvage log' -l log -r -F
 complete -c ntboot -n '__ntboot_can salvage save-hive' -l save-hive -r -F
+complete -c ntboot -n '__ntboot_can salvage by-parent' -l by-parent
 complete -c ntboot -n '__ntboot_can salvage json' -l json
 complete -c ntboot -n '__ntboot_can salvage verbose' -l verbose
+complete -c ntboot -n '__ntboot_can diff hive' -l hive -r -F
+complete -c ntboot -n '__ntboot_can diff log' -l log -r -F
+complete -c ntboot -n '__ntboot_can diff set' -l set -x
+complete -c ntboot -n '__ntboot_can diff with' -l with -r -F
+complete -c ntboot -n '__ntboot_can diff with-log' -l with-log -r -F
+complete -c ntboot -n '__ntboot_can diff with-set' -l with-set -x
+complete -c ntboot -n '__ntboot_can diff all' -l all
+complete -c ntboot -n '__ntboot_can diff json' -l json
+complete -c ntboot -n '__ntboot_can diff verbose' -l verbose

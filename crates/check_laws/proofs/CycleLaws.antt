@@ -13,12 +13,12 @@ use Rattle.dependencies.proofs.PulledLemmas.{then_true, then_gives, same_bool, a
 use Rattle.wait_cycles.specs.Waits.{needs_at, is_held, is_stuck, leads, comes_to, are_in_cycle, cycle_of, begins_with, cycle_from, cycles_of}
 use Rattle.wait_cycles.proofs.InverseLemmas.{none_in}
 use Rattle.wait_cycles.proofs.MetLemmas.{first_in, later_in, all_from, all_gives, any_from, any_gives, in_range, range_in}
-use Rattle.wait_cycles.proofs.CycleLemmas.{none_pass, filter_in, filter_out, filter_same}
+use Rattle.wait_cycles.proofs.CycleLemmas.{comes_gives, filter_in, filter_out, filter_same}
 use Rattle.service_check.specs.declared.stage.Staged.{Staged}
 use Rattle.service_check.specs.Needs.{waits_of}
 use Rattle.check_laws.specs.Laws.{AreProper, HoldsItself, NoCycleNoneStuck}
 use Rattle.check_laws.proofs.StuckLaws.{held_wider, stuck_holds, stuck_greatest}
-use Rattle.check_laws.proofs.ProperLaws.{good_proper}
+use Rattle.check_laws.proofs.ProperLaws.{good_proper, flat_from as flat_back, only_in}
 use Rattle.check_laws.proofs.StepLaws.{step_comes, comes_on, comes_through, nowhere}
 
 -- ---- counts
@@ -61,7 +61,7 @@ fewer p q (x ∷ xs) y f (suc k, lt, e) off on =
       | inr none ↦ omega (arith, uncounted p x xs none, at_most_one q x xs, rest)
     ]
 
-flat_in : {X Y : Type 0} (f : X → List Y) (xs : List X) (x : X) (y : Y) → Contains xs x → Contains (f x) y
+pub flat_in : {X Y : Type 0} (f : X → List Y) (xs : List X) (x : X) (y : Y) → Contains xs x → Contains (f x) y
     → Contains (flat_map f xs) y
 flat_in f [] x y i j = absurd (none_in x i)
 flat_in {X} {Y} f (z ∷ zs) x y (zero, lt, e) j =
@@ -73,7 +73,7 @@ flat_in f (z ∷ zs) x y (suc k, lt, e) j =
 
 module _ (waits : List (List (List ℕ))) (proper : AreProper waits) where
   -- a place that leads on is stuck
-  leading_stuck : (p q : ℕ) → p < length waits → leads waits p q ≡ true → is_stuck waits p ≡ true
+  pub leading_stuck : (p q : ℕ) → p < length waits → leads waits p q ≡ true → is_stuck waits p ≡ true
   leading_stuck p q lp h =
       let r = any_gives (λ ways. list_all (is_stuck waits) ways && list_any (nat_eq q) ways) (needs_at waits p) h in
       let both = and_parts (list_all (is_stuck waits) r.0) (list_any (nat_eq q) r.0) r.2 in
@@ -101,31 +101,40 @@ module _ (waits : List (List (List ℕ))) (proper : AreProper waits) where
         all_gives (is_stuck waits) r.0 w.0 r.2 w.1,
       )
 
-  -- where none leads to itself, each step leads to fewer places
-  none_stuck : ((q : ℕ) → q < length waits → comes_to (leads waits) (length waits) q q ≡ false) → (k p : ℕ) → p < length waits
-      → is_stuck waits p ≡ true → count_by (comes_to (leads waits) (length waits) p) (range_with_len 0 (length waits)) < k → ⊥
-  none_stuck none zero p lp st lt = omega (arith, lt)
-  none_stuck none (suc k) p lp st lt =
+  -- what a place that leads on keeps for those to which it leads
+  abbrev pub GoesOn : (ℕ → Bool) → Type 0
+  GoesOn g = (p q : ℕ) → p < length waits → q < length waits → g p ≡ true → leads waits p q ≡ true → g q ≡ true
+
+  -- where none of these leads to itself, each step leads to fewer places
+  none_stuck : (g : ℕ → Bool) → GoesOn g
+      → ((q : ℕ) → q < length waits → g q ≡ true → comes_to (leads waits) (length waits) q q ≡ false) → (k p : ℕ)
+      → p < length waits → g p ≡ true → is_stuck waits p ≡ true
+      → count_by (comes_to (leads waits) (length waits) p) (range_with_len 0 (length waits)) < k → ⊥
+  none_stuck g on none zero p lp gp st lt = omega (arith, lt)
+  none_stuck g on none (suc k) p lp gp st lt =
       let r = leads_on p lp st in
+      let gr = on p r.0 lp r.1 gp r.2 in
       let less = fewer (comes_to (leads waits) (length waits) r.0) (comes_to (leads waits) (length waits) p)
       (range_with_len 0 (length waits)) r.0
       (λ x i h. comes_through (leads waits) (length waits) p r.0 x r.1
       (step_comes (leads waits) (length waits) p r.0 r.1 r.2) (range_in (length waits) x i) h)
-      (in_range (length waits) r.0 r.1) (none r.0 r.1) (step_comes (leads waits) (length waits) p r.0 r.1 r.2) in
-      none_stuck none k r.0 r.1 r.3 (omega (arith, less, lt))
+      (in_range (length waits) r.0 r.1) (none r.0 r.1 gr) (step_comes (leads waits) (length waits) p r.0 r.1 r.2) in
+      none_stuck g on none k r.0 r.1 gr r.3 (omega (arith, less, lt))
 
-  -- so one leads to itself
-  one_round : (p : ℕ) → p < length waits → is_stuck waits p ≡ true
-      → (q : ℕ) × (q < length waits) × (comes_to (leads waits) (length waits) q q ≡ true)
-  one_round p lp st = elim (cases_Bool (list_any (λ q. comes_to (leads waits) (length waits) q q) (range_with_len 0 (length waits)))) [
-    | inl some ↦ (let r = any_gives (λ q. comes_to (leads waits) (length waits) q q) (range_with_len 0 (length waits)) some in
-        (r.0, range_in (length waits) r.0 r.1, r.2))
-    | inr none ↦ absurd (none_stuck (λ q lq.
-        not-true (comes_to (leads waits) (length waits) q q)
-        (all_gives (λ q. not (comes_to (leads waits) (length waits) q q)) (range_with_len 0 (length waits)) q
-        (none_pass (λ q. comes_to (leads waits) (length waits) q q) (range_with_len 0 (length waits)) none)
-        (in_range (length waits) q lq)))
-        (suc (count_by (comes_to (leads waits) (length waits) p) (range_with_len 0 (length waits)))) p lp st (omega arith))
+  -- so one of them leads to itself
+  pub one_round : (g : ℕ → Bool) → GoesOn g → (p : ℕ) → p < length waits → g p ≡ true → is_stuck waits p ≡ true
+      → (q : ℕ) × (q < length waits) × (comes_to (leads waits) (length waits) q q ≡ true) × (g q ≡ true)
+  one_round g on p lp gp st = elim (cases_Bool (list_any (λ q. comes_to (leads waits) (length waits) q q && g q) (range_with_len 0 (length waits)))) [
+    | inl some ↦ (let r = any_gives (λ q. comes_to (leads waits) (length waits) q q && g q) (range_with_len 0 (length waits)) some in
+        let b = and_parts (comes_to (leads waits) (length waits) r.0 r.0) (g r.0) r.2 in
+        (r.0, range_in (length waits) r.0 r.1, b.0, b.1))
+    | inr none ↦ absurd (none_stuck g on (λ q lq gq. elim (cases_Bool (comes_to (leads waits) (length waits) q q)) [
+      | inl here ↦ absurd (false≢true (sym none
+          ∙ any_from (λ q. comes_to (leads waits) (length waits) q q && g q) (range_with_len 0 (length waits)) q
+          (in_range (length waits) q lq) (and_from (comes_to (leads waits) (length waits) q q) (g q) here gq)))
+      | inr off ↦ off
+    ])
+        (suc (count_by (comes_to (leads waits) (length waits) p) (range_with_len 0 (length waits)))) p lp gp st (omega arith))
   ]
 
   -- two places of one cycle have the same cycle
@@ -148,27 +157,65 @@ module _ (waits : List (List (List ℕ))) (proper : AreProper waits) where
       both = and_parts (comes_to (leads waits) (length waits) p q) (comes_to (leads waits) (length waits) q p) h
 
   -- a place that leads to itself is in a cycle
-  round_cycle : (q : ℕ) → q < length waits → comes_to (leads waits) (length waits) q q ≡ true → cycles_of waits ≡ [] → ⊥
+  pub round_found : (q : ℕ) → q < length waits → comes_to (leads waits) (length waits) q q ≡ true
+      → (c : List ℕ) × Contains (cycles_of waits) c × Contains c q
   unfolding cycles_of
-  round_cycle q lq h empty = by (cycle_of waits q) refl
+  round_found q lq h = by (cycle_of waits q) refl
     where
       in' : Contains (cycle_of waits q) q
       in' = filter_in (are_in_cycle waits q) (range_with_len 0 (length waits)) q (in_range (length waits) q lq)
           (and_from (comes_to (leads waits) (length waits) q q) (comes_to (leads waits) (length waits) q q) h h)
 
-      by : (c : List ℕ) → cycle_of waits q ≡ c → ⊥
-      by [] e = none_in q (subst (λ (xs : List ℕ). Contains xs q) e in')
+      by : (c : List ℕ) → cycle_of waits q ≡ c
+          → (c : List ℕ) × Contains (flat_map (cycle_from waits) (range_with_len 0 (length waits))) c × Contains c q
+      by [] e = absurd (none_in q (subst (λ (xs : List ℕ). Contains xs q) e in'))
       by (f ∷ fs) e =
           let mine : Contains (cycle_of waits q) f = subst (λ (xs : List ℕ). Contains xs f) (sym e) (first_in f fs) in
           let out = filter_out (are_in_cycle waits q) (range_with_len 0 (length waits)) f mine in
           let lf = range_in (length waits) f out.0 in
-          let same : cycle_of waits f ≡ f ∷ fs = same_cycle q f lq lf out.1 ∙ e in
+          let one : cycle_of waits f ≡ cycle_of waits q = same_cycle q f lq lf out.1 in
+          let same : cycle_of waits f ≡ f ∷ fs = one ∙ e in
           let from : cycle_from waits f ≡ cycle_of waits f ∷ [] =
-          ap (λ (b : Bool). cond b (cycle_of waits f ∷ []) []) (ap (begins_with f) same ∙ eq-eqb f f refl) in
-          let some : Contains (flat_map (cycle_from waits) (range_with_len 0 (length waits))) (cycle_of waits f) =
-          flat_in (cycle_from waits) (range_with_len 0 (length waits)) f (cycle_of waits f) (in_range (length waits) f lf)
-          (subst (λ (cs : List (List ℕ)). Contains cs (cycle_of waits f)) (sym from) (first_in (cycle_of waits f) [])) in
-          none_in (cycle_of waits f) (subst (λ (cs : List (List ℕ)). Contains cs (cycle_of waits f)) empty some)
+          ap (λ (b : Bool). cond b (cycle_of waits f ∷ []) []) (ap (begins_with f) same ∙ eq-eqb f f refl) in (
+            cycle_of waits f,
+            flat_in (cycle_from waits) (range_with_len 0 (length waits)) f (cycle_of waits f) (in_range (length waits) f lf)
+                (subst (λ (cs : List (List ℕ)). Contains cs (cycle_of waits f)) (sym from) (first_in (cycle_of waits f) [])),
+            subst (λ (xs : List ℕ). Contains xs q) (sym one) in',
+          )
+
+  round_cycle : (q : ℕ) → q < length waits → comes_to (leads waits) (length waits) q q ≡ true → cycles_of waits ≡ [] → ⊥
+  round_cycle q lq h empty =
+      let r = round_found q lq h in none_in r.0 (subst (λ (cs : List (List ℕ)). Contains cs r.0) empty r.1)
+
+  -- a place that reaches one leads on
+  leads_some : (q f : ℕ) → q < length waits → f < length waits → comes_to (leads waits) (length waits) q f ≡ true
+      → is_stuck waits q ≡ true
+  leads_some q f lq lf h = elim (cases_Bool (is_stuck waits q)) [
+    | inl on ↦ on
+    | inr off ↦ absurd (false≢true (comes_gives (leads waits) (length waits) q f h (λ _. false) (record {
+      begun = λ x lx st. sym off ∙ leading_stuck q x lq st;
+      closed = λ m x lm lx on st. on;
+    }) lf))
+  ]
+
+  -- a place in a cycle is stuck
+  pub in_cycle_stuck : (c : List ℕ) (q : ℕ) → Contains (cycles_of waits) c → Contains c q
+      → (q < length waits) × (is_stuck waits q ≡ true)
+  unfolding cycles_of
+  in_cycle_stuck c q there on =
+      let f = flat_back (cycle_from waits) (range_with_len 0 (length waits)) c there in
+      let same : c ≡ cycle_of waits f.0 = cycle_is f.0 c (begins_with f.0 (cycle_of waits f.0)) f.2 in
+      let out = filter_out (are_in_cycle waits f.0) (range_with_len 0 (length waits)) q
+      (subst (λ (xs : List ℕ). Contains xs q) same on) in
+      let lq = range_in (length waits) q out.0 in (
+        lq,
+        leads_some q f.0 lq (range_in (length waits) f.0 f.1)
+            (and_parts (comes_to (leads waits) (length waits) f.0 q) (comes_to (leads waits) (length waits) q f.0) out.1).1,
+      )
+    where
+      cycle_is : (f : ℕ) (c : List ℕ) (b : Bool) → Contains (cond b (cycle_of waits f ∷ []) []) c → c ≡ cycle_of waits f
+      cycle_is f c true i = sym (only_in (cycle_of waits f) c i)
+      cycle_is f c false i = absurd (none_in c i)
 
   -- where no place is stuck none leads anywhere
   no_round : ((p : ℕ) → p < length waits → is_stuck waits p ≡ false) → (p : ℕ) → p < length waits → cycle_from waits p ≡ []
@@ -190,7 +237,7 @@ cycle_where_stuck rows = (there, back)
 
     there : cycles_of (waits_of rows) ≡ [] → (p : ℕ) → p < length (waits_of rows) → is_stuck (waits_of rows) p ≡ false
     there empty p lp = elim (cases_Bool (is_stuck (waits_of rows) p)) [
-      | inl on ↦ (let r = one_round (waits_of rows) (good_proper rows) p lp on in
+      | inl on ↦ (let r = one_round (waits_of rows) (good_proper rows) (λ _. true) (λ _ _ _ _ _ _. refl) p lp refl on in
           absurd (round_cycle (waits_of rows) (good_proper rows) r.0 r.1 r.2 empty))
       | inr off ↦ off
     ]

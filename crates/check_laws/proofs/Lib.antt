@@ -4,3 +4,15 @@ pub mod StepLaws
 pub mod StuckLaws
 pub mod ProperLaws
 pub mod CycleLaws
+pub mod TakenLemmas
+pub mod TurnLemmas
+pub mod StartLemmas
+pub mod RowLemmas
+pub mod UnmetLemmas
+pub mod WholeLemmas
+pub mod SetLemmas
+pub mod LineLemmas
+pub mod WaysLemmas
+pub mod AboutLemmas
+pub mod TurnsLemmas
+pub mod DemandLemmas

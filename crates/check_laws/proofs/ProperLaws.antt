@@ -21,7 +21,7 @@ use Rattle.service_check.proofs.TableLemmas.{count_names}
 use Rattle.service_check.proofs.PlaceLemmas.{place_below}
 use Rattle.check_laws.specs.Laws.{AreProper, GoodNeedsAreProper}
 
-flat_from : {X Y : Type 0} (f : X → List Y) (xs : List X) (v : Y) → Contains (flat_map f xs) v
+pub flat_from : {X Y : Type 0} (f : X → List Y) (xs : List X) (v : Y) → Contains (flat_map f xs) v
     → (x : X) × Contains xs x × Contains (f x) v
 flat_from f [] v i = absurd (none_in v i)
 flat_from f (x ∷ xs) v i = elim (Contains-append_cases (f x) (flat_map f xs) v i) [
@@ -35,7 +35,7 @@ map_from f [] u v i = absurd (none_in v i)
 map_from f (x ∷ xs) zero v i = (x, i)
 map_from f (x ∷ xs) (suc u) v i = map_from f xs u v i
 
-only_in : {X : Type 0} (x y : X) → Contains (x ∷ []) y → x ≡ y
+pub only_in : {X : Type 0} (x y : X) → Contains (x ∷ []) y → x ≡ y
 only_in x y i = elim (in_cons x [] y i) [
   | inl e ↦ e
   | inr none ↦ absurd (none_in y none)

@@ -1,1 +1,3 @@
 pub mod Laws
+pub mod Unmet
+pub mod Demand

@@ -1,6 +1,8 @@
 //! The laws. Each has its statement in `specs/Laws.antt`.
 
 ghost use Rattle.check_laws.specs.Laws.{NothingFoundIsQuiet, OrderOnlyAdds, GoodNeedsAreProper, StuckHoldsItself, StuckIsGreatest, NoCycleNoneStuck};
+ghost use Rattle.check_laws.specs.Unmet.{AboutIsUnmet, UnmetHasAbout, NoneAboutStartsWhole};
+ghost use Rattle.check_laws.specs.Demand.{NoneAboutStartsOnDemand};
 
 /// The number of `found` is 0 exactly where each line is `set`, `found 0` or `end`.
 pub fn nothing_found_is_quiet()
@@ -22,4 +24,17 @@ pub fn stuck_entries_are_the_greatest_set()
 /// There is a cycle exactly where an entry is stuck.
 pub fn no_cycle_is_said_where_none_is_stuck()
     ensures cycles { NoCycleNoneStuck }
+{}
+
+/// In a start of which each attempt goes well a taken entry is unmet where a line is about it: a need of it is wrong, or it is in a cycle
+/// (`unmet`). Where an entry is unmet, a line is about a taken one (`told`); so without such a line no entry is unmet (`whole`).
+pub fn a_start_leaves_out_whom_a_line_is_about()
+    ensures unmet { AboutIsUnmet }
+    ensures told { UnmetHasAbout }
+    ensures whole { NoneAboutStartsWhole }
+{}
+
+/// Where no line is about any entry, each driver or service of Start 3 can be started after such a start, or it runs already.
+pub fn what_no_line_is_about_starts_on_demand()
+    ensures starts { NoneAboutStartsOnDemand }
 {}

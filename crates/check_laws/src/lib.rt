@@ -4,6 +4,7 @@
 mod laws;
 
 pub use laws::{
-    no_cycle_is_said_where_none_is_stuck, nothing_found_is_quiet,
-    stuck_entries_are_the_greatest_set, the_order_only_adds_lines,
+    a_start_leaves_out_whom_a_line_is_about, no_cycle_is_said_where_none_is_stuck,
+    nothing_found_is_quiet, stuck_entries_are_the_greatest_set, the_order_only_adds_lines,
+    what_no_line_is_about_starts_on_demand,
 };

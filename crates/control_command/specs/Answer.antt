@@ -19,31 +19,32 @@ use Rattle.command_parts.specs.Refusals.{Answer, Ends, refusal}
 use Rattle.command_parts.specs.Saves.{no_saves}
 use Rattle.control_command.specs.declared.inputs.ControlInputs.{ControlInputs}
 use Rattle.control_command.specs.Inputs.{inputs_in}
-use Rattle.control_command.specs.Report.{report_of}
+use Rattle.control_command.specs.Report.{report_in}
+use Rattle.line_text.specs.declared.form.ReportForm.{ReportForm}
 
--- the answer with the report on a state's tree
-abbrev pub reported : ControlInputs → Woken → Answer
-reported inputs placed = record { status = statuses.Done; text = report_of placed.state.tree inputs.commands }
+-- the answer with the report on a state's tree, in one of the two forms
+abbrev pub reported : ReportForm → ControlInputs → Woken → Answer
+reported form inputs placed = record { status = statuses.Done; text = report_in form placed.state.tree inputs.commands }
 
 -- The first obstacle is printed. Without one the hive has a first fault, and that is printed; or it loads as a state, and the report on
 -- its tree is printed; or there was no memory or a read fault before anything was printed.
-abbrev pub EndsControl : Result ControlInputs Refusal → Status → List ℕ → List ℕ → Type 0
-EndsControl (Err r) status old new = Ends (refusal r) status old new
-EndsControl (Ok inputs) status old new =
+abbrev pub EndsControl : ReportForm → Result ControlInputs Refusal → Status → List ℕ → List ℕ → Type 0
+EndsControl form (Err r) status old new = Ends (refusal r) status old new
+EndsControl form (Ok inputs) status old new =
     ((fault : HiveFault) × (LoadFault (image_in inputs.hive) fault) × Ends (refusal (BadHive fault)) status old new)
-    ⊎ (((placed : Woken) × (Loads (image_in inputs.hive) placed.state placed.dirty) × Ends (reported inputs placed) status old new)
+    ⊎ (((placed : Woken) × (Loads (image_in inputs.hive) placed.state placed.dirty) × Ends (reported form inputs placed) status old new)
     ⊎ (((status ≡ statuses.Memory) ⊎ (status ≡ statuses.ReadFault)) × (new ≡ old)))
 
 -- the report on the hive's tree, or its first fault, or there was no memory
-abbrev pub ReportsAs : ControlInputs → Result (List ℕ) Obstacle → Type 0
-ReportsAs inputs (Ok text) = (placed : Woken) × (Loads (image_in inputs.hive) placed.state placed.dirty) × (text ≡ (reported inputs placed).text)
-ReportsAs inputs (Err (Refused r)) = (fault : HiveFault) × (LoadFault (image_in inputs.hive) fault) × (r ≡ BadHive fault)
-ReportsAs inputs (Err (Stopped stop)) = stop ≡ NoMemory
+abbrev pub ReportsAs : ReportForm → ControlInputs → Result (List ℕ) Obstacle → Type 0
+ReportsAs form inputs (Ok text) = (placed : Woken) × (Loads (image_in inputs.hive) placed.state placed.dirty) × (text ≡ (reported form inputs placed).text)
+ReportsAs form inputs (Err (Refused r)) = (fault : HiveFault) × (LoadFault (image_in inputs.hive) fault) × (r ≡ BadHive fault)
+ReportsAs form inputs (Err (Stopped stop)) = stop ≡ NoMemory
 
 -- what a command leaves of which the inputs were read
-abbrev pub DecidesInputs : ControlInputs → Status → HostState → HostState → Type 0
-DecidesInputs inputs status old new = DecidesAlone (EndsControl (Ok inputs)) no_saves status old new new_state
+abbrev pub DecidesInputs : ReportForm → ControlInputs → Status → HostState → HostState → Type 0
+DecidesInputs form inputs status old new = DecidesAlone (EndsControl form (Ok inputs)) no_saves status old new new_state
 
 -- and of the whole command; it depends on no disk
-abbrev pub DecidesControl : ControlAsked → Status → HostState → HostState → Type 0
-DecidesControl words status old new = Decides (EndsControl (inputs_in words old.files)) no_saves status old new new_state
+abbrev pub DecidesControl : ReportForm → ControlAsked → Status → HostState → HostState → Type 0
+DecidesControl form words status old new = Decides (EndsControl form (inputs_in words old.files)) no_saves status old new new_state

@@ -1,4 +1,4 @@
-//! The command that the words of a line stand for.
+//! The command that a line stands for.
 
 ghost use Rattle.std.specs.Prelude.{map};
 ghost use Rattle.boot_script.specs.Words.{Gives};

@@ -33,7 +33,7 @@ fn commands_in(alloc: Global, text: &[u8]) -> Result<Commands, Obstacle>
     }
 }
 
-/// What the words and files have for the command, or the first obstacle. Nothing is printed.
+/// What options and files have for the command, or the first obstacle. Nothing is printed.
 pub(crate) fn inputs_in<H: Host>(
     alloc: Global,
     words: ControlWords<'_>,

@@ -1,4 +1,4 @@
-//! Tests of `control` that cross crates: what is said of commands on the services of small trees.
+//! Tests of `control` that cross crates: what is printed for commands on the services of small trees.
 //!
 //! Here are the trees; no crate of the program stands on this one.
 #![tactic(auto)]

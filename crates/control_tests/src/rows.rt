@@ -1,7 +1,8 @@
-//! What is said of commands on small sets. The lines are worked by hand from the rules of `service_control`.
+//! What is printed for commands on small sets. The lines are worked by hand from the rules of `service_control`.
 
 use super::*;
 use control_command::{read_commands, report};
+use line_text::ReportForm;
 use nt_bytes::Bytes;
 use reg_tree::Key;
 use startup_tests::{Service, plain};
@@ -9,11 +10,11 @@ use std::alloc::Global;
 use std::process::Abort;
 use std::test::Fail;
 
-/// What is said of the commands of this text.
+/// What is printed for the commands of this text.
 fn said(rt: &impl Abort, alloc: Global, root: &Key, text: &[u8]) -> Result<Bytes, Fail> {
     assert!(rt; can_be_held(root));
     let commands = read_commands(alloc, text)?;
-    Ok(report(alloc, root, commands.as_slice())?)
+    Ok(report(alloc, ReportForm::Text, root, commands.as_slice())?)
 }
 
 /// These commands on these services are answered by these lines.

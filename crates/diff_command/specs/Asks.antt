@@ -20,7 +20,7 @@ use Rattle.command_parts.specs.Leaves.{AsksBy, AsksUntil, stop_in}
 use Rattle.command_parts.specs.Placed.{image_in}
 use Rattle.diff_command.specs.declared.command.Finding.{Finding}
 
--- The files of the first hive are asked for; where it has no fault, so many more. Where the environment stopped before that is known, the
+-- The files of the first hive are asked for; where it has no fault, that many more. Where the environment stopped before that is known, the
 -- first ones alone.
 abbrev pub AsksOn : HiveFiles → ℕ → ℕ → (ℕ → Type 0) → Type 0 → Type 0
 AsksOn files before more asks stopped =

@@ -157,7 +157,7 @@ fn seek<H: Host>(
 }
 
 /// Gets the hive that the command line names, and the second one, and prints what differs between two of their sets in one of the two
-/// forms, with a status that tells whether something does; or prints the first obstacle. Nothing is written.
+/// forms, with a status that says whether something does; or prints the first obstacle. Nothing is written.
 pub fn diff<H: Host>(alloc: Global, words: DiffWords<'_>, form: ReportForm, host: &mut H) -> Status
     ensures decides { DecidesDiff form (diff_seen words.entry) result (H.state host.old) (H.state host.new) }
     ensures asked { AsksDiff (diff_seen words.entry) result (H.state host.old) (H.state host.new) }

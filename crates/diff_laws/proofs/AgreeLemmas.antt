@@ -31,7 +31,7 @@ use Rattle.diff_laws.proofs.NoneLemmas.{none_append, none_when, none_map, none_f
 has_any : (names : List (List ℕ)) (name : List ℕ) → has names name ≡ list_any (folds_same name) names
 has_any names name = some_place (folds_same name) names
 
--- names of the one list that stand in the other
+-- names of the one list that are in the other
 abbrev any_all : List (List ℕ) → List (List ℕ) → Bool
 any_all names others = list_all (λ name. list_any (folds_same name) others) names
 

@@ -58,7 +58,7 @@ own_find name (x ∷ xs) apart = (
       (own_find name xs apart.1),
 )
 
--- what stands at the place of a name is what is found by it
+-- what is at the place of a name is what is found by it
 named_find : {X : Type 0} (name : X → List ℕ) (xs : List X) (n : List ℕ)
     → option_and_then (slice_get xs) (position (folds_same n) (map name xs)) ≡ find (λ y. folds_same n (name y)) xs
 named_find name xs n =

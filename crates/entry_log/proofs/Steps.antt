@@ -1,12 +1,12 @@
 -- The pages of an entry, in sequence.
-use Rattle.std.proofs.Common.{◌≡◌, ◌≤◌, ◌+◌, ◌-◌, ◌*◌, ◌/◌, ◌%◌, ◌<◌, ◌==◌, ◌&&◌, ℕ, Bool, true, false, List, [], ◌∷◌, length, refl, sym, ap, ◌∙◌, add-one, arith}
+use Rattle.std.proofs.Common.{◌≡◌, ◌≤◌, ◌+◌, ◌-◌, ◌*◌, ◌/◌, ◌%◌, ◌<◌, ◌==◌, ◌&&◌, ℕ, true, false, List, ◌∷◌, length, refl, sym, ap, ◌∙◌, add-one, arith}
 use Rattle.std.specs.Prelude.{nat_le, not, slice_range}
 use Rattle.std.proofs.lemmas.Bool.{and_parts, eqb-true, leb-true}
 use Rattle.nt_bytes.specs.Fields.{u32_in}
-use Rattle.log_parts.specs.Pages.{Page, put_at, put_pages}
+use Rattle.log_parts.specs.Pages.{put_at, put_pages}
 use Rattle.log_parts.specs.Wide.{is_wide_size}
 use Rattle.entry_log.specs.declared.entry.Entry.{Entry}
-use Rattle.entry_log.specs.Entries.{bytes_of, is_page, are_pages, has_pages, pages_from, IsWhole}
+use Rattle.entry_log.specs.Entries.{bytes_of, is_page, are_pages, pages_from, IsWhole}
 
 -- a page that can be
 pub record Fits (bytes : List ℕ) (size start place long : ℕ) : Type 0 where

@@ -1,3 +1,4 @@
 pub mod Entries
 pub mod Growing
 pub mod Runs
+pub mod Marks

@@ -2,8 +2,6 @@
 -- the first that isn't whole. Logs are written over older ones, whose entries stay after the new ones. (Windows's rule of
 -- recovery, as the regf format describes it; the order of the faults is this project's own.)
 use Rattle.std.specs.Prelude.{◌+◌, ◌*◌, ◌/◌, ◌%◌, ◌^◌, ◌==◌, Bool, true, ℕ, zero, suc, List, [], ◌∷◌, length, Option, Some, None, if◌then◌else◌}
-use Rattle.log_parts.specs.declared.fault.LogFault.{LogFault}
-use Rattle.log_parts.specs.declared.fault.LogFaultKind.{LogFaultKind}
 use Rattle.log_parts.specs.declared.fault.LogFaultKind.TheVariants.{EntrySize, EntryHash, EntryPage}
 use Rattle.entry_log.specs.declared.entry.Entry.{Entry}
 use Rattle.entry_log.specs.declared.entry.Found.{Found}

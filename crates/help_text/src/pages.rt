@@ -4,8 +4,8 @@ ghost use Rattle.std.specs.Prelude.{◌≡◌, codes};
 ghost use Rattle.help_text.specs.Pages.{command_text, page_text};
 
 use crate::texts::{
-    CHECK, CONTROL, DIFF, EXITS, EXPORT, HELP, IMPORT, KEY, MAKE, OVERVIEW, REPLAY, REPORT, RUN, SAFE,
-    SALVAGE, SCRIPT, SHOW, TWIN, VERSION, WHATIF,
+    CHECK, CONTROL, DIFF, EXITS, EXPORT, HELP, IMPORT, KEY, MAKE, OVERVIEW, REPLAY, REPORT, RUN,
+    SAFE, SALVAGE, SCRIPT, SHOW, TWIN, VERSION, WHATIF,
 };
 use command_words::{CommandName, Page};
 

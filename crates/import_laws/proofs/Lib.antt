@@ -1,1 +1,4 @@
 pub mod ToldLemmas
+pub mod OptionLemmas
+pub mod KeyLemmas
+pub mod ItemLemmas

@@ -12,7 +12,7 @@ use Rattle.start_model.specs.Possible.{Woken}
 use Rattle.saved_laws.specs.Saved.{HasUntornBlock}
 use Rattle.saved_laws.proofs.SavedLemmas.{files_load}
 use Rattle.reg_text.specs.declared.stop.RegFault.{RegFault}
-use Rattle.reg_text.specs.Reading.{reg_steps_of}
+use Rattle.line_text.specs.declared.form.ReportForm.{ReportForm}
 use Rattle.command_words.specs.Words.{ImportAsked}
 use Rattle.command_parts.specs.declared.inputs.HiveFiles.{HiveFiles}
 use Rattle.command_parts.specs.declared.refusal.Refusal.{Refusal}
@@ -23,7 +23,8 @@ use Rattle.command_parts.specs.Placed.{image_in}
 use Rattle.command_parts.specs.Refusals.{Ends, refusal, refusal_status}
 use Rattle.command_parts.specs.Saves.{SavedAs}
 use Rattle.text_commands.specs.Exported.{fault_answer}
-use Rattle.text_commands.specs.Imported.{change_of, EndsSteps, EndsText, EndsHive, EndsImport, import_saves, DecidesImport}
+use Rattle.text_commands.specs.Changed.{steps_in, change_of}
+use Rattle.text_commands.specs.Imported.{EndsSteps, EndsText, EndsHive, EndsImport, import_saves, import_how, DecidesImport}
 use Rattle.import_laws.specs.AsTold.{LoadsAsTold}
 
 -- no refusal ends as done
@@ -66,7 +67,7 @@ file_got : (name text : List ℕ) (o : Option (List ℕ)) → file_in name o ≡
 file_got name text None e = absurd cc
 file_got name text (Some bytes) e = ap (λ (b : List ℕ). Some b) (one_text bytes text e)
 
-module _ (words : ImportAsked) (old new : HostState) (disk : DiskState) (hive log : List ℕ)
+module _ (form : ReportForm) (words : ImportAsked) (old new : HostState) (disk : DiskState) (hive log : List ℕ)
     (hive_is : IsFileOf disk.held Primary hive) (log_is : IsFileOf disk.held Log log)
     (untorn : HasUntornBlock disk.held) where
   again : (state : HiveState) → Loads disk.held state false → Loads (image_of hive log) state false
@@ -74,9 +75,10 @@ module _ (words : ImportAsked) (old new : HostState) (disk : DiskState) (hive lo
 
   by_steps : (files : HiveFiles) (placed : Woken) (text : List ℕ) (r : Result (List Step) RegFault)
       → hive_in old.files words.hive words.log ≡ Ok files
-      → Loads (image_in files) placed.state placed.dirty → old.files words.reg ≡ Some text → reg_steps_of text ≡ r
-      → EndsSteps files (import_saves words) placed.state r disk statuses.Done old.said new.said
-      → LoadsAsTold words old new (image_of hive log)
+      → Loads (image_in files) placed.state placed.dirty → old.files words.reg ≡ Some text
+      → steps_in words.encoding text ≡ r
+      → EndsSteps files (import_saves words) (import_how form words) placed.state r disk statuses.Done old.said new.said
+      → LoadsAsTold form words old new (image_of hive log)
   by_steps files placed text (Err fault) named loads got reads end = absurd (unfaulty fault old.said new.said end.0)
   by_steps files placed text (Ok steps) named loads got reads end = record {
     files = files;
@@ -88,23 +90,24 @@ module _ (words : ImportAsked) (old new : HostState) (disk : DiskState) (hive lo
     got = got;
     reads = reads;
     said = end.0;
-    loads = again (change_of placed.state steps).state (end.1.loads disk.held (held_left disk));
+    loads = again (change_of (import_how form words) placed.state steps).state (end.1.loads disk.held (held_left disk));
   }
 
   by_text : (files : HiveFiles) (placed : Woken) (r : Result (List ℕ) Refusal)
       → hive_in old.files words.hive words.log ≡ Ok files
       → Loads (image_in files) placed.state placed.dirty → file_in words.reg (old.files words.reg) ≡ r
-      → EndsText files (import_saves words) placed.state r disk statuses.Done old.said new.said
-      → LoadsAsTold words old new (image_of hive log)
+      → EndsText files (import_saves words) (import_how form words) placed.state r disk statuses.Done old.said new.said
+      → LoadsAsTold form words old new (image_of hive log)
   by_text files placed (Err why) named loads got end = absurd (unrefused why old.said new.said end.0)
   by_text files placed (Ok text) named loads got end =
-      by_steps files placed text (reg_steps_of text) named loads (file_got words.reg text (old.files words.reg) got)
+      by_steps files placed text (steps_in words.encoding text) named loads (file_got words.reg text
+      (old.files words.reg) got)
       refl end
 
   by_hive : (files : HiveFiles) → hive_in old.files words.hive words.log ≡ Ok files
-      → EndsHive files (import_saves words) (file_in words.reg (old.files words.reg))
+      → EndsHive files (import_saves words) (import_how form words) (file_in words.reg (old.files words.reg))
       disk statuses.Done old.said new.said
-      → LoadsAsTold words old new (image_of hive log)
+      → LoadsAsTold form words old new (image_of hive log)
   by_hive files named (inl fault) = absurd (unrefused (refusals.HiveFault fault.0) old.said new.said fault.2)
   by_hive files named (inr (inl loads)) =
       by_text files loads.0 (file_in words.reg (old.files words.reg)) named loads.1 refl loads.2
@@ -112,13 +115,14 @@ module _ (words : ImportAsked) (old new : HostState) (disk : DiskState) (hive lo
   by_hive files named (inr (inr (inr fault))) = absurd (not_read fault.0)
 
   by_end : (r : Result HiveFiles Refusal) → hive_in old.files words.hive words.log ≡ r
-      → EndsImport r (import_saves words) (file_in words.reg (old.files words.reg)) disk statuses.Done old.said new.said
-      → LoadsAsTold words old new (image_of hive log)
+      → EndsImport r (import_saves words) (import_how form words) (file_in words.reg
+      (old.files words.reg)) disk statuses.Done old.said new.said
+      → LoadsAsTold form words old new (image_of hive log)
   by_end (Err r) named end = absurd (unrefused r old.said new.said end.0)
   by_end (Ok files) named end = by_hive files named end
 
-  pub held_loads : DecidesImport words statuses.Done old new disk → old.tells ≡ true
-      → LoadsAsTold words old new (image_of hive log)
+  pub held_loads : DecidesImport form words statuses.Done old new disk → old.tells ≡ true
+      → LoadsAsTold form words old new (image_of hive log)
   held_loads decides tells = by_end (hive_in old.files words.hive words.log) refl (decides.leaves.said tells)
 
 -- ---- the files
@@ -130,12 +134,14 @@ file_is file held files name bytes saved has =
     let same : saved.0 ≡ bytes = (let both : Some saved.0 ≡ Some bytes = sym saved.1 ∙ has in cc) in
     subst (IsFileOf held file) same saved.2
 
-pub saved_loads : (words : ImportAsked) (old new : HostState) (disk : DiskState) (name other hive log : List ℕ)
-    → DecidesImport words statuses.Done old new disk → old.tells ≡ true
+pub saved_loads : (form : ReportForm) (words : ImportAsked) (old new : HostState) (disk : DiskState)
+    (name other hive log : List ℕ)
+    → DecidesImport form words statuses.Done old new disk → old.tells ≡ true
     → words.save_hive ≡ Some name → words.save_log ≡ Some other → (name ≡ other → ⊥)
     → new.files name ≡ Some hive → new.files other ≡ Some log → HasUntornBlock disk.held
-    → LoadsAsTold words old new (image_of hive log)
-saved_loads words old new disk name other hive log decides tells hive_named log_named apart has_hive has_log untorn =
+    → LoadsAsTold form words old new (image_of hive log)
+saved_loads form words old new disk name other hive log decides tells hive_named log_named apart has_hive has_log
+    untorn =
     let saved = (decides.files tells).0 in
     let own : words.save_log ≡ Some name → ⊥ =
     λ e. apart (let both : Some name ≡ Some other = sym e ∙ log_named in cc) in
@@ -145,7 +151,7 @@ saved_loads words old new disk name other hive log decides tells hive_named log_
     hive_named saved.hive own in
     let log_saved : SavedAs Log disk.held new.files other =
     subst (λ (o : Option (List ℕ)). IfSome o (λ n. SavedAs Log disk.held new.files n)) log_named saved.log in
-    held_loads words old new disk hive log
+    held_loads form words old new disk hive log
     (file_is Primary disk.held new.files name hive hive_saved has_hive)
     (file_is Log disk.held new.files other log log_saved has_log)
     untorn decides tells

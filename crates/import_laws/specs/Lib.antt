@@ -1,1 +1,2 @@
 pub mod AsTold
+pub mod Options

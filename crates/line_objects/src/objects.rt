@@ -1,25 +1,15 @@
-//! The objects.
+//! The objects of a start in which nothing fails.
 
 ghost use Rattle.std.specs.Prelude.{◌≡◌, [], ◌∷◌, ◌++◌, false, codes, OnOk};
 ghost use Rattle.line_text.specs.Objects.{Number, Text, fields_text, object_text};
-ghost use Rattle.start_model.specs.Lines.{TryOk, EntryLine, SetLine, PhaseLine, TryLine, UnmetLine, VerdictLine, EndLine, phase_word};
+ghost use Rattle.start_model.specs.Lines.{TryOk, EntryLine, LoadLine, SetLine, PhaseLine, TryLine, UnmetLine, VerdictLine, EndLine};
 ghost use Rattle.boot_report.specs.Report.{phase_of, verdict_of};
 ghost use Rattle.line_objects.specs.Objects.{line_json};
 
+use crate::words::{load_text, phase_text};
 use boot_report::{PhaseWord, Verdict, verdict_text};
 use line_text::{close_object, open_object, push_number_field, push_text_field, push_word_field};
 use std::alloc::AllocError;
-
-fn phase_text(phase: PhaseWord) -> &'static str
-    ensures { result.now ≡ phase_word (phase_of phase) }
-{
-    match phase {
-        PhaseWord::Boot => "boot",
-        PhaseWord::System => "system",
-        PhaseWord::Automatic => "automatic",
-        PhaseWord::Done => "done",
-    }
-}
 
 /// Appends an object of one word after that of the line.
 pub fn push_word_object(
@@ -49,6 +39,28 @@ pub fn push_entry_object(out: &mut Vec<u8>, number: u32, path: &[u8]) -> Result<
     open_object(out, b"entry")?;
     push_entry_fields(out, number, path)?;
     close_object(out)
+}
+
+fn push_load_fields(out: &mut Vec<u8>, sequence: u32, state: &[u8]) -> Result<(), AllocError>
+    ensures { OnOk result (out.new.items ≡ out.old.items ++ fields_text ((codes "sequence", Number sequence) ∷ (codes "state", Text state.now) ∷ [])) }
+{
+    push_number_field(out, b"sequence", u64::from(sequence))?;
+    push_word_field(out, b"state", state)
+}
+
+fn push_state_object(out: &mut Vec<u8>, sequence: u32, state: &[u8]) -> Result<(), AllocError>
+    ensures { OnOk result (out.new.items ≡ out.old.items ++ object_text (codes "load") ((codes "sequence", Number sequence) ∷ (codes "state", Text state.now) ∷ [])) }
+{
+    open_object(out, b"load")?;
+    push_load_fields(out, sequence, state)?;
+    close_object(out)
+}
+
+/// Appends the line of a load, by the log where the hive had to be recovered.
+pub fn push_load_object(out: &mut Vec<u8>, sequence: u32, recovered: bool) -> Result<(), AllocError>
+    ensures { OnOk result (out.new.items ≡ out.old.items ++ line_json (LoadLine sequence recovered)) }
+{
+    push_state_object(out, sequence, load_text(recovered).as_bytes())
 }
 
 fn push_set_fields(out: &mut Vec<u8>, number: u32) -> Result<(), AllocError>

@@ -1,11 +1,9 @@
 -- What is read is whole.
-use Rattle.std.proofs.Common.{◌≡◌, ◌≤◌, ◌+◌, ◌*◌, ◌/◌, ◌==◌, ◌||◌, ℕ, zero, suc, Bool, true, false, cond, List, [], ◌∷◌, length, Option, Some, None, Result, Ok, Err, refl, sym, ap, ◌∙◌, subst, arith, map}
-use Rattle.std.specs.Prelude.{nat_le, nat_eq, slice_get, drop, codes, take}
-use Rattle.std.specs.List.{starts_with}
+use Rattle.std.proofs.Common.{◌≡◌, ◌+◌, ◌/◌, ◌==◌, ◌||◌, ℕ, zero, suc, Bool, true, false, cond, List, [], ◌∷◌, length, Option, Some, None, Result, Ok, Err, refl, subst, map}
+use Rattle.std.specs.Prelude.{slice_get, take}
 use Rattle.std.proofs.lemmas.Bool.{leb-true}
 use Rattle.nt_bytes.specs.declared.fault.HiveFault.{HiveFault}
 use Rattle.hive_model.specs.Base.{Base}
-use Rattle.hive_model.specs.Recovery.{first_dirty}
 use Rattle.log_parts.specs.declared.fault.LogFault.{LogFault}
 use Rattle.log_parts.specs.declared.base.FileRole.TheVariants as roles
 use Rattle.log_parts.specs.Filled.{filled}
@@ -18,7 +16,7 @@ use Rattle.entry_log.specs.Runs.{found_at, run_by, run_from}
 use Rattle.entry_log.proofs.Going.{found_whole}
 use Rattle.dirt_log.specs.declared.reading.OldReading.{OldReading}
 use Rattle.dirt_log.specs.declared.reading.OldReading.TheVariants as old
-use Rattle.dirt_log.specs.Dirt.{bits_of, needed, first_failing, dirt_checks, whole_or, old_reading_of, IsLong, fault_at}
+use Rattle.dirt_log.specs.Dirt.{first_failing, dirt_checks, whole_or, old_reading_of, IsLong, fault_at}
 use Rattle.log_parts.specs.declared.fault.LogFaultKind.TheVariants.{LogSequence}
 use Rattle.log_replay.specs.declared.reading.LogReading.{LogReading}
 use Rattle.log_replay.specs.declared.reading.LogReading.TheVariants as readings

@@ -1,5 +1,5 @@
 -- Which old log is applied where no entry was, and what does it make of the hive? (this project's own)
-use Rattle.std.specs.Prelude.{◌==◌, ◌+◌, ◌*◌, Bool, true, ℕ, if◌then◌else◌, List, [], ◌∷◌, Option, Some, None}
+use Rattle.std.specs.Prelude.{◌==◌, Bool, true, ℕ, if◌then◌else◌, List, [], ◌∷◌, Option, Some, None}
 use Rattle.hive_model.specs.Base.{Base}
 use Rattle.log_parts.specs.Pages.{put_pages}
 use Rattle.dirt_log.specs.declared.reading.OldReading.{OldReading}

@@ -11,7 +11,7 @@ use crate::reading::{GivenLog, entries_in};
 use entry_log::{Entry, grows_whole, page_bytes, put_entry};
 use log_parts::{LogFaultKind, fill};
 use nt_bytes::{Bytes, Row};
-use std::alloc::AllocError;
+use std::alloc::{AllocError, Global};
 
 /// A hive between two entries.
 #[derive(Drop)]
@@ -82,6 +82,7 @@ fn apply(hive: &mut HiveNow, log: &GivenLog, entry: Entry) -> Result<(), AllocEr
 
 /// Applies a whole entry where its new sectors are in its pages, and says so. Answers whether it goes on.
 fn stepped(
+    alloc: Global,
     hive: &mut HiveNow,
     lines: &mut Row<ReplayLine>,
     found: Found<'_>,
@@ -96,7 +97,7 @@ fn stepped(
     ensures long { OnOk result (512 ≤ length hive.new.file) }
 {
     let bytes = found.log.bytes.as_slice();
-    if !grows_whole(bytes, &found.item, hive.size) {
+    if !grows_whole(alloc, bytes, &found.item, hive.size)? {
         let at = 512 * found.item.sector;
         lines.push(ReplayLine::Fault(LogFaultKind::EntryGrow, found.log.name, at))?;
         return Ok(false);
@@ -109,6 +110,7 @@ fn stepped(
 
 /// Applies the entry that comes next, where there is one.
 fn step(
+    alloc: Global,
     hive: &mut HiveNow,
     lines: &mut Row<ReplayLine>,
     logs: &[GivenLog],
@@ -124,12 +126,13 @@ fn step(
 {
     match chosen(logs, hive.next) {
         None => Ok(false),
-        Some(found) => stepped(hive, lines, found),
+        Some(found) => stepped(alloc, hive, lines, found),
     }
 }
 
 /// Applies the entries of the logs from the hive's next number on, as far as they follow one by one.
 pub(crate) fn replay_entries(
+    alloc: Global,
     hive: &mut HiveNow,
     lines: &mut Row<ReplayLine>,
     logs: &[GivenLog],
@@ -142,7 +145,7 @@ pub(crate) fn replay_entries(
     ensures long { OnOk result (512 ≤ length hive.new.file) }
 {
     for done in 0..4_294_967_296_u64 {
-        if !step(hive, lines, logs)? {
+        if !step(alloc, hive, lines, logs)? {
             return Ok(());
         }
     }

@@ -237,7 +237,7 @@ fn dirty(
         next: hive.second,
         applied: 0,
     };
-    replay_entries(&mut now, &mut lines, logs)?;
+    replay_entries(alloc, &mut now, &mut lines, logs)?;
     if now.applied == 0 {
         return by_old(now.file, count, hive, lines, logs);
     }

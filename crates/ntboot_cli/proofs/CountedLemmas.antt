@@ -9,11 +9,11 @@ use Rattle.command_words.specs.declared.asked.CommandName.TheVariants as names
 use Rattle.command_words.specs.declared.asked.Page.{Page}
 use Rattle.command_words.specs.declared.asked.Page.TheVariants as pages
 use Rattle.command_words.specs.Words.{Text, Asked, Reading, Reason, asks, help, version, refused}
-use Rattle.command_words.specs.Words.{run, show, make, safe, control, twin, export, import, key, replay, check, whatif, salvage}
+use Rattle.command_words.specs.Words.{run, show, make, safe, control, twin, export, import, key, replay, check, whatif, salvage, diff}
 use Rattle.command_words.specs.Table.{count_of, mode_of}
 use Rattle.command_words.specs.Walk.{Values, and_then, no_values, value_named, walked}
 use Rattle.command_words.specs.Commands.{CommandRow, Look, asks_of, counted as counted_in, row_named}
-use Rattle.command_words.specs.Commands.{flag_in, levels_in, needed_in, scheme_of, set_in, system_in}
+use Rattle.command_words.specs.Commands.{current_in, encoding_in, flag_in, levels_in, needed_in, paired, scheme_of, set_in, system_in}
 use Rattle.command_words.specs.Reading.{alone, asked_by, asked_of, asked_read, asks_help, command_read, first_read, help_read, help_topic}
 use Rattle.command_words.specs.Reading.{is_help, page_named, page_of_row, page_read, reading_of, version_read}
 
@@ -88,6 +88,18 @@ make_counted look text =
     by_found IsInRange IsCounted (λ n. Ok (make record { count = n; save_hive = look (codes "--save-hive") }))
     (counted_in text (count_of text)) (number_counted text (count_of text) (count_counted text)) (λ n range. range)
 
+-- what the values ask of `diff`, with this second hive
+abbrev diff_with : Look → Text → Option Text → Result Asked Reason
+diff_with look hive with = Ok (diff record {
+  hive = hive;
+  log = look (codes "--log");
+  set = set_in look (codes "--set");
+  with = with;
+  with_log = look (codes "--with-log");
+  with_set = set_in look (codes "--with-set");
+  all = flag_in look (codes "--all");
+})
+
 asks_counted : (command : CommandName) (look : Look) → IfOk (asks_of command look) IsCounted
 asks_counted names.Run look = by_two look (codes "--hive") (codes "--script") (λ hive script. run record {
   hive = hive;
@@ -131,6 +143,9 @@ asks_counted names.Import look = by_two look (codes "--hive") (codes "--reg") (�
   reg = reg;
   save_hive = look (codes "--save-hive");
   save_log = look (codes "--save-log");
+  encoding = encoding_in look;
+  current = current_in look;
+  lenient = flag_in look (codes "--lenient");
 }) (λ hive reg. tt)
 asks_counted names.Key look = by_one look (codes "--hive") (λ hive. key record {
   hive = hive;
@@ -163,9 +178,13 @@ asks_counted names.Salvage look = by_one look (codes "--hive") (λ hive. salvage
   hive = hive;
   log = look (codes "--log");
   save_hive = look (codes "--save-hive");
+  by_parent = flag_in look (codes "--by-parent");
 }) (λ hive. tt)
+asks_counted names.Diff look = by_text look (codes "--hive")
+    (λ hive. and_then (paired (look (codes "--with")) (look (codes "--with-log"))) (diff_with look hive))
+    (λ hive. by_then IsCounted (diff_with look hive) (paired (look (codes "--with")) (look (codes "--with-log"))) (λ with. tt))
 
--- ---- the words
+-- ---- the reading
 
 by_if : (b : Bool) (x y : Reading) → ReadsCounted x → ReadsCounted y → ReadsCounted (if b then x else y)
 by_if true x y p q = p

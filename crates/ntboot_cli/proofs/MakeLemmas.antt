@@ -27,7 +27,8 @@ use Rattle.command_parts.specs.declared.status.Status.{Status}
 use Rattle.command_parts.specs.declared.status.Status.TheVariants as statuses
 use Rattle.ntboot_cli.specs.Answer.{EndsMade, MakesAlone}
 use Rattle.command_parts.specs.Leaves.{more, named}
-use Rattle.ntboot_cli.specs.Made.{PlaysMade, make_script, made_state, made_going, made_run, made_text, summary_text, told, IsMade, IsPartMade}
+use Rattle.ntboot_cli.specs.Made.{PlaysMade, make_script, made_state, made_going, made_run, made_text, summary_line, told, IsMade, IsPartMade}
+use Rattle.line_text.specs.declared.form.ReportForm.{ReportForm}
 use Rattle.command_parts.specs.Placed.{placed_disk, IsUntouchedBy}
 use Rattle.command_parts.specs.Refusals.{Answer, Ends, IsToldAs}
 use Rattle.command_parts.specs.Saves.{Saves, saved_count, Settles, FinishesAs}
@@ -84,12 +85,12 @@ part_more most disk p = record
 
 -- ---- the call
 
-module _ (usual : Usual) (words : MakeAsked) where
+module _ (form : ReportForm) (usual : Usual) (words : MakeAsked) where
   abbrev pub saves : Saves
   saves = record { hive = words.save_hive; log = None }
 
   abbrev pub Made : DiskState → Status → List ℕ → List ℕ → Type 0
-  Made disk = EndsMade (Ok usual) words.count saves disk
+  Made disk = EndsMade form (Ok usual) words.count saves disk
 
   pub new_part : (disk : DiskState) → disk ≡ new_state → IsPartMade 0 disk
   new_part disk is = (let P : DiskState → Type 0 = IsPartMade 0 in
@@ -100,13 +101,13 @@ module _ (usual : Usual) (words : MakeAsked) where
 
   -- there was no memory before anything was printed
   pub unmade : (host : HostState) (disk : DiskState) → disk.on ≡ false → IsPartMade 0 disk
-      → MakesAlone (Ok usual) words statuses.Memory host host disk
+      → MakesAlone form (Ok usual) words statuses.Memory host host disk
   unmade host disk off part =
       memory_decides (Made disk) saves host disk off
-      (inr (no_front (made_text usual words.count) host.said host.said refl), part_more (saved_count saves) disk part)
+      (inr (no_front (made_text form usual words.count) host.said host.said refl), part_more (saved_count saves) disk part)
 
   ends_made : (status : Status) (text old new : List ℕ) (taken : ℕ) (disk : DiskState) → IsToldAs statuses.Done status
-      → text ≡ made_text usual words.count
+      → text ≡ made_text form usual words.count
       → taken ≤ saved_count saves → (status ≡ statuses.Done → taken ≡ saved_count saves)
       → IsMade usual words.count taken disk → Ends (done_with text) status old new
       → Made disk status old new
@@ -115,7 +116,7 @@ module _ (usual : Usual) (words : MakeAsked) where
       (subst (λ (s : Status). Ends (done_with text) s old new) is end) in
       let P : ℕ → Type 0 = λ n. IsMade usual words.count n disk in
       subst (λ (s : Status). Made disk s old new) (sym is)
-      (was_said (made_text usual words.count) old new done, subst P (all is) made)
+      (was_said (made_text form usual words.count) old new done, subst P (all is) made)
   ends_made status text old new taken disk (inr (inl is)) same few all made end =
       let part = subst (λ (t : List ℕ). Ends (done_with t) statuses.WriteFault old new) same
       (subst (λ (s : Status). Ends (done_with text) s old new) is end) in
@@ -137,11 +138,11 @@ module _ (usual : Usual) (words : MakeAsked) where
   -- the line was printed and the disk saved, or that was stopped
   pub finished_makes : (summary : Summary) (line : List ℕ) (status : Status) (old new : HostState)
       (mid after : DiskState) → mid.on ≡ false
-      → summary ≡ summary_of (made_run usual words.count).lines → line ≡ summary_text words.count summary
+      → summary ≡ summary_of (made_run usual words.count).lines → line ≡ summary_line form words.count summary
       → IsMade usual words.count 0 mid
-      → FinishesAs line saves status old new mid after → MakesAlone (Ok usual) words status old new after
+      → FinishesAs line saves status old new mid after → MakesAlone form (Ok usual) words status old new after
   finished_makes summary line status old new mid after off is_summary is_line made f =
-      let text : line ≡ made_text usual words.count = is_line ∙ ap (summary_text words.count) is_summary in
+      let text : line ≡ made_text form usual words.count = is_line ∙ ap (summary_line form words.count) is_summary in
       let two : f.taken ≤ 2 = omega (arith, f.few, count_few saves) in
       record {
         decides = record {

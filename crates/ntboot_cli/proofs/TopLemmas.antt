@@ -22,6 +22,7 @@ use Rattle.replay_command.specs.Inputs.{asks_replay}
 use Rattle.salvage_text.specs.declared.reporting.Report.{Report as SalvageReport}
 use Rattle.salvage_command.specs.Answer as salvaging
 use Rattle.salvage_command.specs.Answer.{DecidesSalvage, EndsSalvage, asks_salvage}
+use Rattle.line_text.specs.declared.form.ReportForm.{ReportForm}
 use Rattle.ntboot_cli.specs.Answer.{TopDecides, form_of}
 
 -- an export changes no file but the one that it puts
@@ -48,15 +49,15 @@ puts_kept name (Some text) statuses.Found old new kept = kept
 puts_kept name (Some text) statuses.WriteFault old new kept = kept
 puts_kept name (Some text) statuses.Memory old new kept = kept
 
-others_kept : (wanted : Result HiveFiles Refusal) (path : List (List ℕ)) (name : List ℕ) (before after : Files)
+others_kept : (form : ReportForm) (wanted : Result HiveFiles Refusal) (path : List (List ℕ)) (name : List ℕ) (before after : Files)
     (status : Status) (old new : List ℕ)
-    → EndsExported wanted path name before after status old new → KeepsOthers before after name
-others_kept (Err r) path name before after status old new end = same_kept before after name end.1
-others_kept (Ok files) path name before after status old new (inl (fault, load, ends, same)) =
+    → EndsExported form wanted path name before after status old new → KeepsOthers before after name
+others_kept form (Err r) path name before after status old new end = same_kept before after name end.1
+others_kept form (Ok files) path name before after status old new (inl (fault, load, ends, same)) =
     same_kept before after name same
-others_kept (Ok files) path name before after status old new (inr (inl (placed, loads, ends, puts))) =
-    puts_kept name (export_of path placed.state.tree).put status before after puts
-others_kept (Ok files) path name before after status old new (inr (inr (stop, said, same))) =
+others_kept form (Ok files) path name before after status old new (inr (inl (placed, loads, ends, puts))) =
+    puts_kept name (export_of form path placed.state.tree).put status before after puts
+others_kept form (Ok files) path name before after status old new (inr (inr (stop, said, same))) =
     same_kept before after name same
 
 -- ---- a replay changes no file but the one that it saves
@@ -125,13 +126,13 @@ salvage_unsaved (Ok report) name before after status old new ends =
 
 module _ (asked : Reading) (json : Bool) (status : Status) (old new : HostState) (disk : DiskState) where
   pub by_export : (words : ExportAsked) → asked ≡ asks (export words) json → disk ≡ new_state
-      → DecidesExport words status old new
+      → DecidesExport (form_of json) words status old new
       → AsksSoMany (asks_export words) status old new → (status ≡ statuses.Usage → ⊥)
       → TopDecides asked status old new disk
   by_export words is fresh decides gets unused =
       subst (λ (a : Reading). TopDecides a status old new disk) (sym is) (record {
         leaves = record { keeps = decides.keeps; counts = decides.counts; said = λ tells. (decides.said tells, fresh) };
-        files = λ tells. others_kept (hive_in old.files words.hive words.log) (path_in words.key)
+        files = λ tells. others_kept (form_of json) (hive_in old.files words.hive words.log) (path_in words.key)
             words.reg old.files new.files status old.said new.said
             (decides.said tells);
         off = new_off disk fresh;

@@ -1,9 +1,9 @@
--- There was no memory for the words: nothing was printed and nothing done, which every command allows.
+-- There was no memory for the command line: nothing was printed and nothing done, which every command allows.
 use Rattle.std.proofs.Common.{◌≡◌, inl, inr, ℕ, Bool, true, false, List, Option, None, Some, refl, sym, subst, arith}
 use Rattle.std.specs.Prelude.{Result, Ok, Err}
 use Rattle.nt_edge.specs.Disk.{DiskState, new_state}
 use Rattle.nt_edge.specs.Host.{Files, HostState}
-use Rattle.command_words.specs.Words.{Reading, asks, help, refused, version, salvage, whatif, check, key, replay, export, import, twin, control, safe, run, show, make}
+use Rattle.command_words.specs.Words.{Reading, asks, help, refused, version, diff, salvage, whatif, check, key, replay, export, import, twin, control, safe, run, show, make}
 use Rattle.command_words.specs.Words.{MakeAsked}
 use Rattle.command_parts.specs.declared.inputs.HiveFiles.{HiveFiles}
 use Rattle.command_parts.specs.declared.refusal.Refusal.{Refusal}
@@ -32,7 +32,8 @@ use Rattle.control_command.specs.declared.inputs.ControlInputs.{ControlInputs}
 use Rattle.control_command.specs.Answer.{EndsControl}
 use Rattle.control_command.specs.Inputs.{inputs_in as control_inputs_in}
 use Rattle.twin_command.specs.Twinned.{EndsTwin, stands_by, twin_saves}
-use Rattle.text_commands.specs.Imported.{EndsImport, import_saves}
+use Rattle.text_commands.specs.declared.said.How.{How}
+use Rattle.text_commands.specs.Imported.{EndsImport, import_how, import_saves}
 use Rattle.text_commands.specs.Exported.{EndsExported}
 use Rattle.ntboot_cli.specs.declared.inputs.Inputs.{Inputs}
 use Rattle.ntboot_cli.specs.declared.making.Usual.{Usual}
@@ -46,44 +47,46 @@ unread_inputs : (wanted : Result Inputs Refusal) (saves : Saves) (disk : DiskSta
 unread_inputs (Err r) saves disk said fresh = (inr (no_front (refusal_text r) said said refl), fresh)
 unread_inputs (Ok inputs) saves disk said fresh = inl (inr (inr (refl, refl, unrun disk fresh)))
 
-unread_shown : (wanted : Result HiveFiles Refusal) (said : List ℕ) → EndsShown wanted statuses.Memory said said
-unread_shown (Err r) said = inr (no_front (refusal_text r) said said refl)
-unread_shown (Ok files) said = inr (inr (inl refl, refl))
+unread_shown : (form : ReportForm) (wanted : Result HiveFiles Refusal) (said : List ℕ)
+    → EndsShown form wanted statuses.Memory said said
+unread_shown form (Err r) said = inr (no_front (refusal_text r) said said refl)
+unread_shown form (Ok files) said = inr (inr (inl refl, refl))
 
 unread_safe : (form : ReportForm) (wanted : Result SafeInputs Refusal) (said : List ℕ)
     → EndsSafe form wanted statuses.Memory said said
 unread_safe form (Err r) said = inr (no_front (refusal_text r) said said refl)
 unread_safe form (Ok inputs) said = inr (inr (inl refl, refl))
 
-unread_control : (wanted : Result ControlInputs Refusal) (said : List ℕ) → EndsControl wanted statuses.Memory said said
-unread_control (Err r) said = inr (no_front (refusal_text r) said said refl)
-unread_control (Ok inputs) said = inr (inr (inl refl, refl))
+unread_control : (form : ReportForm) (wanted : Result ControlInputs Refusal) (said : List ℕ)
+    → EndsControl form wanted statuses.Memory said said
+unread_control form (Err r) said = inr (no_front (refusal_text r) said said refl)
+unread_control form (Ok inputs) said = inr (inr (inl refl, refl))
 
 unread_hive : (wanted : Result Question Refusal) (said : List ℕ) → EndsOnHive wanted statuses.Memory said said
 unread_hive (Err r) said = inr (no_front (refusal_text r) said said refl)
 unread_hive (Ok question) said = inr (inr (inl refl, refl))
 
-unread_twin : (wanted : Result HiveFiles Refusal) (stands : Standing) (number : Option ℕ) (saves : Saves)
+unread_twin : (form : ReportForm) (wanted : Result HiveFiles Refusal) (stands : Standing) (number : Option ℕ) (saves : Saves)
     (disk : DiskState) (said : List ℕ)
-    → disk ≡ new_state → EndsTwin wanted stands number saves disk statuses.Memory said said
-unread_twin (Err r) stands number saves disk said fresh = (inr (no_front (refusal_text r) said said refl), fresh)
-unread_twin (Ok files) stands number saves disk said fresh = inl (inr (inr (refl, refl, unrun disk fresh)))
+    → disk ≡ new_state → EndsTwin form wanted stands number saves disk statuses.Memory said said
+unread_twin form (Err r) stands number saves disk said fresh = (inr (no_front (refusal_text r) said said refl), fresh)
+unread_twin form (Ok files) stands number saves disk said fresh = inl (inr (inr (refl, refl, unrun disk fresh)))
 
 part_imported : (files : HiveFiles) (disk : DiskState) → disk ≡ new_state → IsPartDone files 0 disk
 part_imported files disk fresh = subst (λ (d : DiskState). IsPartDone files 0 d) (sym fresh)
     (record { placed = omega arith; taken = omega arith; unordered = refl; uncut = refl })
 
-unread_import : (wanted : Result HiveFiles Refusal) (saves : Saves) (text : Result (List ℕ) Refusal) (disk : DiskState)
-    (said : List ℕ)
-    → disk ≡ new_state → EndsImport wanted saves text disk statuses.Memory said said
-unread_import (Err r) saves text disk said fresh = (inr (no_front (refusal_text r) said said refl), fresh)
-unread_import (Ok files) saves text disk said fresh = inr (inr (inl (refl, refl, part_imported files disk fresh)))
+unread_import : (wanted : Result HiveFiles Refusal) (saves : Saves) (how : How) (text : Result (List ℕ) Refusal)
+    (disk : DiskState) (said : List ℕ)
+    → disk ≡ new_state → EndsImport wanted saves how text disk statuses.Memory said said
+unread_import (Err r) saves how text disk said fresh = (inr (no_front (refusal_text r) said said refl), fresh)
+unread_import (Ok files) saves how text disk said fresh = inr (inr (inl (refl, refl, part_imported files disk fresh)))
 
-unread_export : (wanted : Result HiveFiles Refusal) (path : List (List ℕ)) (name : List ℕ) (files : Files)
+unread_export : (form : ReportForm) (wanted : Result HiveFiles Refusal) (path : List (List ℕ)) (name : List ℕ) (files : Files)
     (said : List ℕ)
-    → EndsExported wanted path name files files statuses.Memory said said
-unread_export (Err r) path name files said = (inr (no_front (refusal_text r) said said refl), refl)
-unread_export (Ok found) path name files said = inr (inr (inl refl, refl, refl))
+    → EndsExported form wanted path name files files statuses.Memory said said
+unread_export form (Err r) path name files said = (inr (no_front (refusal_text r) said said refl), refl)
+unread_export form (Ok found) path name files said = inr (inr (inl refl, refl, refl))
 
 unread_report : (saved : Bool) (name : Option (List ℕ)) (answer : Answer) (file : List ℕ) (files : Files) (said : List ℕ)
     → EndsReport saved name answer file files files statuses.Memory said said
@@ -111,11 +114,11 @@ unread_salvage (Err r) name files said = (inr (no_front (refusal_text r) said sa
 unread_salvage (Ok report) name files said =
     unread_salvaged report.saved name (salvage_answer report) report.file files said
 
-unread_made : (wanted : Result Usual Refusal) (words : MakeAsked) (saves : Saves) (disk : DiskState) (said : List ℕ)
-    → disk ≡ new_state → EndsMade wanted words.count saves disk statuses.Memory said said
-unread_made (Err r) words saves disk said fresh = (inr (no_front (refusal_text r) said said refl), fresh)
-unread_made (Ok usual) words saves disk said fresh =
-    (inr (no_front _ said said refl), part_more _ disk (new_part usual words disk fresh))
+unread_made : (form : ReportForm) (wanted : Result Usual Refusal) (words : MakeAsked) (saves : Saves) (disk : DiskState) (said : List ℕ)
+    → disk ≡ new_state → EndsMade form wanted words.count saves disk statuses.Memory said said
+unread_made form (Err r) words saves disk said fresh = (inr (no_front (refusal_text r) said said refl), fresh)
+unread_made form (Ok usual) words saves disk said fresh =
+    (inr (no_front _ said said refl), part_more _ disk (new_part form usual words disk fresh))
 
 unread_words : (asked : Reading) (host : HostState) (disk : DiskState) → disk ≡ new_state
     → EndsWords asked host.files host.files disk statuses.Memory host.said host.said
@@ -125,21 +128,21 @@ unread_words version host disk fresh = (inr (no_front _ host.said host.said refl
 unread_words (asks (run words) json) host disk fresh =
     unread_inputs (inputs_in words host.files) (saves_of (asks (run words) json)) disk host.said fresh
 unread_words (asks (show words) json) host disk fresh =
-    (unread_shown (hive_in host.files words.hive words.log) host.said, fresh)
+    (unread_shown (form_of json) (hive_in host.files words.hive words.log) host.said, fresh)
 unread_words (asks (make words) json) host disk fresh =
-    unread_made usual_in words (saves_of (asks (make words) json)) disk host.said fresh
+    unread_made (form_of json) usual_in words (saves_of (asks (make words) json)) disk host.said fresh
 unread_words (asks (safe words) json) host disk fresh =
     (unread_safe (form_of json) (safe_inputs_in words host.files) host.said, fresh)
 unread_words (asks (control words) json) host disk fresh =
-    (unread_control (control_inputs_in words host.files) host.said, fresh)
+    (unread_control (form_of json) (control_inputs_in words host.files) host.said, fresh)
 unread_words (asks (twin words) json) host disk fresh =
-    unread_twin (hive_in host.files words.hive words.alt) (stands_by words.scheme) words.default (twin_saves words)
+    unread_twin (form_of json) (hive_in host.files words.hive words.alt) (stands_by words.scheme) words.default (twin_saves words)
     disk host.said fresh
 unread_words (asks (import words) json) host disk fresh =
-    unread_import (hive_in host.files words.hive words.log) (import_saves words)
+    unread_import (hive_in host.files words.hive words.log) (import_saves words) (import_how (form_of json) words)
     (file_in words.reg (host.files words.reg)) disk host.said fresh
 unread_words (asks (export words) json) host disk fresh =
-    (unread_export (hive_in host.files words.hive words.log) (path_in words.key) words.reg host.files host.said, fresh)
+    (unread_export (form_of json) (hive_in host.files words.hive words.log) (path_in words.key) words.reg host.files host.said, fresh)
 unread_words (asks (key words) json) host disk fresh =
     (unread_hive (key_question_in (form_of json) words host.files) host.said, fresh)
 unread_words (asks (replay words) json) host disk fresh =
@@ -150,6 +153,7 @@ unread_words (asks (whatif words) json) host disk fresh =
     (unread_hive (whatif_question_in (form_of json) words host.files) host.said, fresh)
 unread_words (asks (salvage words) json) host disk fresh =
     (unread_salvage (salvage_report_in (form_of json) words host.files) words.save_hive host.files host.said, fresh)
+unread_words (asks (diff words) json) host disk fresh = (inr (inl refl, refl), fresh)
 
 pub unread_leaves : (asked : Reading) (host : HostState) (disk : DiskState) → disk ≡ new_state
     → Leaves (EndsWords asked host.files host.files disk) statuses.Memory host host

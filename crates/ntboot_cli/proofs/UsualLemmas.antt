@@ -12,6 +12,7 @@ use Rattle.command_parts.specs.declared.refusal.Refusal.{Refusal}
 use Rattle.command_parts.specs.declared.status.Status.TheVariants as statuses
 use Rattle.ntboot_cli.specs.Answer.{EndsMade, MakesAlone}
 use Rattle.command_parts.specs.Leaves.{stopped_as}
+use Rattle.line_text.specs.declared.form.ReportForm.{ReportForm}
 use Rattle.ntboot_cli.specs.Made.{usual_in}
 use Rattle.command_parts.specs.Refusals.{refusal_text}
 use Rattle.command_parts.proofs.DecideLemmas.{memory_decides, new_off}
@@ -41,18 +42,18 @@ pub never_refused : (why : Refusal) → usual_in ≡ Err why → ⊥
 never_refused why e = not_refused usual_in why usual_read e
 
 -- there was no memory to read it
-unmade_by : (wanted : Result Usual Refusal) (words : MakeAsked) (host : HostState) (disk : DiskState) → disk ≡ new_state
-    → MakesAlone wanted words statuses.Memory host host disk
-unmade_by (Ok usual) words host disk fresh =
-    unmade usual words host disk (new_off disk fresh) (new_part usual words disk fresh)
-unmade_by (Err r) words host disk fresh =
-    memory_decides (EndsMade (Err r) words.count (record { hive = words.save_hive; log = None }) disk)
+unmade_by : (form : ReportForm) (wanted : Result Usual Refusal) (words : MakeAsked) (host : HostState) (disk : DiskState) → disk ≡ new_state
+    → MakesAlone form wanted words statuses.Memory host host disk
+unmade_by form (Ok usual) words host disk fresh =
+    unmade form usual words host disk (new_off disk fresh) (new_part form usual words disk fresh)
+unmade_by form (Err r) words host disk fresh =
+    memory_decides (EndsMade form (Err r) words.count (record { hive = words.save_hive; log = None }) disk)
     (record { hive = words.save_hive; log = None }) host disk (new_off disk fresh)
     (inr (no_front (refusal_text r) host.said host.said refl), fresh)
 
-pub unread_usual : (words : MakeAsked) (stop : HostStop) (host : HostState) (disk : DiskState) → disk ≡ new_state
+pub unread_usual : (form : ReportForm) (words : MakeAsked) (stop : HostStop) (host : HostState) (disk : DiskState) → disk ≡ new_state
     → stop ≡ Memory
-    → MakesAlone usual_in words (stopped_as stop) host host disk
-unread_usual words stop host disk fresh is =
-    subst (λ (s : HostStop). MakesAlone usual_in words (stopped_as s) host host disk) (sym is)
-    (unmade_by usual_in words host disk fresh)
+    → MakesAlone form usual_in words (stopped_as stop) host host disk
+unread_usual form words stop host disk fresh is =
+    subst (λ (s : HostStop). MakesAlone form usual_in words (stopped_as s) host host disk) (sym is)
+    (unmade_by form usual_in words host disk fresh)

@@ -24,8 +24,8 @@ use Rattle.run_parts.specs.Reports.{Reports, ReportsFront}
 use Rattle.boot_run.specs.Agrees.{LoadsAny}
 use Rattle.boot_run.specs.Choices.{choices}
 use Rattle.help_text.specs.Pages.{page_text}
-use Rattle.tree_text.specs.TreeText.{shown_text}
-use Rattle.command_words.specs.Words.{Reading, asks, help, refused, version, salvage, whatif, check, key, replay, export, import, twin, control, safe, run, show, make, RunAsked, ShowAsked, MakeAsked}
+use Rattle.tree_text.specs.TreeObjects.{shown_in}
+use Rattle.command_words.specs.Words.{Reading, asks, help, refused, version, diff, salvage, whatif, check, key, replay, export, import, twin, control, safe, run, show, make, RunAsked, ShowAsked, MakeAsked}
 use Rattle.command_parts.specs.declared.status.Status.{Status}
 use Rattle.command_parts.specs.declared.status.Status.TheVariants as statuses
 use Rattle.command_parts.specs.declared.refusal.Refusal.{Refusal}
@@ -44,7 +44,7 @@ use Rattle.control_command.specs.Answer.{EndsControl}
 use Rattle.control_command.specs.Inputs.{inputs_in as control_inputs_in}
 use Rattle.twin_command.specs.Twinned.{EndsTwin, stands_by, twin_saves}
 use Rattle.text_commands.specs.Asks.{AsksImport}
-use Rattle.text_commands.specs.Imported.{EndsImport, import_saves}
+use Rattle.text_commands.specs.Imported.{EndsImport, import_how, import_saves}
 use Rattle.key_text.specs.Words.{path_in}
 use Rattle.text_commands.specs.Exported.{EndsExported}
 use Rattle.ntboot_cli.specs.Made.{told, usual_in, made_text, IsMade, IsPartMade}
@@ -57,6 +57,8 @@ use Rattle.replay_command.specs.Answer.{EndsReplay, report_in}
 use Rattle.check_command.specs.Answer.{question_in as check_question_in}
 use Rattle.whatif_command.specs.Answer.{question_in as whatif_question_in}
 use Rattle.salvage_command.specs.Answer.{EndsSalvage, report_in as salvage_report_in}
+use Rattle.diff_command.specs.Answer.{EndsDiff}
+use Rattle.diff_command.specs.Asks.{AsksDiff}
 use Rattle.command_parts.specs.Placed.{image_in, placed_disk, IsUnrun, IsUntouchedBy}
 use Rattle.command_parts.specs.Refusals.{Answer, Ends, IsToldAs, refusal}
 use Rattle.command_parts.specs.Saves.{Saves, no_saves, saved_count, FilesAs, KeepsUnsaved, Settles}
@@ -125,45 +127,45 @@ EndsInputs (Ok inputs) saves disk status old new =
 
 -- ---- what a hive holds
 
--- the answer with the text of a state's tree
-abbrev pub shown : Woken → Answer
-shown placed = record {
+-- the answer with a state's tree in one of the two forms
+abbrev pub shown : ReportForm → Woken → Answer
+shown form placed = record {
   status = statuses.Done;
-  text = shown_text placed.state.sequence (bulk_of placed.state.version placed.state.tree) placed.state.tree;
+  text = shown_in form placed.state.sequence (bulk_of placed.state.version placed.state.tree) placed.state.tree;
 }
 
--- The hive has a first fault, and that is printed; or it loads as a state, and the text of its tree is printed; or there was no memory
+-- The hive has a first fault, and that is printed; or it loads as a state, and its tree is printed; or there was no memory
 -- or a read fault before anything was printed.
-abbrev pub EndsShown : Result HiveFiles Refusal → Status → List ℕ → List ℕ → Type 0
-EndsShown (Err r) status old new = Ends (refusal r) status old new
-EndsShown (Ok files) status old new =
+abbrev pub EndsShown : ReportForm → Result HiveFiles Refusal → Status → List ℕ → List ℕ → Type 0
+EndsShown form (Err r) status old new = Ends (refusal r) status old new
+EndsShown form (Ok files) status old new =
     ((fault : HiveFault) × (LoadFault (image_in files) fault) × Ends (refusal (BadHive fault)) status old new)
-    ⊎ (((placed : Woken) × (Loads (image_in files) placed.state placed.dirty) × Ends (shown placed) status old new)
+    ⊎ (((placed : Woken) × (Loads (image_in files) placed.state placed.dirty) × Ends (shown form placed) status old new)
     ⊎ (((status ≡ statuses.Memory) ⊎ (status ≡ statuses.ReadFault)) × (new ≡ old)))
 
 -- ---- a generated hive
 
--- the answer with the line on it
-abbrev pub made : Usual → ℕ → Answer
-made usual count = record { status = statuses.Done; text = made_text usual count }
+-- the answer with the line on it, in one of the two forms
+abbrev pub made : ReportForm → Usual → ℕ → Answer
+made form usual count = record { status = statuses.Done; text = made_text form usual count }
 
 -- a prefix of the line was printed, and the disk is left as it may be then
-abbrev pub EndsPart : Usual → ℕ → Saves → DiskState → Status → List ℕ → List ℕ → Type 0
-EndsPart usual count saves disk status old new = Ends (made usual count) status old new × IsPartMade (saved_count saves) disk
+abbrev pub EndsPart : ReportForm → Usual → ℕ → Saves → DiskState → Status → List ℕ → List ℕ → Type 0
+EndsPart form usual count saves disk status old new = Ends (made form usual count) status old new × IsPartMade (saved_count saves) disk
 
 -- the line was printed whole at the end, or of it a front up to a fault in saying it or to lack of memory; the disk is this afterwards
-abbrev pub EndsMade : Result Usual Refusal → ℕ → Saves → DiskState → Status → List ℕ → List ℕ → Type 0
-EndsMade (Err r) count saves disk status old new = Ends (refusal r) status old new × (disk ≡ new_state)
-EndsMade (Ok usual) count saves disk statuses.Done old new = (new ≡ old ++ made_text usual count) × IsMade usual count (saved_count saves) disk
-EndsMade (Ok usual) count saves disk statuses.WriteFault old new = EndsPart usual count saves disk statuses.WriteFault old new
-EndsMade (Ok usual) count saves disk statuses.Memory old new = EndsPart usual count saves disk statuses.Memory old new
-EndsMade (Ok usual) count saves disk other old new = ⊥
+abbrev pub EndsMade : ReportForm → Result Usual Refusal → ℕ → Saves → DiskState → Status → List ℕ → List ℕ → Type 0
+EndsMade form (Err r) count saves disk status old new = Ends (refusal r) status old new × (disk ≡ new_state)
+EndsMade form (Ok usual) count saves disk statuses.Done old new = (new ≡ old ++ made_text form usual count) × IsMade usual count (saved_count saves) disk
+EndsMade form (Ok usual) count saves disk statuses.WriteFault old new = EndsPart form usual count saves disk statuses.WriteFault old new
+EndsMade form (Ok usual) count saves disk statuses.Memory old new = EndsPart form usual count saves disk statuses.Memory old new
+EndsMade form (Ok usual) count saves disk other old new = ⊥
 
--- the text of the hive's tree, or its first fault, or there was no memory
-abbrev pub ShowsAs : Image → Result (List ℕ) Obstacle → Type 0
-ShowsAs image (Ok text) = (placed : Woken) × (Loads image placed.state placed.dirty) × (text ≡ (shown placed).text)
-ShowsAs image (Err (Refused r)) = (fault : HiveFault) × (LoadFault image fault) × (r ≡ BadHive fault)
-ShowsAs image (Err (Stopped stop)) = stop ≡ NoMemory
+-- the hive's tree in one of the two forms, or its first fault, or there was no memory
+abbrev pub ShowsAs : ReportForm → Image → Result (List ℕ) Obstacle → Type 0
+ShowsAs form image (Ok text) = (placed : Woken) × (Loads image placed.state placed.dirty) × (text ≡ (shown form placed).text)
+ShowsAs form image (Err (Refused r)) = (fault : HiveFault) × (LoadFault image fault) × (r ≡ BadHive fault)
+ShowsAs form image (Err (Stopped stop)) = stop ≡ NoMemory
 
 -- ---- a command
 
@@ -185,6 +187,7 @@ saves_of (asks (replay words) json) = no_saves
 saves_of (asks (check words) json) = no_saves
 saves_of (asks (whatif words) json) = no_saves
 saves_of (asks (salvage words) json) = no_saves
+saves_of (asks (diff words) json) = no_saves
 
 -- the answer with a page of help, or the version
 abbrev pub about : List ℕ → Answer
@@ -202,17 +205,19 @@ EndsWords version files after disk status old new = Ends (about (codes "ntboot 1
 EndsWords (asks (run words) json) files after disk status old new =
     EndsInputs (inputs_in words files) (saves_of (asks (run words) json)) disk status old new
 EndsWords (asks (show words) json) files after disk status old new =
-    EndsShown (hive_in files words.hive words.log) status old new × (disk ≡ new_state)
+    EndsShown (form_of json) (hive_in files words.hive words.log) status old new × (disk ≡ new_state)
 EndsWords (asks (make words) json) files after disk status old new =
-    EndsMade usual_in words.count (saves_of (asks (make words) json)) disk status old new
-EndsWords (asks (safe words) json) files after disk status old new = EndsSafe (form_of json) (safe_inputs_in words files) status old new × (disk ≡ new_state)
-EndsWords (asks (control words) json) files after disk status old new = EndsControl (control_inputs_in words files) status old new × (disk ≡ new_state)
+    EndsMade (form_of json) usual_in words.count (saves_of (asks (make words) json)) disk status old new
+EndsWords (asks (safe words) json) files after disk status old new =
+    EndsSafe (form_of json) (safe_inputs_in words files) status old new × (disk ≡ new_state)
+EndsWords (asks (control words) json) files after disk status old new =
+    EndsControl (form_of json) (control_inputs_in words files) status old new × (disk ≡ new_state)
 EndsWords (asks (twin words) json) files after disk status old new =
-    EndsTwin (hive_in files words.hive words.alt) (stands_by words.scheme) words.default (twin_saves words) disk status old new
+    EndsTwin (form_of json) (hive_in files words.hive words.alt) (stands_by words.scheme) words.default (twin_saves words) disk status old new
 EndsWords (asks (import words) json) files after disk status old new =
-    EndsImport (hive_in files words.hive words.log) (import_saves words) (file_in words.reg (files words.reg)) disk status old new
+    EndsImport (hive_in files words.hive words.log) (import_saves words) (import_how (form_of json) words) (file_in words.reg (files words.reg)) disk status old new
 EndsWords (asks (export words) json) files after disk status old new =
-    EndsExported (hive_in files words.hive words.log) (path_in words.key) words.reg files after status old new × (disk ≡ new_state)
+    EndsExported (form_of json) (hive_in files words.hive words.log) (path_in words.key) words.reg files after status old new × (disk ≡ new_state)
 EndsWords (asks (key words) json) files after disk status old new =
     EndsOnHive (key_question_in (form_of json) words files) status old new × (disk ≡ new_state)
 EndsWords (asks (replay words) json) files after disk status old new =
@@ -223,10 +228,12 @@ EndsWords (asks (whatif words) json) files after disk status old new =
     EndsOnHive (whatif_question_in (form_of json) words files) status old new × (disk ≡ new_state)
 EndsWords (asks (salvage words) json) files after disk status old new =
     EndsSalvage (salvage_report_in (form_of json) words files) words.save_hive files after status old new × (disk ≡ new_state)
+EndsWords (asks (diff words) json) files after disk status old new = EndsDiff (form_of json) words files status old new × (disk ≡ new_state)
 
--- the same number of files are asked for as are in the written order, up to the first obstacle; for `import` one more, where the hive has no fault
+-- the same number of files are asked for as are in the written order, up to the first obstacle; for `import` and `diff` more, where the hive has no fault
 abbrev pub AsksAs : Reading → Status → HostState → HostState → Type 0
 AsksAs (asks (import words) json) status old new = AsksImport words status old new
+AsksAs (asks (diff words) json) status old new = AsksDiff words status old new
 AsksAs asked status old new = AsksSoMany (asks_in asked) status old new
 
 -- what becomes of the files: `export` changes the one that it puts alone, `replay` and `salvage` the one that they save alone, every other command
@@ -250,19 +257,19 @@ DecidesRun words status old new disk =
     Decides (EndsInputs (inputs_in words old.files) saves disk) saves status old new disk
 
 -- of a hive that is shown, on which no disk depends
-abbrev pub DecidesTree : HiveFiles → Status → HostState → HostState → Type 0
-DecidesTree files status old new = DecidesAlone (EndsShown (Ok files)) no_saves status old new new_state
+abbrev pub DecidesTree : ReportForm → HiveFiles → Status → HostState → HostState → Type 0
+DecidesTree form files status old new = DecidesAlone (EndsShown form (Ok files)) no_saves status old new new_state
 
-abbrev pub DecidesShow : ShowAsked → Status → HostState → HostState → Type 0
-DecidesShow words status old new = Decides (EndsShown (hive_in old.files words.hive words.log)) no_saves status old new new_state
+abbrev pub DecidesShow : ReportForm → ShowAsked → Status → HostState → HostState → Type 0
+DecidesShow form words status old new = Decides (EndsShown form (hive_in old.files words.hive words.log)) no_saves status old new new_state
 
 -- and of a hive that is made
-abbrev pub MakesAlone : Result Usual Refusal → MakeAsked → Status → HostState → HostState → DiskState → Type 0
-MakesAlone usual words status old new disk =
+abbrev pub MakesAlone : ReportForm → Result Usual Refusal → MakeAsked → Status → HostState → HostState → DiskState → Type 0
+MakesAlone form usual words status old new disk =
     let saves : Saves = record { hive = words.save_hive; log = None } in
-    DecidesAlone (EndsMade usual words.count saves disk) saves status old new disk
+    DecidesAlone (EndsMade form usual words.count saves disk) saves status old new disk
 
--- all that is said of the whole call
+-- all that holds of the whole call
 pub record TopDecides (asked : Reading) (status : Status) (old new : HostState) (disk : DiskState) : Type 0 where
   pub leaves : Leaves (EndsWords asked old.files new.files disk) status old new
   pub files : old.tells ≡ true → LeavesFiles asked status disk.held old.files new.files

@@ -1,6 +1,6 @@
 -- What a command reads, or the first obstacle. This project's own.
 --
--- The words come first. Of `run` then: the system's path, without a reading; the script, absent or without a reading; boot.ini,
+-- The command line comes first. Of `run` then: the system's path, without a reading; the script, absent or without a reading; boot.ini,
 -- absent, too long or with too many entries; the hive, absent; its log, absent. Of `show`: the hive and its log. What is in hive
 -- and log is judged after all of them.
 use Rattle.std.specs.Prelude.{◌≡◌, ◌+◌, ℕ, true, List, Option, Some, None, Result, Ok, Err}
@@ -9,7 +9,7 @@ use Rattle.arc_path.specs.Reading.{arc_of}
 use Rattle.boot_script.specs.declared.event.Event.{Event}
 use Rattle.boot_script.specs.declared.stop.ScriptFault.{ScriptFault}
 use Rattle.boot_script.specs.Script.{script_of}
-use Rattle.command_words.specs.Words.{Reading, asks, help, refused, version, salvage, whatif, check, key, replay, export, import, twin, control, safe, run, show, make, RunAsked, ShowAsked}
+use Rattle.command_words.specs.Words.{Reading, asks, help, refused, version, diff, salvage, whatif, check, key, replay, export, import, twin, control, safe, run, show, make, RunAsked, ShowAsked}
 use Rattle.command_parts.specs.declared.refusal.Refusal.{Refusal}
 use Rattle.command_parts.specs.declared.refusal.Refusal.TheVariants.{Usage, ScriptFault as BadScript}
 use Rattle.command_parts.specs.declared.refusal.Obstacle.{Obstacle}
@@ -30,7 +30,7 @@ abbrev pub events_in : Result (List Event) ScriptFault → Result (List Event) R
 events_in (Err fault) = Err (BadScript fault)
 events_in (Ok events) = Ok events
 
--- what the words and files have for a run, or the first obstacle
+-- what options and files have for a run, or the first obstacle
 abbrev pub inputs_in : RunAsked → Files → Result Inputs Refusal
 inputs_in words files = do
   system ← system_in (arc_of words.system)
@@ -61,6 +61,7 @@ arguments_in (asks (replay words) json) = Ok tt
 arguments_in (asks (check words) json) = Ok tt
 arguments_in (asks (whatif words) json) = whatif_arguments_in words
 arguments_in (asks (salvage words) json) = Ok tt
+arguments_in (asks (diff words) json) = Ok tt
 
 -- ---- how many files are asked for, up to the first obstacle
 
@@ -78,7 +79,7 @@ asks_run words files =
 abbrev pub asks_show : ShowAsked → Files → ℕ
 asks_show words files = asks_hive files words.hive words.log
 
--- for what the command line asks for; of `import` its hive alone, whose text is asked for where the hive has no fault
+-- for what the command line asks for; of `import` and `diff` the first hive alone, where more is asked for if that has no fault
 abbrev pub asks_in : Reading → Files → ℕ
 asks_in (refused why) files = 0
 asks_in (help page) files = 0
@@ -96,6 +97,7 @@ asks_in (asks (replay words) json) files = asks_replay words files
 asks_in (asks (check words) json) files = asks_check words files
 asks_in (asks (whatif words) json) files = asks_whatif words files
 asks_in (asks (salvage words) json) files = asks_salvage words files
+asks_in (asks (diff words) json) files = asks_hive files words.hive words.log
 
 -- a search for the inputs of a run asked for these files, each once and in their order, up to the first obstacle or stop
 abbrev pub AsksRun : {A : Type 0} → RunAsked → Result A Obstacle → HostState → HostState → Type 0

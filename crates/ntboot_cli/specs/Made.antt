@@ -1,4 +1,4 @@
--- What does `make` do? (this project's own)
+-- What does `make` do? (this project's own; JSON is RFC 8259)
 --
 -- It starts a generated hive once, on a disk of its own, up to a good logon, and says what that came to in one line.
 use Rattle.std.specs.Prelude.{◌≡◌, ◌≤◌, ◌++◌, ℕ, false, List, [], ◌∷◌, Option, Some, None, Result, Ok, Err, codes}
@@ -21,6 +21,9 @@ use Rattle.boot_run.specs.declared.summary.Summary.{Summary as RunSummary}
 use Rattle.boot_run.specs.Choices.{choices}
 use Rattle.boot_run.specs.Views.{summary_in}
 use Rattle.command_words.specs.Words.{usual_system}
+use Rattle.line_text.specs.Objects.{Value, Number, Text, object_text}
+use Rattle.line_text.specs.declared.form.ReportForm.{ReportForm}
+use Rattle.line_text.specs.declared.form.ReportForm.TheVariants as forms
 use Rattle.generated_hive.specs.Generated.{generated}
 use Rattle.ntboot_cli.specs.declared.making.Usual.{Usual}
 use Rattle.command_parts.specs.declared.refusal.Refusal.{Refusal}
@@ -53,15 +56,26 @@ abbrev pub last_word : Option Verdict → List ℕ
 last_word None = codes "none"
 last_word (Some verdict) = verdict_word verdict
 
--- what `make` says of a report's summary
+-- what `make` says of a report's summary as text
 abbrev pub summary_text : ℕ → Summary → List ℕ
 summary_text count s =
     codes "made " ++ decimal count ++ codes " started " ++ decimal s.started ++ codes " failed " ++ decimal s.failed
     ++ codes " unmet " ++ decimal s.unmet ++ codes " verdict " ++ last_word s.verdict ++ codes " sequence " ++ decimal s.sequence ++ codes "\n"
 
--- what `make` says
-abbrev pub made_text : Usual → ℕ → List ℕ
-made_text usual count = summary_text count (summary_of (made_run usual count).lines)
+-- the fields of the same line: the counts, and how the start ended
+abbrev pub summary_fields : ℕ → Summary → List (List ℕ × Value)
+summary_fields count s =
+    (codes "services", Number count) ∷ (codes "started", Number s.started) ∷ (codes "failed", Number s.failed)
+    ∷ (codes "unmet", Number s.unmet) ∷ (codes "verdict", Text (last_word s.verdict)) ∷ (codes "sequence", Number s.sequence) ∷ []
+
+-- the same line in one of the two forms
+abbrev pub summary_line : ReportForm → ℕ → Summary → List ℕ
+summary_line forms.Text count s = summary_text count s
+summary_line forms.Json count s = object_text (codes "made") (summary_fields count s)
+
+-- what `make` says in one of the two forms
+abbrev pub made_text : ReportForm → Usual → ℕ → List ℕ
+made_text form usual count = summary_line form count (summary_of (made_run usual count).lines)
 
 -- The disk after `make`: one file was placed and that many taken, no stop was ordered and none came, and it loads as the run's
 -- last state.

@@ -39,7 +39,7 @@ fn events_in(alloc: Global, text: &[u8]) -> Result<Script, Obstacle>
     }
 }
 
-/// What the words and files have for a run, or the first obstacle. Nothing is printed.
+/// What options and files have for a run, or the first obstacle. Nothing is printed.
 pub(crate) fn inputs_in<H: Host>(
     alloc: Global,
     words: RunWords<'_>,

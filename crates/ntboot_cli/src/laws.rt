@@ -48,7 +48,7 @@ pub fn a_run_places_and_takes_the_named_files()
         → ReportsFront run old new (placed_disk files) after → after.history.takings ≡ 0 }
 {}
 
-/// Where the words and files have no obstacle and the hive is well-formed, a run ends as done, unless the environment stopped it or there
+/// Where options and files have no obstacle and the hive is well-formed, a run ends as done, unless the environment stopped it or there
 /// was no memory.
 pub fn a_well_formed_hive_is_run()
     ensures { (inputs : Inputs) (saves : Saves) (placed : Woken) (disk : DiskState) (status : Status) (old new : List ℕ)

@@ -1,6 +1,6 @@
 //! The top call: words in; a report, a tree or a line out; and what the disk then holds saved.
 //!
-//! `ntboot` reads the words, and runs a script on a disk (`run`), says a hive's tree (`show`), or starts a generated hive once
+//! `ntboot` reads the command line, and runs a script on a disk (`run`), prints a hive's tree (`show`), or starts a generated hive once
 //! (`make`); or it prints the one line of the first obstacle.
 //!
 //! These commands are in crates of their own:
@@ -12,8 +12,8 @@
 //!
 //! From `main` of the crate `ntboot` to the last line of a report, ten steps:
 //!
-//! 1. `main` makes a disk in memory, and hands the words, the real host and the disk to the top call (`ntboot/src/main.rt`).
-//! 2. The top call reads the words (`command_words/src/words.rt`), and does what they ask for (`top.rt`): `running.rt`, `showing.rt` or
+//! 1. `main` makes a disk in memory, and hands the command line, the real host and the disk to the top call (`ntboot/src/main.rt`).
+//! 2. The top call reads the command line (`command_words/src/words.rt`), and does what it asks for (`top.rt`): `running.rt`, `showing.rt` or
 //!    `making.rt`, or the crate of another command (`safe_command` and so on).
 //! 3. The inputs of a run are asked for in sequence, up to the first obstacle (`inputs.rt`), which is printed in one line and has
 //!    its status (`command_parts/src/refusal.rt`, `kinds.rt`, `status.rt`).

@@ -1,6 +1,6 @@
 //! `make`: a generated hive, started once, and what that came to.
 
-ghost use Rattle.std.specs.Prelude.{◌≡◌, ◌≤◌, Ok, false, IfOk, OnErr, option_map};
+ghost use Rattle.std.specs.Prelude.{◌≡◌, ◌≤◌, [], ◌∷◌, ◌++◌, codes, Ok, false, IfOk, OnErr, OnOk, option_map};
 ghost use Rattle.nt_edge.specs.Crash.{EachCrash};
 ghost use Rattle.nt_edge.specs.Disk.{new_state};
 ghost use Rattle.hive_model.specs.Image.{Image};
@@ -10,10 +10,11 @@ ghost use Rattle.boot_run.specs.Views.{summary_in};
 ghost use Rattle.boot_report.specs.Report.{verdict_of};
 ghost use Rattle.start_model.specs.Possible.{Woken};
 ghost use Rattle.start_model.specs.Summary.{summary_of};
+ghost use Rattle.line_text.specs.Objects.{Number, Text, fields_text, object_text};
 ghost use Rattle.command_words.specs.Views.{make_seen};
 ghost use Rattle.ntboot_cli.specs.Answer.{MakesAlone};
 ghost use Rattle.command_parts.specs.Leaves.{Reads};
-ghost use Rattle.ntboot_cli.specs.Made.{usual_in, summary_text, last_word, made_run, PlaysMade, IsMade, IsPartMade};
+ghost use Rattle.ntboot_cli.specs.Made.{usual_in, summary_text, summary_fields, summary_line, last_word, made_run, PlaysMade, IsMade, IsPartMade};
 
 use arc_path::Arc;
 use boot_ini::BootIni;
@@ -26,6 +27,7 @@ use command_parts::{
 };
 use command_words::{MakeWords, USUAL_SYSTEM};
 use generated_hive::generated_hive;
+use line_text::{ReportForm, close_object, open_object, push_number_field, push_word_field};
 use mem_edge::QuietHost;
 use nt_edge::{Bench, Host};
 use std::alloc::{AllocError, Global};
@@ -103,8 +105,8 @@ fn last_word(verdict: Option<Verdict>) -> &'static str
     }
 }
 
-/// The one line on a made hive.
-fn summary_line(alloc: Global, count: u32, summary: &Summary) -> Result<Vec<u8>, AllocError>
+/// The one line on a made hive, as text.
+fn summary_text(alloc: Global, count: u32, summary: &Summary) -> Result<Vec<u8>, AllocError>
     ensures { IfOk result (λ l. l.items ≡ summary_text count (summary_in summary.now)) }
 {
     let mut line = Vec::new(alloc);
@@ -119,10 +121,67 @@ fn summary_line(alloc: Global, count: u32, summary: &Summary) -> Result<Vec<u8>,
     Ok(line)
 }
 
+fn push_counts(out: &mut Vec<u8>, count: u32, summary: &Summary) -> Result<(), AllocError>
+    ensures { OnOk result (out.new.items ≡ out.old.items ++ fields_text ((codes "services", Number count) ∷ (codes "started", Number summary.now.started)
+        ∷ (codes "failed", Number summary.now.failed) ∷ (codes "unmet", Number summary.now.unmet) ∷ [])) }
+{
+    push_number_field(out, b"services", u64::from(count))?;
+    push_number_field(out, b"started", u64::from(summary.started))?;
+    push_number_field(out, b"failed", u64::from(summary.failed))?;
+    push_number_field(out, b"unmet", u64::from(summary.unmet))
+}
+
+fn push_end(out: &mut Vec<u8>, verdict: &[u8], sequence: u32) -> Result<(), AllocError>
+    ensures { OnOk result (out.new.items ≡ out.old.items ++ fields_text ((codes "verdict", Text verdict.now) ∷ (codes "sequence", Number sequence) ∷ [])) }
+{
+    push_word_field(out, b"verdict", verdict)?;
+    push_number_field(out, b"sequence", u64::from(sequence))
+}
+
+fn push_fields(out: &mut Vec<u8>, count: u32, summary: &Summary) -> Result<(), AllocError>
+    ensures { OnOk result (out.new.items ≡ out.old.items ++ fields_text (summary_fields count (summary_in summary.now))) }
+{
+    push_counts(out, count, summary)?;
+    push_end(out, last_word(summary.verdict).as_bytes(), summary.sequence)
+}
+
+fn push_summary(out: &mut Vec<u8>, count: u32, summary: &Summary) -> Result<(), AllocError>
+    ensures { OnOk result (out.new.items ≡ out.old.items ++ object_text (codes "made") (summary_fields count (summary_in summary.now))) }
+{
+    open_object(out, b"made")?;
+    push_fields(out, count, summary)?;
+    close_object(out)
+}
+
+/// The same line as an object.
+fn summary_object(alloc: Global, count: u32, summary: &Summary) -> Result<Vec<u8>, AllocError>
+    ensures { IfOk result (λ l. l.items ≡ object_text (codes "made") (summary_fields count (summary_in summary.now))) }
+{
+    let mut line = Vec::new(alloc);
+    push_summary(&mut line, count, summary)?;
+    Ok(line)
+}
+
+/// The one line on a made hive.
+fn summary_line(
+    alloc: Global,
+    form: ReportForm,
+    count: u32,
+    summary: &Summary,
+) -> Result<Vec<u8>, AllocError>
+    ensures { IfOk result (λ l. l.items ≡ summary_line form count (summary_in summary.now)) }
+{
+    match form {
+        ReportForm::Text => summary_text(alloc, count, summary),
+        ReportForm::Json => summary_object(alloc, count, summary),
+    }
+}
+
 /// Generates a hive and runs it, says what that came to, and saves what the disk holds.
 fn make_with<H: Host, B: Bench>(
     alloc: Global,
     words: MakeWords<'_>,
+    form: ReportForm,
     usual: &Usual,
     host: &mut H,
     bench: &mut B,
@@ -130,12 +189,12 @@ fn make_with<H: Host, B: Bench>(
     requires some { 1 ≤ words.count }
     requires few { words.count ≤ 10000 }
     requires fresh { B.state bench.old ≡ new_state }
-    ensures { MakesAlone (Ok usual.now) (make_seen words.entry) result (H.state host.old) (H.state host.new) (B.state bench.new) }
+    ensures { MakesAlone form (Ok usual.now) (make_seen words.entry) result (H.state host.old) (H.state host.new) (B.state bench.new) }
 {
     let Ok(summary) = generate(alloc, words.count, usual, bench) else {
         return Status::Memory;
     };
-    let Ok(line) = summary_line(alloc, words.count, &summary) else {
+    let Ok(line) = summary_line(alloc, form, words.count, &summary) else {
         return Status::Memory;
     };
     let saves = Saves {
@@ -145,20 +204,21 @@ fn make_with<H: Host, B: Bench>(
     finish(line.as_slice(), saves, host, bench)
 }
 
-/// Makes a hive of that many services, and says what one start of it amounts to.
+/// Makes a hive of that many services, and says what one start of it amounts to, in one of the two forms.
 pub(crate) fn make<H: Host, B: Bench>(
     alloc: Global,
     words: MakeWords<'_>,
+    form: ReportForm,
     host: &mut H,
     bench: &mut B,
 ) -> Status
     requires some { 1 ≤ words.count }
     requires few { words.count ≤ 10000 }
     requires fresh { B.state bench.old ≡ new_state }
-    ensures { MakesAlone usual_in (make_seen words.entry) result (H.state host.old) (H.state host.new) (B.state bench.new) }
+    ensures { MakesAlone form usual_in (make_seen words.entry) result (H.state host.old) (H.state host.new) (B.state bench.new) }
 {
     match usual_in(alloc) {
-        Ok(usual) => make_with(alloc, words, &usual, host, bench),
+        Ok(usual) => make_with(alloc, words, form, &usual, host, bench),
         Err(Obstacle::Refused(why)) => refuse(alloc, host, &why),
         Err(Obstacle::Stopped(stop)) => stopped(stop),
     }

@@ -16,6 +16,7 @@ use check_command::check;
 use command_parts::{Refusal, Status, refuse, tell};
 use command_words::{Command, Reading, read_words, texts};
 use control_command::control;
+use diff_command::diff;
 use help_text::{page_of, version_text};
 use key_command::key;
 use line_text::ReportForm;
@@ -39,7 +40,7 @@ fn form(json: bool) -> ReportForm
     }
 }
 
-/// Reads the words, and does what they ask for.
+/// Reads the command line, and does what it asks for.
 fn obey<H: Host, B: Bench>(alloc: Global, words: &[&str], host: &mut H, bench: &mut B) -> Status
     requires fresh { B.state bench.old ≡ new_state }
     ensures { TopDecides (reading_of (map (λ w. w.now) words.now)) result (H.state host.old) (H.state host.new) (B.state bench.new) }
@@ -48,13 +49,15 @@ fn obey<H: Host, B: Bench>(alloc: Global, words: &[&str], host: &mut H, bench: &
         Reading::Help(page) => tell(host, page_of(page), Status::Done),
         Reading::Version => tell(host, version_text(), Status::Done),
         Reading::Command(Command::Run(words), _) => run(alloc, words, host, bench),
-        Reading::Command(Command::Show(words), _) => show(alloc, words, host),
-        Reading::Command(Command::Make(words), _) => make(alloc, words, host, bench),
+        Reading::Command(Command::Show(words), json) => show(alloc, words, form(json), host),
+        Reading::Command(Command::Make(words), json) => make(alloc, words, form(json), host, bench),
         Reading::Command(Command::Safe(words), json) => safe(alloc, words, form(json), host),
-        Reading::Command(Command::Control(words), _) => control(alloc, words, host),
-        Reading::Command(Command::Twin(words), _) => twin(alloc, words, host, bench),
-        Reading::Command(Command::Import(words), _) => import(alloc, words, host, bench),
-        Reading::Command(Command::Export(words), _) => export(alloc, words, host),
+        Reading::Command(Command::Control(words), json) => control(alloc, words, form(json), host),
+        Reading::Command(Command::Twin(words), json) => twin(alloc, words, form(json), host, bench),
+        Reading::Command(Command::Import(words), json) => {
+            import(alloc, words, form(json), host, bench)
+        }
+        Reading::Command(Command::Export(words), json) => export(alloc, words, form(json), host),
         Reading::Command(Command::Key(words), json) => key(alloc, words, form(json), host),
         Reading::Command(Command::Replay(words), json) => replay(alloc, words, form(json), host),
         Reading::Command(Command::Check(words), json) => check(alloc, words, form(json), host),
@@ -62,11 +65,12 @@ fn obey<H: Host, B: Bench>(alloc: Global, words: &[&str], host: &mut H, bench: &
         Reading::Command(Command::Salvage(words), json) => {
             salvage(alloc, words, form(json), host)
         }
+        Reading::Command(Command::Diff(words), json) => diff(alloc, words, form(json), host),
         Reading::Refused(_) => refuse(alloc, host, &Refusal::Usage),
     }
 }
 
-/// Reads the words, then the files that they name, and says the report, the tree or the line that the command has, or the one line
+/// Reads the command line, then the files that it names, and prints the report, the tree or the line that the command has, or the one line
 /// of the first obstacle; then it saves the files that the command line names. A run is on the disk, to which nothing was done yet, and
 /// which is off afterwards.
 pub fn ntboot<H: Host, B: Bench>(

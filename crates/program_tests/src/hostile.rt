@@ -1,4 +1,4 @@
-//! Hives, logs, scripts and boot.inis that no machine would write, and what is said of each.
+//! Hives, logs, scripts and boot.inis that no machine would write, and what is printed for each.
 
 use crate::cases::owned;
 use crate::hive::{Sets, hive};

@@ -287,7 +287,7 @@ fn made(rt: &impl Abort, alloc: Global) -> Result<(), Fail> {
     starts(rt, alloc, host, &ALONE, (said, Status::Done, &first))
 }
 
-/// Calls that are refused: the words, the script, the status, the line that is printed, and how many files were asked for before.
+/// Calls that are refused: the command line, the script, the status, the line that is printed, and how many files were asked for before.
 const REFUSED: [(&[&str], &str, Status, &str, u8); 14] = [
     (
         &["run", "--hive", "h", "--save-hive", "x", "--save-log", "y"],
@@ -481,7 +481,7 @@ fn make_ends_where_the_host_fails(rt: HostRuntime) -> Result<(), Fail> {
     made(&rt, rt.alloc())
 }
 
-/// A refusal says one line and saves nothing, whatever is to be saved.
+/// A refusal says one line and saves nothing, no matter what is to be saved.
 #[test]
 fn refusals_save_nothing(rt: HostRuntime) -> Result<(), Fail> {
     refusals(&rt, rt.alloc())

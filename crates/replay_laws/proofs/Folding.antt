@@ -1,5 +1,5 @@
 -- The fold of the entries, and where it ends.
-use Rattle.std.proofs.Common.{◌≡◌, ◌+◌, ◌*◌, ℕ, zero, suc, Option, Some, None, Bool, true, false, cond, List, [], ◌∷◌, refl, sym, ◌∙◌, ap, inl, inr, arith}
+use Rattle.std.proofs.Common.{◌≡◌, ◌*◌, ℕ, zero, suc, Option, Some, None, Bool, true, false, cond, List, [], ◌∷◌, refl, inl, inr, arith}
 use Rattle.entry_log.specs.Growing.{grows_whole, page_bytes}
 use Rattle.log_parts.specs.declared.fault.LogFaultKind.TheVariants.{EntryGrow}
 use Rattle.log_replay.specs.declared.line.ReplayLine.TheVariants.{Fault, Apply}
@@ -11,7 +11,12 @@ use Rattle.replay_laws.specs.Applied.{EndsSo, IsFold}
 -- a step by a chosen entry, where its new sectors are in its pages or not
 abbrev chosen_step : Chosen → HiveNow → Bool → Step
 chosen_step c hive t =
-    cond t (record { hive = with_entry hive c; lines = Apply c.log.name c.entry.number (page_bytes c.log.bytes c.entry) ∷ []; goes = true })
+    cond t (record {
+      hive = with_entry hive c;
+      lines = Apply c.log.name c.entry.number (page_bytes c.log.bytes c.entry)
+          ∷ [];
+      goes = true;
+    })
     (record { hive = hive; lines = Fault EntryGrow c.log.name (512 * c.entry.sector) ∷ []; goes = false })
 
 pub folded : (n : ℕ) (logs : List GivenLog) (hive : HiveNow) → IsFold logs hive (replay_by n logs hive).hive

@@ -1,3 +1,15 @@
 pub mod Folding
 pub mod Ending
 pub mod Writing
+pub mod Bytes
+pub mod Bases
+pub mod Hives
+pub mod Folds
+pub mod Sources
+pub mod Making
+pub mod Ends
+pub mod Sectors
+pub mod Taking
+pub mod Belonging
+pub mod Recovering
+pub mod Counting

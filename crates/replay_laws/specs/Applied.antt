@@ -1,5 +1,5 @@
 -- Which entries of the logs were applied, and why did it end there? (this project's own)
-use Rattle.std.specs.Prelude.{◌≡◌, ◌⊎◌, ◌+◌, ℕ, Bool, true, false, List, [], ◌∷◌, Option, Some, None}
+use Rattle.std.specs.Prelude.{◌≡◌, ◌⊎◌, ◌+◌, ℕ, true, false, List, [], ◌∷◌, Some, None}
 use Rattle.entry_log.specs.Growing.{grows_whole}
 use Rattle.log_replay.specs.declared.entries.HiveNow.{HiveNow}
 use Rattle.log_replay.specs.declared.reading.GivenLog.{GivenLog}
@@ -22,3 +22,7 @@ IsHeldUp logs hive = (c : Chosen) × ((chosen logs hive.next ≡ Some c) × (gro
 -- no log has the next entry, or it is held up; or n entries more were applied
 abbrev pub EndsSo : ℕ → List GivenLog → HiveNow → HiveNow → Type 0
 EndsSo n logs old new = (chosen logs new.next ≡ None) ⊎ (IsHeldUp logs new ⊎ (new.applied ≡ old.applied + n))
+
+-- no log has the next entry, or it is held up
+abbrev pub EndsForGood : List GivenLog → HiveNow → Type 0
+EndsForGood logs new = (chosen logs new.next ≡ None) ⊎ IsHeldUp logs new

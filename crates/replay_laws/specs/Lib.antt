@@ -1,2 +1,5 @@
 pub mod Applied
 pub mod Outside
+pub mod Results
+pub mod Runs
+pub mod Sectors

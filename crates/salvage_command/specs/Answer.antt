@@ -14,7 +14,7 @@ use Rattle.command_parts.specs.Inputs.{◌>>=◌, hive_in, asks_hive, AsksHive}
 use Rattle.command_parts.specs.Leaves.{Leaves, stop_in}
 use Rattle.command_parts.specs.Refusals.{Answer, Ends, StopsBy, IsToldAs, refusal}
 use Rattle.line_text.specs.declared.form.ReportForm.{ReportForm}
-use Rattle.salvage_file.specs.Salvage.{salvaged_hive}
+use Rattle.salvage_file.specs.Salvage.{salvaged_as}
 use Rattle.salvage_text.specs.declared.reporting.Report.{Report}
 use Rattle.salvage_text.specs.Report.{report_of}
 
@@ -25,9 +25,9 @@ log_bytes (Some bytes) = bytes
 
 -- the report on a hive and its log
 abbrev pub report_on : ReportForm → SalvageAsked → HiveFiles → Report
-report_on form words files = report_of form (salvaged_hive (is_some words.save_hive) files.primary (log_bytes files.log))
+report_on form words files = report_of form (salvaged_as words.by_parent (is_some words.save_hive) files.primary (log_bytes files.log))
 
--- the report on what the words and files have, or the first obstacle
+-- the report on what options and files have, or the first obstacle
 abbrev pub report_in : ReportForm → SalvageAsked → Files → Result Report Refusal
 report_in form words files = do
   found ← hive_in files words.hive words.log
@@ -55,7 +55,7 @@ EndsSaved answer name file before after status old new =
     ((new ≡ old ++ answer.text) × EndsPut answer.status name file before after status)
     ⊎ (StopsBy (stop_in status) answer.text old new × (after ≡ before))
 
--- the same where the words may name no file, and the report may have none to save
+-- the same where the options may name no file, and the report may have none to save
 abbrev pub EndsReport : Bool → Option (List ℕ) → Answer → List ℕ → Files → Files → Status → List ℕ → List ℕ → Type 0
 EndsReport true (Some name) answer file before after status old new = EndsSaved answer name file before after status old new
 EndsReport false (Some name) answer file before after status old new = Ends answer status old new × (after ≡ before)
@@ -68,7 +68,7 @@ EndsSalvage (Ok report) name before after status old new =
     EndsReport report.saved name (report_answer report) report.file before after status old new
 
 -- The host is left so by the whole command: the first obstacle is printed, and no file changed; or the report is printed, and the sound
--- hive put under the name that the words have for it.
+-- hive put under the name that the options have for it.
 abbrev pub DecidesSalvage : ReportForm → SalvageAsked → Status → HostState → HostState → Type 0
 DecidesSalvage form words status old new =
     Leaves (EndsSalvage (report_in form words old.files) words.save_hive old.files new.files) status old new

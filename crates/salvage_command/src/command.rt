@@ -39,7 +39,13 @@ fn report_of(
 {
     let HiveFiles { primary, log } = files;
     let log = log_bytes(alloc, log);
-    let hive = salvage_file(alloc, words.save_hive.is_some(), primary, log)?;
+    let hive = salvage_file(
+        alloc,
+        words.by_parent,
+        words.save_hive.is_some(),
+        primary,
+        log,
+    )?;
     salvage_report(alloc, form, hive)
 }
 

@@ -296,7 +296,7 @@ head-name : (judge : Judge) (hive : Ground) (above : List ℕ) (path : List (Lis
 unfolding key_below
 head-name judge hive above path node at w = refl
 
-judged-good : (left : ℕ) (hive : Ground) → AreBytes hive.cells → JudgesWell left (judged_key left hive)
+pub judged-good : (left : ℕ) (hive : Ground) → AreBytes hive.cells → JudgesWell left (judged_key left hive)
 unfolding judged_key
 judged-good zero hive h above path names i at w t small e = absurd cc
 judged-good (suc left) hive h above path names i at w t small e =

@@ -1,3 +1,4 @@
 pub mod PartLemmas
 pub mod KeyLemmas
 pub mod FileLemmas
+pub mod ParentLemmas

@@ -1,7 +1,7 @@
 -- What are a damaged hive's base block and bins data, and which faults do they have (this project's own)?
 --
 -- Without a fault of its base block a hive is clean where its two numbers are equal, and else recovered where the log can do that.
--- In all other cases the file is taken as it is.
+-- In every other case the file is taken as it is.
 use Rattle.std.specs.Prelude.{ℕ, ◌+◌, ◌==◌, ◌&&◌, ◌||◌, Bool, true, false, nat_lt, not, if◌then◌else◌, List, [], ◌∷◌, ◌++◌, length, Option, Some, None, Result, Ok, Err}
 use Rattle.nt_bytes.specs.declared.fault.HiveFault.{HiveFault}
 use Rattle.nt_bytes.specs.declared.fault.HiveFaultKind.{HiveFaultKind}

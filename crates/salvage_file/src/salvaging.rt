@@ -1,9 +1,10 @@
 //! What is salvaged of a damaged hive.
 
 ghost use Rattle.std.specs.Prelude.{◌≡◌, ◌≤◌, ◌<◌, ℕ, length, slice_index, Some, IfOk};
+ghost use Rattle.hive_model.specs.Size.{bulk_of};
 ghost use Rattle.hive_model.specs.Tree.{Tree};
 ghost use Rattle.hive_model.specs.Valid.{IsValid};
-ghost use Rattle.salvage_file.specs.Salvage.{found_in, hive_by, hive_with, salvaged_hive, saving_as, version_in};
+ghost use Rattle.salvage_file.specs.Salvage.{found_as, found_by_parents, found_in, hive_as, hive_with, salvaged_as, saving_as, version_in};
 
 use crate::base::{fields, has_signature, head_of};
 use crate::opening::{FileState, Opened, open};
@@ -14,6 +15,7 @@ use nt_bytes::{Bytes, HiveFault, HiveVersion, Row};
 use reg_tree::Key;
 use regf_base::BaseBlock;
 use salvage_bins::{BrokenBin, DamagedCells, lay_out};
+use salvage_parents::{ParentLine, salvage_by_parents};
 use salvage_walk::{WalkLine, salvage_tree};
 use std::alloc::{AllocError, Global};
 
@@ -22,10 +24,12 @@ use std::alloc::{AllocError, Global};
 pub struct BinsFound {
     pub broken: Row<BrokenBin>,
     pub lines: Row<WalkLine>,
+    /// What is printed while keys are looked for by their parents.
+    pub said: Row<ParentLine>,
     pub tree: Option<Key>,
 }
 
-/// What is salvaged of a damaged hive, and what is said of it.
+/// What is salvaged of a damaged hive, and what is printed for it.
 #[derive(Drop)]
 pub struct SalvagedHive {
     /// The two numbers of its base block.
@@ -39,6 +43,8 @@ pub struct SalvagedHive {
     pub log: Option<LogStop>,
     pub broken: Row<BrokenBin>,
     pub lines: Row<WalkLine>,
+    /// What is printed while keys are looked for by their parents.
+    pub said: Row<ParentLine>,
     pub tree: Option<Key>,
     /// What is saved, where that is asked for.
     pub saving: Option<Saving>,
@@ -71,7 +77,7 @@ fn find_in(
 ) -> Result<BinsFound, AllocError>
     requires { length bytes.now ≤ 268435456 }
     ensures exact { IfOk result (λ f. f ≡ found_in version bytes.now root) }
-    ensures valid { IfOk result (λ f. (t : Tree) → f.tree ≡ Some t → IsValid t) }
+    ensures valid { IfOk result (λ f. (t : Tree) → f.tree ≡ Some t → bulk_of version t ≤ 16773120 → IsValid t) }
 {
     are_bytes(bytes);
     let layout = lay_out(alloc, bytes)?;
@@ -84,8 +90,55 @@ fn find_in(
     Ok(BinsFound {
         broken: Row::from_vec(layout.broken),
         lines: Row::from_vec(salvaged.lines),
+        said: Row::new(alloc),
         tree: salvaged.tree,
     })
+}
+
+// The same where keys are looked for by their parents too.
+#[tactic(auto, unfolding(crate::specs::Salvage::found_by_parents))]
+fn find_by_parents(
+    alloc: Global,
+    version: HiveVersion,
+    bytes: &[u8],
+    root: u32,
+) -> Result<BinsFound, AllocError>
+    requires { length bytes.now ≤ 268435456 }
+    ensures exact { IfOk result (λ f. f ≡ found_by_parents version bytes.now root) }
+    ensures valid { IfOk result (λ f. (t : Tree) → f.tree ≡ Some t → bulk_of version t ≤ 16773120 → IsValid t) }
+{
+    are_bytes(bytes);
+    let layout = lay_out(alloc, bytes)?;
+    let cells = DamagedCells {
+        bytes,
+        marks: layout.marks.as_slice(),
+        version,
+    };
+    let found = salvage_by_parents(alloc, &cells, root)?;
+    Ok(BinsFound {
+        broken: Row::from_vec(layout.broken),
+        lines: found.lines,
+        said: found.said,
+        tree: found.tree,
+    })
+}
+
+// What is found in bins data, perhaps by parents too.
+fn find(
+    alloc: Global,
+    by_parent: bool,
+    version: HiveVersion,
+    bytes: &[u8],
+    root: u32,
+) -> Result<BinsFound, AllocError>
+    requires { length bytes.now ≤ 268435456 }
+    ensures exact { IfOk result (λ f. f ≡ found_as by_parent version bytes.now root) }
+    ensures valid { IfOk result (λ f. (t : Tree) → f.tree ≡ Some t → bulk_of version t ≤ 16773120 → IsValid t) }
+{
+    if by_parent {
+        return find_by_parents(alloc, version, bytes, root);
+    }
+    find_in(alloc, version, bytes, root)
 }
 
 // What is saved, where that is asked for.
@@ -96,7 +149,7 @@ fn saving_as(
     version: HiveVersion,
     tree: &Option<Key>,
 ) -> Result<Option<Saving>, AllocError>
-    requires { (t : Tree) → tree.now ≡ Some t → IsValid t }
+    requires { (t : Tree) → tree.now ≡ Some t → bulk_of version t ≤ 16773120 → IsValid t }
     ensures { IfOk result (λ s. s ≡ saving_as save base.now version tree.now) }
 {
     if !save {
@@ -113,7 +166,7 @@ fn hive_with(
     opened: Opened,
     found: BinsFound,
 ) -> Result<SalvagedHive, AllocError>
-    requires { (t : Tree) → found.tree ≡ Some t → IsValid t }
+    requires { (t : Tree) → found.tree ≡ Some t → bulk_of (version_in opened.base.minor) t ≤ 16773120 → IsValid t }
     ensures { IfOk result (λ h. h ≡ hive_with save head.now opened found) }
 {
     let version = version_in(opened.base.minor);
@@ -129,41 +182,50 @@ fn hive_with(
         log: opened.log,
         broken: found.broken,
         lines: found.lines,
+        said: found.said,
         tree: found.tree,
         saving,
     })
 }
 
 // What is salvaged of an opened hive with this sector 0.
-fn hive_by(
+fn hive_as(
     alloc: Global,
+    by_parent: bool,
     save: bool,
     head: &[u8; 512],
     opened: Opened,
 ) -> Result<SalvagedHive, AllocError>
     requires { length opened.bins ≤ 268435456 }
-    ensures { IfOk result (λ h. h ≡ hive_by save head.now opened) }
+    ensures { IfOk result (λ h. h ≡ hive_as by_parent save head.now opened) }
 {
     let version = version_in(opened.base.minor);
-    let found = find_in(alloc, version, opened.bins.as_slice(), opened.base.root)?;
+    let found = find(
+        alloc,
+        by_parent,
+        version,
+        opened.bins.as_slice(),
+        opened.base.root,
+    )?;
     hive_with(alloc, save, head, opened, found)
 }
 
-/// What is salvaged of a hive's file with its log, which is empty where there is none; and, where that is asked for, what is
-/// saved of it. There is an answer for any files.
-#[tactic(auto, unfolding(crate::specs::Salvage::salvaged_hive))]
+/// What is salvaged of a hive's file with its log, which is empty where there is none, perhaps with the keys that are found by their
+/// parents; and, where that is asked for, what is saved of it. There is an answer for any files.
+#[tactic(auto, unfolding(crate::specs::Salvage::salvaged_as))]
 pub fn salvage_file(
     alloc: Global,
+    by_parent: bool,
     save: bool,
     hive: Bytes,
     log: Bytes,
 ) -> Result<SalvagedHive, AllocError>
-    ensures { IfOk result (λ h. h ≡ salvaged_hive save hive log) }
+    ensures { IfOk result (λ h. h ≡ salvaged_as by_parent save hive log) }
 {
     let mut hive = hive;
     fill(&mut hive)?;
     let mut log = log;
     fill(&mut log)?;
     let opened = open(alloc, hive.as_slice(), log.as_slice())?;
-    hive_by(alloc, save, &head_of(hive.as_slice()), opened)
+    hive_as(alloc, by_parent, save, &head_of(hive.as_slice()), opened)
 }

@@ -89,7 +89,7 @@ fn saved_of(
     version: HiveVersion,
     tree: &Key,
 ) -> Result<Saving, AllocError>
-    requires { IsValid tree.now }
+    requires { bulk_of version tree.now ≤ 16773120 → IsValid tree.now }
     ensures { IfOk result (λ s. s ≡ saved_of base.now version tree.now) }
 {
     if tree.bulk(version) > MOST_BULK {
@@ -107,7 +107,7 @@ pub(crate) fn saving_of(
     version: HiveVersion,
     tree: &Option<Key>,
 ) -> Result<Saving, AllocError>
-    requires { (t : Tree) → tree.now ≡ Some t → IsValid t }
+    requires { (t : Tree) → tree.now ≡ Some t → bulk_of version t ≤ 16773120 → IsValid t }
     ensures { IfOk result (λ s. s ≡ saving_of base.now version tree.now) }
 {
     match tree {

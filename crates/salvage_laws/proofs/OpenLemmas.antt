@@ -1,11 +1,10 @@
 -- What is opened of a hive whose log is not looked at.
-use Rattle.std.proofs.Common.{◌≡◌, ℕ, Bool, true, false, cond, None, List, [], ◌∷◌, refl, sym, ap, ◌∙◌, arith}
+use Rattle.std.proofs.Common.{◌≡◌, ℕ, Bool, true, false, cond, None, List, [], ◌∷◌, sym, ap, ◌∙◌, arith}
 use Rattle.std.specs.Prelude.{◌==◌}
 use Rattle.std.proofs.lemmas.Bool.Decides.{nat_tests}
 use Rattle.nt_bytes.specs.declared.fault.HiveFault.{HiveFault}
-use Rattle.hive_model.specs.Base.{Base, fields_of}
+use Rattle.hive_model.specs.Base.{fields_of}
 use Rattle.salvage_file.specs.declared.opening.FileState.TheVariants.{Clean}
-use Rattle.salvage_file.specs.declared.opening.Opened.{Opened}
 use Rattle.salvage_file.specs.Faults.{base_faults, head_of}
 use Rattle.salvage_file.specs.Recovery.{recovery}
 use Rattle.salvage_file.specs.Opened.{as_is, dirty_as, opened_as, opened}

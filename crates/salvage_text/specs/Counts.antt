@@ -4,6 +4,8 @@ use Rattle.hive_model.specs.Tree.{Tree, key_count, item_count}
 use Rattle.nt_bytes.specs.Counts.{capped}
 use Rattle.salvage_walk.specs.declared.lines.WalkLine.{WalkLine}
 use Rattle.salvage_walk.specs.declared.lines.WalkLine.TheVariants as lines
+use Rattle.salvage_parents.specs.declared.search.ParentLine.{ParentLine}
+use Rattle.salvage_parents.specs.declared.search.ParentLine.TheVariants as parents
 
 -- how many keys and values a tree has, 0 where there is none; counts stay at the greatest number of 64 bits
 abbrev pub keys_in : Option Tree → ℕ
@@ -42,3 +44,16 @@ is_fault (lines.Nothing at path) = true
 abbrev pub losses : List WalkLine → ℕ
 losses [] = 0
 losses (line ∷ said) = (if is_loss line then 1 else 0) + losses said
+
+-- the same of the lines that are printed while keys are looked for by their parents
+abbrev pub is_said_loss : ParentLine → Bool
+is_said_loss (parents.Walked line) = is_loss line
+is_said_loss (parents.Found count path) = false
+
+abbrev pub said_losses : List ParentLine → ℕ
+said_losses [] = 0
+said_losses (line ∷ lines) = (if is_said_loss line then 1 else 0) + said_losses lines
+
+abbrev pub is_said_fault : ParentLine → Bool
+is_said_fault (parents.Walked line) = is_fault line
+is_said_fault (parents.Found count path) = false

@@ -33,6 +33,8 @@ pub data SalvageLine : Type 0 where
   BytesLine : BrokenBin → SalvageLine
   -- a line of the walk
   WalkedLine : WalkLine → SalvageLine
+  -- how many children of a key at a path were found by their parent
+  FoundLine : ℕ → List (List ℕ) → SalvageLine
   -- how many keys and values are salvaged, and how many parts are lost
   SalvagedLine : ℕ → ℕ → ℕ → SalvageLine
   -- the number of the hive that is saved, and how many bytes it has
@@ -86,6 +88,7 @@ line_text (BaseLine fault) = fault_text fault.kind fault.at (codes "base\n")
 line_text (LogLine stop) = codes "fault " ++ kind_word stop.kind ++ codes " log " ++ decimal stop.at ++ codes "\n"
 line_text (BytesLine broken) = placed_text broken.fault (codes "bytes ") ++ decimal broken.bytes ++ codes "\n"
 line_text (WalkedLine line) = walk_text line
+line_text (FoundLine count path) = codes "found " ++ decimal count ++ path_text path
 line_text (SalvagedLine keys values lost) = salvaged_text keys values lost
 line_text (SavedLine number bytes) = codes "saved " ++ decimal number ++ codes " " ++ decimal bytes ++ codes "\n"
 line_text (RefusedLine word) = codes "save refused " ++ word ++ codes "\n"
@@ -141,6 +144,9 @@ log_fields stop = (codes "kind", Text (kind_word stop.kind)) ∷ (codes "log", T
 abbrev pub bytes_fields : BrokenBin → Fields
 bytes_fields broken = placed_fields broken.fault (codes "bytes") ((codes "bytes", Number broken.bytes) ∷ [])
 
+abbrev pub found_fields : ℕ → List (List ℕ) → Fields
+found_fields count path = (codes "keys", Number count) ∷ path_fields path
+
 abbrev pub salvaged_fields : ℕ → ℕ → ℕ → Fields
 salvaged_fields keys values lost = (codes "keys", Number keys) ∷ (codes "values", Number values) ∷ (codes "lost", Number lost) ∷ []
 
@@ -155,6 +161,7 @@ line_json (BaseLine fault) = object_text (codes "fault") (fault_fields fault.kin
 line_json (LogLine stop) = object_text (codes "fault") (log_fields stop)
 line_json (BytesLine broken) = object_text (codes "fault") (bytes_fields broken)
 line_json (WalkedLine line) = object_text (walk_word line) (walk_fields line)
+line_json (FoundLine count path) = object_text (codes "found") (found_fields count path)
 line_json (SalvagedLine keys values lost) = object_text (codes "salvaged") (salvaged_fields keys values lost)
 line_json (SavedLine number bytes) = object_text (codes "saved") (saved_fields number bytes)
 line_json (RefusedLine word) = object_text (codes "save") ((codes "refused", Text word) ∷ [])

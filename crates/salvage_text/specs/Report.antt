@@ -1,14 +1,16 @@
 -- What is the report on a damaged hive, with its status and the file to save? (this project's own)
-use Rattle.std.specs.Prelude.{ℕ, ◌||◌, Bool, true, false, not, is_some, List, [], ◌∷◌, ◌++◌, length, map, codes, Option, Some, None}
+use Rattle.std.specs.Prelude.{ℕ, ◌+◌, ◌||◌, Bool, true, false, not, is_some, List, [], ◌∷◌, ◌++◌, length, map, codes, Option, Some, None}
 use Rattle.std.specs.List.{list_any}
 use Rattle.line_text.specs.declared.form.ReportForm.{ReportForm}
+use Rattle.salvage_parents.specs.declared.search.ParentLine.{ParentLine}
+use Rattle.salvage_parents.specs.declared.search.ParentLine.TheVariants as parents
 use Rattle.salvage_file.specs.declared.recovery.LogStop.{LogStop}
 use Rattle.salvage_file.specs.declared.saving.Saving.{Saving}
 use Rattle.salvage_file.specs.declared.saving.Saving.TheVariants.{NoRoot, Full, Saved}
 use Rattle.salvage_file.specs.declared.salvaging.SalvagedHive.{SalvagedHive}
 use Rattle.salvage_text.specs.declared.reporting.Report.{Report}
-use Rattle.salvage_text.specs.Counts.{keys_in, values_in, is_fault, losses}
-use Rattle.salvage_text.specs.Lines.{SalvageLine, SequenceLine, VersionLine, BaseLine, LogLine, BytesLine, WalkedLine, SalvagedLine, SavedLine, RefusedLine, EndLine, printed_lines}
+use Rattle.salvage_text.specs.Counts.{keys_in, values_in, is_fault, losses, is_said_fault, said_losses}
+use Rattle.salvage_text.specs.Lines.{SalvageLine, SequenceLine, VersionLine, BaseLine, LogLine, BytesLine, WalkedLine, FoundLine, SalvagedLine, SavedLine, RefusedLine, EndLine, printed_lines}
 
 -- the line of the log's fault
 abbrev pub log_lines : Option LogStop → List SalvageLine
@@ -22,9 +24,14 @@ saving_lines (Some NoRoot) = RefusedLine (codes "no-root") ∷ []
 saving_lines (Some Full) = RefusedLine (codes "full") ∷ []
 saving_lines (Some (Saved number file)) = SavedLine number (length file) ∷ []
 
--- what is said of the walk, and how much was salvaged
+-- how much was salvaged
 abbrev pub salvaged_line : SalvagedHive → SalvageLine
-salvaged_line hive = SalvagedLine (keys_in hive.tree) (values_in hive.tree) (losses hive.lines)
+salvaged_line hive = SalvagedLine (keys_in hive.tree) (values_in hive.tree) (losses hive.lines + said_losses hive.said)
+
+-- a line that is printed while keys are looked for by their parents
+abbrev pub parent_line : ParentLine → SalvageLine
+parent_line (parents.Walked line) = WalkedLine line
+parent_line (parents.Found count path) = FoundLine count path
 
 -- the lines on the file: its numbers, its version, and the faults of the base block, of the log and of the bins
 abbrev pub file_lines : SalvagedHive → List SalvageLine
@@ -32,9 +39,10 @@ file_lines hive =
     SequenceLine hive.first hive.second hive.state ∷ VersionLine hive.version
     ∷ (map BaseLine hive.faults ++ log_lines hive.log ++ map BytesLine hive.broken)
 
--- the lines after these: the walk's, how much was salvaged, the saving, and the last one
+-- the lines after these: the walk's, those of the search by parents, how much was salvaged, the saving, and the last one
 abbrev pub rest_lines : SalvagedHive → List SalvageLine
-rest_lines hive = ((map WalkedLine hive.lines ++ salvaged_line hive ∷ []) ++ saving_lines hive.saving) ++ EndLine ∷ []
+rest_lines hive =
+    (((map WalkedLine hive.lines ++ map parent_line hive.said) ++ salvaged_line hive ∷ []) ++ saving_lines hive.saving) ++ EndLine ∷ []
 
 -- all lines
 abbrev pub lines_of : SalvagedHive → List SalvageLine
@@ -52,10 +60,11 @@ abbrev pub are_some : {A : Type 0} → List A → Bool
 are_some [] = false
 are_some (x ∷ xs) = true
 
--- a fault was said, or saving was refused
+-- a fault was printed, or saving was refused
 abbrev pub is_found : SalvagedHive → Bool
 is_found hive =
-    are_some hive.faults || is_some hive.log || are_some hive.broken || list_any is_fault hive.lines || is_refused hive.saving
+    are_some hive.faults || is_some hive.log || are_some hive.broken || list_any is_fault hive.lines || list_any is_said_fault hive.said
+    || is_refused hive.saving
 
 -- the file is there to be saved
 abbrev pub is_saved : Option Saving → Bool

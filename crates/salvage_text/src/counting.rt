@@ -1,12 +1,13 @@
 //! How much was salvaged, and how much is lost.
 
-ghost use Rattle.std.specs.Prelude.{◌≡◌, ◌≤◌, if◌then◌else◌};
+ghost use Rattle.std.specs.Prelude.{◌≡◌, ◌≤◌, ◌+◌, length, if◌then◌else◌};
 ghost use Rattle.std.specs.List.{list_any};
 ghost use Rattle.hive_model.specs.Tree.{trees, key_count, keys_count, item_count, items_count};
 ghost use Rattle.nt_bytes.specs.Counts.{capped};
-ghost use Rattle.salvage_text.specs.Counts.{is_fault, is_loss, keys_in, losses, values_in};
+ghost use Rattle.salvage_text.specs.Counts.{is_fault, is_loss, is_said_fault, is_said_loss, keys_in, losses, said_losses, values_in};
 
 use reg_tree::Key;
+use salvage_parents::ParentLine;
 use salvage_walk::WalkLine;
 
 // How many keys a tree has.
@@ -114,8 +115,9 @@ fn one_if(is: bool) -> u64
     if is { 1 } else { 0 }
 }
 
-pub(crate) fn losses(lines: &[WalkLine]) -> u64
-    ensures { result ≡ losses lines.now }
+fn walk_losses(lines: &[WalkLine]) -> u64
+    ensures exact { result ≡ losses lines.now }
+    ensures few { result ≤ length lines.now }
 {
     let mut lost = 0;
     let mut rest = lines;
@@ -126,6 +128,58 @@ pub(crate) fn losses(lines: &[WalkLine]) -> u64
         lost += one_if(is_loss(line));
         rest = more;
     }
+}
+
+// Does a line that is printed while keys are looked for by their parents say that a part is left out?
+fn is_said_loss(line: &ParentLine) -> bool
+    ensures { result ≡ is_said_loss line.now }
+{
+    match line {
+        ParentLine::Walked(line) => is_loss(line),
+        ParentLine::Found(_, _) => false,
+    }
+}
+
+fn is_said_fault(line: &ParentLine) -> bool
+    ensures { result ≡ is_said_fault line.now }
+{
+    match line {
+        ParentLine::Walked(line) => is_fault(line),
+        ParentLine::Found(_, _) => false,
+    }
+}
+
+fn said_losses(lines: &[ParentLine]) -> u64
+    ensures exact { result ≡ said_losses lines.now }
+    ensures few { result ≤ length lines.now }
+{
+    let mut lost = 0;
+    let mut rest = lines;
+    'lines: loop {
+        let [line, more @ ..] = rest else {
+            return lost;
+        };
+        lost += one_if(is_said_loss(line));
+        rest = more;
+    }
+}
+
+/// How many parts are left out, or are lists that are too short.
+pub(crate) fn losses(lines: &[WalkLine], said: &[ParentLine]) -> u64
+    ensures { result ≡ losses lines.now + said_losses said.now }
+{
+    walk_losses(lines) + said_losses(said)
+}
+
+pub(crate) fn has_said_fault(lines: &[ParentLine]) -> bool
+    ensures { result ≡ list_any is_said_fault lines.now }
+{
+    for line in lines {
+        if is_said_fault(line) {
+            return true;
+        }
+    }
+    false
 }
 
 pub(crate) fn has_fault(lines: &[WalkLine]) -> bool

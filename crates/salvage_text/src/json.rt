@@ -2,13 +2,13 @@
 
 ghost use Rattle.std.specs.Prelude.{◌≡◌, [], ◌++◌, codes, OnOk};
 ghost use Rattle.line_text.specs.Objects.{fields_text, object_text};
-ghost use Rattle.salvage_text.specs.Lines.{SequenceLine, VersionLine, BaseLine, LogLine, BytesLine, WalkedLine, SalvagedLine, SavedLine, RefusedLine, line_json};
-ghost use Rattle.salvage_text.specs.Lines.{bytes_fields, log_fields, salvaged_fields, saved_fields, sequence_fields};
+ghost use Rattle.salvage_text.specs.Lines.{SequenceLine, VersionLine, BaseLine, LogLine, BytesLine, WalkedLine, FoundLine, SalvagedLine, SavedLine, RefusedLine, line_json};
+ghost use Rattle.salvage_text.specs.Lines.{bytes_fields, found_fields, log_fields, salvaged_fields, saved_fields, sequence_fields};
 
 use crate::walk_json::{push_fault_fields, push_walk_fields, walk_word};
 use crate::words::{kind_word, state_word};
-use line_text::{close_object, open_object, push_number_field, push_word_field};
-use nt_bytes::{HiveFault, HiveVersion};
+use line_text::{close_object, open_object, push_number_field, push_texts_field, push_word_field};
+use nt_bytes::{HiveFault, HiveVersion, Units};
 use salvage_bins::BrokenBin;
 use salvage_file::{FileState, LogStop, minor_of};
 use salvage_walk::WalkLine;
@@ -95,6 +95,22 @@ pub(crate) fn push_walk(out: &mut Vec<u8>, line: &WalkLine) -> Result<(), AllocE
 {
     open_object(out, walk_word(line))?;
     push_walk_fields(out, line)?;
+    close_object(out)
+}
+
+fn push_found_fields(out: &mut Vec<u8>, count: usize, path: &[Units]) -> Result<(), AllocError>
+    ensures { OnOk result (out.new.items ≡ out.old.items ++ fields_text (found_fields count path.now)) }
+{
+    push_number_field(out, b"keys", count as u64)?;
+    push_texts_field(out, b"path", path)
+}
+
+/// Appends how many children of the key at a path were found by their parent.
+pub(crate) fn push_found(out: &mut Vec<u8>, count: usize, path: &[Units]) -> Result<(), AllocError>
+    ensures { OnOk result (out.new.items ≡ out.old.items ++ line_json (FoundLine count path.now)) }
+{
+    open_object(out, b"found")?;
+    push_found_fields(out, count, path)?;
     close_object(out)
 }
 

@@ -2,15 +2,16 @@
 
 ghost use Rattle.std.specs.Prelude.{◌≡◌, ◌++◌, map, OnOk};
 ghost use Rattle.std.specs.List.{flat_map};
-ghost use Rattle.salvage_text.specs.Lines.{SequenceLine, VersionLine, BaseLine, LogLine, BytesLine, WalkedLine, SalvagedLine, SavedLine, RefusedLine, EndLine, printed, printed_lines};
-ghost use Rattle.salvage_text.specs.Report.{log_lines};
+ghost use Rattle.salvage_text.specs.Lines.{SequenceLine, VersionLine, BaseLine, LogLine, BytesLine, WalkedLine, FoundLine, SalvagedLine, SavedLine, RefusedLine, EndLine, printed, printed_lines};
+ghost use Rattle.salvage_text.specs.Report.{log_lines, parent_line};
 
 use crate::walk_text::push_walk_text;
-use crate::{json, text};
+use crate::{json, text, walk_text};
 use line_text::ReportForm;
-use nt_bytes::{HiveFault, HiveVersion};
+use nt_bytes::{HiveFault, HiveVersion, Units};
 use salvage_bins::BrokenBin;
 use salvage_file::{FileState, LogStop};
+use salvage_parents::ParentLine;
 use salvage_walk::WalkLine;
 use std::alloc::{AllocError, Global};
 
@@ -136,6 +137,50 @@ pub(crate) fn push_walk(
 {
     for line in lines {
         push_walked(alloc, out, form, line)?;
+    }
+    Ok(())
+}
+
+fn push_found(
+    alloc: Global,
+    out: &mut Vec<u8>,
+    form: ReportForm,
+    count: usize,
+    path: &[Units],
+) -> Result<(), AllocError>
+    ensures { OnOk result (out.new.items ≡ out.old.items ++ printed form (FoundLine count path.now)) }
+{
+    match form {
+        ReportForm::Text => walk_text::push_found(alloc, out, count, path),
+        ReportForm::Json => json::push_found(out, count, path),
+    }
+}
+
+fn push_parent(
+    alloc: Global,
+    out: &mut Vec<u8>,
+    form: ReportForm,
+    line: &ParentLine,
+) -> Result<(), AllocError>
+    ensures { OnOk result (out.new.items ≡ out.old.items ++ printed form (parent_line line.now)) }
+{
+    match line {
+        ParentLine::Walked(line) => push_walked(alloc, out, form, line),
+        ParentLine::Found(count, path) => push_found(alloc, out, form, *count, path.as_slice()),
+    }
+}
+
+/// Appends the lines that are printed while keys are looked for by their parents.
+pub(crate) fn push_said(
+    alloc: Global,
+    out: &mut Vec<u8>,
+    form: ReportForm,
+    lines: &[ParentLine],
+) -> Result<(), AllocError>
+    ensures { OnOk result (out.new.items ≡ out.old.items ++ flat_map (λ line. printed form (parent_line line)) lines.now) }
+{
+    for line in lines {
+        push_parent(alloc, out, form, line)?;
     }
     Ok(())
 }

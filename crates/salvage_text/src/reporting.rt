@@ -4,9 +4,9 @@ ghost use Rattle.std.specs.Prelude.{◌≡◌, ◌++◌, Some, OnOk, IfOk};
 ghost use Rattle.salvage_text.specs.Lines.{printed, printed_lines};
 ghost use Rattle.salvage_text.specs.Report.{file_in, file_lines, is_found, is_refused, is_saved, lines_of, report_of, rest_lines, salvaged_line, saving_lines};
 
-use crate::counting::{has_fault, keys_in, losses, values_in};
+use crate::counting::{has_fault, has_said_fault, keys_in, losses, values_in};
 use crate::printing::{
-    push_bases, push_bins, push_end, push_log, push_refused, push_salvaged, push_saved,
+    push_bases, push_bins, push_end, push_log, push_refused, push_said, push_salvaged, push_saved,
     push_sequence, push_version, push_walk,
 };
 use line_text::ReportForm;
@@ -51,7 +51,8 @@ fn push_counts(out: &mut Vec<u8>, form: ReportForm, hive: &SalvagedHive) -> Resu
 {
     let keys = keys_in(&hive.tree);
     let values = values_in(&hive.tree);
-    push_salvaged(out, form, keys, values, losses(hive.lines.as_slice()))
+    let lost = losses(hive.lines.as_slice(), hive.said.as_slice());
+    push_salvaged(out, form, keys, values, lost)
 }
 
 // The lines on the file.
@@ -75,6 +76,7 @@ fn push_rest(
     ensures { OnOk result (out.new.items ≡ out.old.items ++ printed_lines form (rest_lines hive.now)) }
 {
     push_walk(alloc, out, form, hive.lines.as_slice())?;
+    push_said(alloc, out, form, hive.said.as_slice())?;
     push_counts(out, form, hive)?;
     push_saving(out, form, &hive.saving)?;
     push_end(out, form)
@@ -129,6 +131,7 @@ fn is_found(hive: &SalvagedHive) -> bool
         || hive.log.is_some()
         || !hive.broken.is_empty()
         || has_fault(hive.lines.as_slice())
+        || has_said_fault(hive.said.as_slice())
         || is_refused(&hive.saving)
 }
 

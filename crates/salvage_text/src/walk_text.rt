@@ -2,7 +2,7 @@
 
 ghost use Rattle.std.specs.Prelude.{◌≡◌, ◌++◌, OnOk};
 ghost use Rattle.salvage_walk.specs.declared.lines.WalkLine.{WalkLine};
-ghost use Rattle.salvage_text.specs.Lines.{fault_text, numbered_text, path_text, placed_text, walk_text};
+ghost use Rattle.salvage_text.specs.Lines.{FoundLine, line_text, fault_text, numbered_text, path_text, placed_text, walk_text};
 
 use crate::words::{kind_word, part_word};
 use line_text::{push_number, push_path, push_quoted};
@@ -144,4 +144,18 @@ pub(crate) fn push_walk_text(
         }
         WalkLine::Nothing(at, path) => push_nothing(alloc, out, *at, path.as_slice()),
     }
+}
+
+/// Appends how many children of the key at a path were found by their parent.
+pub(crate) fn push_found(
+    alloc: Global,
+    out: &mut Vec<u8>,
+    count: usize,
+    path: &[Units],
+) -> Result<(), AllocError>
+    ensures { OnOk result (out.new.items ≡ out.old.items ++ line_text (FoundLine count path.now)) }
+{
+    out.extend_from_slice(b"found ")?;
+    push_number(out, count as u64)?;
+    push_path_end(alloc, out, path)
 }

@@ -1,4 +1,4 @@
 pub mod UseLemmas
 pub mod WalkLemmas
-pub mod FilterLemmas
+pub mod PlacedLemmas
 pub mod NameLemmas

@@ -1,5 +1,6 @@
 -- The steps of the loops of the walk.
-use Rattle.std.proofs.Common.{◌≡◌, ℕ, zero, suc, ◌+◌, ◌-◌, ◌<◌, true, false, None, Some, List, [], ◌∷◌, ◌++◌, refl, arith}
+use Rattle.std.proofs.Common.{◌≡◌, ℕ, zero, suc, ◌+◌, ◌-◌, ◌<◌, Bool, true, false, Option, None, Some, List, [], ◌∷◌, ◌++◌, refl, arith}
+use Rattle.std.specs.Prelude.{◌&&◌, ◌||◌, not, is_some}
 use Rattle.std.proofs.lemmas.List.{map_push}
 use Rattle.nt_bytes.specs.declared.fault.HiveFaultKind.TheVariants.{TooDeep}
 use Rattle.hive_model.specs.Base.{fault_at}
@@ -10,6 +11,9 @@ use Rattle.salvage_bins.specs.Ground.{Ground}
 use Rattle.salvage_walk.specs.Walked.{Walked, say}
 use Rattle.salvage_walk.specs.Parts.{part, node_form, node_long}
 use Rattle.salvage_walk.specs.Keys.{Judge, judged_key, key_done, key_line, key_names, keys_next, with_child, has_root_flag, least_root}
+use Rattle.salvage_walk.specs.declared.lines.Incomplete.{Incomplete}
+use Rattle.salvage_walk.specs.Found.{found_next, found_notes, unsaid}
+use Rattle.salvage_walk.specs.Incomplete.{Notes, noted, notes_done, notes_key, notes_next}
 use Rattle.salvage_walk.specs.Steps.{Entries, value_next, values_next, leaf_next, leaves_next, item_names}
 
 pub values-end : (hive : Ground) (path : List (List ℕ)) (i : ℕ) (rest : List ℕ) (values : List Item) (w : Walked) → rest ≡ []
@@ -53,7 +57,21 @@ unfolding judged_key
 key-next zero hive above path names i at w h = absurd (omega arith)
 key-next (suc left) hive above path names i at w h = let e : suc left - 1 ≡ left = omega arith in rw e refl
 
-pub ruleset key_steps = (key-deep, key-next)
+pub notes-deep : (left : ℕ) (hive : Ground) (above : List ℕ) (path names : List (List ℕ)) (i at : ℕ) (w : Walked) (notes : List Incomplete)
+    → left ≡ 0 → notes_key left hive above path names i at w notes ≡ notes
+unfolding notes_key
+notes-deep zero hive above path names i at w notes e = refl
+notes-deep (suc left) hive above path names i at w notes e = absurd (omega arith)
+
+pub notes-next : (left : ℕ) (hive : Ground) (above : List ℕ) (path names : List (List ℕ)) (i at : ℕ) (w : Walked) (notes : List Incomplete)
+    → 0 < left → notes_key left hive above path names i at w notes
+    ≡ notes_done (judged_key (left - 1) hive) (notes_key (left - 1) hive) hive above path at w notes
+    (part (node_form false names) node_long false hive w.claims at)
+unfolding notes_key
+notes-next zero hive above path names i at w notes h = absurd (omega arith)
+notes-next (suc left) hive above path names i at w notes h = let e : suc left - 1 ≡ left = omega arith in rw e refl
+
+pub ruleset key_steps = (key-deep, key-next, notes-deep, notes-next)
 
 pub keys-end : (judge : Judge) (above : List ℕ) (path : List (List ℕ)) (i : ℕ) (rest : List ℕ) (keys : List Tree) (w : Walked) → rest ≡ []
     → keys_next judge above path i rest keys w ≡ (keys, w)
@@ -65,6 +83,47 @@ pub keys-on : (judge : Judge) (above : List ℕ) (path : List (List ℕ)) (i at 
     → keys_next judge above path (i + 1) more next after ≡ keys_next judge above path i rest keys w
 unfolding keys_next
 keys-on judge above path i at rest more keys next w after e d = rw (e, ← d) refl
+
+pub notes-end : (judge : Judge) (more : Notes) (own : Incomplete) (above : List ℕ) (path : List (List ℕ)) (i : ℕ) (rest : List ℕ) (keys : List Tree)
+    (w : Walked) (told : Bool) (notes : List Incomplete) → rest ≡ []
+    → notes_next judge more own above path i rest keys w told notes ≡ notes
+unfolding notes_next
+notes-end judge more own above path i rest keys w told notes e = rw e refl
+
+pub notes-on : (judge : Judge) (more : Notes) (own : Incomplete) (above : List ℕ) (path : List (List ℕ)) (i at : ℕ) (rest others : List ℕ)
+    (keys next : List Tree) (w after : Walked) (child : Option Tree) (told then : Bool) (notes new : List Incomplete)
+    → rest ≡ at ∷ others → (child, after) ≡ judge above path (key_names keys) i at w → (next, after) ≡ with_child keys (child, after)
+    → then ≡ (told || not (is_some child))
+    → new ≡ noted (not told && not (is_some child)) own (more above path (key_names keys) i at w notes)
+    → notes_next judge more own above path (i + 1) others next after then new ≡ notes_next judge more own above path i rest keys w told notes
+unfolding notes_next
+notes-on judge more own above path i at rest others keys next w after child told then notes new e d n t m = rw (e, t, m, ← d, ← n) refl
+
+-- ---- children that are found
+
+pub found-end : (judge : Judge) (above : List ℕ) (path : List (List ℕ)) (rest : List ℕ) (keys : List Tree) (w : Walked) → rest ≡ []
+    → found_next judge above path rest keys w ≡ (keys, w)
+unfolding found_next
+found-end judge above path rest keys w e = rw e refl
+
+pub found-on : (judge : Judge) (above : List ℕ) (path : List (List ℕ)) (at : ℕ) (rest others : List ℕ) (keys next : List Tree) (w after : Walked)
+    → rest ≡ at ∷ others → (next, after) ≡ with_child keys (unsaid w (judge above path (key_names keys) 0 at w))
+    → found_next judge above path others next after ≡ found_next judge above path rest keys w
+unfolding found_next
+found-on judge above path at rest others keys next w after e d = rw (e, ← d) refl
+
+pub found-notes-end : (judge : Judge) (more : Notes) (above : List ℕ) (path : List (List ℕ)) (rest : List ℕ) (keys : List Tree) (w : Walked)
+    (notes : List Incomplete) → rest ≡ [] → found_notes judge more above path rest keys w notes ≡ notes
+unfolding found_notes
+found-notes-end judge more above path rest keys w notes e = rw e refl
+
+pub found-notes-on : (judge : Judge) (more : Notes) (above : List ℕ) (path : List (List ℕ)) (at : ℕ) (rest others : List ℕ) (keys next : List Tree)
+    (w after : Walked) (notes new : List Incomplete) → rest ≡ at ∷ others
+    → (next, after) ≡ with_child keys (unsaid w (judge above path (key_names keys) 0 at w))
+    → new ≡ more above path (key_names keys) 0 at w notes
+    → found_notes judge more above path others next after new ≡ found_notes judge more above path rest keys w notes
+unfolding found_notes
+found-notes-on judge more above path at rest others keys next w after notes new e d n = rw (e, ← d, n) refl
 
 pub key-pushed : (keys : List Tree) (t : Tree) → key_names (keys ++ t ∷ []) ≡ key_names keys ++ (head t).name ∷ []
 key-pushed keys t = map_push (λ u. (head u).name) keys t

@@ -5,6 +5,8 @@ pub mod Values
 pub mod Walked
 pub mod Steps
 pub mod Keys
+pub mod Incomplete
+pub mod Found
 pub mod FrontSeen
-pub mod Filter
+pub mod Placed
 pub mod Hashed

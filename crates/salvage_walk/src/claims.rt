@@ -1,10 +1,13 @@
 //! Which cells are used, and how much of each.
 
-ghost use Rattle.std.specs.Prelude.{◌≡◌, ◌<◌, [], ◌∷◌, ◌++◌, ◌||◌, ℕ, true, false, None, length, take, slice_index_or, OnOk, OnErr};
-ghost use Rattle.std.specs.Option.{option_copied};
+ghost use Rattle.std.specs.Prelude.{◌≡◌, ◌<◌, [], ◌∷◌, ◌++◌, ◌||◌, true, false, None, Some, length, take, OnOk, OnErr};
+ghost use Rattle.std.specs.Ordering.{nat_cmp};
+ghost use Rattle.std.specs.BTreeMap.{Updates};
+ghost use Rattle.salvage_walk.specs.Placed.{claim_at_place, claim_if};
 ghost use Rattle.salvage_walk.specs.Uses.{claim_of, overlaps};
 
 use std::alloc::{AllocError, Global};
+use std::collections::BTreeMap;
 use std::marker::Model;
 
 /// A use of a cell: up to which byte, whether as security, and whether the cell is loose.
@@ -16,45 +19,55 @@ pub struct Claim {
     pub loose: bool,
 }
 
-/// The uses so far, in order. Beside them stands for each eight bytes whether a use may be of a cell there, so that a cell
-/// that wasn't used before is not looked for.
+/// The uses so far, in order. Beside them stands by the offset of a cell which use may be the one of that cell, so that none is
+/// looked for in sequence.
 #[derive(Drop)]
 pub struct Used {
     claims: Vec<Claim>,
-    maybe: Vec<bool>,
+    places: BTreeMap<u32, usize>,
     some_loose: bool,
 }
 
 impl Model for Used {
     ghost use Rattle.std.specs.Prelude.{List};
     ghost use Rattle.salvage_walk.specs.declared.claims.Claim.{Claim};
-    ghost use Rattle.salvage_walk.specs.Filter.{IsFilter};
+    ghost use Rattle.salvage_walk.specs.Placed.{ArePlaced};
 
     ghost Value = { List Claim };
 
     ghost view = { λ a. a.claims.items };
 
-    ghost invariant = { λ a. IsFilter a.maybe.items a.some_loose a.claims.items };
+    ghost invariant = { λ a. ArePlaced a.places a.some_loose a.claims.items };
 }
 
-// The mark at this slot, false where there is none.
-fn mark(marks: &[bool], slot: usize) -> bool
-    ensures { result ≡ slice_index_or marks.now slot false }
+// The use at a place in their order, if it is of this cell.
+fn claim_if(claims: &[Claim], place: usize, at: u32) -> Option<Claim>
+    ensures { result ≡ claim_at_place at claims.now place }
 {
-    match marks.get(slot) {
-        Some(mark) => *mark,
-        None => false,
+    match claims.get(place) {
+        Some(claim) => only_of(claim, at),
+        None => None,
     }
 }
 
-// Marks until one is at this slot.
-fn widen(marks: &mut Vec<bool>, slot: usize) -> Result<(), AllocError>
-    ensures same { (k : ℕ) → slice_index_or marks.new.items k false ≡ slice_index_or marks.old.items k false }
-    ensures there { OnOk result (slot < length marks.new.items) }
+fn only_of(claim: &Claim, at: u32) -> Option<Claim>
+    ensures { result ≡ claim_if at claim.now }
 {
-    'widening: while marks.len() <= slot {
-        marks.push(false)?;
-    }
+    if claim.at == at { Some(*claim) } else { None }
+}
+
+fn count_of(claims: &Vec<Claim>) -> usize
+    ensures { result ≡ length claims.now.items }
+{
+    claims.len()
+}
+
+// Notes the place of the use of a cell. Without memory for it nothing changes.
+fn put(places: &mut BTreeMap<u32, usize>, at: u32, place: usize) -> Result<(), AllocError>
+    ensures ok { OnOk result (Updates nat_cmp places.old places.new at (Some place)) }
+    ensures err { OnErr result (places.new.entries ≡ places.old.entries) }
+{
+    places.insert(at, place)?;
     Ok(())
 }
 
@@ -79,7 +92,7 @@ impl Used {
     {
         Used {
             claims: Vec::new(alloc),
-            maybe: Vec::new(alloc),
+            places: BTreeMap::new(alloc),
             some_loose: false,
         }
     }
@@ -94,10 +107,10 @@ impl Used {
     pub(crate) fn claim_at(&self, at: u32) -> Option<Claim>
         ensures { result ≡ claim_of at self.now }
     {
-        if !mark(self.maybe.as_slice(), (at / 8) as usize) {
-            return None;
+        match self.places.get(&at) {
+            Some(place) => claim_if(self.claims.as_slice(), *place, at),
+            None => None,
         }
-        self.claims.iter().copied().find(|c| c.at == at)
     }
 
     /// Does a byte from here up to an end lie in what was used of a loose cell?
@@ -121,9 +134,8 @@ impl Used {
         ensures ok { OnOk result (self.new ≡ self.old ++ claim ∷ []) }
         ensures err { OnErr result (self.new ≡ self.old) }
     {
-        let slot = (claim.at / 8) as usize;
-        widen(&mut self.maybe, slot)?;
-        self.maybe[slot] = true;
+        let place = count_of(&self.claims);
+        put(&mut self.places, claim.at, place)?;
         self.some_loose = either(self.some_loose, claim.loose);
         append(&mut self.claims, claim)
     }

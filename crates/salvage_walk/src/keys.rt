@@ -1,6 +1,8 @@
 //! Keys, with all below them.
 
-ghost use Rattle.std.specs.Prelude.{◌≡◌, ◌-◌, [], ◌∷◌, ◌++◌, OnOk, IfOk};
+ghost use Rattle.std.specs.Prelude.{◌≡◌, ◌-◌, ◌&&◌, ◌||◌, [], ◌∷◌, ◌++◌, not, is_some, OnOk, IfOk};
+ghost use Rattle.salvage_walk.specs.Found.{found_next, found_notes, unsaid};
+ghost use Rattle.salvage_walk.specs.Incomplete.{incomplete_at, noted, notes_below, notes_key, notes_next};
 ghost use Rattle.hive_model.specs.KeyNode.{key_node_at};
 ghost use Rattle.hive_model.specs.Stands.{tree_flags};
 ghost use Rattle.hive_model.specs.Walk.{reading};
@@ -10,12 +12,12 @@ ghost use Rattle.salvage_walk.specs.Walked.{say, state_of, Walked};
 ghost use Rattle.salvage_walk.specs.Keys.{judged_key, key_below, key_line, key_names, keys_next, with_child};
 
 use crate::entries::entries;
-use crate::lines::{Walk, WalkLine};
+use crate::lines::{Incomplete, Walk, WalkLine};
 use crate::names::NameSet;
 use crate::parts::use_node;
 use crate::steps::{class, security, values};
 use cell_forms::{NkForm, read_nk};
-use nt_bytes::{HiveFault, HiveFaultKind, Names, ReadStop, Units};
+use nt_bytes::{HiveFault, HiveFaultKind, Names, ReadStop, Row, Units};
 use reg_tree::{Key, Keys};
 use salvage_bins::DamagedCells;
 use std::alloc::{AllocError, Global};
@@ -86,6 +88,37 @@ fn own_flags(flags: u16) -> u16
     }
 }
 
+// Notes the key at an offset and a path, if it is incomplete.
+fn note(
+    alloc: Global,
+    notes: &mut Row<Incomplete>,
+    is: bool,
+    at: u32,
+    path: &[Units],
+) -> Result<(), AllocError>
+    ensures { OnOk result (notes.new ≡ noted is (incomplete_at at path.now) notes.old) }
+{
+    if !is {
+        return Ok(());
+    }
+    let path = Names::from_slice(alloc, path)?;
+    notes.push(Incomplete { at, path })
+}
+
+// Is a key to be noted for this child, which was noted already or not?
+fn is_new(noted: bool, child: &Option<Key>) -> bool
+    ensures { result ≡ (not noted && not (is_some child.now)) }
+{
+    !noted && child.is_none()
+}
+
+// Is it noted then?
+fn is_noted(noted: bool, child: &Option<Key>) -> bool
+    ensures { result ≡ (noted || not (is_some child.now)) }
+{
+    noted || child.is_none()
+}
+
 // A child with all below it, where that many levels are left.
 #[cycle(walk)]
 #[tactic(auto, using(crate::proofs::WalkLemmas::key_steps))]
@@ -93,6 +126,7 @@ fn key(
     alloc: Global,
     cells: &DamagedCells<'_>,
     walk: &mut Walk,
+    notes: &mut Row<Incomplete>,
     above: &[u8],
     path: &[Units],
     taken: &NameSet,
@@ -100,8 +134,10 @@ fn key(
     number: usize,
     at: u32,
 ) -> Result<Option<Key>, AllocError>
-    ensures { IfOk result (λ k. (k, state_of walk.new)
+    ensures walked { IfOk result (λ k. (k, state_of walk.new)
         ≡ judged_key left (ground_of cells.now) above.now path.now taken.now number at (state_of walk.old)) }
+    ensures noted { OnOk result (notes.new
+        ≡ notes_key left (ground_of cells.now) above.now path.now taken.now number at (state_of walk.old) notes.old) }
 {
     if left == 0 {
         let kind = HiveFaultKind::TooDeep;
@@ -115,6 +151,7 @@ fn key(
                 alloc,
                 cells,
                 walk,
+                notes,
                 above,
                 below.as_slice(),
                 left - 1,
@@ -133,31 +170,41 @@ fn key(
 
 /// The key of a node, itself at a path, with all below it, where that many levels are left.
 #[cycle(walk)]
-#[tactic(auto, unfolding(crate::specs::Keys::key_below))]
+#[tactic(auto, unfolding(crate::specs::Keys::key_below, crate::specs::Incomplete::notes_below))]
 pub(crate) fn key_of(
     alloc: Global,
     cells: &DamagedCells<'_>,
     walk: &mut Walk,
+    notes: &mut Row<Incomplete>,
     above: &[u8],
     path: &[Units],
     left: u32,
     node: NkForm,
     at: u32,
 ) -> Result<Key, AllocError>
-    ensures { IfOk result (λ k. (k, state_of walk.new)
+    ensures walked { IfOk result (λ k. (k, state_of walk.new)
         ≡ key_below (judged_key left (ground_of cells.now)) (ground_of cells.now) above.now path.now (key_node_of node) at (state_of walk.old)) }
+    ensures noted { OnOk result (notes.new
+        ≡ notes_below (judged_key left (ground_of cells.now)) (notes_key left (ground_of cells.now)) (ground_of cells.now) above.now path.now
+        (key_node_of node) at (state_of walk.old) notes.old) }
 {
     let class = class(alloc, cells, walk, path, &node)?;
     let security = security(alloc, cells, walk, above, path, &node)?;
     let values = values(alloc, cells, walk, path, &node)?;
+    let before = walk.len();
     let offsets = entries(alloc, cells, walk, path, &node, at)?;
+    let told = walk.said_more(before);
+    note(alloc, notes, told, at, path)?;
     let children = keys(
         alloc,
         cells,
         walk,
+        notes,
         security.as_slice(),
         path,
         left,
+        at,
+        told,
         offsets.as_slice(),
     )?;
     let flags = own_flags(node.flags);
@@ -194,31 +241,131 @@ fn add(
     }
 }
 
-// The children at these offsets.
+// The children at these offsets of a key at an offset, which perhaps was noted.
 #[cycle(walk)]
 fn keys(
     alloc: Global,
     cells: &DamagedCells<'_>,
     walk: &mut Walk,
+    notes: &mut Row<Incomplete>,
     above: &[u8],
     path: &[Units],
     left: u32,
+    own: u32,
+    told: bool,
     offsets: &[u32],
 ) -> Result<Keys, AllocError>
-    ensures { IfOk result (λ ks. (ks, state_of walk.new)
+    ensures walked { IfOk result (λ ks. (ks, state_of walk.new)
         ≡ keys_next (judged_key left (ground_of cells.now)) above.now path.now 1 offsets.now [] (state_of walk.old)) }
+    ensures noted { OnOk result (notes.new
+        ≡ notes_next (judged_key left (ground_of cells.now)) (notes_key left (ground_of cells.now)) (incomplete_at own path.now)
+        above.now path.now 1 offsets.now [] (state_of walk.old) told notes.old) }
 {
     let mut taken = NameSet::new(alloc);
     let mut children = Keys::new(alloc);
     let mut number = 1;
+    let mut noted = told;
     let mut rest = offsets;
     'children: loop {
         let [at, more @ ..] = rest else {
             return Ok(children);
         };
-        let child = key(alloc, cells, walk, above, path, &taken, left, number, *at)?;
+        let child = key(
+            alloc, cells, walk, notes, above, path, &taken, left, number, *at,
+        )?;
+        let is = is_new(noted, &child);
+        note(alloc, notes, is, own, path)?;
+        noted = is_noted(noted, &child);
         add(alloc, &mut taken, &mut children, child)?;
         number += 1;
+        rest = more;
+    }
+}
+
+// ---- children whose nodes are at given places
+
+// A child with all below it, where that many levels are left. Of one that is left out nothing is said.
+#[tactic(auto, using(crate::proofs::WalkLemmas::key_steps))]
+fn found_key(
+    alloc: Global,
+    cells: &DamagedCells<'_>,
+    walk: &mut Walk,
+    notes: &mut Row<Incomplete>,
+    above: &[u8],
+    path: &[Units],
+    taken: &NameSet,
+    left: u32,
+    at: u32,
+) -> Result<Option<Key>, AllocError>
+    ensures walked { IfOk result (λ k. (k, state_of walk.new)
+        ≡ unsaid (state_of walk.old) (judged_key left (ground_of cells.now) above.now path.now taken.now 0 at (state_of walk.old))) }
+    ensures noted { OnOk result (notes.new
+        ≡ notes_key left (ground_of cells.now) above.now path.now taken.now 0 at (state_of walk.old) notes.old) }
+{
+    if left == 0 {
+        return Ok(None);
+    }
+    match use_node(alloc, cells, &mut walk.used, false, taken, at) {
+        Ok(node) => {
+            let below = path_below(alloc, path, node.name.as_slice())?;
+            let found = key_of(
+                alloc,
+                cells,
+                walk,
+                notes,
+                above,
+                below.as_slice(),
+                left - 1,
+                node,
+                at,
+            )?;
+            Ok(Some(found))
+        }
+        Err(ReadStop::Memory) => Err(AllocError),
+        Err(ReadStop::Fault(_)) => Ok(None),
+    }
+}
+
+// The names of these keys.
+fn names_of(alloc: Global, keys: &[Key]) -> Result<NameSet, AllocError>
+    ensures { IfOk result (λ s. s ≡ key_names keys.now) }
+{
+    let mut taken = NameSet::new(alloc);
+    for key in keys {
+        let name = key.name.copy(alloc)?;
+        taken.add(name)?;
+    }
+    Ok(taken)
+}
+
+/// These children of a key at a path and, judged in turn, those whose nodes are at these places, where that many levels are left. Of
+/// one that is left out nothing is said.
+pub fn add_found(
+    alloc: Global,
+    cells: &DamagedCells<'_>,
+    walk: &mut Walk,
+    notes: &mut Row<Incomplete>,
+    above: &[u8],
+    path: &[Units],
+    left: u32,
+    places: &[u32],
+    children: Keys,
+) -> Result<Keys, AllocError>
+    ensures walked { IfOk result (λ ks. (ks, state_of walk.new)
+        ≡ found_next (judged_key left (ground_of cells.now)) above.now path.now places.now children (state_of walk.old)) }
+    ensures noted { OnOk result (notes.new
+        ≡ found_notes (judged_key left (ground_of cells.now)) (notes_key left (ground_of cells.now)) above.now path.now places.now children
+        (state_of walk.old) notes.old) }
+{
+    let mut taken = names_of(alloc, children.as_slice())?;
+    let mut children = children;
+    let mut rest = places;
+    'places: loop {
+        let [at, more @ ..] = rest else {
+            return Ok(children);
+        };
+        let child = found_key(alloc, cells, walk, notes, above, path, &taken, left, *at)?;
+        add(alloc, &mut taken, &mut children, child)?;
         rest = more;
     }
 }

@@ -15,5 +15,6 @@ mod root;
 mod steps;
 mod values;
 
-pub use lines::{KeyPart, WalkLine};
-pub use root::{Salvaged, salvage_tree};
+pub use keys::add_found;
+pub use lines::{Incomplete, KeyPart, Walk, WalkLine};
+pub use root::{Salvaged, WalkedTree, salvage_tree, walk_tree};

@@ -1,11 +1,12 @@
 //! The lines of the walk.
 
-ghost use Rattle.std.specs.Prelude.{◌≡◌, OnOk};
+ghost use Rattle.std.specs.Prelude.{◌≡◌, ◌==◌, [], not, length, OnOk};
 ghost use Rattle.salvage_walk.specs.Walked.{say, state_of};
 
 use crate::claims::Used;
 use nt_bytes::{HiveFault, Names, Units};
-use std::alloc::AllocError;
+use std::alloc::{AllocError, Global};
+use std::mem::replace;
 
 /// A part of a key that is left out by itself.
 #[derive(Clone, Copy, Debug, PartialEq, Eq)]
@@ -42,6 +43,13 @@ pub enum WalkLine {
     Nothing(u32, Names),
 }
 
+/// A key that stands, of which children may be missing: where its node is, and its path, without the root's name.
+#[derive(Drop)]
+pub struct Incomplete {
+    pub at: u32,
+    pub path: Names,
+}
+
 /// What the walk has used and said so far.
 #[derive(Drop)]
 pub struct Walk {
@@ -55,5 +63,27 @@ impl Walk {
     {
         self.lines.push(line)?;
         Ok(())
+    }
+
+    /// How many lines were said.
+    pub(crate) fn len(&self) -> usize
+        ensures { result ≡ length (state_of self.now).lines }
+    {
+        self.lines.len()
+    }
+
+    /// Were other lines said than that many?
+    pub(crate) fn said_more(&self, before: usize) -> bool
+        ensures { result ≡ not (before == length (state_of self.now).lines) }
+    {
+        before != self.lines.len()
+    }
+
+    /// Takes the lines out.
+    pub fn take_lines(&mut self, alloc: Global) -> Vec<WalkLine>
+        ensures taken { result.items ≡ (state_of self.old).lines }
+        ensures rest { state_of self.new ≡ record { claims = (state_of self.old).claims; lines = [] } }
+    {
+        replace(&mut self.lines, Vec::new(alloc))
     }
 }

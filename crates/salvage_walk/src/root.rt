@@ -1,20 +1,21 @@
 //! The walk from the root.
 
-ghost use Rattle.std.specs.Prelude.{◌≡◌, ◌≤◌, [], length, IfOk};
+ghost use Rattle.std.specs.Prelude.{◌≡◌, ◌≤◌, [], length, IfOk, OnOk};
 ghost use Rattle.hive_model.specs.KeyNode.{key_node_at};
 ghost use Rattle.hive_model.specs.Walk.{reading};
 ghost use Rattle.cell_forms.specs.Views.{key_node_of};
 ghost use Rattle.salvage_bins.specs.Ground.{ground_of};
 ghost use Rattle.salvage_walk.specs.Walked.{state_of};
+ghost use Rattle.salvage_walk.specs.Incomplete.{incomplete, notes_at, notes_below, notes_from, notes_key, notes_other};
 ghost use Rattle.salvage_walk.specs.Keys.{found_key, has_root_flag, judged_key, key_below, least_root, answer_of, other_at, other_root, salvaged, walked_from};
 
 use crate::claims::Used;
 use crate::keys::key_of;
-use crate::lines::{Walk, WalkLine};
+use crate::lines::{Incomplete, Walk, WalkLine};
 use crate::names::NameSet;
 use crate::parts::use_node;
 use cell_forms::{NkForm, read_nk};
-use nt_bytes::ReadStop;
+use nt_bytes::{ReadStop, Row};
 use reg_tree::Key;
 use salvage_bins::DamagedCells;
 use std::alloc::{AllocError, Global};
@@ -62,13 +63,17 @@ fn below(
     alloc: Global,
     cells: &DamagedCells<'_>,
     walk: &mut Walk,
+    notes: &mut Row<Incomplete>,
     node: NkForm,
     at: u32,
 ) -> Result<Option<Key>, AllocError>
-    ensures { IfOk result (λ k. (k, state_of walk.new)
+    ensures walked { IfOk result (λ k. (k, state_of walk.new)
         ≡ found_key (key_below (judged_key 511 (ground_of cells.now)) (ground_of cells.now) [] [] (key_node_of node) at (state_of walk.old))) }
+    ensures noted { OnOk result (notes.new
+        ≡ notes_below (judged_key 511 (ground_of cells.now)) (notes_key 511 (ground_of cells.now)) (ground_of cells.now) [] []
+        (key_node_of node) at (state_of walk.old) notes.old) }
 {
-    let key = key_of(alloc, cells, walk, &[], &[], 511, node, at)?;
+    let key = key_of(alloc, cells, walk, notes, &[], &[], 511, node, at)?;
     Ok(Some(key))
 }
 
@@ -77,15 +82,17 @@ fn from_place(
     alloc: Global,
     cells: &DamagedCells<'_>,
     walk: &mut Walk,
+    notes: &mut Row<Incomplete>,
     at: u32,
 ) -> Result<Option<Key>, AllocError>
-    ensures { IfOk result (λ k. (k, state_of walk.new) ≡ other_at (ground_of cells.now) at (state_of walk.old)) }
+    ensures walked { IfOk result (λ k. (k, state_of walk.new) ≡ other_at (ground_of cells.now) at (state_of walk.old)) }
+    ensures noted { OnOk result (notes.new ≡ notes_at (ground_of cells.now) at (state_of walk.old) notes.old) }
 {
     let none = NameSet::new(alloc);
     match use_node(alloc, cells, &mut walk.used, true, &none, at) {
         Ok(node) => {
             walk.say(WalkLine::RootAt(at))?;
-            below(alloc, cells, walk, node, at)
+            below(alloc, cells, walk, notes, node, at)
         }
         Err(ReadStop::Memory) => Err(AllocError),
         Err(ReadStop::Fault(_)) => {
@@ -100,13 +107,16 @@ fn other(
     alloc: Global,
     cells: &DamagedCells<'_>,
     walk: &mut Walk,
+    notes: &mut Row<Incomplete>,
 ) -> Result<Option<Key>, AllocError>
     requires { length cells.now.bytes.now ≤ 268435456 }
-    ensures { IfOk result (λ k. (k, state_of walk.new)
+    ensures walked { IfOk result (λ k. (k, state_of walk.new)
         ≡ other_root (ground_of cells.now) (state_of walk.old) (least_root (ground_of cells.now) (ground_of cells.now).slots 0)) }
+    ensures noted { OnOk result (notes.new
+        ≡ notes_other (ground_of cells.now) (state_of walk.old) notes.old (least_root (ground_of cells.now) (ground_of cells.now).slots 0)) }
 {
     match least(alloc, cells)? {
-        Some(at) => from_place(alloc, cells, walk, at),
+        Some(at) => from_place(alloc, cells, walk, notes, at),
         None => {
             walk.say(WalkLine::NoRoot)?;
             Ok(None)
@@ -119,25 +129,55 @@ fn from_root(
     alloc: Global,
     cells: &DamagedCells<'_>,
     walk: &mut Walk,
+    notes: &mut Row<Incomplete>,
     root: u32,
 ) -> Result<Option<Key>, AllocError>
     requires { length cells.now.bytes.now ≤ 268435456 }
-    ensures { IfOk result (λ k. (k, state_of walk.new) ≡ walked_from (ground_of cells.now) root (state_of walk.old)) }
+    ensures walked { IfOk result (λ k. (k, state_of walk.new) ≡ walked_from (ground_of cells.now) root (state_of walk.old)) }
+    ensures noted { OnOk result (notes.new ≡ notes_from (ground_of cells.now) root (state_of walk.old) notes.old) }
 {
     let none = NameSet::new(alloc);
     match use_node(alloc, cells, &mut walk.used, true, &none, root) {
-        Ok(node) => below(alloc, cells, walk, node, root),
+        Ok(node) => below(alloc, cells, walk, notes, node, root),
         Err(ReadStop::Memory) => Err(AllocError),
         Err(ReadStop::Fault(fault)) => {
             walk.say(WalkLine::Root(fault))?;
-            other(alloc, cells, walk)
+            other(alloc, cells, walk, notes)
         }
     }
 }
 
+/// A tree that is salvaged, what the walk used and said, and the keys of which children may be missing, in the order in which that was
+/// said first.
+#[derive(Drop)]
+pub struct WalkedTree {
+    pub tree: Option<Key>,
+    pub walk: Walk,
+    pub notes: Row<Incomplete>,
+}
+
+/// The tree that is salvaged from a root, so that the walk can go on. There is an answer for any cells; the bytes are at most 256 MiB.
+#[tactic(auto, unfolding(crate::specs::Keys::salvaged, crate::specs::Incomplete::incomplete))]
+pub fn walk_tree(
+    alloc: Global,
+    cells: &DamagedCells<'_>,
+    root: u32,
+) -> Result<WalkedTree, AllocError>
+    requires { length cells.now.bytes.now ≤ 268435456 }
+    ensures walked { IfOk result (λ t. (t.tree, state_of t.walk) ≡ salvaged (ground_of cells.now) root) }
+    ensures noted { IfOk result (λ t. t.notes ≡ incomplete (ground_of cells.now) root) }
+{
+    let mut walk = Walk {
+        used: Used::new(alloc),
+        lines: Vec::new(alloc),
+    };
+    let mut notes = Row::new(alloc);
+    let tree = from_root(alloc, cells, &mut walk, &mut notes, root)?;
+    Ok(WalkedTree { tree, walk, notes })
+}
+
 /// The tree that is salvaged from a root, and what is said on the way. There is an answer for any cells; the bytes are at most
 /// 256 MiB.
-#[tactic(auto, unfolding(crate::specs::Keys::salvaged))]
 pub fn salvage_tree(
     alloc: Global,
     cells: &DamagedCells<'_>,
@@ -146,11 +186,9 @@ pub fn salvage_tree(
     requires { length cells.now.bytes.now ≤ 268435456 }
     ensures { IfOk result (λ s. (s.tree, s.lines.items) ≡ answer_of (salvaged (ground_of cells.now) root)) }
 {
-    let mut walk = Walk {
-        used: Used::new(alloc),
-        lines: Vec::new(alloc),
-    };
-    let tree = from_root(alloc, cells, &mut walk, root)?;
-    let lines = walk.lines;
-    Ok(Salvaged { tree, lines })
+    let walked = walk_tree(alloc, cells, root)?;
+    Ok(Salvaged {
+        tree: walked.tree,
+        lines: walked.walk.lines,
+    })
 }

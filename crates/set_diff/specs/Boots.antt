@@ -48,7 +48,7 @@ boot_from b (line ∷ lines) = boot_from (boot_step b line) lines
 abbrev pub no_boot : QuietBoot
 no_boot = record { phase = Boot; attempts = []; unmet = [] }
 
--- the boot of a set in which each attempt goes well: what is attempted in which phase, and what is left unmet, in the order of its lines
+-- the boot of a set in which each attempt goes well: what is attempted in which phase, and what remains unmet, in the order of its lines
 abbrev pub boot_of : Tree → QuietBoot
 boot_of set = boot_from no_boot (safe_lines_of set None)
 

@@ -89,7 +89,7 @@ sets_lines n first m second = absent_lines First n first ++ absent_lines Second 
 
 -- ---- the end
 
--- a line that tells of a difference
+-- a line that reports a difference
 unfoldable pub is_difference : DiffLine → Bool
 is_difference (lines.Sets first second) = false
 is_difference lines.StartsSame = false

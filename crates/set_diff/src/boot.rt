@@ -123,7 +123,12 @@ pub(crate) fn put_phases(
     ensures { OnOk result (lines.new ≡ lines.old ++ phases_lines attempts.now others.now) }
 {
     for attempt in attempts {
-        put_paired(alloc, attempt, attempt_named(others, places, attempt), lines)?;
+        put_paired(
+            alloc,
+            attempt,
+            attempt_named(others, places, attempt),
+            lines,
+        )?;
     }
     Ok(())
 }

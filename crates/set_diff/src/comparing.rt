@@ -218,13 +218,7 @@ fn put_common_attempts(
 ) -> Result<(), AllocError>
     ensures { OnOk result (lines.new ≡ lines.old ++ common_attempts a.now.boot.attempts b.now.boot.attempts) }
 {
-    put_phases(
-        alloc,
-        a.attempts(),
-        b.attempts(),
-        b.attempt_places(),
-        lines,
-    )?;
+    put_phases(alloc, a.attempts(), b.attempts(), b.attempt_places(), lines)?;
     put_shared_parts(
         alloc,
         Sequence::Starts,
@@ -341,7 +335,9 @@ pub fn put_sets(
     requires second { IfSome second (λ set. HoldsKeys set.now) }
     ensures { OnOk result (lines.new ≡ lines.old ++ sets_lines n (option_copied first.entry) m (option_copied second.entry)) }
 {
-    if let Some(a) = first && let Some(b) = second {
+    if let Some(a) = first
+        && let Some(b) = second
+    {
         return put_both(alloc, n, a, m, b, lines);
     }
     put_absent(Side::First, n, first, lines)?;

@@ -172,7 +172,11 @@ pub(crate) fn put_tags(
 }
 
 /// The other set's group of this one's name.
-fn group_named<'a>(others: &'a [TaggedGroup], places: &NamePlaces, group: &TaggedGroup) -> Option<&'a TaggedGroup>
+fn group_named<'a>(
+    others: &'a [TaggedGroup],
+    places: &NamePlaces,
+    group: &TaggedGroup,
+) -> Option<&'a TaggedGroup>
     requires { places.now ≡ group_names others.now }
     ensures { option_copied result ≡ group_named others.now group.now.name }
 {

@@ -25,9 +25,7 @@ const TYPE: [u16; 4] = [0x54, 0x79, 0x70, 0x65];
 
 const IMAGE_PATH: [u16; 9] = [0x49, 0x6d, 0x61, 0x67, 0x65, 0x50, 0x61, 0x74, 0x68];
 
-const OBJECT_NAME: [u16; 10] = [
-    0x4f, 0x62, 0x6a, 0x65, 0x63, 0x74, 0x4e, 0x61, 0x6d, 0x65,
-];
+const OBJECT_NAME: [u16; 10] = [0x4f, 0x62, 0x6a, 0x65, 0x63, 0x74, 0x4e, 0x61, 0x6d, 0x65];
 
 /// An entry with the texts of its key.
 #[derive(Drop)]
@@ -93,11 +91,7 @@ fn texts_of(alloc: Global, key: &Key) -> Result<Texts, AllocError>
 }
 
 /// The entries with their texts, one by one.
-fn joined(
-    alloc: Global,
-    entries: Vec<Entry>,
-    texts: Vec<Texts>,
-) -> Result<Vec<Service>, AllocError>
+fn joined(alloc: Global, entries: Vec<Entry>, texts: Vec<Texts>) -> Result<Vec<Service>, AllocError>
     ensures { IfOk result (λ s. s.items ≡ map with_texts (zip entries.items texts.items)) }
 {
     entries
@@ -182,7 +176,12 @@ pub(crate) fn put_pairs(
     ensures { OnOk result (lines.new ≡ lines.old ++ differs_lines services.now others.now) }
 {
     for service in services {
-        put_paired(alloc, service, service_named(others, places, service), lines)?;
+        put_paired(
+            alloc,
+            service,
+            service_named(others, places, service),
+            lines,
+        )?;
     }
     Ok(())
 }

@@ -1,11 +1,10 @@
 -- What becomes of a disk by an import.
-use Rattle.std.proofs.Common.{◌≡◌, ◌⊎◌, inr, ⊎_elim, ℕ, Bool, true, false, not, List, [], ◌++◌, Result, Ok, Err, refl, sym, ap, subst, ◌∙◌, arith, codes, ◌+◌}
+use Rattle.std.proofs.Common.{◌≡◌, ◌⊎◌, inr, ⊎_elim, ℕ, ◌+◌, Bool, true, false, cond, not, List, [], Option, Some, None, Result, Ok, Err, refl, sym, ap, subst, ◌∙◌, arith}
 use Rattle.std.specs.Prelude.{◌↔◌, IfOk}
-use Rattle.std.specs.Fmt.{decimal}
 use Rattle.std.specs.Bool.{Decides}
 use Rattle.std.proofs.lemmas.Bool.{false≢true}
 use Rattle.hive_model.specs.Base.{Base, version_of}
-use Rattle.hive_model.specs.Edit.{Step, edited}
+use Rattle.hive_model.specs.Edit.{Step, Refusal, no_key, no_value, bad_name, exists, name_too_long, too_deep, data_too_long, full, edited}
 use Rattle.hive_model.specs.Image.{Image, IsCrashImage}
 use Rattle.hive_model.specs.Load.{Loads, state_of}
 use Rattle.hive_model.specs.State.{HiveState}
@@ -19,13 +18,23 @@ use Rattle.nt_edge.specs.Disk.{DiskState, History}
 use Rattle.nt_edge.specs.Bench.{woken}
 use Rattle.nt_edge.proofs.Images.{still_crash}
 use Rattle.run_laws.proofs.SameLemmas.{same-Decides}
+use Rattle.start_model.specs.Sets.{is_usable}
+use Rattle.reg_tree.specs.declared.stop.EditStop.{EditStop}
+use Rattle.reg_tree.specs.declared.stop.EditStop.TheVariants as stops
+use Rattle.reg_tree.specs.Makes.{IsRefused}
 use Rattle.command_parts.specs.declared.inputs.HiveFiles.{HiveFiles}
 use Rattle.command_parts.specs.Leaves.{named}
 use Rattle.command_parts.specs.Placed.{image_in, placed_disk}
-use Rattle.text_commands.specs.declared.changing.Done.{Done}
-use Rattle.text_commands.specs.declared.changing.Done.TheVariants as dones
-use Rattle.text_commands.specs.Imported.{Change, change_by, change_of}
-use Rattle.text_commands.specs.Imports.{Settles, Makes, Changes, ChangesHeld, ChangesAwake, ImportsOn}
+use Rattle.import_steps.specs.Left.{LeftSteps, left_of}
+use Rattle.command_words.specs.declared.asked.AskedSet.{AskedSet}
+use Rattle.text_commands.specs.declared.said.Done.{Done}
+use Rattle.text_commands.specs.declared.said.Done.TheVariants as dones
+use Rattle.text_commands.specs.declared.said.How.{How}
+use Rattle.text_commands.specs.declared.said.ImportStop.{ImportStop}
+use Rattle.text_commands.specs.declared.said.ImportStop.TheVariants as import_stops
+use Rattle.text_commands.specs.declared.said.Said.{Said}
+use Rattle.text_commands.specs.Changed.{Change, as_edited, as_protected, done_by, state_by, said_of, change_left, change_made, change_in, change_for, number_in, change_of}
+use Rattle.text_commands.specs.Imports.{Settles, IsRefusedAs, EndsProtected, IsMade, MakesTree, Makes, MakesSteps, usable_in, MakesIn, SaysOf, Changes, ChangesHeld, ChangesAwake, ImportsOn}
 
 -- with nothing in flight only what is held may be left
 still_loads : (disk : DiskState) (s : HiveState) (dirty : Bool) → disk.flight ≡ [] → Loads disk.held s dirty
@@ -42,17 +51,17 @@ changed_is true true t u d f = ⊎_elim (λ e. absurd (false≢true e)) (λ n. a
 changed_is true false t u d f = refl
 changed_is false now t u d f = f.1 (inr (λ e. false≢true (d.1 (sym e))))
 
--- the change by its test
-change_same : (s : HiveState) (t : Tree) → same_tree s.tree t ≡ true
-    → change_by s (Ok t) ≡ record { text = codes "import nothing\n"; state = s }
-change_same s t is = rw is refl
+-- the edits gave this tree, which is the same or another one
+made_same : (s : HiveState) (t : Tree) (disk : DiskState) → same_tree s.tree t ≡ true
+    → EachCrash disk (λ (c : Image). Loads c s false) → IsMade s (Ok t) disk dones.Nothing
+made_same s t disk is left = record { done_is = rw is refl; loads = rw is left }
 
-change_other : (s : HiveState) (t : Tree) → same_tree s.tree t ≡ false
-    → change_by s (Ok t) ≡ record {
-      text = codes "commit import " ++ decimal (next_number s.sequence) ++ codes "\n";
-      state = record s { tree = t; sequence = next_number s.sequence };
-    }
-change_other s t is = rw is refl
+made_other : (s : HiveState) (t : Tree) (disk : DiskState) (number : ℕ) → same_tree s.tree t ≡ false
+    → number ≡ next_number s.sequence
+    → EachCrash disk (λ (c : Image). Loads c (record s { tree = t; sequence = next_number s.sequence }) false)
+    → IsMade s (Ok t) disk (dones.Commit number)
+made_other s t disk number is numbered left =
+    record { done_is = rw is (ap (λ (n : ℕ). dones.Commit n) numbered); loads = rw is left }
 
 not_flips : (b c : Bool) → c ≡ not b → c ≡ false → b ≡ true
 not_flips true c e f = refl
@@ -63,34 +72,26 @@ not_turns true c e f = absurd (false≢true (sym e ∙ f))
 not_turns false c e f = refl
 
 -- the edits were made in the session, which was settled then
-pub settled_changes : (h k : Session) (steps : List Step) (done : Done) (old new : DiskState) → old.flight ≡ []
+settled_made : (h k : Session) (steps : List Step) (done : Done) (old new : DiskState) → old.flight ≡ []
     → Loads old.held (loaded_state h) false
     → edited (version_of h.base.minor) h.tree steps ≡ Ok k.tree → k.base ≡ h.base → h.changed ≡ false
     → (k.changed ≡ true ↔ (h.changed ≡ true) ⊎ (k.tree ≡ h.tree → ⊥)) → Settles k old new done
-    → Changes (loaded_state h) steps new done
-settled_changes h k steps (dones.Refused stop) old new still loads made base unchanged changed settles = absurd settles
-settled_changes h k steps dones.Nothing old new still loads made base unchanged changed settles =
+    → IsMade (loaded_state h) (Ok k.tree) new done
+settled_made h k steps (dones.Refused stop) old new still loads made base unchanged changed settles = absurd settles
+settled_made h k steps dones.Nothing old new still loads made base unchanged changed settles =
     let s : HiveState = loaded_state h in
     let now : k.changed ≡ not (same_tree h.tree k.tree) =
     changed_is (same_tree h.tree k.tree) k.changed h.tree k.tree (same-Decides h.tree k.tree)
     (rw unchanged at changed) in
     let same : same_tree h.tree k.tree ≡ true = not_flips (same_tree h.tree k.tree) k.changed now settles.0 in
-    let change : change_of s steps ≡ record { text = codes "import nothing\n"; state = s } =
-    ap (change_by s) made ∙ change_same s k.tree same in
     let P : DiskState → Type 0 = λ d. EachCrash d (λ (c : Image). Loads c s false) in
-    let left : EachCrash new (λ (c : Image). Loads c s false) =
-    subst P (sym settles.1) (still_loads old s false still loads) in
-    record {
-      text = ap (λ (c : Change). c.text) (sym change);
-      loads = subst (λ (c : Change). EachCrash new (λ (i : Image). Loads i c.state false)) (sym change) left;
-    }
-settled_changes h k steps (dones.Commit number) old new still loads made base unchanged changed settles =
+    made_same s k.tree new same (subst P (sym settles.1) (still_loads old s false still loads))
+settled_made h k steps (dones.Commit number) old new still loads made base unchanged changed settles =
     let s : HiveState = loaded_state h in
     let now : k.changed ≡ not (same_tree h.tree k.tree) =
     changed_is (same_tree h.tree k.tree) k.changed h.tree k.tree (same-Decides h.tree k.tree)
     (rw unchanged at changed) in
     let other : same_tree h.tree k.tree ≡ false = not_turns (same_tree h.tree k.tree) k.changed now settles.0 in
-    let change = ap (change_by s) made ∙ change_other s k.tree other in
     let numbered : number ≡ next_number h.base.first = settles.1 ∙ ap (λ (b : Base). next_number b.first) base in
     let state : committed_state k ≡ state_of k.tree (next_number h.base.first) (version_of h.base.minor) =
     ap (λ (b : Base). state_of k.tree (next_number b.first) (version_of b.minor)) base in
@@ -98,21 +99,162 @@ settled_changes h k steps (dones.Commit number) old new still loads made base un
     (state_of k.tree (next_number h.base.first) (version_of h.base.minor)) false) =
     subst (λ (t : HiveState). EachCrash new (λ (c : Image). Loads c t false)) state
     (still_loads new (committed_state k) false settles.2 settles.3) in
-    record {
-      text = ap (λ (n : ℕ). codes "commit import " ++ decimal n ++ codes "\n") numbered
-          ∙ ap (λ (c : Change). c.text) (sym change);
-      loads = subst (λ (c : Change). EachCrash new (λ (i : Image). Loads i c.state false)) (sym change) left;
-    }
+    made_other s k.tree new number other numbered left
+
+-- the edits were refused, and nothing was done
+refused_is : (stop : EditStop) (edit : Result Tree Refusal) → (stop ≡ stops.Memory → ⊥) → IsRefused edit stop
+    → as_edited edit ≡ Err (import_stops.Edit stop)
+refused_is stops.NoKey edit kept is = ap as_edited is
+refused_is stops.NoValue edit kept is = ap as_edited is
+refused_is stops.BadName edit kept is = ap as_edited is
+refused_is stops.Exists edit kept is = ap as_edited is
+refused_is stops.NameTooLong edit kept is = ap as_edited is
+refused_is stops.TooDeep edit kept is = ap as_edited is
+refused_is stops.DataTooLong edit kept is = ap as_edited is
+refused_is stops.Full edit kept is = ap as_edited is
+refused_is stops.Memory edit kept is = absurd (kept refl)
+
+refused_made : (s : HiveState) (edit : Result Tree Refusal) (stop : EditStop) (done : Done) (disk : DiskState)
+    → disk.flight ≡ [] → Loads disk.held s false → IsRefused edit stop
+    → (done ≡ dones.Refused (import_stops.Edit stop)) × (stop ≡ stops.Memory → ⊥)
+    → IsMade s (as_edited edit) disk done
+refused_made s edit stop done disk still loads is refused =
+    let same : as_edited edit ≡ Err (import_stops.Edit stop) = refused_is stop edit refused.1 is in
+    let P : Result Tree ImportStop → Type 0 = λ r. IsMade s r disk done in
+    subst P (sym same) (record { done_is = refused.0; loads = still_loads disk s false still loads })
+
+-- ---- where a step after them is refused
+
+protected_ok : (s : HiveState) (edit : Result Tree Refusal) (t : Tree) → edit ≡ Ok t
+    → dones.Refused import_stops.Protected ≡ done_by s (as_protected edit)
+protected_ok s edit t is = ap (λ (r : Result Tree Refusal). done_by s (as_protected r)) (sym is)
+
+protected_full : (s : HiveState) (edit : Result Tree Refusal) → edit ≡ Err full
+    → dones.Refused import_stops.Protected ≡ done_by s (as_protected edit)
+protected_full s edit is = ap (λ (r : Result Tree Refusal). done_by s (as_protected r)) (sym is)
+
+protected_refused : (stop : EditStop) (edit : Result Tree Refusal) → (stop ≡ stops.Memory → ⊥) → (stop ≡ stops.Full → ⊥)
+    → IsRefused edit stop → as_protected edit ≡ Err (import_stops.Edit stop)
+protected_refused stops.NoKey edit kept fits is = ap as_protected is
+protected_refused stops.NoValue edit kept fits is = ap as_protected is
+protected_refused stops.BadName edit kept fits is = ap as_protected is
+protected_refused stops.Exists edit kept fits is = ap as_protected is
+protected_refused stops.NameTooLong edit kept fits is = ap as_protected is
+protected_refused stops.TooDeep edit kept fits is = ap as_protected is
+protected_refused stops.DataTooLong edit kept fits is = ap as_protected is
+protected_refused stops.Full edit kept fits is = absurd (fits refl)
+protected_refused stops.Memory edit kept fits is = absurd (kept refl)
+
+-- the edits are refused before it
+pub protected_early : {E : Type 0} (h : Session) (steps : List Step) (stop : EditStop) (result : Result Done E)
+    → (stop ≡ stops.Full → ⊥) → IsRefused (edited (version_of h.base.minor) h.tree steps) stop → IsRefusedAs stop result
+    → IfOk result (EndsProtected (loaded_state h) steps)
+protected_early h steps stop (Ok done) fits is refused =
+    refused.0 ∙ ap (λ (r : Result Tree ImportStop). done_by (loaded_state h) r)
+    (sym (protected_refused stop (edited (version_of h.base.minor) h.tree steps) refused.1 fits is))
+protected_early h steps stop (Err e) fits is refused = tt
+
+pub protected_made : (h : Session) (steps : List Step) (t : Tree) → edited (version_of h.base.minor) h.tree steps ≡ Ok t
+    → EndsProtected (loaded_state h) steps (dones.Refused import_stops.Protected)
+protected_made h steps t is = protected_ok (loaded_state h) (edited (version_of h.base.minor) h.tree steps) t is
+
+pub protected_large : (h : Session) (steps : List Step) → edited (version_of h.base.minor) h.tree steps ≡ Err full
+    → EndsProtected (loaded_state h) steps (dones.Refused import_stops.Protected)
+protected_large h steps is = protected_full (loaded_state h) (edited (version_of h.base.minor) h.tree steps) is
+
+never_made : (s : HiveState) (edit : Result Tree Refusal) → state_by s (as_protected edit) ≡ s
+never_made s (Ok t) = refl
+never_made s (Err no_key) = refl
+never_made s (Err no_value) = refl
+never_made s (Err bad_name) = refl
+never_made s (Err exists) = refl
+never_made s (Err name_too_long) = refl
+never_made s (Err too_deep) = refl
+never_made s (Err data_too_long) = refl
+never_made s (Err full) = refl
+
+-- nothing was done to the disk
+pub protected_ends : {E : Type 0} (tells : Bool) (protected : Bool) (result : Result Done E) (h : Session)
+    (steps : List Step)
+    (disk : DiskState) → protected ≡ true → (tells ≡ true → disk.flight ≡ [])
+    → (tells ≡ true → Loads disk.held (loaded_state h) false) → IfOk result (EndsProtected (loaded_state h) steps)
+    → tells ≡ true → IfOk result (MakesTree protected (loaded_state h) steps disk)
+protected_ends tells protected (Ok done) h steps disk is still loads ends told =
+    let s : HiveState = loaded_state h in
+    let edit : Result Tree Refusal = edited s.version s.tree steps in
+    let P : HiveState → Type 0 = λ t. EachCrash disk (λ (c : Image). Loads c t false) in
+    let left : P (state_by s (as_protected edit)) =
+    subst P (sym (never_made s edit)) (still_loads disk s false (still told) (loads told)) in
+    subst (λ (b : Bool). MakesTree b s steps disk done) (sym is) (record { done_is = ends; loads = left })
+protected_ends tells protected (Err e) h steps disk is still loads ends told = tt
+
+-- ---- what is printed
+
+-- what was done with what is printed for it
+said_made : {E : Type 0} (s : HiveState) (current passed : Option ℕ) (protected : Bool) (steps : List Step)
+    (done : Result Done E) (said : Result Said E) (disk : DiskState)
+    → IfOk done (MakesTree protected s steps disk) → SaysOf current passed done said
+    → IfOk said (Makes (change_left current passed s (record { steps = steps; protected = protected })) disk)
+said_made s current passed protected steps (Ok done) (Ok said) disk made says =
+    record { said_is = says ∙ ap (said_of current passed) made.done_is; loads = made.loads }
+said_made s current passed protected steps (Ok done) (Err e) disk made says = absurd says
+said_made s current passed protected steps (Err d) (Ok said) disk made says = absurd says
+said_made s current passed protected steps (Err d) (Err e) disk made says = tt
+
+-- ---- the steps that are left
+
+left_said : (s : HiveState) (current : Option ℕ) (protected : Bool) (steps left : List Step) (passed : ℕ) (tree : Tree)
+    → tree ≡ s.tree → record { steps = left; passed = passed } ≡ left_of tree steps
+    → change_left current (Some passed) s (record { steps = left; protected = protected })
+    ≡ change_made current true s (record { steps = steps; protected = protected })
+left_said s current protected steps left passed tree is are =
+    ap (λ (l : LeftSteps). change_left current (Some l.passed) s (record { steps = l.steps; protected = protected }))
+    (are ∙ ap (λ (t : Tree). left_of t steps) is)
+
+pub left_made : {E : Type 0} (s : HiveState) (current : Option ℕ) (protected : Bool) (steps left : List Step)
+    (passed : ℕ)
+    (tree : Tree) (done : Result Done E) (said : Result Said E) (disk : DiskState)
+    → tree ≡ s.tree → record { steps = left; passed = passed } ≡ left_of tree steps
+    → IfOk done (MakesTree protected s left disk) → SaysOf current (Some passed) done said
+    → IfOk said (MakesSteps current true s (record { steps = steps; protected = protected }) disk)
+left_made s current protected steps left passed tree done said disk is are made says =
+    subst (λ (c : Change). IfOk said (Makes c disk)) (left_said s current protected steps left passed tree is are)
+    (said_made s current (Some passed) protected left done said disk made says)
+
+-- ---- which set
+
+-- the change for a set, by whether its number is usable
+set_made : {E : Type 0} (s : HiveState) (n : ℕ) (lenient : Bool) (steps : List Step) (number : Option ℕ)
+    (result : Result Said E) (disk : DiskState) → number ≡ usable_in n s.tree
+    → IfOk result (MakesIn number lenient s steps disk) → IfOk result (Makes (change_in n lenient s steps) disk)
+set_made s n lenient steps number (Ok said) disk is made =
+    go (is_usable s.tree n) refl
+    (subst (λ (o : Option ℕ). MakesIn o lenient s steps disk said) is made)
+  where
+    go : (b : Bool) → is_usable s.tree n ≡ b → MakesIn (cond (is_usable s.tree n)
+        (Some n) None) lenient s steps disk said
+        → Makes (change_in n lenient s steps) disk said
+    go true e m = rw e (rw e at m)
+    go false e m = rw e (rw e at m)
+set_made s n lenient steps number (Err e) disk is made = tt
+
+pub set_changes : {E : Type 0} (how : How) (set : AskedSet) (s : HiveState) (steps : List Step) (number : Option ℕ)
+    (result : Result Said E) (disk : DiskState) → how.current ≡ Some set
+    → number ≡ usable_in (number_in set s.tree) s.tree
+    → IfOk result (MakesIn number how.lenient s steps disk) → IfOk result (Changes how s steps disk)
+set_changes how set s steps number result disk asked is made =
+    subst (λ (o : Option AskedSet). IfOk result (Makes (change_for o how.lenient s steps) disk)) (sym asked)
+    (set_made s (number_in set s.tree) how.lenient steps number result disk is made)
 
 -- ---- what was done from outside
 
 -- the edits were made in what the disk loaded as
-pub loaded_changes : {E : Type 0} (result : Result Done E) (h : Session) (dirty : Bool) (steps : List Step)
+loaded_changes : {E : Type 0} (how : How) (result : Result Said E) (h : Session) (dirty : Bool) (steps : List Step)
     (old : Image) (new : DiskState) → Loads old (loaded_state h) dirty
-    → IfOk result (Changes (loaded_state h) steps new) → IfOk result (ChangesHeld old steps new)
-loaded_changes (Ok done) h dirty steps old new loads changes =
+    → IfOk result (Changes how (loaded_state h) steps new) → IfOk result (ChangesHeld how old steps new)
+loaded_changes how (Ok said) h dirty steps old new loads changes =
     (record { state = loaded_state h; dirty = dirty }, loads, changes)
-loaded_changes (Err e) h dirty steps old new loads changes = tt
+loaded_changes how (Err e) h dirty steps old new loads changes = tt
 
 -- ---- on a new disk
 
@@ -122,31 +264,33 @@ woken_held files image old is crash =
     let P : DiskState → Type 0 = λ d. IsCrashImage d.held d.flight image in
     still_crash (image_in files) image (subst P is crash)
 
-woken_history : {E : Type 0} (files : HiveFiles) (steps : List Step) (result : Result Done E) (image : Image)
+woken_history : {E : Type 0} (how : How) (files : HiveFiles) (steps : List Step) (result : Result Said E)
+    (image : Image)
     (old mid new : DiskState) → old ≡ placed_disk files
-    → mid ≡ woken image old → ChangesAwake steps result mid new
+    → mid ≡ woken image old → ChangesAwake how steps result mid new
     → new.history ≡ (woken image (placed_disk files)).history
-woken_history files steps result image old mid new is wakes a =
+woken_history how files steps result image old mid new is wakes a =
     ap (λ (d : DiskState). d.history) a.off ∙ a.unmoved.history ∙ ap (λ (d : DiskState). d.history) wakes
     ∙ ap (λ (d : DiskState). (woken image d).history) is
 
 -- the files were placed, the disk woke up, the hive was changed, and the disk was turned off
-pub imports_on : {E : Type 0} (files : HiveFiles) (steps : List Step) (result : Result Done E) (image : Image)
+imports_on : {E : Type 0} (how : How) (files : HiveFiles) (steps : List Step) (result : Result Said E) (image : Image)
     (old mid new : DiskState) → old ≡ placed_disk files
-    → IsCrashImage old.held old.flight image → mid ≡ woken image old → ChangesAwake steps result mid new
-    → ImportsOn files steps result new
-imports_on files steps (Ok done) image old mid new is crash wakes a =
+    → IsCrashImage old.held old.flight image → mid ≡ woken image old → ChangesAwake how steps result mid new
+    → ImportsOn how files steps result new
+imports_on how files steps (Ok said) image old mid new is crash wakes a =
     let held : mid.held ≡ image_in files = ap (λ (d : DiskState). d.held) wakes ∙ woken_held files image old is crash in
-    let here : ChangesHeld (image_in files) steps a.late done =
-    subst (λ (i : Image). ChangesHeld i steps a.late done) held a.changed in
-    let made : Makes (change_of here.0.state steps) a.late done = here.2 in
-    let P : DiskState → Type 0 = λ d. EachCrash d (λ (c : Image). Loads c (change_of here.0.state steps).state false) in
+    let here : ChangesHeld how (image_in files) steps a.late said =
+    subst (λ (i : Image). ChangesHeld how i steps a.late said) held a.changed in
+    let change : Change = change_of how here.0.state steps in
+    let made : Makes change a.late said = here.2 in
+    let P : DiskState → Type 0 = λ d. EachCrash d (λ (c : Image). Loads c change.state false) in
     let loads : P new = subst P (sym a.off) made.loads in
     let same : new.history ≡ (woken image (placed_disk files)).history =
-    woken_history files steps (Ok done) image old mid new is wakes a in (
+    woken_history how files steps (Ok said) image old mid new is wakes a in (
       here.0,
       here.1,
-      made.text,
+      made.said_is,
       record {
         loads = loads;
         placed = ap (λ (h : History). h.placings) same;
@@ -159,9 +303,9 @@ imports_on files steps (Ok done) image old mid new is crash wakes a =
             ∙ ap (λ (d : DiskState). d.faults) wakes ∙ ap (λ (d : DiskState). d.faults) is;
       },
     )
-imports_on files steps (Err e) image old mid new is crash wakes a =
+imports_on how files steps (Err e) image old mid new is crash wakes a =
     let same : new.history ≡ (woken image (placed_disk files)).history =
-    woken_history files steps (Err e) image old mid new is wakes a in
+    woken_history how files steps (Err e) image old mid new is wakes a in
     let placings : new.history.placings ≡ 1 + named files.log = ap (λ (h : History). h.placings) same in
     let takings : new.history.takings ≡ 0 = ap (λ (h : History). h.takings) same in
     record {
@@ -172,12 +316,12 @@ imports_on files steps (Err e) image old mid new is crash wakes a =
     }
 
 -- the same on the disk of any files
-pub imports_any : {E : Type 0} (steps : List Step) (result : Result Done E) (old mid new : DiskState)
+pub imports_any : {E : Type 0} (how : How) (steps : List Step) (result : Result Said E) (old mid new : DiskState)
     → (image : Image) × IsCrashImage old.held old.flight image × (mid ≡ woken image old)
-    → ChangesAwake steps result mid new
-    → (files : HiveFiles) → old ≡ placed_disk files → ImportsOn files steps result new
-imports_any steps result old mid new wakes a files is =
-    imports_on files steps result wakes.0 old mid new is wakes.1 wakes.2 a
+    → ChangesAwake how steps result mid new
+    → (files : HiveFiles) → old ≡ placed_disk files → ImportsOn how files steps result new
+imports_any how steps result old mid new wakes a files is =
+    imports_on how files steps result wakes.0 old mid new is wakes.1 wakes.2 a
 
 -- ---- the same of a disk that may tell what it holds
 
@@ -187,16 +331,29 @@ pub edit_settles : {E : Type 0} (tells : Bool) (result : Result Done E) (h k : S
     → (tells ≡ true → Loads old.held (loaded_state h) false) → edited (version_of h.base.minor) h.tree steps ≡ Ok k.tree
     → k.base ≡ h.base → h.changed ≡ false
     → (k.changed ≡ true ↔ (h.changed ≡ true) ⊎ (k.tree ≡ h.tree → ⊥)) → (tells ≡ true → IfOk result (Settles k old new))
-    → tells ≡ true → IfOk result (Changes (loaded_state h) steps new)
+    → tells ≡ true → IfOk result (MakesTree false (loaded_state h) steps new)
 edit_settles tells (Ok done) h k steps old new still loads made base unchanged changed settles told =
-    settled_changes h k steps done old new (still told) (loads told) made base unchanged changed (settles told)
+    subst (λ (r : Result Tree Refusal). IsMade (loaded_state h) (as_edited r) new done) (sym made)
+    (settled_made h k steps done old new (still told) (loads told) made base unchanged changed (settles told))
 edit_settles tells (Err e) h k steps old new still loads made base unchanged changed settles told = tt
 
+-- they were refused
+pub edit_refused : {E : Type 0} (tells : Bool) (result : Result Done E) (h : Session) (steps : List Step)
+    (stop : EditStop)
+    (disk : DiskState) → (tells ≡ true → disk.flight ≡ []) → (tells ≡ true → Loads disk.held (loaded_state h) false)
+    → IsRefused (edited (version_of h.base.minor) h.tree steps) stop → IsRefusedAs stop result
+    → tells ≡ true → IfOk result (MakesTree false (loaded_state h) steps disk)
+edit_refused tells (Ok done) h steps stop disk still loads is refused told =
+    refused_made (loaded_state h) (edited (version_of h.base.minor) h.tree steps) stop done disk (still told)
+    (loads told)
+    is refused
+edit_refused tells (Err e) h steps stop disk still loads is refused told = tt
+
 -- they were made in what the disk loaded as
-pub change_loads : {E : Type 0} (tells : Bool) (result : Result Done E) (h : Session) (dirty : Bool) (steps : List Step)
-    (old : Image) (new : DiskState)
+pub change_loads : {E : Type 0} (how : How) (tells : Bool) (result : Result Said E) (h : Session) (dirty : Bool)
+    (steps : List Step) (old : Image) (new : DiskState)
     → (tells ≡ true → Loads old (loaded_state h) dirty)
-    → (tells ≡ true → IfOk result (Changes (loaded_state h) steps new))
-    → tells ≡ true → IfOk result (ChangesHeld old steps new)
-change_loads tells result h dirty steps old new loads changes told =
-    loaded_changes result h dirty steps old new (loads told) (changes told)
+    → (tells ≡ true → IfOk result (Changes how (loaded_state h) steps new))
+    → tells ≡ true → IfOk result (ChangesHeld how old steps new)
+change_loads how tells result h dirty steps old new loads changes told =
+    loaded_changes how result h dirty steps old new (loads told) (changes told)

@@ -20,44 +20,45 @@ use Rattle.command_parts.specs.Refusals.{refusal_text}
 use Rattle.command_parts.proofs.LeaveLemmas.{stop_counts, no_front}
 use Rattle.key_text.specs.Words.{path_in}
 use Rattle.text_commands.specs.Exported.{EndsExported, DecidesExport}
+use Rattle.line_text.specs.declared.form.ReportForm.{ReportForm}
 use Rattle.text_commands.specs.Exports.{TreeExports, ExportsAs}
 use Rattle.text_commands.specs.declared.exporting.Outcome.{Outcome}
 
 -- ---- the export of a tree
 
 -- the export is that of the tree that was read
-pub exported_as : (image : Image) (path : List (List ℕ)) (root : Tree) (sequence : ℕ) (version : HiveVersion)
+pub exported_as : (form : ReportForm) (image : Image) (path : List (List ℕ)) (root : Tree) (sequence : ℕ) (version : HiveVersion)
     (r : Result Outcome Obstacle)
-    → ChecksAs image (Ok (root, sequence, version)) → TreeExports path root r → ExportsAs image path r
-exported_as image path root sequence version (Ok e) loads is =
+    → ChecksAs image (Ok (root, sequence, version)) → TreeExports form path root r → ExportsAs form image path r
+exported_as form image path root sequence version (Ok e) loads is =
     (record { state = state_of root sequence version; dirty = loads.0 }, loads.1, is)
-exported_as image path root sequence version (Err (Stopped stop)) loads is = stop_is stop Memory is
+exported_as form image path root sequence version (Err (Stopped stop)) loads is = stop_is stop Memory is
   where
     stop_is : (a b : HostStop) → Stopped a ≡ Stopped b → a ≡ b
     stop_is a b e = cc
-exported_as image path root sequence version (Err (Refused why)) loads is = absurd cc
+exported_as form image path root sequence version (Err (Refused why)) loads is = absurd cc
 
 -- ---- after the search for the hive
 
-stopped_end : (wanted : Result HiveFiles Refusal) (path : List (List ℕ)) (name : List ℕ) (stop : HostStop)
+stopped_end : (form : ReportForm) (wanted : Result HiveFiles Refusal) (path : List (List ℕ)) (name : List ℕ) (stop : HostStop)
     (before after : Files) (old new : List ℕ)
     → new ≡ old → after ≡ before → (stop ≡ Write → ⊥)
-    → EndsExported wanted path name before after (stopped_as stop) old new
-stopped_end (Err r) path name Read before after old new same files unwritten = (inr same, files)
-stopped_end (Ok x) path name Read before after old new same files unwritten = inr (inr (inr refl, same, files))
-stopped_end wanted path name Write before after old new same files unwritten = absurd (unwritten refl)
-stopped_end (Err r) path name Memory before after old new same files unwritten =
+    → EndsExported form wanted path name before after (stopped_as stop) old new
+stopped_end form (Err r) path name Read before after old new same files unwritten = (inr same, files)
+stopped_end form (Ok x) path name Read before after old new same files unwritten = inr (inr (inr refl, same, files))
+stopped_end form wanted path name Write before after old new same files unwritten = absurd (unwritten refl)
+stopped_end form (Err r) path name Memory before after old new same files unwritten =
     (inr (no_front (refusal_text r) old new same), files)
-stopped_end (Ok x) path name Memory before after old new same files unwritten = inr (inr (inl refl, same, files))
+stopped_end form (Ok x) path name Memory before after old new same files unwritten = inr (inr (inl refl, same, files))
 
 -- the environment stopped the search
-pub stopped_exports : (words : ExportAsked) (stop : HostStop) (old new : HostState)
+pub stopped_exports : (form : ReportForm) (words : ExportAsked) (stop : HostStop) (old new : HostState)
     → Looks {A = HiveFiles} (hive_in old.files words.hive words.log) (Err (Stopped stop)) old new
-    → DecidesExport words (stopped_as stop) old new
-stopped_exports words stop old new a = record {
+    → DecidesExport form words (stopped_as stop) old new
+stopped_exports form words stop old new a = record {
   keeps = a.keeps;
   counts = stop_counts stop old new a.counts;
-  said = λ tells. stopped_end (hive_in old.files words.hive words.log) (path_in words.key)
+  said = λ tells. stopped_end form (hive_in old.files words.hive words.log) (path_in words.key)
       words.reg stop old.files new.files old.said new.said
       (a.unsaid tells) (a.files tells) (λ e. a.unwritten (ap (λ (s : HostStop). Stopped s) e));
 }

@@ -1,18 +1,16 @@
 -- What `import` leaves.
 use Rattle.std.proofs.Common.{◌≡◌, ◌≤◌, ◌++◌, inl, inr, ℕ, zero, suc, false, List, Option, None, Some, refl, sym, ap, subst, ◌∙◌, arith}
 use Rattle.std.specs.Prelude.{Result, Ok, Err}
-use Rattle.nt_bytes.specs.declared.fault.HiveFault.{HiveFault}
 use Rattle.nt_bytes.specs.declared.version.HiveVersion.{HiveVersion}
 use Rattle.hive_model.specs.Edit.{Step}
 use Rattle.hive_model.specs.Image.{Image}
 use Rattle.hive_model.specs.Load.{state_of}
 use Rattle.hive_store.specs.Checks.{JudgesAs}
 use Rattle.nt_edge.specs.Disk.{DiskState, new_state}
-use Rattle.nt_edge.specs.Host.{HostState, KeepsFiles, Asks, AsksNone}
+use Rattle.nt_edge.specs.Host.{Files, HostState, KeepsFiles, Asks, AsksNone}
 use Rattle.nt_edge.specs.declared.host.HostStop.{HostStop}
 use Rattle.nt_edge.specs.declared.host.HostStop.TheVariants.{Read, Write, Memory}
 use Rattle.reg_text.specs.declared.stop.RegFault.{RegFault}
-use Rattle.reg_text.specs.Reading.{reg_steps_of}
 use Rattle.command_words.specs.Words.{ImportAsked}
 use Rattle.command_parts.specs.declared.inputs.HiveFiles.{HiveFiles}
 use Rattle.command_parts.specs.declared.refusal.Refusal.{Refusal}
@@ -21,16 +19,20 @@ use Rattle.command_parts.specs.declared.refusal.Obstacle.TheVariants.{Refused, S
 use Rattle.command_parts.specs.declared.status.Status.{Status}
 use Rattle.command_parts.specs.declared.status.Status.TheVariants as statuses
 use Rattle.command_parts.specs.Inputs.{hive_in, file_in}
-use Rattle.command_parts.specs.Leaves.{Leaves, Looks, more, named, stopped_as, IsPartDone}
+use Rattle.command_parts.specs.Leaves.{Leaves, Looks, more, named, stop_in, stopped_as, IsPartDone}
 use Rattle.command_parts.specs.Placed.{IsUntouchedBy}
 use Rattle.command_parts.specs.Refusals.{Answer, Ends, IsToldAs, refusal, refusal_status, refusal_text}
-use Rattle.command_parts.specs.Saves.{Saves, saved_count, Settles, FinishesAs}
+use Rattle.command_parts.specs.Saves.{Saves, saved_count, Settles, FinishesAs, FilesAs}
 use Rattle.command_parts.proofs.DecideLemmas.{told_unused, told_unread, refused_unread, found_decides, refused_decides, stopped_decides}
-use Rattle.command_parts.proofs.LeaveLemmas.{no_front}
+use Rattle.command_parts.proofs.LeaveLemmas.{no_front, keeps_then, counts_by}
 use Rattle.text_commands.proofs.ImportAskLemmas.{text_asked}
-use Rattle.text_commands.specs.declared.changing.Done.{Done}
-use Rattle.text_commands.specs.Imported.{Change, change_of, IsImported, EndsChange, EndsHive, EndsImport, import_saves, DecidesImport}
-use Rattle.text_commands.specs.Imports.{done_text, IsImportOf, EndsRead, IsChecked, IsLoadable, DecidesEdits, DecidesText, DecidesFile}
+use Rattle.line_text.specs.declared.form.ReportForm.{ReportForm}
+use Rattle.text_commands.specs.declared.said.How.{How}
+use Rattle.text_commands.specs.declared.said.Said.{Said}
+use Rattle.text_commands.specs.Changed.{Change, steps_in, change_of}
+use Rattle.text_commands.specs.ImportLines.{said_text}
+use Rattle.text_commands.specs.Imported.{IsImported, EndsChange, EndsHive, EndsImport, import_saves, import_how, DecidesImport}
+use Rattle.text_commands.specs.Imports.{IsImportOf, EndsRead, IsChecked, IsLoadable, DecidesEdits, DecidesText, DecidesFile}
 
 -- ---- the disk after the saving
 
@@ -83,26 +85,27 @@ said_done : (text old new : List ℕ) → Ends (done_with text) statuses.Done ol
 said_done text old new (inl end) = end.1
 said_done text old new (inr none) = absurd none
 
-ends_change : (files : HiveFiles) (saves : Saves) (change : Change) (status : Status) (text old new : List ℕ)
-    (taken : ℕ) (disk : DiskState) → IsToldAs statuses.Done status
-    → text ≡ change.text → taken ≤ saved_count saves → (status ≡ statuses.Done → taken ≡ saved_count saves)
+ends_change : (files : HiveFiles) (saves : Saves) (form : ReportForm) (change : Change) (status : Status)
+    (text old new : List ℕ) (taken : ℕ) (disk : DiskState) → IsToldAs statuses.Done status
+    → text ≡ said_text form change.said → taken ≤ saved_count saves → (status ≡ statuses.Done
+    → taken ≡ saved_count saves)
     → IsImported files change.state taken disk
-    → Ends (done_with text) status old new → EndsChange files saves change disk status old new
-ends_change files saves change status text old new taken disk (inl is) same few all made end =
+    → Ends (done_with text) status old new → EndsChange files saves form change disk status old new
+ends_change files saves form change status text old new taken disk (inl is) same few all made end =
     let done = subst (λ (t : List ℕ). Ends (done_with t) statuses.Done old new) same
     (subst (λ (s : Status). Ends (done_with text) s old new) is end) in
     let P : ℕ → Type 0 = λ n. IsImported files change.state n disk in
-    subst (λ (s : Status). EndsChange files saves change disk s old new) (sym is)
-    (said_done change.text old new done, subst P (all is) made)
-ends_change files saves change status text old new taken disk (inr (inl is)) same few all made end =
+    subst (λ (s : Status). EndsChange files saves form change disk s old new) (sym is)
+    (said_done (said_text form change.said) old new done, subst P (all is) made)
+ends_change files saves form change status text old new taken disk (inr (inl is)) same few all made end =
     let part = subst (λ (t : List ℕ). Ends (done_with t) statuses.WriteFault old new) same
     (subst (λ (s : Status). Ends (done_with text) s old new) is end) in
-    subst (λ (s : Status). EndsChange files saves change disk s old new) (sym is)
+    subst (λ (s : Status). EndsChange files saves form change disk s old new) (sym is)
     (part, part_imported files change taken (saved_count saves) disk few made)
-ends_change files saves change status text old new taken disk (inr (inr is)) same few all made end =
+ends_change files saves form change status text old new taken disk (inr (inr is)) same few all made end =
     let part = subst (λ (t : List ℕ). Ends (done_with t) statuses.Memory old new) same
     (subst (λ (s : Status). Ends (done_with text) s old new) is end) in
-    subst (λ (s : Status). EndsChange files saves change disk s old new) (sym is)
+    subst (λ (s : Status). EndsChange files saves form change disk s old new) (sym is)
     (part, part_imported files change taken (saved_count saves) disk few made)
 
 untouched_told : (status : Status) (disk : DiskState) → IsToldAs statuses.Done status → IsUntouchedBy status disk
@@ -111,13 +114,13 @@ untouched_told status disk (inr (inl is)) = (let P : Status → Type 0 = λ s. I
 untouched_told status disk (inr (inr is)) = (let P : Status → Type 0 = λ s. IsUntouchedBy s disk in subst P (sym is) tt)
 
 -- the line was printed and the files saved, or that was stopped
-pub finished_imports : (files : HiveFiles) (saves : Saves) (steps : List Step) (done : Done) (line : List ℕ)
-    (status : Status) (old new : HostState)
-    (mid after : DiskState) → IsImportOf files steps mid done → mid.on ≡ false → line ≡ done_text done
-    → FinishesAs line saves status old new mid after → DecidesEdits files saves steps status old new after
-finished_imports files saves steps done line status old new mid after on off is f =
-    let change : Change = change_of on.0.state steps in
-    let text : line ≡ change.text = is ∙ on.2 in
+pub finished_imports : (files : HiveFiles) (saves : Saves) (how : How) (steps : List Step) (said : Said)
+    (line : List ℕ) (status : Status) (old new : HostState)
+    (mid after : DiskState) → IsImportOf how files steps mid said → mid.on ≡ false → line ≡ said_text how.form said
+    → FinishesAs line saves status old new mid after → DecidesEdits files saves how steps status old new after
+finished_imports files saves how steps said line status old new mid after on off is f =
+    let change : Change = change_of how on.0.state steps in
+    let text : line ≡ said_text how.form change.said = is ∙ ap (said_text how.form) on.2 in
     let two : f.taken ≤ 2 = omega (arith, f.few, count_few saves) in
     record {
       decides = record {
@@ -127,7 +130,7 @@ finished_imports files saves steps done line status old new mid after on off is 
           said = λ tells. inl (
             on.0,
             on.1,
-            ends_change files saves change status line old.said new.said f.taken after f.told text f.few f.all
+            ends_change files saves how.form change status line old.said new.said f.taken after f.told text f.few f.all
                 (saved_imported files change f.taken mid after two on.3 f.settles) (f.leaves.said tells),
           );
         };
@@ -142,24 +145,26 @@ finished_imports files saves steps done line status old new mid after on off is 
 
 -- ---- after the search for the text
 
-read_hive : (files : HiveFiles) (saves : Saves) (r : Result (List Step) RegFault) (text : List ℕ) (disk : DiskState)
-    (status : Status) (old new : List ℕ) → IsLoadable files
-    → reg_steps_of text ≡ r → EndsRead files saves r disk status old new
-    → EndsHive files saves (Ok text) disk status old new
-read_hive files saves (Err fault) text disk status old new loads is end =
+read_hive : (files : HiveFiles) (saves : Saves) (how : How) (r : Result (List Step) RegFault) (text : List ℕ)
+    (disk : DiskState) (status : Status) (old new : List ℕ) → IsLoadable files
+    → steps_in how.encoding text ≡ r → EndsRead files saves how r disk status old new
+    → EndsHive files saves how (Ok text) disk status old new
+read_hive files saves how (Err fault) text disk status old new loads is end =
     inr (inl (loads.0, loads.1, rw is end))
-read_hive files saves (Ok steps) text disk status old new loads is (inl end) = inr (inl (end.0, end.1, rw is end.2))
-read_hive files saves (Ok steps) text disk status old new loads is (inr end) = inr (inr (inl end))
+read_hive files saves how (Ok steps) text disk status old new loads is (inl end) =
+    inr (inl (end.0, end.1, rw is end.2))
+read_hive files saves how (Ok steps) text disk status old new loads is (inr end) = inr (inr (inl end))
 
-pub found_file : (files : HiveFiles) (saves : Saves) (name text : List ℕ) (status : Status) (old mid new : HostState)
+pub found_file : (files : HiveFiles) (saves : Saves) (how : How) (name text : List ℕ) (status : Status)
+    (old mid new : HostState)
     (disk : DiskState) → IsLoadable files
     → Looks (file_in name (old.files name)) (Ok text) old mid → Asks old mid
-    → DecidesText files saves text status mid new disk
-    → DecidesFile files saves name status old new disk
-found_file files saves name text status old mid new disk loads a asks b = record {
-  decides = found_decides (file_in name (old.files name)) (λ w s o n. EndsHive files saves w disk s o n) saves text
-      (EndsRead files saves (reg_steps_of text) disk) status old mid new disk
-      (λ o n end. read_hive files saves (reg_steps_of text) text disk status o n loads refl end) a b;
+    → DecidesText files saves how text status mid new disk
+    → DecidesFile files saves how name status old new disk
+found_file files saves how name text status old mid new disk loads a asks b = record {
+  decides = found_decides (file_in name (old.files name)) (λ w s o n. EndsHive files saves how w disk s o n) saves text
+      (EndsRead files saves how (steps_in how.encoding text) disk) status old mid new disk
+      (λ o n end. read_hive files saves how (steps_in how.encoding text) text disk status o n loads refl end) a b;
   kept = b.kept;
   asks = text_asked files status old.gets mid.gets new.gets loads asks b.unasked b.unread;
 }
@@ -172,25 +177,25 @@ usage_only refusals.IniTooLong never e = absurd cc
 usage_only refusals.IniTooManyEntries never e = absurd cc
 usage_only (refusals.HiveFault fault) never e = absurd cc
 
-pub absent_file : (files : HiveFiles) (saves : Saves) (name : List ℕ) (why : Refusal) (status : Status)
+pub absent_file : (files : HiveFiles) (saves : Saves) (how : How) (name : List ℕ) (why : Refusal) (status : Status)
     (old mid new : HostState) (disk : DiskState) → IsLoadable files → disk ≡ new_state
     → Looks {A = List ℕ} (file_in name (old.files name)) (Err (Refused why)) old mid → Asks old mid → AsksNone mid new
     → (why ≡ refusals.Usage → ⊥) → Leaves (Ends (refusal why)) status mid new → KeepsFiles mid new
-    → IsToldAs (refusal_status why) status → DecidesFile files saves name status old new disk
-absent_file files saves name why status old mid new disk loads fresh a asks unasked used leaves kept told = record {
-  decides = refused_decides (file_in name (old.files name)) (λ w s o n. EndsHive files saves w disk s o n)
+    → IsToldAs (refusal_status why) status → DecidesFile files saves how name status old new disk
+absent_file files saves how name why status old mid new disk loads fresh a asks unasked used leaves kept told = record {
+  decides = refused_decides (file_in name (old.files name)) (λ w s o n. EndsHive files saves how w disk s o n)
       saves why status old mid new disk fresh
       (λ o n end. inr (inl (loads.0, loads.1, (end, fresh)))) a leaves kept told;
   kept = told_unused (refusal_status why) status told (usage_only why used);
   asks = text_asked files status old.gets mid.gets new.gets loads asks unasked (refused_unread why status told);
 }
 
-stopped_hive : (files : HiveFiles) (saves : Saves) (wanted : Result (List ℕ) Refusal) (stop : HostStop)
+stopped_hive : (files : HiveFiles) (saves : Saves) (how : How) (wanted : Result (List ℕ) Refusal) (stop : HostStop)
     (disk : DiskState) (old new : List ℕ) → disk ≡ new_state → new ≡ old
-    → (stop ≡ Write → ⊥) → EndsHive files saves wanted disk (stopped_as stop) old new
-stopped_hive files saves wanted Read disk old new fresh same unwritten = inr (inr (inr (refl, same, fresh)))
-stopped_hive files saves wanted Write disk old new fresh same unwritten = absurd (unwritten refl)
-stopped_hive files saves wanted Memory disk old new fresh same unwritten =
+    → (stop ≡ Write → ⊥) → EndsHive files saves how wanted disk (stopped_as stop) old new
+stopped_hive files saves how wanted Read disk old new fresh same unwritten = inr (inr (inr (refl, same, fresh)))
+stopped_hive files saves how wanted Write disk old new fresh same unwritten = absurd (unwritten refl)
+stopped_hive files saves how wanted Memory disk old new fresh same unwritten =
     inr (inr (inl (refl, same, new_part files disk fresh)))
 
 -- ---- after the check of the hive
@@ -200,23 +205,61 @@ checked image x judged = (record { state = state_of judged.0 x.0 x.1; dirty = ju
 
 -- ---- after the search for the hive
 
-stopped_import : (wanted : Result HiveFiles Refusal) (saves : Saves) (text : Result (List ℕ) Refusal) (stop : HostStop)
+stopped_import : (wanted : Result HiveFiles Refusal) (saves : Saves) (how : How) (text : Result (List ℕ) Refusal)
+    (stop : HostStop)
     (disk : DiskState) (old new : List ℕ) → disk ≡ new_state
-    → new ≡ old → (stop ≡ Write → ⊥) → EndsImport wanted saves text disk (stopped_as stop) old new
-stopped_import (Ok files) saves text stop disk old new fresh same unwritten =
-    stopped_hive files saves text stop disk old new fresh same unwritten
-stopped_import (Err r) saves text Read disk old new fresh same unwritten = (inr same, fresh)
-stopped_import (Err r) saves text Write disk old new fresh same unwritten = absurd (unwritten refl)
-stopped_import (Err r) saves text Memory disk old new fresh same unwritten =
+    → new ≡ old → (stop ≡ Write → ⊥) → EndsImport wanted saves how text disk (stopped_as stop) old new
+stopped_import (Ok files) saves how text stop disk old new fresh same unwritten =
+    stopped_hive files saves how text stop disk old new fresh same unwritten
+stopped_import (Err r) saves how text Read disk old new fresh same unwritten = (inr same, fresh)
+stopped_import (Err r) saves how text Write disk old new fresh same unwritten = absurd (unwritten refl)
+stopped_import (Err r) saves how text Memory disk old new fresh same unwritten =
     (inr (no_front (refusal_text r) old new same), fresh)
 
-pub unfound_import : (words : ImportAsked) (stop : HostStop) (old new : HostState) (disk : DiskState) → disk ≡ new_state
+pub unfound_import : (form : ReportForm) (words : ImportAsked) (stop : HostStop) (old new : HostState)
+    (disk : DiskState) → disk ≡ new_state
     → Looks {A = HiveFiles} (hive_in old.files words.hive words.log) (Err (Stopped stop)) old new
-    → DecidesImport words (stopped_as stop) old new disk
-unfound_import words stop old new disk fresh a =
+    → DecidesImport form words (stopped_as stop) old new disk
+unfound_import form words stop old new disk fresh a =
     stopped_decides (hive_in old.files words.hive words.log)
-    (λ w s o n. EndsImport w (import_saves words) (file_in words.reg (old.files words.reg)) disk s o n)
+    (λ w s o n. EndsImport w (import_saves words) (import_how form words) (file_in words.reg
+    (old.files words.reg)) disk s o n)
     (import_saves words)
     stop old new disk fresh
     (λ o n same unwritten. stopped_import (hive_in old.files words.hive words.log) (import_saves words)
+    (import_how form words)
     (file_in words.reg (old.files words.reg)) stop disk o n fresh same unwritten) a
+
+-- hive and log were found
+pub found_import : (form : ReportForm) (words : ImportAsked) (files : HiveFiles) (status : Status)
+    (old mid new : HostState) (disk : DiskState)
+    → Looks (hive_in old.files words.hive words.log) (Ok files) old mid
+    → DecidesFile files (import_saves words) (import_how form words) words.reg status mid new disk
+    → DecidesImport form words status old new disk
+found_import form words files status old mid new disk a b =
+    let saves : Saves = import_saves words in
+    let how : How = import_how form words in
+    let l = b.decides.leaves in
+    record {
+      leaves = record {
+        keeps = keeps_then old mid new a.keeps l.keeps;
+        counts = counts_by (stop_in status) old mid new a.keeps a.counts l.counts;
+        said = λ tells.
+            let here : EndsHive files saves how (file_in words.reg
+            (mid.files words.reg)) disk status mid.said new.said =
+            l.said (a.keeps.tells ∙ tells) in
+            subst (λ (w : Result HiveFiles Refusal). EndsImport w saves how (file_in words.reg
+            (old.files words.reg)) disk
+            status old.said new.said) (sym (a.found tells))
+            (subst (λ (m : List ℕ). EndsHive files saves how (file_in words.reg
+            (old.files words.reg)) disk status m new.said)
+            (a.unsaid tells)
+            (subst (λ (f : Files). EndsHive files saves how (file_in words.reg
+            (f words.reg)) disk status mid.said new.said)
+            (a.files tells) here));
+      };
+      files = λ tells. subst (λ (f : Files). FilesAs saves status disk.held f new.files) (a.files tells)
+          (b.decides.files (a.keeps.tells ∙ tells));
+      off = b.decides.off;
+      untouched = b.decides.untouched;
+    }

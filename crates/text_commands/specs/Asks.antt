@@ -28,7 +28,7 @@ abbrev pub AsksText : Result HiveFiles Why → ℕ → Status → ℕ → ℕ �
 AsksText (Err r) before status old new = AsksBy before (stop_in status) old new
 AsksText (Ok files) before status old new = AsksBehind files before status old new
 
--- of the words
+-- of the command line
 abbrev pub AsksImport : ImportAsked → Status → HostState → HostState → Type 0
 AsksImport words status old new =
     old.tells ≡ true → AsksText (hive_in old.files words.hive words.log) (asks_hive old.files words.hive words.log) status old.gets new.gets

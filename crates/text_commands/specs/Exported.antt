@@ -1,8 +1,8 @@
--- What does `export` put, and what does it say? (this project's own)
+-- What does `export` put, and what does it say? (this project's own; JSON is RFC 8259)
 --
 -- The registry text of the key that the path leads to is put into a file, and then one line is printed. Where there is no such
 -- key, or no such text, no file is put.
-use Rattle.std.specs.Prelude.{◌≡◌, ◌⊎◌, ◌++◌, ◌+◌, ℕ, List, [], Option, Some, None, Result, Ok, Err, codes}
+use Rattle.std.specs.Prelude.{◌≡◌, ◌⊎◌, ◌++◌, ◌+◌, ℕ, List, [], ◌∷◌, Option, Some, None, Result, Ok, Err, codes}
 use Rattle.std.specs.Fmt.{decimal}
 use Rattle.nt_bytes.specs.declared.fault.HiveFault.{HiveFault}
 use Rattle.nt_edge.specs.Host.{Files, HostState, Puts, KeepsOthers}
@@ -25,6 +25,9 @@ use Rattle.command_parts.specs.Placed.{image_in}
 use Rattle.command_parts.specs.Refusals.{Answer, Ends, refusal}
 use Rattle.nt_bytes.specs.Counts.{capped}
 use Rattle.key_text.specs.Words.{path_in}
+use Rattle.line_text.specs.Objects.{Value, Number, Text, object_text}
+use Rattle.line_text.specs.declared.form.ReportForm.{ReportForm}
+use Rattle.line_text.specs.declared.form.ReportForm.TheVariants as forms
 
 -- ---- answers
 
@@ -46,24 +49,43 @@ fault_answer fault = record { status = statuses.RegFault; text = fault_text faul
 unfoldable pub exported_text : Tree → List ℕ
 exported_text t = codes "exported " ++ decimal (capped (key_count t)) ++ codes " keys " ++ decimal (capped (item_count t)) ++ codes " values\n"
 
+-- the same line as an object
+unfoldable pub exported_json : Tree → List ℕ
+exported_json t =
+    object_text (codes "exported") ((codes "keys", Number (capped (key_count t))) ∷ (codes "values", Number (capped (item_count t))) ∷ [])
+
+-- and in one of the two forms
+abbrev pub exported_in : ReportForm → Tree → List ℕ
+exported_in forms.Text t = exported_text t
+exported_in forms.Json t = exported_json t
+
+-- the fields of the answer that there is no such key
+abbrev pub no_key_fields : List (List ℕ × Value)
+no_key_fields = (codes "command", Text (codes "export")) ∷ (codes "word", Text (codes "no-key")) ∷ []
+
+-- the line where there is no such key
+abbrev pub no_key_in : ReportForm → List ℕ
+no_key_in forms.Text = codes "export refused no-key\n"
+no_key_in forms.Json = object_text (codes "refused") no_key_fields
+
 -- what is put into the file, if anything, and what is answered
 pub record Export : Type 0 where
   pub put : Option (List ℕ)
   pub answer : Answer
 
--- a key with its text, or with the fault that it has none
-abbrev pub text_export : Tree → Result (List ℕ) RegFault → Export
-text_export t (Ok text) = record { put = Some text; answer = record { status = statuses.Done; text = exported_text t } }
-text_export t (Err fault) = record { put = None; answer = fault_answer fault }
+-- a key with its text, or with the fault that it has none; a fault is text in either form
+abbrev pub text_export : ReportForm → Tree → Result (List ℕ) RegFault → Export
+text_export form t (Ok text) = record { put = Some text; answer = record { status = statuses.Done; text = exported_in form t } }
+text_export form t (Err fault) = record { put = None; answer = fault_answer fault }
 
 -- the key that was found, if any
-abbrev pub found_export : List (List ℕ) → Option Tree → Export
-found_export path None = record { put = None; answer = record { status = statuses.Done; text = codes "export refused no-key\n" } }
-found_export path (Some t) = text_export t (reg_text_of path t)
+abbrev pub found_export : ReportForm → List (List ℕ) → Option Tree → Export
+found_export form path None = record { put = None; answer = record { status = statuses.Done; text = no_key_in form } }
+found_export form path (Some t) = text_export form t (reg_text_of path t)
 
 -- of a whole tree
-abbrev pub export_of : List (List ℕ) → Tree → Export
-export_of path root = found_export path (find_key path root)
+abbrev pub export_of : ReportForm → List (List ℕ) → Tree → Export
+export_of form path root = found_export form path (find_key path root)
 
 -- ---- the end
 
@@ -77,18 +99,18 @@ PutsAs name (Some text) stopped old new = KeepsOthers old new name
 
 -- The first obstacle of the command line's files is printed; or the hive has a first fault, and that is printed; or it loads as a state, and
 -- its export is put and said; or there was no memory or a read fault before anything was done. Before the export nothing is put.
-abbrev pub EndsExported : Result HiveFiles Refusal → List (List ℕ) → List ℕ → Files → Files → Status → List ℕ → List ℕ → Type 0
-EndsExported (Err r) path name before after status old new = Ends (refusal r) status old new × (after ≡ before)
-EndsExported (Ok files) path name before after status old new =
+abbrev pub EndsExported : ReportForm → Result HiveFiles Refusal → List (List ℕ) → List ℕ → Files → Files → Status → List ℕ → List ℕ → Type 0
+EndsExported form (Err r) path name before after status old new = Ends (refusal r) status old new × (after ≡ before)
+EndsExported form (Ok files) path name before after status old new =
     ((fault : HiveFault) × (LoadFault (image_in files) fault) × Ends (refusal (BadHive fault)) status old new × (after ≡ before))
     ⊎ (((placed : Woken) × (Loads (image_in files) placed.state placed.dirty)
-    × Ends (export_of path placed.state.tree).answer status old new × PutsAs name (export_of path placed.state.tree).put status before after)
+    × Ends (export_of form path placed.state.tree).answer status old new × PutsAs name (export_of form path placed.state.tree).put status before after)
     ⊎ (((status ≡ statuses.Memory) ⊎ (status ≡ statuses.ReadFault)) × (new ≡ old) × (after ≡ before)))
 
 -- the host is left so by the whole command
-abbrev pub DecidesExport : ExportAsked → Status → HostState → HostState → Type 0
-DecidesExport words status old new =
-    Leaves (EndsExported (hive_in old.files words.hive words.log) (path_in words.key) words.reg old.files new.files) status old new
+abbrev pub DecidesExport : ReportForm → ExportAsked → Status → HostState → HostState → Type 0
+DecidesExport form words status old new =
+    Leaves (EndsExported form (hive_in old.files words.hive words.log) (path_in words.key) words.reg old.files new.files) status old new
 
 -- how many files are asked for
 abbrev pub asks_export : ExportAsked → Files → ℕ

@@ -15,6 +15,7 @@ use Rattle.command_parts.specs.declared.refusal.Obstacle.TheVariants.{Refused, S
 use Rattle.command_parts.specs.declared.inputs.HiveFiles.{HiveFiles}
 use Rattle.command_parts.specs.Leaves.{Leaves}
 use Rattle.command_parts.specs.Refusals.{Ends, IsToldAs}
+use Rattle.line_text.specs.declared.form.ReportForm.{ReportForm}
 use Rattle.text_commands.specs.declared.exporting.Outcome.{Outcome}
 use Rattle.text_commands.specs.Exported.{Export, export_of, PutsAs, EndsExported}
 
@@ -23,16 +24,16 @@ abbrev pub export_with : Option (List ℕ) → Status → List ℕ → Export
 export_with put status text = record { put = put; answer = record { status = status; text = text } }
 
 -- the export of this tree, or there was no memory
-abbrev pub TreeExports : List (List ℕ) → Tree → Result Outcome Obstacle → Type 0
-TreeExports path root (Ok e) = export_with e.put e.status e.line ≡ export_of path root
-TreeExports path root (Err obstacle) = obstacle ≡ Stopped NoMemory
+abbrev pub TreeExports : ReportForm → List (List ℕ) → Tree → Result Outcome Obstacle → Type 0
+TreeExports form path root (Ok e) = export_with e.put e.status e.line ≡ export_of form path root
+TreeExports form path root (Err obstacle) = obstacle ≡ Stopped NoMemory
 
 -- the export of the tree that the image loads as, or its first fault, or there was no memory
-abbrev pub ExportsAs : Image → List (List ℕ) → Result Outcome Obstacle → Type 0
-ExportsAs image path (Ok e) =
-    (placed : Woken) × (Loads image placed.state placed.dirty) × (export_with e.put e.status e.line ≡ export_of path placed.state.tree)
-ExportsAs image path (Err (Refused r)) = (fault : HiveFault) × (LoadFault image fault) × (r ≡ BadHive fault)
-ExportsAs image path (Err (Stopped stop)) = stop ≡ NoMemory
+abbrev pub ExportsAs : ReportForm → Image → List (List ℕ) → Result Outcome Obstacle → Type 0
+ExportsAs form image path (Ok e) =
+    (placed : Woken) × (Loads image placed.state placed.dirty) × (export_with e.put e.status e.line ≡ export_of form path placed.state.tree)
+ExportsAs form image path (Err (Refused r)) = (fault : HiveFault) × (LoadFault image fault) × (r ≡ BadHive fault)
+ExportsAs form image path (Err (Stopped stop)) = stop ≡ NoMemory
 
 -- the export was put and printed, or a prefix of that was done: nothing was printed before the text was put
 pub record PutsExport (name : List ℕ) (e : Export) (status : Status) (old new : HostState) : Type 0 where
@@ -43,8 +44,8 @@ pub record PutsExport (name : List ℕ) (e : Export) (status : Status) (old new 
   pub told : IsToldAs e.answer.status status
 
 -- without an obstacle in words and files: no file was asked for, and bad usage or a read fault is no answer any more
-pub record DecidesHive (files : HiveFiles) (path : List (List ℕ)) (name : List ℕ) (status : Status) (old new : HostState) : Type 0 where
-  pub leaves : Leaves (EndsExported (Ok files) path name old.files new.files) status old new
+pub record DecidesHive (form : ReportForm) (files : HiveFiles) (path : List (List ℕ)) (name : List ℕ) (status : Status) (old new : HostState) : Type 0 where
+  pub leaves : Leaves (EndsExported form (Ok files) path name old.files new.files) status old new
   pub unasked : AsksNone old new
   pub kept : status ≡ statuses.Usage → ⊥
   pub unread : status ≡ statuses.ReadFault → ⊥

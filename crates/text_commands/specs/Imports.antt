@@ -1,6 +1,5 @@
 -- What do the steps of `import` do? (this project's own)
-use Rattle.std.specs.Prelude.{◌≡◌, ◌⊎◌, ◌++◌, true, false, ℕ, List, [], Result, Ok, Err, IfOk, OnOk, codes}
-use Rattle.std.specs.Fmt.{decimal}
+use Rattle.std.specs.Prelude.{◌≡◌, ◌⊎◌, true, false, ℕ, Bool, if◌then◌else◌, List, [], Option, Some, None, Result, Ok, Err, IfOk, OnOk}
 use Rattle.hive_model.specs.Edit.{Step}
 use Rattle.hive_model.specs.Image.{Image}
 use Rattle.hive_model.specs.Load.{Loads, LoadFault}
@@ -13,9 +12,16 @@ use Rattle.nt_edge.specs.Bench.{turned_off}
 use Rattle.nt_edge.specs.Crash.{EachCrash}
 use Rattle.reg_tree.specs.declared.stop.EditStop.{EditStop}
 use Rattle.reg_tree.specs.declared.stop.EditStop.TheVariants as stops
+use Rattle.hive_model.specs.Edit.{edited}
+use Rattle.hive_model.specs.Tree.{Tree}
+use Rattle.start_model.specs.Sets.{is_usable}
+use Rattle.import_steps.specs.Current.{SetSteps, set_steps}
+use Rattle.command_words.specs.declared.asked.AskedEncoding.{AskedEncoding}
 use Rattle.start_model.specs.Possible.{Woken}
 use Rattle.reg_text.specs.declared.stop.RegFault.{RegFault}
-use Rattle.reg_text.specs.Reading.{reg_steps_of}
+use Rattle.reg_text.specs.declared.stop.RegStop.{RegStop}
+use Rattle.reg_text.specs.Gives.{GivesSteps}
+use Rattle.reg_tree.specs.declared.steps.TreeStep.{TreeStep}
 use Rattle.command_parts.specs.declared.inputs.HiveFiles.{HiveFiles}
 use Rattle.command_parts.specs.Placed.{image_in}
 use Rattle.command_parts.specs.declared.status.Status.{Status}
@@ -28,29 +34,16 @@ use Rattle.command_parts.specs.Saves.{Saves}
 use Rattle.hive_commit.specs.Stages.{next_number}
 use Rattle.hive_store.specs.Commits.{committed_state}
 use Rattle.hive_store.specs.Session.{Session}
-use Rattle.text_commands.specs.declared.changing.Done.{Done}
-use Rattle.text_commands.specs.declared.changing.Done.TheVariants as dones
+use Rattle.text_commands.specs.declared.said.Done.{Done}
+use Rattle.text_commands.specs.declared.said.Done.TheVariants as dones
+use Rattle.text_commands.specs.declared.said.How.{How}
+use Rattle.text_commands.specs.declared.said.ImportStop.{ImportStop}
+use Rattle.text_commands.specs.declared.said.ImportStop.TheVariants as import_stops
+use Rattle.text_commands.specs.declared.said.Said.{Said}
+use Rattle.text_commands.specs.Changed.{Change, steps_in, tree_by, as_protected, done_by, state_by, said_of, change_by, change_made, change_of}
 use Rattle.text_commands.specs.Asks.{AsksBehind}
 use Rattle.text_commands.specs.Exported.{fault_answer}
-use Rattle.text_commands.specs.Imported.{Change, change_of, IsImported, EndsChange, EndsHive}
-
--- the word of a stop of the edits
-abbrev pub stop_word : EditStop → List ℕ
-stop_word stops.NoKey = codes "no-key"
-stop_word stops.NoValue = codes "no-value"
-stop_word stops.BadName = codes "bad-name"
-stop_word stops.Exists = codes "exists"
-stop_word stops.NameTooLong = codes "name-too-long"
-stop_word stops.TooDeep = codes "too-deep"
-stop_word stops.DataTooLong = codes "data-too-long"
-stop_word stops.Full = codes "full"
-stop_word stops.Memory = codes "memory"
-
--- the line of what was done
-abbrev pub done_text : Done → List ℕ
-done_text (dones.Refused stop) = codes "import refused " ++ stop_word stop ++ codes "\n"
-done_text dones.Nothing = codes "import nothing\n"
-done_text (dones.Commit number) = codes "commit import " ++ decimal number ++ codes "\n"
+use Rattle.text_commands.specs.Imported.{IsImported, EndsChange, EndsHive}
 
 -- ---- on a disk
 
@@ -63,21 +56,54 @@ Settles s old new (dones.Commit number) =
 
 -- a refusal is reported, and lack of memory is a stop
 abbrev pub IsRefusedAs : {E : Type 0} → EditStop → Result Done E → Type 0
-IsRefusedAs stop (Ok done) = (done ≡ dones.Refused stop) × (stop ≡ stops.Memory → ⊥)
+IsRefusedAs stop (Ok done) = (done ≡ dones.Refused (import_stops.Edit stop)) × (stop ≡ stops.Memory → ⊥)
 IsRefusedAs stop (Err e) = stop ≡ stops.Memory
 
--- the change was made: its line is that of what was done, and whatever a loss of power leaves loads as its state
-pub record Makes (change : Change) (disk : DiskState) (done : Done) : Type 0 where
-  pub text : done_text done ≡ change.text
+-- that much is printed of what was done, or there was no memory
+abbrev pub SaysOf : {E : Type 0} → Option ℕ → Option ℕ → Result Done E → Result Said E → Type 0
+SaysOf current passed (Ok done) (Ok said) = said ≡ said_of current passed done
+SaysOf current passed (Ok done) (Err e) = ⊥
+SaysOf current passed (Err d) (Ok said) = ⊥
+SaysOf current passed (Err d) (Err e) = Unit {0}
+
+-- the steps end as one that is refused after them makes it
+abbrev pub EndsProtected : HiveState → List Step → Done → Type 0
+EndsProtected s steps done = done ≡ done_by s (as_protected (edited s.version s.tree steps))
+
+-- this was done, and whatever a loss of power leaves loads as the state after it
+pub record IsMade (s : HiveState) (edit : Result Tree ImportStop) (disk : DiskState) (done : Done) : Type 0 where
+  pub done_is : done ≡ done_by s edit
+  pub loads : EachCrash disk (λ (c : Image). Loads c (state_by s edit) false)
+
+-- the edits were made in a hive of this state, where a step after them may be refused
+abbrev pub MakesTree : Bool → HiveState → List Step → DiskState → Done → Type 0
+MakesTree protected s steps disk done = IsMade s (tree_by protected (edited s.version s.tree steps)) disk done
+
+-- the change was made: what is printed is of it, and whatever a loss of power leaves loads as its state
+pub record Makes (change : Change) (disk : DiskState) (said : Said) : Type 0 where
+  pub said_is : said ≡ change.said
   pub loads : EachCrash disk (λ (c : Image). Loads c change.state false)
 
+-- the change by these steps
+abbrev pub MakesSteps : Option ℕ → Bool → HiveState → SetSteps → DiskState → Said → Type 0
+MakesSteps current lenient s made disk said = Makes (change_made current lenient s made) disk said
+
+-- the number names a set
+abbrev pub usable_in : ℕ → Tree → Option ℕ
+usable_in n t = if is_usable t n then Some n else None
+
+-- the change by steps for the set of this number, or without a set
+abbrev pub MakesIn : Option ℕ → Bool → HiveState → List Step → DiskState → Said → Type 0
+MakesIn (Some n) lenient s steps disk said = Makes (change_made (Some n) lenient s (set_steps n steps)) disk said
+MakesIn None lenient s steps disk said = Makes (change_by None None s (Err import_stops.NoControlSet)) disk said
+
 -- the edits were made in a hive of this state
-abbrev pub Changes : HiveState → List Step → DiskState → Done → Type 0
-Changes s steps disk done = Makes (change_of s steps) disk done
+abbrev pub Changes : How → HiveState → List Step → DiskState → Said → Type 0
+Changes how s steps disk said = Makes (change_of how s steps) disk said
 
 -- the edits were made in the state that the image loads as
-abbrev pub ChangesHeld : Image → List Step → DiskState → Done → Type 0
-ChangesHeld image steps disk done = (placed : Woken) × (Loads image placed.state placed.dirty) × Changes placed.state steps disk done
+abbrev pub ChangesHeld : How → Image → List Step → DiskState → Said → Type 0
+ChangesHeld how image steps disk said = (placed : Woken) × (Loads image placed.state placed.dirty) × Changes how placed.state steps disk said
 
 -- no stop came
 pub record IsQuiet (old new : DiskState) : Type 0 where
@@ -85,34 +111,35 @@ pub record IsQuiet (old new : DiskState) : Type 0 where
   pub faults : new.faults ≡ old.faults
 
 -- the record of what was done from outside is as it was; where the work was done, no stop came
-pub record Unmoved {E : Type 0} (result : Result Done E) (old new : DiskState) : Type 0 where
+pub record Unmoved {A E : Type 0} (result : Result A E) (old new : DiskState) : Type 0 where
   pub history : new.history ≡ old.history
   pub quiet : OnOk result (IsQuiet old new)
 
 -- the edits were made on a disk that was on, which was turned off then
-pub record ChangesAwake {E : Type 0} (steps : List Step) (result : Result Done E) (old new : DiskState) : Type 0 where
+pub record ChangesAwake {E : Type 0} (how : How) (steps : List Step) (result : Result Said E) (old new : DiskState) : Type 0 where
   pub late : DiskState
-  pub changed : IfOk result (ChangesHeld old.held steps late)
+  pub changed : IfOk result (ChangesHeld how old.held steps late)
   pub unmoved : Unmoved result old late
   pub off : new ≡ turned_off late
 
 -- the files were placed on a new disk, and the edits made there
-abbrev pub IsImportOf : HiveFiles → List Step → DiskState → Done → Type 0
-IsImportOf files steps disk done =
-    (placed : Woken) × (Loads (image_in files) placed.state placed.dirty) × (done_text done ≡ (change_of placed.state steps).text)
-    × IsImported files (change_of placed.state steps).state 0 disk
+abbrev pub IsImportOf : How → HiveFiles → List Step → DiskState → Said → Type 0
+IsImportOf how files steps disk said =
+    (placed : Woken) × (Loads (image_in files) placed.state placed.dirty) × (said ≡ (change_of how placed.state steps).said)
+    × IsImported files (change_of how placed.state steps).state 0 disk
 
 -- that was done, or there was no memory for it
-abbrev pub ImportsOn : {E : Type 0} → HiveFiles → List Step → Result Done E → DiskState → Type 0
-ImportsOn files steps (Ok done) disk = IsImportOf files steps disk done
-ImportsOn files steps (Err e) disk = IsPartDone files 0 disk
+abbrev pub ImportsOn : {E : Type 0} → How → HiveFiles → List Step → Result Said E → DiskState → Type 0
+ImportsOn how files steps (Ok said) disk = IsImportOf how files steps disk said
+ImportsOn how files steps (Err e) disk = IsPartDone files 0 disk
 
 -- ---- the end
 
 -- the edits were made in the state that the hive's files load as, and a line was printed; or there was no memory for it
-abbrev pub EndsEdits : HiveFiles → Saves → List Step → DiskState → Status → List ℕ → List ℕ → Type 0
-EndsEdits files saves steps disk status old new =
-    ((placed : Woken) × (Loads (image_in files) placed.state placed.dirty) × EndsChange files saves (change_of placed.state steps) disk status old new)
+abbrev pub EndsEdits : HiveFiles → Saves → How → List Step → DiskState → Status → List ℕ → List ℕ → Type 0
+EndsEdits files saves how steps disk status old new =
+    ((placed : Woken) × (Loads (image_in files) placed.state placed.dirty)
+    × EndsChange files saves how.form (change_of how placed.state steps) disk status old new)
     ⊎ ((status ≡ statuses.Memory) × (new ≡ old) × IsPartDone files 0 disk)
 
 -- the image loads as some state, or this is its first fault
@@ -126,9 +153,9 @@ abbrev pub IsLoadable : HiveFiles → Type 0
 IsLoadable files = (placed : Woken) × Loads (image_in files) placed.state placed.dirty
 
 -- the text's fault is printed, and nothing was done to the disk; or its edits are made
-abbrev pub EndsRead : HiveFiles → Saves → Result (List Step) RegFault → DiskState → Status → List ℕ → List ℕ → Type 0
-EndsRead files saves (Err fault) disk status old new = Ends (fault_answer fault) status old new × (disk ≡ new_state)
-EndsRead files saves (Ok steps) disk status old new = EndsEdits files saves steps disk status old new
+abbrev pub EndsRead : HiveFiles → Saves → How → Result (List Step) RegFault → DiskState → Status → List ℕ → List ℕ → Type 0
+EndsRead files saves how (Err fault) disk status old new = Ends (fault_answer fault) status old new × (disk ≡ new_state)
+EndsRead files saves how (Ok steps) disk status old new = EndsEdits files saves how steps disk status old new
 
 -- the fault of a text was printed
 pub record TellsFault (fault : RegFault) (status : Status) (old new : HostState) : Type 0 where
@@ -137,16 +164,22 @@ pub record TellsFault (fault : RegFault) (status : Status) (old new : HostState)
   pub unasked : AsksNone old new
   pub told : IsToldAs statuses.RegFault status
 
+-- what a text in one encoding or the other is read as: its edits, or its first fault, or there was no memory
+abbrev pub GivesText : AskedEncoding → List ℕ → Result (List TreeStep) RegStop → Type 0
+GivesText encoding text result = GivesSteps result (steps_in encoding text)
+
 -- what follows the reading of the text leaves
-abbrev pub DecidesEdits : HiveFiles → Saves → List Step → Status → HostState → HostState → DiskState → Type 0
-DecidesEdits files saves steps status old new disk = DecidesAlone (EndsEdits files saves steps disk) saves status old new disk
+abbrev pub DecidesEdits : HiveFiles → Saves → How → List Step → Status → HostState → HostState → DiskState → Type 0
+DecidesEdits files saves how steps status old new disk = DecidesAlone (EndsEdits files saves how steps disk) saves status old new disk
 
 -- what follows the getting of the text leaves
-abbrev pub DecidesText : HiveFiles → Saves → List ℕ → Status → HostState → HostState → DiskState → Type 0
-DecidesText files saves text status old new disk = DecidesAlone (EndsRead files saves (reg_steps_of text) disk) saves status old new disk
+abbrev pub DecidesText : HiveFiles → Saves → How → List ℕ → Status → HostState → HostState → DiskState → Type 0
+DecidesText files saves how text status old new disk =
+    DecidesAlone (EndsRead files saves how (steps_in how.encoding text) disk) saves status old new disk
 
 -- what follows the getting of the hive leaves, and which files it asks for; bad usage is no answer any more
-pub record DecidesFile (files : HiveFiles) (saves : Saves) (name : List ℕ) (status : Status) (old new : HostState) (disk : DiskState) : Type 0 where
-  pub decides : Decides (EndsHive files saves (file_in name (old.files name)) disk) saves status old new disk
+pub record DecidesFile (files : HiveFiles) (saves : Saves) (how : How) (name : List ℕ) (status : Status) (old new : HostState) (disk : DiskState)
+    : Type 0 where
+  pub decides : Decides (EndsHive files saves how (file_in name (old.files name)) disk) saves status old new disk
   pub kept : status ≡ statuses.Usage → ⊥
   pub asks : AsksBehind files 0 status old.gets new.gets

@@ -1,5 +1,7 @@
 pub mod Asks
+pub mod Changed
 pub mod Exported
 pub mod Exports
+pub mod ImportLines
 pub mod Imported
 pub mod Imports

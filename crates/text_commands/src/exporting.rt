@@ -1,13 +1,14 @@
-//! `export`: the registry text of a key, put into a file, and a line on it.
+//! `export`: the registry text of a key, put into a file, and a line on it in one of the two forms.
 
-ghost use Rattle.std.specs.Prelude.{◌≡◌, ◌++◌, [], codes, option_map, IfOk};
+ghost use Rattle.std.specs.Prelude.{◌≡◌, ◌++◌, [], ◌∷◌, codes, option_map, IfOk, OnOk};
 ghost use Rattle.std.specs.Fmt.{decimal};
 ghost use Rattle.command_words.specs.Views.{export_seen};
 ghost use Rattle.command_parts.specs.Inputs.{AsksSoMany};
 ghost use Rattle.command_parts.specs.Leaves.{stop_in};
 ghost use Rattle.command_parts.specs.Placed.{image_in};
 ghost use Rattle.key_text.specs.Words.{path_in};
-ghost use Rattle.text_commands.specs.Exported.{exported_text, export_of, found_export, text_export, asks_export, DecidesExport};
+ghost use Rattle.line_text.specs.Objects.{Number, fields_text, object_text};
+ghost use Rattle.text_commands.specs.Exported.{exported_text, exported_json, exported_in, no_key_fields, no_key_in, export_of, found_export, text_export, asks_export, DecidesExport};
 ghost use Rattle.text_commands.specs.Exports.{export_with, TreeExports, ExportsAs, PutsExport, DecidesHive};
 
 use crate::counts::{item_count, key_count};
@@ -17,6 +18,7 @@ use command_parts::{
 };
 use command_words::ExportWords;
 use key_text::path_in;
+use line_text::{ReportForm, close_object, open_object, push_number_field, push_word_field};
 use nt_bytes::{Bytes, Names, ReadStop};
 use nt_edge::Host;
 use reg_text::{RegFault, RegStop, reg_text};
@@ -31,19 +33,60 @@ pub struct Outcome {
     pub status: Status,
 }
 
-/// The line on what was exported.
+/// The line on what was exported, as text.
 fn exported_line(alloc: Global, keys: u64, values: u64) -> Result<Vec<u8>, AllocError>
     ensures { IfOk result (λ l. l.items ≡ codes "exported " ++ decimal keys ++ codes " keys " ++ decimal values ++ codes " values\n") }
 {
     Ok(format!(in alloc; "exported {keys} keys {values} values\n")?.into_bytes())
 }
 
-/// A key that has a text.
 #[tactic(auto, unfolding(crate::specs::Exported::exported_text))]
-fn with_text(alloc: Global, key: &Key, text: Bytes) -> Result<Outcome, AllocError>
-    ensures { IfOk result (λ e. export_with e.put e.status e.line ≡ text_export key.now (Ok text)) }
+fn exported_text(alloc: Global, key: &Key) -> Result<Vec<u8>, AllocError>
+    ensures { IfOk result (λ l. l.items ≡ exported_text key.now) }
 {
-    let line = exported_line(alloc, key_count(key), item_count(key))?;
+    exported_line(alloc, key_count(key), item_count(key))
+}
+
+fn push_counts(out: &mut Vec<u8>, keys: u64, values: u64) -> Result<(), AllocError>
+    ensures { OnOk result (out.new.items ≡ out.old.items ++ fields_text ((codes "keys", Number keys) ∷ (codes "values", Number values) ∷ [])) }
+{
+    push_number_field(out, b"keys", keys)?;
+    push_number_field(out, b"values", values)
+}
+
+fn push_exported(out: &mut Vec<u8>, keys: u64, values: u64) -> Result<(), AllocError>
+    ensures { OnOk result (out.new.items ≡ out.old.items
+        ++ object_text (codes "exported") ((codes "keys", Number keys) ∷ (codes "values", Number values) ∷ [])) }
+{
+    open_object(out, b"exported")?;
+    push_counts(out, keys, values)?;
+    close_object(out)
+}
+
+/// The same line as an object.
+#[tactic(auto, unfolding(crate::specs::Exported::exported_json))]
+fn exported_object(alloc: Global, key: &Key) -> Result<Vec<u8>, AllocError>
+    ensures { IfOk result (λ l. l.items ≡ exported_json key.now) }
+{
+    let mut out = Vec::new(alloc);
+    push_exported(&mut out, key_count(key), item_count(key))?;
+    Ok(out)
+}
+
+fn exported_in(alloc: Global, form: ReportForm, key: &Key) -> Result<Vec<u8>, AllocError>
+    ensures { IfOk result (λ l. l.items ≡ exported_in form key.now) }
+{
+    match form {
+        ReportForm::Text => exported_text(alloc, key),
+        ReportForm::Json => exported_object(alloc, key),
+    }
+}
+
+/// A key that has a text.
+fn with_text(alloc: Global, form: ReportForm, key: &Key, text: Bytes) -> Result<Outcome, AllocError>
+    ensures { IfOk result (λ e. export_with e.put e.status e.line ≡ text_export form key.now (Ok text)) }
+{
+    let line = exported_in(alloc, form, key)?;
     Ok(Outcome {
         put: Some(text),
         line: Bytes::from_vec(line),
@@ -51,9 +94,14 @@ fn with_text(alloc: Global, key: &Key, text: Bytes) -> Result<Outcome, AllocErro
     })
 }
 
-/// A key that has none.
-fn with_fault(alloc: Global, key: &Key, fault: RegFault) -> Result<Outcome, AllocError>
-    ensures { IfOk result (λ e. export_with e.put e.status e.line ≡ text_export key.now (Err fault)) }
+/// A key that has none. The fault is text in either form.
+fn with_fault(
+    alloc: Global,
+    form: ReportForm,
+    key: &Key,
+    fault: RegFault,
+) -> Result<Outcome, AllocError>
+    ensures { IfOk result (λ e. export_with e.put e.status e.line ≡ text_export form key.now (Err fault)) }
 {
     let line = fault_line(alloc, fault)?;
     Ok(Outcome {
@@ -64,53 +112,99 @@ fn with_fault(alloc: Global, key: &Key, fault: RegFault) -> Result<Outcome, Allo
 }
 
 /// The export of a key, which is at the path.
-fn key_export(alloc: Global, path: &Names, key: &Key) -> Result<Outcome, AllocError>
-    ensures { IfOk result (λ e. export_with e.put e.status e.line ≡ found_export path.now (Some key.now)) }
+fn key_export(
+    alloc: Global,
+    form: ReportForm,
+    path: &Names,
+    key: &Key,
+) -> Result<Outcome, AllocError>
+    ensures { IfOk result (λ e. export_with e.put e.status e.line ≡ found_export form path.now (Some key.now)) }
 {
     match reg_text(alloc, key, path) {
-        Ok(text) => with_text(alloc, key, text),
-        Err(RegStop::Fault(fault)) => with_fault(alloc, key, fault),
+        Ok(text) => with_text(alloc, form, key, text),
+        Err(RegStop::Fault(fault)) => with_fault(alloc, form, key, fault),
         Err(RegStop::Memory) => Err(AllocError),
     }
 }
 
-/// The export where the path leads to no key.
-fn no_key(alloc: Global) -> Result<Outcome, AllocError>
-    ensures { IfOk result (λ e. export_with e.put e.status e.line ≡ found_export [] None) }
+fn push_no_key_fields(out: &mut Vec<u8>) -> Result<(), AllocError>
+    ensures { OnOk result (out.new.items ≡ out.old.items ++ fields_text no_key_fields) }
 {
+    push_word_field(out, b"command", b"export")?;
+    push_word_field(out, b"word", b"no-key")
+}
+
+fn push_no_key_object(out: &mut Vec<u8>) -> Result<(), AllocError>
+    ensures { OnOk result (out.new.items ≡ out.old.items ++ object_text (codes "refused") no_key_fields) }
+{
+    open_object(out, b"refused")?;
+    push_no_key_fields(out)?;
+    close_object(out)
+}
+
+fn push_no_key(out: &mut Vec<u8>, form: ReportForm) -> Result<(), AllocError>
+    ensures { OnOk result (out.new.items ≡ out.old.items ++ no_key_in form) }
+{
+    match form {
+        ReportForm::Text => out.extend_from_slice(b"export refused no-key\n"),
+        ReportForm::Json => push_no_key_object(out),
+    }
+}
+
+/// The export where the path leads to no key.
+fn no_key(alloc: Global, form: ReportForm) -> Result<Outcome, AllocError>
+    ensures { IfOk result (λ e. export_with e.put e.status e.line ≡ found_export form [] None) }
+{
+    let mut line = Vec::new(alloc);
+    push_no_key(&mut line, form)?;
     Ok(Outcome {
         put: None,
-        line: Bytes::from_slice(alloc, b"export refused no-key\n")?,
+        line: Bytes::from_vec(line),
         status: Status::Done,
     })
 }
 
 /// The export of a tree.
-fn export_of(alloc: Global, path: &Names, root: &Key) -> Result<Outcome, AllocError>
-    ensures { IfOk result (λ e. export_with e.put e.status e.line ≡ export_of path.now root.now) }
+fn export_of(
+    alloc: Global,
+    form: ReportForm,
+    path: &Names,
+    root: &Key,
+) -> Result<Outcome, AllocError>
+    ensures { IfOk result (λ e. export_with e.put e.status e.line ≡ export_of form path.now root.now) }
 {
     match root.find(path) {
-        Some(key) => key_export(alloc, path, key),
-        None => no_key(alloc),
+        Some(key) => key_export(alloc, form, path, key),
+        None => no_key(alloc, form),
     }
 }
 
 /// The export of a tree that was read.
-fn tree_export(alloc: Global, path: &Names, root: &Key) -> Result<Outcome, Obstacle>
-    ensures { TreeExports path.now root.now result }
+fn tree_export(
+    alloc: Global,
+    form: ReportForm,
+    path: &Names,
+    root: &Key,
+) -> Result<Outcome, Obstacle>
+    ensures { TreeExports form path.now root.now result }
 {
-    match export_of(alloc, path, root) {
+    match export_of(alloc, form, path, root) {
         Ok(export) => Ok(export),
         Err(_) => Err(no_memory()),
     }
 }
 
 /// The export of the tree in a hive's files, or the hive's first fault.
-fn export_in(alloc: Global, path: &Names, files: &HiveFiles) -> Result<Outcome, Obstacle>
-    ensures { ExportsAs (image_in files.now) path.now result }
+fn export_in(
+    alloc: Global,
+    form: ReportForm,
+    path: &Names,
+    files: &HiveFiles,
+) -> Result<Outcome, Obstacle>
+    ensures { ExportsAs form (image_in files.now) path.now result }
 {
     match read(alloc, files) {
-        Ok((root, _, _)) => tree_export(alloc, path, &root),
+        Ok((root, _, _)) => tree_export(alloc, form, path, &root),
         Err(ReadStop::Fault(fault)) => Err(Obstacle::Refused(Refusal::HiveFault(fault))),
         Err(ReadStop::Memory) => Err(no_memory()),
     }
@@ -142,14 +236,15 @@ fn put_export<H: Host>(name: &str, export: Outcome, host: &mut H) -> Status
 /// Exports the key of a hive to which the path leads.
 fn export_hive<H: Host>(
     alloc: Global,
+    form: ReportForm,
     files: &HiveFiles,
     path: &Names,
     name: &str,
     host: &mut H,
 ) -> Status
-    ensures { DecidesHive files.now path.now name.now result (H.state host.old) (H.state host.new) }
+    ensures { DecidesHive form files.now path.now name.now result (H.state host.old) (H.state host.new) }
 {
-    match export_in(alloc, path, files) {
+    match export_in(alloc, form, path, files) {
         Ok(export) => put_export(name, export, host),
         Err(Obstacle::Refused(why)) => refuse(alloc, host, &why),
         Err(Obstacle::Stopped(stop)) => stopped(stop),
@@ -159,27 +254,33 @@ fn export_hive<H: Host>(
 /// The same, the path as a word names it.
 fn export_key<H: Host>(
     alloc: Global,
+    form: ReportForm,
     files: &HiveFiles,
     key: Option<&str>,
     name: &str,
     host: &mut H,
 ) -> Status
-    ensures { DecidesHive files.now (path_in (option_map (λ k. k.now) key.entry)) name.now result (H.state host.old) (H.state host.new) }
+    ensures { DecidesHive form files.now (path_in (option_map (λ k. k.now) key.entry)) name.now result (H.state host.old) (H.state host.new) }
 {
     match path_in(alloc, key) {
-        Ok(path) => export_hive(alloc, files, &path, name, host),
+        Ok(path) => export_hive(alloc, form, files, &path, name, host),
         Err(_) => Status::Memory,
     }
 }
 
-/// Gets the hive that the command line names, and exports its key; or says the first obstacle.
-pub fn export<H: Host>(alloc: Global, words: ExportWords<'_>, host: &mut H) -> Status
-    ensures decides { DecidesExport (export_seen words.entry) result (H.state host.old) (H.state host.new) }
+/// Gets the hive that the command line names, exports its key, and says so in one of the two forms; or says the first obstacle.
+pub fn export<H: Host>(
+    alloc: Global,
+    words: ExportWords<'_>,
+    form: ReportForm,
+    host: &mut H,
+) -> Status
+    ensures decides { DecidesExport form (export_seen words.entry) result (H.state host.old) (H.state host.new) }
     ensures asked { AsksSoMany (asks_export (export_seen words.entry)) result (H.state host.old) (H.state host.new) }
     ensures kept { result ≡ Status.Usage → ⊥ }
 {
     match hive_in(alloc, host, words.hive, words.log) {
-        Ok(files) => export_key(alloc, &files, words.key, words.reg, host),
+        Ok(files) => export_key(alloc, form, &files, words.key, words.reg, host),
         Err(Obstacle::Refused(why)) => refuse(alloc, host, &why),
         Err(Obstacle::Stopped(stop)) => stopped(stop),
     }

@@ -6,6 +6,9 @@ mod counts;
 mod exporting;
 mod fault;
 mod importing;
+mod making;
+mod printing;
+mod said;
 
 pub use exporting::export;
 pub use importing::import;

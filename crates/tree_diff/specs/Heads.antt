@@ -39,7 +39,7 @@ field_lines field path a b = line_when (not (bytes_eq a b)) (KeyDiffers field pa
 abbrev pub name_lines : Bool → List (List ℕ) → List ℕ → List ℕ → List DiffLine
 name_lines top path a b = if top then [] else field_lines Name path a b
 
--- the names that both lists have stand in another order
+-- the names that both lists have are in another order
 abbrev pub order_lines : KeyField → List (List ℕ) → List (List ℕ) → List (List ℕ) → List DiffLine
 order_lines field path a b = line_when (not (names_same (shared a b) (shared b a))) (KeyDiffers field path)
 

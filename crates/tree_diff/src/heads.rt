@@ -79,7 +79,7 @@ pub(crate) fn put_heads(
     put_unless(alloc, security, KeyField::Security, path, lines)
 }
 
-/// Appends that the names that both lists have stand in another order. Takes n log n time.
+/// Appends that the names that both lists have are in another order. Takes n log n time.
 pub(crate) fn put_order(
     alloc: Global,
     field: KeyField,

@@ -70,7 +70,7 @@ fn put_content(
     put_items(alloc, path, items, &by_a, others, &by_b, lines)
 }
 
-/// Appends that values, or children, stand in another order.
+/// Appends that values, or children, are in another order.
 fn put_orders(
     alloc: Global,
     path: &[Units],

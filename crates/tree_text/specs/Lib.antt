@@ -1,3 +1,4 @@
 pub mod LineCount
 pub mod OneDriver
+pub mod TreeObjects
 pub mod TreeText

@@ -27,7 +27,8 @@ use Rattle.command_parts.proofs.DecideLemmas.{memory_decides, refusal_decides, s
 use Rattle.command_parts.proofs.LeaveLemmas.{no_front}
 use Rattle.twin_command.specs.Awake.{IsAwake, ToldOf}
 use Rattle.twin_command.specs.declared.report.Told.{Told}
-use Rattle.twin_command.specs.Told.{told_text, told_of}
+use Rattle.line_text.specs.declared.form.ReportForm.{ReportForm}
+use Rattle.twin_command.specs.Told.{told_in, told_of}
 use Rattle.twin_command.specs.Twinned.{SomeFound, IsTwinned, TwinnedAs, EndsTwinned, EndsFiles, EndsTwin}
 
 -- ---- the disk
@@ -175,16 +176,16 @@ untouched_told status disk (inl is) = (let P : Status → Type 0 = λ s. IsUntou
 untouched_told status disk (inr (inl is)) = (let P : Status → Type 0 = λ s. IsUntouchedBy s disk in subst P (sym is) tt)
 untouched_told status disk (inr (inr is)) = (let P : Status → Type 0 = λ s. IsUntouchedBy s disk in subst P (sym is) tt)
 
-module _ (stands : Standing) (files : HiveFiles) (number : Option ℕ) (saves : Saves) where
+module _ (form : ReportForm) (stands : Standing) (files : HiveFiles) (number : Option ℕ) (saves : Saves) where
   abbrev pub Whole : DiskState → Status → List ℕ → List ℕ → Type 0
-  Whole disk = EndsFiles stands files number saves disk
+  Whole disk = EndsFiles form stands files number saves disk
 
   -- there was no memory before anything was printed
   pub untold : (some : SomeFound stands (image_in files)) (host : HostState) (disk : DiskState) → disk.on ≡ false
       → IsPartDone files 0 disk
       → DecidesAlone (Whole disk) saves statuses.Memory host host disk
   untold some host disk off part =
-      let text = told_text (told_of number some.0 some.1) in
+      let text = told_in form (told_of number some.0 some.1) in
       memory_decides (Whole disk) saves host disk off
       (inr (inl (record {
         found = some.0;
@@ -195,37 +196,37 @@ module _ (stands : Standing) (files : HiveFiles) (number : Option ℕ) (saves : 
 
   module _ (found : Recovered) (tree : Tree) where
     abbrev text_is : List ℕ
-    text_is = told_text (told_of number found tree)
+    text_is = told_in form (told_of number found tree)
 
     ends_twinned : (status : Status) (text old new : List ℕ) (taken : ℕ) (disk : DiskState)
         → IsToldAs statuses.Done status → text ≡ text_is
         → taken ≤ saved_count saves → (status ≡ statuses.Done → taken ≡ saved_count saves)
         → IsTwinned stands files number found tree taken disk → Ends (done_with text) status old new
-        → EndsTwinned stands files number saves found tree disk status old new
+        → EndsTwinned form stands files number saves found tree disk status old new
     ends_twinned status text old new taken disk (inl is) same few all made end =
         let done = subst (λ (t : List ℕ). Ends (done_with t) statuses.Done old new) same
         (subst (λ (s : Status). Ends (done_with text) s old new) is end) in
         let P : ℕ → Type 0 = λ n. IsTwinned stands files number found tree n disk in
-        subst (λ (s : Status). EndsTwinned stands files number saves found tree disk s old new) (sym is)
+        subst (λ (s : Status). EndsTwinned form stands files number saves found tree disk s old new) (sym is)
         (was_said text_is old new done, subst P (all is) made)
     ends_twinned status text old new taken disk (inr (inl is)) same few all made end =
         let part = subst (λ (t : List ℕ). Ends (done_with t) statuses.WriteFault old new) same
         (subst (λ (s : Status). Ends (done_with text) s old new) is end) in
-        subst (λ (s : Status). EndsTwinned stands files number saves found tree disk s old new) (sym is)
+        subst (λ (s : Status). EndsTwinned form stands files number saves found tree disk s old new) (sym is)
         (part, part_of stands files number found tree taken (saved_count saves) disk few made)
     ends_twinned status text old new taken disk (inr (inr is)) same few all made end =
         let part = subst (λ (t : List ℕ). Ends (done_with t) statuses.Memory old new) same
         (subst (λ (s : Status). Ends (done_with text) s old new) is end) in
-        subst (λ (s : Status). EndsTwinned stands files number saves found tree disk s old new) (sym is)
+        subst (λ (s : Status). EndsTwinned form stands files number saves found tree disk s old new) (sym is)
         (part, part_of stands files number found tree taken (saved_count saves) disk few made)
 
   -- the lines were printed and the disk saved, or that was stopped
   pub finished_twins : (told : Told) (line : List ℕ) (status : Status) (old new : HostState) (mid after : DiskState)
       → mid.on ≡ false
-      → TwinnedAs stands files number told mid → line ≡ told_text told → FinishesAs line saves status old new mid after
+      → TwinnedAs stands files number told mid → line ≡ told_in form told → FinishesAs line saves status old new mid after
       → DecidesAlone (Whole after) saves status old new after
   finished_twins told line status old new mid after off is is_line f =
-      let text : line ≡ told_text (told_of number is.found is.tree) = is_line ∙ ap told_text is.is_told in
+      let text : line ≡ told_in form (told_of number is.found is.tree) = is_line ∙ ap (told_in form) is.is_told in
       let two : f.taken ≤ 2 = omega (arith, f.few, count_few saves) in
       let disk = settled stands files number is.found is.tree f.taken mid after two is.disk_is f.settles in
       record {
@@ -272,23 +273,23 @@ module _ (stands : Standing) (files : HiveFiles) (number : Option ℕ) (saves : 
       (inr (inr (refl, refl, unrun disk fresh)))
 
 -- the environment stopped the search for the files
-pub unsaid_twin : (wanted : Result HiveFiles Refusal) (stands : Standing) (number : Option ℕ) (saves : Saves)
+pub unsaid_twin : (form : ReportForm) (wanted : Result HiveFiles Refusal) (stands : Standing) (number : Option ℕ) (saves : Saves)
     (disk : DiskState) (stop : HostStop) (old new : List ℕ) → disk ≡ new_state
-    → new ≡ old → (stop ≡ Write → ⊥) → EndsTwin wanted stands number saves disk (stopped_as stop) old new
-unsaid_twin (Err r) stands number saves disk Read old new fresh same unwritten = (inr same, fresh)
-unsaid_twin (Ok files) stands number saves disk Read old new fresh same unwritten = inr (refl, same, fresh)
-unsaid_twin wanted stands number saves disk Write old new fresh same unwritten = absurd (unwritten refl)
-unsaid_twin (Err r) stands number saves disk Memory old new fresh same unwritten =
+    → new ≡ old → (stop ≡ Write → ⊥) → EndsTwin form wanted stands number saves disk (stopped_as stop) old new
+unsaid_twin form (Err r) stands number saves disk Read old new fresh same unwritten = (inr same, fresh)
+unsaid_twin form (Ok files) stands number saves disk Read old new fresh same unwritten = inr (refl, same, fresh)
+unsaid_twin form wanted stands number saves disk Write old new fresh same unwritten = absurd (unwritten refl)
+unsaid_twin form (Err r) stands number saves disk Memory old new fresh same unwritten =
     (inr (no_front (refusal_text r) old new same), fresh)
-unsaid_twin (Ok files) stands number saves disk Memory old new fresh same unwritten =
+unsaid_twin form (Ok files) stands number saves disk Memory old new fresh same unwritten =
     inl (inr (inr (refl, same, unrun disk fresh)))
 
-pub unread_twin : (wanted : Result HiveFiles Refusal) (stands : Standing) (number : Option ℕ) (saves : Saves)
+pub unread_twin : (form : ReportForm) (wanted : Result HiveFiles Refusal) (stands : Standing) (number : Option ℕ) (saves : Saves)
     (stop : HostStop) (status : Status) (old new : HostState) (disk : DiskState)
     → status ≡ stopped_as stop → disk ≡ new_state → Looks wanted (Err (Stopped stop)) old new
-    → Decides (EndsTwin wanted stands number saves disk) saves status old new disk
-unread_twin wanted stands number saves stop status old new disk is fresh looks =
-    subst (λ (s : Status). Decides (EndsTwin wanted stands number saves disk) saves s old new disk) (sym is)
-    (stopped_decides wanted (λ (w : Result HiveFiles Refusal). EndsTwin w stands number saves disk)
+    → Decides (EndsTwin form wanted stands number saves disk) saves status old new disk
+unread_twin form wanted stands number saves stop status old new disk is fresh looks =
+    subst (λ (s : Status). Decides (EndsTwin form wanted stands number saves disk) saves s old new disk) (sym is)
+    (stopped_decides wanted (λ (w : Result HiveFiles Refusal). EndsTwin form w stands number saves disk)
     saves stop old new disk fresh
-    (λ o n same unwritten. unsaid_twin wanted stands number saves disk stop o n fresh same unwritten) looks)
+    (λ o n same unwritten. unsaid_twin form wanted stands number saves disk stop o n fresh same unwritten) looks)

@@ -45,7 +45,7 @@ done_word None committed = words.Unasked
 done_word (Some number) None = words.Nothing
 done_word (Some number) (Some sequence) = words.Commit sequence
 
--- what is reported of an answer; lack of memory reports nothing, and nothing is said of what never comes
+-- what is reported of an answer; lack of memory reports nothing, and nothing is printed of what never comes
 abbrev pub ToldBy : Option ℕ → Result Changed ChangeStop → Result Told AllocError → Type 0
 ToldBy number (Ok done) result = result ≡ Ok (record { loaded = done.loaded; mended = done.mended; word = done_word number done.committed })
 ToldBy number (Err (stops.Fault fault)) result = Unit {0}

@@ -30,7 +30,8 @@ use Rattle.command_parts.specs.Placed.{image_in, IsUnrun}
 use Rattle.command_parts.specs.Refusals.{Answer, Ends, refusal}
 use Rattle.command_parts.specs.Saves.{Saves, saved_count}
 use Rattle.twin_command.specs.declared.report.Told.{Told}
-use Rattle.twin_command.specs.Told.{told_text, told_of}
+use Rattle.line_text.specs.declared.form.ReportForm.{ReportForm}
+use Rattle.twin_command.specs.Told.{told_in, told_of}
 
 -- what the command line's way to keep a hive makes of an image
 abbrev pub stands_by : AskedScheme → Standing
@@ -60,51 +61,51 @@ pub record TwinnedAs (stands : Standing) (files : HiveFiles) (number : Option �
   pub is_told : told ≡ told_of number found tree
   pub disk_is : IsTwinned stands files number found tree 0 disk
 
--- the answer with the lines
-abbrev pub twinned : Option ℕ → Recovered → Tree → Answer
-twinned number found tree = record { status = statuses.Done; text = told_text (told_of number found tree) }
+-- the answer with the lines in one of the two forms
+abbrev pub twinned : ReportForm → Option ℕ → Recovered → Tree → Answer
+twinned form number found tree = record { status = statuses.Done; text = told_in form (told_of number found tree) }
 
 -- The lines were printed whole at the end, and the files saved; or a prefix of the lines up to a fault in saying or saving, or to want
 -- of memory. The disk is this afterwards.
-abbrev pub EndsTwinned : Standing → HiveFiles → Option ℕ → Saves → Recovered → Tree → DiskState → Status → List ℕ → List ℕ → Type 0
-EndsTwinned stands files number saves found tree disk statuses.Done old new =
-    (new ≡ old ++ told_text (told_of number found tree)) × IsTwinned stands files number found tree (saved_count saves) disk
-EndsTwinned stands files number saves found tree disk statuses.WriteFault old new =
-    Ends (twinned number found tree) statuses.WriteFault old new × IsPartDone files (saved_count saves) disk
-EndsTwinned stands files number saves found tree disk statuses.Memory old new =
-    Ends (twinned number found tree) statuses.Memory old new × IsPartDone files (saved_count saves) disk
-EndsTwinned stands files number saves found tree disk refused old new = ⊥
+abbrev pub EndsTwinned : ReportForm → Standing → HiveFiles → Option ℕ → Saves → Recovered → Tree → DiskState → Status → List ℕ → List ℕ → Type 0
+EndsTwinned form stands files number saves found tree disk statuses.Done old new =
+    (new ≡ old ++ told_in form (told_of number found tree)) × IsTwinned stands files number found tree (saved_count saves) disk
+EndsTwinned form stands files number saves found tree disk statuses.WriteFault old new =
+    Ends (twinned form number found tree) statuses.WriteFault old new × IsPartDone files (saved_count saves) disk
+EndsTwinned form stands files number saves found tree disk statuses.Memory old new =
+    Ends (twinned form number found tree) statuses.Memory old new × IsPartDone files (saved_count saves) disk
+EndsTwinned form stands files number saves found tree disk refused old new = ⊥
 
 -- the files stand for something that holds a tree, and so it ends
-pub record EndsFound (stands : Standing) (files : HiveFiles) (number : Option ℕ) (saves : Saves) (disk : DiskState) (status : Status)
+pub record EndsFound (form : ReportForm) (stands : Standing) (files : HiveFiles) (number : Option ℕ) (saves : Saves) (disk : DiskState) (status : Status)
     (old new : List ℕ) : Type 0 where
   pub found : Recovered
   pub tree : Tree
   pub is_found : IsFound stands (image_in files) found tree
-  pub ends : EndsTwinned stands files number saves found tree disk status old new
+  pub ends : EndsTwinned form stands files number saves found tree disk status old new
 
 -- The files have a first fault, and that is printed; or they stand for something that holds a tree; or there was no memory before
 -- anything was printed.
-abbrev pub EndsFiles : Standing → HiveFiles → Option ℕ → Saves → DiskState → Status → List ℕ → List ℕ → Type 0
-EndsFiles stands files number saves disk status old new =
+abbrev pub EndsFiles : ReportForm → Standing → HiveFiles → Option ℕ → Saves → DiskState → Status → List ℕ → List ℕ → Type 0
+EndsFiles form stands files number saves disk status old new =
     ((fault : HiveFault) × (StandFault stands (image_in files) fault) × Ends (refusal (BadHive fault)) status old new × (disk ≡ new_state))
-    ⊎ (EndsFound stands files number saves disk status old new
+    ⊎ (EndsFound form stands files number saves disk status old new
     ⊎ ((status ≡ statuses.Memory) × (new ≡ old) × IsUnrun disk))
 
 -- the first obstacle is printed, and nothing was done to the disk; or there is none, and the files decide
-abbrev pub EndsTwin : Result HiveFiles Refusal → Standing → Option ℕ → Saves → DiskState → Status → List ℕ → List ℕ → Type 0
-EndsTwin (Err r) stands number saves disk status old new = Ends (refusal r) status old new × (disk ≡ new_state)
-EndsTwin (Ok files) stands number saves disk status old new =
-    EndsFiles stands files number saves disk status old new ⊎ ((status ≡ statuses.ReadFault) × (new ≡ old) × (disk ≡ new_state))
+abbrev pub EndsTwin : ReportForm → Result HiveFiles Refusal → Standing → Option ℕ → Saves → DiskState → Status → List ℕ → List ℕ → Type 0
+EndsTwin form (Err r) stands number saves disk status old new = Ends (refusal r) status old new × (disk ≡ new_state)
+EndsTwin form (Ok files) stands number saves disk status old new =
+    EndsFiles form stands files number saves disk status old new ⊎ ((status ≡ statuses.ReadFault) × (new ≡ old) × (disk ≡ new_state))
 
 -- the files that the command line wants to be saved
 abbrev pub twin_saves : TwinAsked → Saves
 twin_saves words = record { hive = words.save_hive; log = words.save_alt }
 
 -- what the command leaves
-abbrev pub DecidesTwin : TwinAsked → Status → HostState → HostState → DiskState → Type 0
-DecidesTwin words status old new disk =
-    Decides (EndsTwin (hive_in old.files words.hive words.alt) (stands_by words.scheme) words.default (twin_saves words) disk)
+abbrev pub DecidesTwin : ReportForm → TwinAsked → Status → HostState → HostState → DiskState → Type 0
+DecidesTwin form words status old new disk =
+    Decides (EndsTwin form (hive_in old.files words.hive words.alt) (stands_by words.scheme) words.default (twin_saves words) disk)
     (twin_saves words) status old new disk
 
 -- how many files are asked for

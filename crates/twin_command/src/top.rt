@@ -1,4 +1,4 @@
-//! `twin`: the words, the files that they name, and which way keeps the hive.
+//! `twin`: the command line, the files that they name, and which way keeps the hive.
 
 ghost use Rattle.std.specs.Prelude.{◌≡◌};
 ghost use Rattle.nt_edge.specs.Disk.{new_state};
@@ -12,12 +12,14 @@ use crate::twinning::begin;
 use command_parts::{HiveFiles, Obstacle, Saves, Status, hive_in, refuse, stopped};
 use command_words::{AskedScheme as Kept, TwinWords};
 use hive_alt::{LogScheme, TwinScheme};
+use line_text::ReportForm;
 use nt_edge::{Bench, Host};
 use std::alloc::Global;
 
 /// Goes on by the way that keeps the hive.
 fn begin_by<H: Host, B: Bench>(
     alloc: Global,
+    form: ReportForm,
     scheme: Kept,
     files: &HiveFiles,
     number: Option<u32>,
@@ -26,25 +28,26 @@ fn begin_by<H: Host, B: Bench>(
     bench: &mut B,
 ) -> Status
     requires fresh { B.state bench.old ≡ new_state }
-    ensures { DecidesAlone (EndsFiles (stands_by scheme) files.now number (saves_seen saves.entry) (B.state bench.new)) (saves_seen saves.entry) result
+    ensures { DecidesAlone (EndsFiles form (stands_by scheme) files.now number (saves_seen saves.entry) (B.state bench.new)) (saves_seen saves.entry) result
         (H.state host.old) (H.state host.new) (B.state bench.new) }
 {
     match scheme {
-        Kept::Alt => begin::<TwinScheme, H, B>(alloc, files, number, saves, host, bench),
-        Kept::Log => begin::<LogScheme, H, B>(alloc, files, number, saves, host, bench),
+        Kept::Alt => begin::<TwinScheme, H, B>(alloc, form, files, number, saves, host, bench),
+        Kept::Log => begin::<LogScheme, H, B>(alloc, form, files, number, saves, host, bench),
     }
 }
 
-/// Loads what two files stand for, repairs it, and changes the default set where the command line has a number; says so, and saves
-/// the two files. Or says the first obstacle. The disk is a new one, and off afterwards.
+/// Loads what two files stand for, repairs it, and changes the default set where the command line has a number; says so in one of the two forms,
+/// and saves the two files. Or says the first obstacle. The disk is a new one, and off afterwards.
 pub fn twin<H: Host, B: Bench>(
     alloc: Global,
     words: TwinWords<'_>,
+    form: ReportForm,
     host: &mut H,
     bench: &mut B,
 ) -> Status
     requires fresh { B.state bench.old ≡ new_state }
-    ensures decides { DecidesTwin (twin_seen words.entry) result (H.state host.old) (H.state host.new) (B.state bench.new) }
+    ensures decides { DecidesTwin form (twin_seen words.entry) result (H.state host.old) (H.state host.new) (B.state bench.new) }
     ensures asked { AsksSoMany (asks_twin (twin_seen words.entry)) result (H.state host.old) (H.state host.new) }
     ensures kept { result ≡ Status.Usage → ⊥ }
 {
@@ -55,6 +58,7 @@ pub fn twin<H: Host, B: Bench>(
     match hive_in(alloc, host, words.hive, words.alt) {
         Ok(files) => begin_by(
             alloc,
+            form,
             words.scheme,
             &files,
             words.default,

@@ -16,6 +16,7 @@ ghost use Rattle.command_parts.specs.Leaves.{IsPartDone};
 use crate::report::{Told, Word, report};
 use command_parts::{HiveFiles, Refusal, Saves, Status, finish, place, refuse};
 use hive_alt::{ChangeStop, Changed, Scheme, change_default, check_kept};
+use line_text::ReportForm;
 use nt_bytes::{Bytes, ReadStop};
 use nt_edge::{Bench, Host};
 use std::alloc::{AllocError, Global};
@@ -136,6 +137,7 @@ fn place_and_change<S: Scheme, B: Bench>(
 /// Says what a change came to, and saves what the disk then holds.
 fn tell_and_save<S: Scheme, H: Host, B: Bench>(
     alloc: Global,
+    form: ReportForm,
     told: Told,
     files: &HiveFiles,
     number: Option<u32>,
@@ -145,10 +147,10 @@ fn tell_and_save<S: Scheme, H: Host, B: Bench>(
 ) -> Status
     requires off { (B.state bench.old).on ≡ false }
     requires twinned { TwinnedAs S.stands files.now number told (B.state bench.old) }
-    ensures { DecidesAlone (EndsFiles S.stands files.now number (saves_seen saves.entry) (B.state bench.new)) (saves_seen saves.entry) result
+    ensures { DecidesAlone (EndsFiles form S.stands files.now number (saves_seen saves.entry) (B.state bench.new)) (saves_seen saves.entry) result
         (H.state host.old) (H.state host.new) (B.state bench.new) }
 {
-    match report(alloc, told) {
+    match report(alloc, form, told) {
         Ok(text) => finish(text.as_slice(), saves, host, bench),
         Err(_) => Status::Memory,
     }
@@ -157,6 +159,7 @@ fn tell_and_save<S: Scheme, H: Host, B: Bench>(
 /// Changes the default set of checked files, says what that came to, and saves what the disk then holds.
 fn tell_change<S: Scheme, H: Host, B: Bench>(
     alloc: Global,
+    form: ReportForm,
     files: &HiveFiles,
     number: Option<u32>,
     saves: Saves<'_>,
@@ -165,11 +168,11 @@ fn tell_change<S: Scheme, H: Host, B: Bench>(
 ) -> Status
     requires fresh { B.state bench.old ≡ new_state }
     requires some { SomeFound S.stands (image_in files.now) }
-    ensures { DecidesAlone (EndsFiles S.stands files.now number (saves_seen saves.entry) (B.state bench.new)) (saves_seen saves.entry) result
+    ensures { DecidesAlone (EndsFiles form S.stands files.now number (saves_seen saves.entry) (B.state bench.new)) (saves_seen saves.entry) result
         (H.state host.old) (H.state host.new) (B.state bench.new) }
 {
     match place_and_change::<S, B>(alloc, files, number, bench) {
-        Ok(told) => tell_and_save::<S, H, B>(alloc, told, files, number, saves, host, bench),
+        Ok(told) => tell_and_save::<S, H, B>(alloc, form, told, files, number, saves, host, bench),
         Err(_) => Status::Memory,
     }
 }
@@ -177,6 +180,7 @@ fn tell_change<S: Scheme, H: Host, B: Bench>(
 /// Checks the files, and changes the default set; or says their first fault.
 pub(crate) fn begin<S: Scheme, H: Host, B: Bench>(
     alloc: Global,
+    form: ReportForm,
     files: &HiveFiles,
     number: Option<u32>,
     saves: Saves<'_>,
@@ -184,11 +188,11 @@ pub(crate) fn begin<S: Scheme, H: Host, B: Bench>(
     bench: &mut B,
 ) -> Status
     requires fresh { B.state bench.old ≡ new_state }
-    ensures { DecidesAlone (EndsFiles S.stands files.now number (saves_seen saves.entry) (B.state bench.new)) (saves_seen saves.entry) result
+    ensures { DecidesAlone (EndsFiles form S.stands files.now number (saves_seen saves.entry) (B.state bench.new)) (saves_seen saves.entry) result
         (H.state host.old) (H.state host.new) (B.state bench.new) }
 {
     match check::<S>(alloc, files) {
-        Ok(()) => tell_change::<S, H, B>(alloc, files, number, saves, host, bench),
+        Ok(()) => tell_change::<S, H, B>(alloc, form, files, number, saves, host, bench),
         Err(ReadStop::Fault(fault)) => refuse(alloc, host, &Refusal::HiveFault(fault)),
         Err(ReadStop::Memory) => Status::Memory,
     }

@@ -23,6 +23,7 @@ use Rattle.command_parts.specs.declared.status.Status.TheVariants as statuses
 use Rattle.command_parts.specs.Inputs.{hive_in}
 use Rattle.command_parts.specs.Refusals.{Ends, refusal, refusal_status}
 use Rattle.command_parts.specs.Saves.{SavedAs}
+use Rattle.line_text.specs.declared.form.ReportForm.TheVariants.{Text}
 use Rattle.twin_command.specs.Told.{load_text, word_text, told_text, told_of, word_of}
 use Rattle.twin_command.specs.Twinned.{stands_by, EndsFound, EndsTwin, twin_saves, DecidesTwin}
 use Rattle.twin_laws.specs.AsTold.{default_line, lines_of, becomes, told_state, StandsAsTold}
@@ -99,7 +100,7 @@ module _ (words : TwinAsked) (old new : HostState) (disk : DiskState) (hive alt 
     (hive_is : IsFileOf disk.held Primary hive) (alt_is : IsFileOf disk.held Log alt)
     (untorn : HasUntornBlock disk.held) where
   by_found : (files : HiveFiles) → hive_in old.files words.hive words.alt ≡ Ok files
-      → EndsFound (stands_by words.scheme) files words.default (twin_saves words) disk statuses.Done old.said new.said
+      → EndsFound Text (stands_by words.scheme) files words.default (twin_saves words) disk statuses.Done old.said new.said
       → StandsAsTold words old new (image_of hive alt)
   by_found files named f =
       let state : HiveState = after_change f.found f.tree (becomes words.default f.found f.tree) in
@@ -119,7 +120,7 @@ module _ (words : TwinAsked) (old new : HostState) (disk : DiskState) (hive alt 
       }
 
   by_end : (r : Result HiveFiles Refusal) → hive_in old.files words.hive words.alt ≡ r
-      → EndsTwin r (stands_by words.scheme) words.default (twin_saves words) disk statuses.Done old.said new.said
+      → EndsTwin Text r (stands_by words.scheme) words.default (twin_saves words) disk statuses.Done old.said new.said
       → StandsAsTold words old new (image_of hive alt)
   by_end (Err r) named end = absurd (unrefused r old.said new.said end.0)
   by_end (Ok files) named (inl (inl fault)) = absurd (unrefused (refusals.HiveFault fault.0) old.said new.said fault.2)
@@ -127,7 +128,7 @@ module _ (words : TwinAsked) (old new : HostState) (disk : DiskState) (hive alt 
   by_end (Ok files) named (inl (inr (inr lack))) = absurd (not_memory lack.0)
   by_end (Ok files) named (inr fault) = absurd (not_read fault.0)
 
-  pub held_stands : DecidesTwin words statuses.Done old new disk → old.tells ≡ true
+  pub held_stands : DecidesTwin Text words statuses.Done old new disk → old.tells ≡ true
       → StandsAsTold words old new (image_of hive alt)
   held_stands decides tells = by_end (hive_in old.files words.hive words.alt) refl (decides.leaves.said tells)
 
@@ -141,7 +142,7 @@ file_is file held files name bytes saved has =
     subst (IsFileOf held file) same saved.2
 
 pub saved_stands : (words : TwinAsked) (old new : HostState) (disk : DiskState) (name other hive alt : List ℕ)
-    → DecidesTwin words statuses.Done old new disk → old.tells ≡ true
+    → DecidesTwin Text words statuses.Done old new disk → old.tells ≡ true
     → words.save_hive ≡ Some name → words.save_alt ≡ Some other → (name ≡ other → ⊥)
     → new.files name ≡ Some hive → new.files other ≡ Some alt → HasUntornBlock disk.held
     → StandsAsTold words old new (image_of hive alt)

@@ -12,6 +12,7 @@ ghost use Rattle.hive_alt.specs.Schemes.{StandFault};
 ghost use Rattle.command_words.specs.Words.{TwinAsked};
 ghost use Rattle.command_words.specs.declared.asked.AskedScheme.{AskedScheme};
 ghost use Rattle.command_parts.specs.declared.status.Status.TheVariants as statuses;
+ghost use Rattle.line_text.specs.declared.form.ReportForm.TheVariants.{Text};
 ghost use Rattle.twin_command.specs.Twinned.{stands_by, DecidesTwin};
 ghost use Rattle.twin_laws.specs.AsTold.{StandsAsTold};
 
@@ -20,11 +21,11 @@ ghost use Rattle.twin_laws.specs.AsTold.{StandsAsTold};
 /// sector 0 has to be one that can be read.
 pub fn what_was_saved_stands_as_told()
     ensures held { (words : TwinAsked) (old new : HostState) (disk : DiskState) (hive alt : List ℕ)
-        → DecidesTwin words statuses.Done old new disk → old.tells ≡ true
+        → DecidesTwin Text words statuses.Done old new disk → old.tells ≡ true
         → IsFileOf disk.held Primary hive → IsFileOf disk.held Log alt → HasUntornBlock disk.held
         → StandsAsTold words old new (image_of hive alt) }
     ensures saved { (words : TwinAsked) (old new : HostState) (disk : DiskState) (name other hive alt : List ℕ)
-        → DecidesTwin words statuses.Done old new disk → old.tells ≡ true
+        → DecidesTwin Text words statuses.Done old new disk → old.tells ≡ true
         → words.save_hive ≡ Some name → words.save_alt ≡ Some other → (name ≡ other → ⊥)
         → new.files name ≡ Some hive → new.files other ≡ Some alt → HasUntornBlock disk.held
         → StandsAsTold words old new (image_of hive alt) }

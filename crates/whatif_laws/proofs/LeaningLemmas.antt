@@ -211,7 +211,7 @@ fewer : (n : ℕ) (layer : Layer) (rest : List Entry) → length rest ≤ suc n 
 fewer n layer rest le some =
     omega (arith, le, parts (needs_one layer) rest, some_long (filter (needs_one layer) rest) some)
 
--- an entry of the rest that needs the layer is among those that come to it
+-- an entry of the rest that needs the layer is among those that reach it
 near_said : (n : ℕ) (layer : Layer) (rest : List Entry) (e : Entry) → length rest ≤ n → In e rest → needs_one layer e ≡ true
     → In e (leaning_from n layer rest)
 near_said zero layer [] e le h is = absurd h

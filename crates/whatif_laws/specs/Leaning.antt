@@ -21,7 +21,7 @@ name_in (lines.Untaken name) = []
 name_in (lines.Leans steps by state name) = name ∷ []
 name_in lines.End = []
 
--- the entries that come to a layer, among those that are in none so far
+-- the entries that reach a layer, among those that are in none so far
 abbrev pub leaning_from : ℕ → Layer → List Entry → List Entry
 leaning_from zero layer rest = []
 leaning_from (suc n) layer rest =

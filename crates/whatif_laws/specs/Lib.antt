@@ -1,1 +1,3 @@
 pub mod Leaning
+pub mod Starts
+pub mod Reports

@@ -1,4 +1,4 @@
-//! What is said of one name, and what is said of all entries.
+//! What is printed for one name, and what is printed for all entries.
 
 ghost use Rattle.std.specs.Prelude.{◌≡◌, ℕ, List, None, Some, filter};
 ghost use Rattle.std.specs.List.{flat_map};

@@ -14,7 +14,7 @@ pub fn a_line_stands_for_each_that_leans()
 {}
 
 /// An entry of the set other than the name leans on it where it needs the name itself, and where it needs an entry that does; so each that
-/// comes to the name by needs has a line.
+/// reaches the name by needs has a line.
 pub fn whoever_needs_one_that_leans_leans()
     ensures itself { (name : List ℕ) (entries : List Entry) (e : Entry) → IsOther name entries e → needs_one (first_layer name entries) e ≡ true
         → Contains (leaning_on name entries) e }

@@ -1,8 +1,9 @@
 //! Each rule on words, with what is read.
 
 use command_words::{
-    AskedEncoding, AskedScheme, Command, CommandName, ControlWords, ExportWords, ImportWords, KeyWords, MakeWords,
-    Page, Reading, Reason, RunWords, SafeWords, ShowWords, TwinWords, read_words, texts,
+    AskedEncoding, AskedScheme, Command, CommandName, ControlWords, ExportWords, ImportWords,
+    KeyWords, MakeWords, Page, Reading, Reason, RunWords, SafeWords, ShowWords, TwinWords,
+    read_words, texts,
 };
 use std::alloc::Global;
 use std::process::Abort;

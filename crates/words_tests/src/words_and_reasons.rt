@@ -257,10 +257,7 @@ static DIFF: [Case; 5] = [
         &["diff", "--hive", "h", "--with-log", "m"],
         no!(Reason::Missing("--with")),
     ),
-    (
-        &["diff", "--with-log", "m"],
-        no!(Reason::Missing("--hive")),
-    ),
+    (&["diff", "--with-log", "m"], no!(Reason::Missing("--hive"))),
     (
         &["diff", "--hive", "h", "--with-set", "0"],
         no!(Reason::BadValue("--with-set", "0")),

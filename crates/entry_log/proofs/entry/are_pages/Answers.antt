@@ -1,5 +1,5 @@
 use Rattle.std.proofs.Common.{◌+◌, ◌-◌, ◌*◌, arith, sym, ◌∙◌}
-use Rattle.entry_log.proofs.Steps.{Fits, page_fits, page_is, page_is_not, no_pages}
+use Rattle.entry_log.proofs.Steps.{page_fits, page_is, page_is_not, no_pages}
 use Rattle.entry_log.proofs.entry.are_pages.Goals as goal
 
 pub returns-then-not-is_page : goal.returns-then-not-is_page

@@ -1,8 +1,8 @@
-use Rattle.std.proofs.Common.{◌≡◌, ◌≤◌, ◌+◌, ◌-◌, ◌*◌, length, take, drop, arith, sym, ap, ◌∙◌, rules, length-take, length-drop}
+use Rattle.std.proofs.Common.{◌+◌, ◌-◌, ◌*◌, length, take, drop, arith, sym, ap, ◌∙◌, length-take}
 use Rattle.log_parts.specs.Pages.{put_pages}
 use Rattle.log_parts.proofs.Puts.{put_long}
 use Rattle.entry_log.specs.Entries.{pages_from}
-use Rattle.entry_log.proofs.Steps.{IsNext, Fits, next_fits, next_are, next_put, none_put}
+use Rattle.entry_log.proofs.Steps.{IsNext, next_fits, next_are, next_put, none_put}
 use Rattle.entry_log.proofs.pages.put_entry.Goals as goal
 
 pub overflow_add-start-in-loop-i : goal.overflow_add-start-in-loop-i

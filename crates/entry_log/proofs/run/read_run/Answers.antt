@@ -1,5 +1,4 @@
 use Rattle.std.proofs.Common.{◌≡◌, ◌+◌, ◌-◌, ◌*◌, ◌/◌, length, Some, None, arith, sym, ap, ◌∙◌}
-use Rattle.log_parts.specs.declared.fault.LogFaultKind.{LogFaultKind}
 use Rattle.entry_log.specs.declared.entry.Entry.{Entry}
 use Rattle.entry_log.specs.declared.entry.Found.TheVariants.{NoEntry, Broken, Whole}
 use Rattle.entry_log.specs.Runs.{run_from}

@@ -1,5 +1,4 @@
 use Rattle.std.proofs.Common.{◌≡◌, ◌≤◌, ◌-◌, ◌++◌, length}
-use Rattle.log_replay.specs.Reading.{AreWholeLogs}
 use Rattle.log_replay.specs.Entries.{most, replay_by, replayed_by}
 use Rattle.log_replay.proofs.entries.replay_entries.Given as goal
 

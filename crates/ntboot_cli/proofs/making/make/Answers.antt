@@ -16,5 +16,5 @@ pub returns-in-Err-Stopped : goal.returns-in-Err-Stopped
 returns-in-Err-Stopped g c =
     let reads = subst (λ (o : Obstacle). Reads usual_in (Err o)) c.in-Err-Stopped.field-0-is c.in-Err-Stopped.ensures in
     rw c.stopped.ensures
-    (unread_usual (make_seen c.args.words) c.in-Err-Stopped.stop (g.H.Host.state c.args.host.now)
+    (unread_usual c.args.form (make_seen c.args.words) c.in-Err-Stopped.stop (g.H.Host.state c.args.host.now)
     (g.B.Disk.state c.args.bench.now) c.requires.fresh reads)

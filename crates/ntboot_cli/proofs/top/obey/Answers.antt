@@ -6,6 +6,7 @@ use Rattle.command_words.specs.declared.asked.Command.{Command}
 use Rattle.line_text.specs.declared.form.ReportForm.{ReportForm}
 use Rattle.replay_command.specs.Answer.{DecidesReplay}
 use Rattle.salvage_command.specs.Answer.{DecidesSalvage}
+use Rattle.text_commands.specs.Exported.{DecidesExport}
 use Rattle.ntboot_cli.proofs.CountedLemmas.{counted}
 use Rattle.ntboot_cli.proofs.TopLemmas.{by_export, by_replay, by_salvage}
 use Rattle.ntboot_cli.proofs.top.obey.Goals as goal
@@ -14,24 +15,27 @@ pub make-requires-clause-some : goal.make-requires-clause-some
 make-requires-clause-some g c =
     let words = map (λ w. w.now) c.args.words.now in
     let arm = c.in-Command-Make-default in
-    let is = sym arm.ensures ∙ ap (λ (x : Command). asks (command_seen x) arm.field-1) arm.field-0-is in
+    let is = sym arm.ensures ∙ ap (λ (x : Command). asks (command_seen x) arm.json) arm.field-0-is in
     (counted words _ _ is).0
 
 pub make-requires-clause-few : goal.make-requires-clause-few
 make-requires-clause-few g c =
     let words = map (λ w. w.now) c.args.words.now in
     let arm = c.in-Command-Make-default in
-    let is = sym arm.ensures ∙ ap (λ (x : Command). asks (command_seen x) arm.field-1) arm.field-0-is in
+    let is = sym arm.ensures ∙ ap (λ (x : Command). asks (command_seen x) arm.json) arm.field-0-is in
     (counted words _ _ is).1
 
 pub returns-in-Command-Export-default : goal.returns-in-Command-Export-default
 returns-in-Command-Export-default g c =
     let words = map (λ w. w.now) c.args.words.now in
     let arm = c.in-Command-Export-default in
-    let is = sym arm.ensures ∙ ap (λ (x : Command). asks (command_seen x) arm.field-1) arm.field-0-is in
-    by_export (reading_of words) arm.field-1 c.export.result (g.H.Host.state c.args.host.now)
-    (g.H.Host.state c.export.new.host) (g.B.Disk.state c.args.bench.now) (export_seen arm.words) is c.requires.fresh
-    c.export.ensures.decides c.export.ensures.asked c.export.ensures.kept
+    let is = sym arm.ensures ∙ ap (λ (x : Command). asks (command_seen x) arm.json) arm.field-0-is in
+    let old = g.H.Host.state c.args.host.now in
+    let new = g.H.Host.state c.export.new.host in
+    let decides = subst (λ (f : ReportForm). DecidesExport f (export_seen arm.words) c.export.result old new)
+    c.form-in-Command-Export-default.ensures c.export.ensures.decides in
+    by_export (reading_of words) arm.json c.export.result old new (g.B.Disk.state c.args.bench.now)
+    (export_seen arm.words) is c.requires.fresh decides c.export.ensures.asked c.export.ensures.kept
 
 pub returns-in-Command-Replay-default : goal.returns-in-Command-Replay-default
 returns-in-Command-Replay-default g c =

@@ -1,6 +1,7 @@
 use Rattle.std.proofs.Common.{◌≡◌, ◌+◌, ◌*◌, [], length}
 use Rattle.salvage_bins.specs.Ground.{ground_of}
 use Rattle.salvage_walk.specs.Keys.{judged_key, key_names, keys_next}
+use Rattle.salvage_walk.specs.Incomplete.{incomplete_at, notes_key, notes_next}
 use Rattle.salvage_walk.specs.Walked.{state_of}
 use Rattle.salvage_walk.proofs.keys.+walk.Given as goal
 
@@ -20,6 +21,10 @@ invariant-keys-children l =
       told : keys_next judge l.above l.path l.number l.rest l.children (state_of l.walk)
           ≡ keys_next judge l.above l.path 1 l.offsets [] (state_of l.fn.walk);
       known : l.taken ≡ key_names l.children;
+      noted : notes_next judge (notes_key l.left (ground_of l.cells)) (incomplete_at l.own l.path) l.above l.path l.number l.rest l.children
+          (state_of l.walk) l.noted l.notes
+          ≡ notes_next judge (notes_key l.left (ground_of l.cells)) (incomplete_at l.own l.path) l.above l.path 1 l.offsets []
+          (state_of l.fn.walk) l.told l.fn.notes;
       few : l.number + length l.rest ≡ 1 + length l.offsets;
     }
 

@@ -5,6 +5,7 @@ use Rattle.text_commands.proofs.changing.change.Goals as goal
 
 pub returns-in-Ok-clause-changed : goal.returns-in-Ok-clause-changed
 returns-in-Ok-clause-changed g c =
-    change_loads g.D.Disk.tells c.edit.result c.in-Ok.hive c.in-Ok.field-0-1 (map step_of c.args.steps)
+    change_loads c.args.how g.D.Disk.tells c.change_loaded.result c.in-Ok.hive c.in-Ok.field-0-1
+    (map step_of c.args.steps)
     (g.D.Disk.state c.args.disk.now).held
-    (g.D.Disk.state c.edit.new.disk) c.in-Ok.ensures.exact c.edit.ensures.changed
+    (g.D.Disk.state c.change_loaded.new.disk) c.in-Ok.ensures.exact c.change_loaded.ensures.changed

@@ -5,6 +5,6 @@ use Rattle.text_commands.proofs.changing.change_on.Goals as goal
 
 pub returns-in-Ok-clause-changed : goal.returns-in-Ok-clause-changed
 returns-in-Ok-clause-changed g c =
-    imports_any (map step_of c.args.steps) c.change_awake.result (g.B.Disk.state c.args.bench.now)
+    imports_any c.args.how (map step_of c.args.steps) c.change_awake.result (g.B.Disk.state c.args.bench.now)
     (g.B.Disk.state c.power_on.new.self)
     (g.B.Disk.state c.change_awake.new.bench) c.in-Ok.ensures.woken c.change_awake.ensures

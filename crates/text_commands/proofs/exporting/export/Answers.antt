@@ -18,10 +18,10 @@ returns-in-Err-Stopped-clause-decides g c =
     (λ (o : Obstacle). Looks {A = HiveFiles}
     (hive_in old.files (export_seen c.args.words).hive (export_seen c.args.words).log) (Err o) old new)
     c.in-Err-Stopped.field-0-is c.in-Err-Stopped.ensures.looks in
-    let done = stopped_exports (export_seen c.args.words) c.in-Err-Stopped.stop old new looks in
+    let done = stopped_exports c.args.form (export_seen c.args.words) c.in-Err-Stopped.stop old new looks in
     let status = c.stopped.ensures in
     let stop = c.in-Err-Stopped.stop-is in
     let obstacle = c.in-Err-Stopped.field-0-is in
     let told : c.stopped.result ≡ stopped_as c.in-Err-Stopped.stop =
     first_of (search (rules, status, stop, obstacle), grind (arith, status, stop, obstacle), cc) in
-    subst (λ (s : Status). DecidesExport (export_seen c.args.words) s old new) (sym told) done
+    subst (λ (s : Status). DecidesExport c.args.form (export_seen c.args.words) s old new) (sym told) done

@@ -4,6 +4,6 @@ use Rattle.text_commands.proofs.exporting.export_in.Goals as goal
 
 pub returns-in-Ok : goal.returns-in-Ok
 returns-in-Ok c =
-    exported_as (image_in c.args.files.now)
+    exported_as c.args.form (image_in c.args.files.now)
     c.args.path.now c.in-Ok.root c.in-Ok.field-0-1 c.in-Ok.field-0-2 c.tree_export.result c.in-Ok.ensures.checks
     c.tree_export.ensures

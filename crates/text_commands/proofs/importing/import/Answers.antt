@@ -9,7 +9,7 @@ use Rattle.command_parts.specs.Leaves.{Looks, stopped_as}
 use Rattle.text_commands.specs.Asks.{AsksImport}
 use Rattle.text_commands.specs.Imported.{DecidesImport}
 use Rattle.text_commands.proofs.ImportAskLemmas.{found_asked, stopped_asked}
-use Rattle.text_commands.proofs.ImportLemmas.{unfound_import}
+use Rattle.text_commands.proofs.ImportLemmas.{found_import, unfound_import}
 use Rattle.text_commands.proofs.importing.import.Goals as goal
 
 pub returns-in-Err-Stopped-clause-decides : goal.returns-in-Err-Stopped-clause-decides
@@ -20,11 +20,13 @@ returns-in-Err-Stopped-clause-decides g c =
     (λ (o : Obstacle). Looks {A = HiveFiles}
     (hive_in old.files (import_seen c.args.words).hive (import_seen c.args.words).log) (Err o) old new)
     c.in-Err-Stopped.field-0-is c.in-Err-Stopped.ensures.looks in
-    let done = unfound_import (import_seen c.args.words) c.in-Err-Stopped.stop old new (g.B.Disk.state c.args.bench.now)
+    let done = unfound_import c.args.form (import_seen c.args.words) c.in-Err-Stopped.stop old new
+    (g.B.Disk.state c.args.bench.now)
     c.requires.fresh looks in
     let told : c.stopped.result ≡ stopped_as c.in-Err-Stopped.stop =
     rw c.in-Err-Stopped.field-0-is at c.stopped.ensures in
-    subst (λ (s : Status). DecidesImport (import_seen c.args.words) s old new (g.B.Disk.state c.args.bench.now))
+    subst (λ (s : Status). DecidesImport c.args.form (import_seen c.args.words) s old new
+    (g.B.Disk.state c.args.bench.now))
     (sym told) done
 
 pub returns-in-Err-Stopped-clause-asked : goal.returns-in-Err-Stopped-clause-asked
@@ -46,3 +48,10 @@ returns-in-Ok-clause-asked g c =
     found_asked (import_seen c.args.words) c.in-Ok.files c.import_hive.result (g.H.Host.state c.args.host.now)
     (g.H.Host.state c.hive_in.new.host)
     (g.H.Host.state c.import_hive.new.host) c.in-Ok.ensures.looks c.in-Ok.ensures.asks c.import_hive.ensures.asks
+
+pub returns-in-Ok-clause-decides : goal.returns-in-Ok-clause-decides
+returns-in-Ok-clause-decides g c =
+    found_import c.args.form (import_seen c.args.words) c.in-Ok.files c.import_hive.result
+    (g.H.Host.state c.args.host.now)
+    (g.H.Host.state c.hive_in.new.host) (g.H.Host.state c.import_hive.new.host) (g.B.Disk.state c.import_hive.new.bench)
+    c.in-Ok.ensures.looks c.import_hive.ensures

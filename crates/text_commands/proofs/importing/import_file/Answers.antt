@@ -11,7 +11,7 @@ use Rattle.text_commands.proofs.importing.import_file.Goals as goal
 
 pub returns-in-Ok : goal.returns-in-Ok
 returns-in-Ok g c =
-    found_file c.args.files.now (saves_seen c.args.saves) c.args.name.now c.in-Ok.text c.import_text.result
+    found_file c.args.files.now (saves_seen c.args.saves) c.args.how c.args.name.now c.in-Ok.text c.import_text.result
     (g.H.Host.state c.args.host.now)
     (g.H.Host.state c.file_in.new.host) (g.H.Host.state c.import_text.new.host) (g.B.Disk.state c.import_text.new.bench)
     c.requires.loads
@@ -24,10 +24,11 @@ returns-in-Err-Refused g c =
     let name : List ℕ = c.args.name.now in
     let looks = subst (λ (o : Obstacle). Looks {A = List ℕ} (file_in name (old.files name)) (Err o) old mid)
     c.in-Err-Refused.field-0-is c.in-Err-Refused.ensures.looks in
-    absent_file c.args.files.now (saves_seen c.args.saves) name c.in-Err-Refused.why c.refuse.result old mid
+    absent_file c.args.files.now (saves_seen c.args.saves) c.args.how name c.in-Err-Refused.why c.refuse.result old mid
     (g.H.Host.state c.refuse.new.host)
     (g.B.Disk.state c.args.bench.now)
     c.requires.loads c.requires.fresh looks c.in-Err-Refused.ensures.asks c.refuse.ensures.unasked
     (λ e. c.in-Err-Refused.ensures.kept
     (ap (λ (o : Obstacle). Err o) (c.in-Err-Refused.field-0-is ∙ ap (λ (w : Refusal). Refused w) e)))
-    c.refuse.ensures.leaves c.refuse.ensures.files c.refuse.ensures.kept
+    (rw c.in-Err-Refused.why-is at c.refuse.ensures.leaves) c.refuse.ensures.files
+    (rw c.in-Err-Refused.why-is at c.refuse.ensures.kept)

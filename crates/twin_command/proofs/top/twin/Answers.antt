@@ -15,6 +15,6 @@ returns-in-Err-Stopped-clause-decides g c =
     let words = twin_seen c.args.words in
     let looks = subst (λ (o : Obstacle). Looks (hive_in old.files words.hive words.alt) (Err o) old new)
     c.in-Err-Stopped.field-0-is c.in-Err-Stopped.ensures.looks in
-    unread_twin (hive_in old.files words.hive words.alt) (stands_by words.scheme) words.default (twin_saves words)
+    unread_twin c.args.form (hive_in old.files words.hive words.alt) (stands_by words.scheme) words.default (twin_saves words)
     c.in-Err-Stopped.stop c.stopped.result old new (g.B.Disk.state c.args.bench.now)
     (c.stopped.ensures ∙ ap stopped_as c.in-Err-Stopped.stop-is) c.requires.fresh looks

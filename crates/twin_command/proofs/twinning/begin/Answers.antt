@@ -18,12 +18,12 @@ returns-in-Err-Fault g c =
     let leaves = subst (λ (f : HiveFault). Leaves (Ends (refusal (refusals.HiveFault f))) c.refuse.result
     (g.H.Host.state c.args.host.now) (g.H.Host.state c.refuse.new.host))
     c.in-Err-Fault.fault-is c.refuse.ensures.leaves in
-    fault_twins g.S.Scheme.stands c.args.files.now c.args.number (saves_seen c.args.saves)
+    fault_twins c.args.form g.S.Scheme.stands c.args.files.now c.args.number (saves_seen c.args.saves)
     c.in-Err-Fault.fault c.refuse.result (g.H.Host.state c.args.host.now) (g.H.Host.state c.refuse.new.host)
     (g.B.Disk.state c.args.bench.now)
     fault c.requires.fresh leaves c.refuse.ensures.files c.refuse.ensures.unasked c.refuse.ensures.kept
 
 pub returns-in-Err-Memory : goal.returns-in-Err-Memory
 returns-in-Err-Memory g c =
-    unchecked g.S.Scheme.stands c.args.files.now c.args.number (saves_seen c.args.saves)
+    unchecked c.args.form g.S.Scheme.stands c.args.files.now c.args.number (saves_seen c.args.saves)
     (g.H.Host.state c.args.host.now) (g.B.Disk.state c.args.bench.now) c.requires.fresh

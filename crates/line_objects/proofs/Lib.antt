@@ -1,0 +1,2 @@
+pub mod LineFeedLemmas
+pub mod ObjectLemmas

@@ -1,0 +1,4 @@
+pub mod ChangeLemmas
+pub mod IndexLemmas
+pub mod NamedLemmas
+pub mod SearchLemmas
