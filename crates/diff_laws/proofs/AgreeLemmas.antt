@@ -1,13 +1,10 @@
 -- When services, groups and boots have no line.
-use Rattle.std.proofs.Common.{◌≡◌, ◌⊎◌, inl, inr, ℕ, Bool, true, false, not, ◌&&◌, ◌||◌, cond, nat_eq, List, [], ◌∷◌, ◌++◌, map, filter, length, position, refl, sym, ap, ◌∙◌}
-use Rattle.std.specs.Prelude.{Option, slice_get}
+use Rattle.std.proofs.Common.{◌≡◌, ◌⊎◌, inl, inr, ℕ, Bool, true, false, not, ◌&&◌, ◌||◌, cond, nat_eq, List, [], ◌∷◌, ◌++◌, filter, refl, sym, ap, ◌∙◌}
 use Rattle.std.specs.List.{list_all, list_any}
-use Rattle.std.specs.Option.{option_map_or, is_some}
 use Rattle.std.proofs.lemmas.Bool.{false≢true, and_parts}
 use Rattle.nt_bytes.specs.Folding.{folds_same}
 use Rattle.boot_phases.proofs.TriedLemmas.{some_place}
 use Rattle.dependencies.proofs.MeetLemmas.{names_flip}
-use Rattle.hive_model.specs.Tree.{Tree}
 use Rattle.start_model.specs.Order.{GroupOrder}
 use Rattle.diff_lines.specs.declared.lines.DiffField.{DiffField}
 use Rattle.diff_lines.specs.declared.lines.DiffLine.{DiffLine}
@@ -20,14 +17,13 @@ use Rattle.diff_lines.specs.declared.lines.Side.{Side}
 use Rattle.diff_lines.specs.declared.lines.Side.TheVariants.{First, Second}
 use Rattle.diff_lines.specs.declared.lines.Shown.TheVariants.{Numbers}
 use Rattle.set_diff.specs.declared.boot.Attempt.{Attempt}
-use Rattle.set_diff.specs.declared.boot.QuietBoot.{QuietBoot}
 use Rattle.set_diff.specs.declared.service.Service.{Service}
 use Rattle.set_diff.specs.Boots.{attempt_names, attempt_named, phase_rank, phase_lines, paired_phases, phases_lines, lone_names, common_attempts, boots_lines, or_same}
 use Rattle.set_diff.specs.Listed.{has, lacks, lone_lines, both_lone, shared, parts_lines, shared_parts}
 use Rattle.set_diff.specs.Services.{all_fields, field_shown, field_lines, pair_lines, paired_lines, differs_lines, service_named, service_names, is_only, only_line, only_lines, apart_lines, common_lines, services_lines}
 use Rattle.set_diff.specs.Sets.{Compared, compared_of, group_names, group_named, tag_lines, paired_tags, tags_lines, orders_lines, groups_lines, both_lines, is_difference, closed}
-use Rattle.set_diff.specs.Shown.{names_same, numbers_same, shown_same}
-use Rattle.diff_laws.specs.Laws.{is_none, has_all, same_names, field_agrees, service_agrees, service_agrees_in, services_agree, ServicesAgree, group_agrees_in, groups_agree, GroupsAgree, attempt_agrees_in, boots_agree, BootsAgree, sets_agree, SetsAgree}
+use Rattle.set_diff.specs.Shown.{names_same, numbers_same}
+use Rattle.diff_laws.specs.Laws.{is_none, has_all, same_names, field_agrees, service_agrees, service_agrees_in, services_agree, ServicesAgree, group_agrees_in, groups_agree, GroupsAgree, attempt_agrees_in, boots_agree, BootsAgree, SetsAgree}
 use Rattle.diff_laws.proofs.NoneLemmas.{none_append, none_when, none_map, none_flat, none_pair, none_parts, all_same, all_map, not_not}
 
 -- ---- names

@@ -3,3 +3,4 @@ pub mod AgreeLemmas
 pub mod OwnLemmas
 pub mod OwnLines
 pub mod OwnTrees
+pub mod AllLemmas

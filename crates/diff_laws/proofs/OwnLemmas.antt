@@ -1,11 +1,11 @@
 -- What a list has of its own items, found by their names.
-use Rattle.std.proofs.Common.{◌≡◌, ℕ, Bool, true, false, not, ◌&&◌, cond, nat_eq, List, [], ◌∷◌, map, filter, refl, sym, ap, subst, ◌∙◌}
-use Rattle.std.specs.Prelude.{Option, Some, None, find, position, slice_get, option_and_then}
+use Rattle.std.proofs.Common.{◌≡◌, ℕ, Bool, true, false, cond, nat_eq, List, [], ◌∷◌, map, refl, sym, ap, ◌∙◌}
+use Rattle.std.specs.Prelude.{Some, find, position, slice_get, option_and_then}
 use Rattle.std.specs.List.{list_all}
 use Rattle.std.proofs.lemmas.Bool.{eq-eqb}
 use Rattle.nt_bytes.specs.Folding.{folded_unit, folds_same}
 use Rattle.group_order.proofs.FirstLemmas.{find_at_place, position-map}
-use Rattle.reg_tree.proofs.Unlike.{Each, Lacks, Unlike}
+use Rattle.reg_tree.proofs.Unlike.{Each, Unlike}
 use Rattle.set_diff.specs.Shown.{names_same, numbers_same}
 use Rattle.diff_laws.specs.Laws.{has_all}
 use Rattle.diff_laws.proofs.AgreeLemmas.{and_of, same_has}

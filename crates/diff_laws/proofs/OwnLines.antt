@@ -1,18 +1,16 @@
 -- The services and groups of a set have no line against themselves.
-use Rattle.std.proofs.Common.{◌≡◌, ℕ, Bool, true, false, not, ◌&&◌, cond, nat_eq, List, [], ◌∷◌, map, filter, refl, sym, ap, ◌∙◌}
+use Rattle.std.proofs.Common.{◌≡◌, ℕ, Bool, true, false, not, ◌&&◌, cond, List, [], ◌∷◌, map, filter, refl, sym, ap, ◌∙◌}
 use Rattle.std.specs.Prelude.{Option, Some, None}
 use Rattle.std.specs.List.{filter_map, cons_option, list_all}
 use Rattle.std.specs.Option.{option_map, option_map_or}
-use Rattle.std.proofs.lemmas.Bool.{eq-eqb, not-true}
+use Rattle.std.proofs.lemmas.Bool.{eq-eqb}
 use Rattle.nt_bytes.specs.Folding.{folds_same}
-use Rattle.hive_model.specs.Tree.{Tree, head, find_dword}
-use Rattle.hive_model.specs.Valid.{HoldsKeys}
-use Rattle.start_model.specs.Entries.{Entry, entry_of, entry_with, services_of}
-use Rattle.start_model.specs.Order.{GroupOrder, first_names, listed_groups, order_of, orders_of, tag_lists}
+use Rattle.hive_model.specs.Tree.{Tree, head}
+use Rattle.start_model.specs.Entries.{entry_with, services_of}
+use Rattle.start_model.specs.Order.{GroupOrder, first_names, listed_groups, order_of, tag_lists}
 use Rattle.start_model.proofs.HeldLemmas.{services_differ}
 use Rattle.dependencies.proofs.MeetLemmas.{names_flip}
-use Rattle.reg_tree.proofs.Unlike.{Each, Lacks, Unlike, unlike_from}
-use Rattle.diff_lines.specs.declared.lines.DiffField.{DiffField}
+use Rattle.reg_tree.proofs.Unlike.{Lacks, Unlike, unlike_from}
 use Rattle.diff_lines.specs.declared.lines.Shown.{Shown}
 use Rattle.diff_lines.specs.declared.lines.Shown.TheVariants.{Nothing, Number, Text, Texts, Numbers}
 use Rattle.set_diff.specs.declared.service.Service.{Service}

@@ -1,12 +1,12 @@
 -- The tree of a set has no line against itself.
-use Rattle.std.proofs.Common.{◌≡◌, ℕ, ◌+◌, Bool, true, false, not, ◌&&◌, cond, nat_eq, List, [], ◌∷◌, ◌++◌, map, refl, sym, ap, subst, ◌∙◌}
-use Rattle.std.specs.Prelude.{Option, Some, None, bytes_eq, count_by, fold}
+use Rattle.std.proofs.Common.{◌≡◌, ℕ, ◌+◌, Bool, true, false, not, ◌&&◌, cond, nat_eq, List, [], ◌∷◌, ◌++◌, map, refl, sym, ap, ◌∙◌, arith}
+use Rattle.std.specs.Prelude.{Option, Some, bytes_eq, count_by, fold}
 use Rattle.std.specs.List.{list_all, flat_map}
 use Rattle.std.specs.Option.{option_map_or}
 use Rattle.std.proofs.lemmas.Bool.{eq-eqb, and_parts}
 use Rattle.std.proofs.lemmas.Slice.Eq.{bytes_eq-Decides}
 use Rattle.nt_bytes.specs.Counts.{capped}
-use Rattle.hive_model.specs.Tree.{key_count, Head, Item, Tree, Trees, key, none, more, head, children, listed}
+use Rattle.hive_model.specs.Tree.{key_count, Head, Item, Tree, Trees, key, none, more, head, listed}
 use Rattle.hive_model.specs.Valid.{HoldsKeys, AllHoldKeys, IsKey}
 use Rattle.reg_tree.proofs.Unlike.{Each, Unlike, unlike_from}
 use Rattle.diff_lines.specs.declared.lines.DiffLine.{DiffLine}
@@ -24,7 +24,7 @@ use Rattle.diff_laws.specs.Laws.{is_none}
 use Rattle.diff_laws.specs.Own.{OwnTree}
 use Rattle.diff_laws.proofs.AgreeLemmas.{and_of, nil_of}
 use Rattle.diff_laws.proofs.NoneLemmas.{none_append, none_when}
-use Rattle.diff_laws.proofs.OwnLemmas.{names_self, has_self, each_more, each_with, own_named}
+use Rattle.diff_laws.proofs.OwnLemmas.{names_self, has_self, each_more, own_named}
 
 bytes_self : (bs : List ℕ) → bytes_eq bs bs ≡ true
 bytes_self bs = (bytes_eq-Decides bs bs).1 refl

@@ -1,6 +1,7 @@
 //! The laws. Each has its statement in `specs/Laws.antt`.
 
 ghost use Rattle.diff_laws.specs.Laws.{ServicesAgree, GroupsAgree, BootsAgree, SetsAgree};
+ghost use Rattle.diff_laws.specs.All.{AllAddsLines};
 ghost use Rattle.diff_laws.specs.Own.{OwnServices, OwnGroups, OwnTree};
 
 /// There is no line on the services exactly where both sets have services of the same names in the same order, and each has the same in every
@@ -32,4 +33,9 @@ pub fn a_set_is_like_itself()
     ensures services { OwnServices }
     ensures groups { OwnGroups }
     ensures tree { OwnTree }
+{}
+
+/// Up to the last two, the lines with all keys and values compared are those without it, and more after them.
+pub fn all_only_adds_lines()
+    ensures adds { AllAddsLines }
 {}

@@ -7,7 +7,7 @@
 mod laws;
 
 pub use laws::{
-    a_set_is_like_itself, boots_are_the_same_where_they_agree,
+    a_set_is_like_itself, all_only_adds_lines, boots_are_the_same_where_they_agree,
     groups_have_no_line_where_they_agree, services_have_no_line_where_they_agree,
     sets_that_agree_are_the_same,
 };
