@@ -1,25 +1,22 @@
 -- There is a cycle exactly where an entry is stuck.
-use Rattle.std.proofs.Common.{◌≡◌, ℕ, zero, suc, ◌+◌, ◌<◌, ◌≤◌, Bool, true, false, not, nat_eq, ◌&&◌, ◌||◌, List, [], ◌∷◌, ◌++◌, length, map, filter, get_or, cond, Option, Some, None, refl, sym, ap, ◌∙◌, ◌⊎◌, inl, inr, subst, arith}
-use Rattle.std.specs.Prelude.{Contains, count_by, slice_get, ◌↔◌}
-use Rattle.std.specs.Option.{option_map_or}
+use Rattle.std.proofs.Common.{◌≡◌, ℕ, zero, suc, ◌+◌, ◌<◌, ◌≤◌, Bool, true, false, nat_eq, ◌&&◌, ◌||◌, List, [], ◌∷◌, ◌++◌, length, cond, refl, sym, ap, ◌∙◌, inl, inr, subst, arith}
+use Rattle.std.specs.Prelude.{Contains, count_by}
 use Rattle.std.specs.List.{list_any, list_all, flat_map, range_with_len}
-use Rattle.std.proofs.lemmas.Bool.{false≢true, cases_Bool, and_parts, and_from, or_cases, or_left, or_right, eqb-true, eq-eqb, not-true}
+use Rattle.std.proofs.lemmas.Bool.{false≢true, cases_Bool, and_parts, and_from, or_cases, or_left, or_right, eqb-true, eq-eqb}
 use Rattle.std.proofs.lemmas.Cmp.{nat_eq_equiv}
 use Rattle.std.proofs.lemmas.List.Sums.{sum_by-cons}
-use Rattle.std.proofs.lemmas.Map.Views.{Contains-from_any, list_any-from_Contains}
+use Rattle.std.proofs.lemmas.Map.Views.{list_any-from_Contains}
 use Rattle.std.proofs.lemmas.List.Elements.{Contains-append_left, Contains-append_right}
-use Rattle.start_model.specs.Demand.{member, all_sets}
-use Rattle.dependencies.proofs.PulledLemmas.{then_true, then_gives, same_bool, all_true, all_below, any_below, sets_have, listed_member}
+use Rattle.dependencies.proofs.PulledLemmas.{same_bool}
 use Rattle.wait_cycles.specs.Waits.{needs_at, is_held, is_stuck, leads, comes_to, are_in_cycle, cycle_of, begins_with, cycle_from, cycles_of}
 use Rattle.wait_cycles.proofs.InverseLemmas.{none_in}
-use Rattle.wait_cycles.proofs.MetLemmas.{first_in, later_in, all_from, all_gives, any_from, any_gives, in_range, range_in}
+use Rattle.wait_cycles.proofs.MetLemmas.{first_in, later_in, all_gives, any_from, any_gives, in_range, range_in}
 use Rattle.wait_cycles.proofs.CycleLemmas.{comes_gives, filter_in, filter_out, filter_same}
-use Rattle.service_check.specs.declared.stage.Staged.{Staged}
 use Rattle.service_check.specs.Needs.{waits_of}
-use Rattle.check_laws.specs.Laws.{AreProper, HoldsItself, NoCycleNoneStuck}
+use Rattle.check_laws.specs.Laws.{AreProper, NoCycleNoneStuck}
 use Rattle.check_laws.proofs.StuckLaws.{held_wider, stuck_holds, stuck_greatest}
 use Rattle.check_laws.proofs.ProperLaws.{good_proper, flat_from as flat_back, only_in}
-use Rattle.check_laws.proofs.StepLaws.{step_comes, comes_on, comes_through, nowhere}
+use Rattle.check_laws.proofs.StepLaws.{step_comes, comes_through, nowhere}
 
 -- ---- counts
 
@@ -129,11 +126,11 @@ module _ (waits : List (List (List ℕ))) (proper : AreProper waits) where
         let b = and_parts (comes_to (leads waits) (length waits) r.0 r.0) (g r.0) r.2 in
         (r.0, range_in (length waits) r.0 r.1, b.0, b.1))
     | inr none ↦ absurd (none_stuck g on (λ q lq gq. elim (cases_Bool (comes_to (leads waits) (length waits) q q)) [
-        | inl here ↦ absurd (false≢true (sym none
-            ∙ any_from (λ q. comes_to (leads waits) (length waits) q q && g q) (range_with_len 0 (length waits)) q
-            (in_range (length waits) q lq) (and_from (comes_to (leads waits) (length waits) q q) (g q) here gq)))
-        | inr off ↦ off
-      ])
+      | inl here ↦ absurd (false≢true (sym none
+          ∙ any_from (λ q. comes_to (leads waits) (length waits) q q && g q) (range_with_len 0 (length waits)) q
+          (in_range (length waits) q lq) (and_from (comes_to (leads waits) (length waits) q q) (g q) here gq)))
+      | inr off ↦ off
+    ])
         (suc (count_by (comes_to (leads waits) (length waits) p) (range_with_len 0 (length waits)))) p lp gp st (omega arith))
   ]
 
@@ -176,8 +173,7 @@ module _ (waits : List (List (List ℕ))) (proper : AreProper waits) where
           let one : cycle_of waits f ≡ cycle_of waits q = same_cycle q f lq lf out.1 in
           let same : cycle_of waits f ≡ f ∷ fs = one ∙ e in
           let from : cycle_from waits f ≡ cycle_of waits f ∷ [] =
-          ap (λ (b : Bool). cond b (cycle_of waits f ∷ []) []) (ap (begins_with f) same ∙ eq-eqb f f refl) in
-          (
+          ap (λ (b : Bool). cond b (cycle_of waits f ∷ []) []) (ap (begins_with f) same ∙ eq-eqb f f refl) in (
             cycle_of waits f,
             flat_in (cycle_from waits) (range_with_len 0 (length waits)) f (cycle_of waits f) (in_range (length waits) f lf)
                 (subst (λ (cs : List (List ℕ)). Contains cs (cycle_of waits f)) (sym from) (first_in (cycle_of waits f) [])),
@@ -194,9 +190,9 @@ module _ (waits : List (List (List ℕ))) (proper : AreProper waits) where
   leads_some q f lq lf h = elim (cases_Bool (is_stuck waits q)) [
     | inl on ↦ on
     | inr off ↦ absurd (false≢true (comes_gives (leads waits) (length waits) q f h (λ _. false) (record {
-        begun = λ x lx st. sym off ∙ leading_stuck q x lq st;
-        closed = λ m x lm lx on st. on;
-      }) lf))
+      begun = λ x lx st. sym off ∙ leading_stuck q x lq st;
+      closed = λ m x lm lx on st. on;
+    }) lf))
   ]
 
   -- a place in a cycle is stuck
@@ -208,8 +204,7 @@ module _ (waits : List (List (List ℕ))) (proper : AreProper waits) where
       let same : c ≡ cycle_of waits f.0 = cycle_is f.0 c (begins_with f.0 (cycle_of waits f.0)) f.2 in
       let out = filter_out (are_in_cycle waits f.0) (range_with_len 0 (length waits)) q
       (subst (λ (xs : List ℕ). Contains xs q) same on) in
-      let lq = range_in (length waits) q out.0 in
-      (
+      let lq = range_in (length waits) q out.0 in (
         lq,
         leads_some q f.0 lq (range_in (length waits) f.0 f.1)
             (and_parts (comes_to (leads waits) (length waits) f.0 q) (comes_to (leads waits) (length waits) q f.0) out.1).1,

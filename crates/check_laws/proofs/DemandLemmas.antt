@@ -1,13 +1,13 @@
 -- Where no line is about a name, what is started on demand starts.
-use Rattle.std.proofs.Common.{◌≡◌, ℕ, zero, suc, ◌+◌, ◌<◌, ◌≤◌, Bool, true, false, not, ◌&&◌, ◌||◌, nat_eq, cond, List, [], ◌∷◌, ◌++◌, length, map, Option, Some, None, refl, sym, ap, ◌∙◌, ◌⊎◌, inl, inr, subst, arith}
-use Rattle.std.specs.Prelude.{Contains, slice_get, position, filter, option_and_then}
+use Rattle.std.proofs.Common.{◌≡◌, ℕ, ◌+◌, ◌<◌, Bool, true, false, not, ◌&&◌, ◌||◌, nat_eq, cond, List, [], ◌∷◌, ◌++◌, length, map, Option, Some, None, refl, sym, ap, ◌∙◌, ◌⊎◌, inl, inr, subst, arith}
+use Rattle.std.specs.Prelude.{Contains, slice_get, position, option_and_then}
 use Rattle.std.specs.Option.{is_some, option_map, option_map_or, option_or}
-use Rattle.std.specs.List.{list_any, list_all, flat_map, filter_map, range_with_len}
-use Rattle.std.proofs.lemmas.Bool.{false≢true, cases_Bool, and_parts, and_from, or_left, not-true, eqb-true, eq-eqb}
+use Rattle.std.specs.List.{list_any, flat_map, filter_map, range_with_len}
+use Rattle.std.proofs.lemmas.Bool.{false≢true, and_parts, and_from, or_left, not-true, eqb-true, eq-eqb}
 use Rattle.std.proofs.lemmas.List.{length-map, get_or-map}
 use Rattle.std.proofs.lemmas.List.Elements.{Contains-append_left, Contains-append_right, Contains-append_cases}
 use Rattle.std.proofs.lemmas.List.Quantifiers.{position-Some}
-use Rattle.std.proofs.lemmas.Option.{slice_get_within, get_or_from_slice_get, same_Some, cond_some}
+use Rattle.std.proofs.lemmas.Option.{slice_get_within, get_or_from_slice_get, cond_some}
 use Rattle.nt_bytes.specs.Folding.{folds_same}
 use Rattle.name_places.proofs.FoldLemmas.{alike}
 use Rattle.hive_model.specs.Tree.{Tree}
@@ -19,29 +19,25 @@ use Rattle.start_model.specs.Demand.{Need}
 use Rattle.start_model.specs.Demand as book_demand
 use Rattle.start_model.specs.Entries as book
 use Rattle.start_model.specs.Entries.{Entry, entries_of, is_driver, is_service, is_open, need_of}
-use Rattle.start_model.specs.Order.{GroupOrder, Rank, ordered_of, orders_of, plan_of, first_names}
+use Rattle.start_model.specs.Order.{Rank, ordered_of, orders_of, plan_of}
 use Rattle.start_model.specs.Ready.{Label, has_name, is_ready}
-use Rattle.wait_cycles.specs.Waits.{is_held, is_stuck, cycles_of}
-use Rattle.wait_cycles.proofs.InverseLemmas.{none_in}
+use Rattle.wait_cycles.specs.Waits.{is_held, is_stuck}
 use Rattle.wait_cycles.proofs.MetLemmas.{first_in, any_from, any_gives, in_range}
 use Rattle.wait_cycles.proofs.CycleLemmas.{filter_in, filter_out, filter_none}
-use Rattle.check_lines.specs.declared.lines.Fault.{Fault}
 use Rattle.check_lines.specs.declared.lines.CheckLine.TheVariants as lines
 use Rattle.service_check.specs.declared.stage.Stage.{Stage}
 use Rattle.service_check.specs.declared.stage.Stage.TheVariants.{Boot, System, Automatic, Demand}
 use Rattle.service_check.specs.declared.stage.Staged.{Staged}
 use Rattle.service_check.specs.Stages.{is_taken, is_upto, taken_names, stage_in, staged_in, rows_of}
-use Rattle.service_check.specs.Needs.{need_faults, service_fault, good_ways, waits_of}
+use Rattle.service_check.specs.Needs.{good_ways, waits_of}
 use Rattle.service_check.specs.Check.{name_at}
-use Rattle.service_control.specs.declared.stop.ControlStop.{ControlStop}
 use Rattle.service_control.specs.declared.stop.ControlStop.TheVariants.{NoService, Disabled, Running, Missing, NeedDisabled, Unmet}
-use Rattle.service_control.specs.State.{ControlState, labels_of, named}
+use Rattle.service_control.specs.State.{labels_of, named}
 use Rattle.service_control.specs.Turns.{starts_of}
 use Rattle.service_control.specs.Needed.{asks, needed_of, is_off, members_of, is_absent, least_name, missing_in, disabled_in}
-use Rattle.service_control.specs.Leaning.{is_named}
 use Rattle.service_control.specs.Sets.{is_needed, names_one, HasNeeds}
-use Rattle.service_control.specs.First.{is_controlled, controlled, table_of, group_rank, ranks_of, by_group_of, after_phase, first_running, control_of}
-use Rattle.service_control.specs.Calls.{entry_refusal, members_refusal, turns_refusal, needs_refusal, start_refusal_at, start_refusal}
+use Rattle.service_control.specs.First.{is_controlled, controlled, table_of, group_rank, ranks_of, by_group_of, first_running, control_of}
+use Rattle.service_control.specs.Calls.{turns_refusal, needs_refusal, start_refusal_at, start_refusal}
 use Rattle.service_control.proofs.LeanLemmas.{folds_itself, mapped_from, mapped_to}
 use Rattle.service_control.proofs.LeastLemmas.{from}
 use Rattle.service_control.proofs.NeededLemmas.{needed_has, needed_least}
@@ -53,11 +49,11 @@ use Rattle.check_laws.proofs.ProperLaws.{good_proper, flat_from}
 use Rattle.check_laws.proofs.StuckLaws.{stuck_greatest}
 use Rattle.check_laws.proofs.CycleLaws.{one_round, round_found}
 use Rattle.check_laws.proofs.TurnLemmas.{Ran, InTurn, IsPhase, named_in, named_from, turned_each}
-use Rattle.check_laws.proofs.TurnsLemmas.{IsStarts, starts}
-use Rattle.check_laws.proofs.RowLemmas.{RowsApart, stands_at, Fits, fit, by_demand, first_for, first_sub}
+use Rattle.check_laws.proofs.TurnsLemmas.{starts}
+use Rattle.check_laws.proofs.RowLemmas.{RowsApart, stands_at, Fits, fit, by_demand, first_for}
 use Rattle.check_laws.proofs.UnmetLemmas.{IsOf, IsUpto, IsRight, Serves, right_name, served, unready_held}
 use Rattle.check_laws.proofs.WholeLemmas as whole
-use Rattle.check_laws.proofs.WholeLemmas.{IsStart, HasReason, left_reason, left_some, over_automatic, well_all, taken_upto, upto_taken}
+use Rattle.check_laws.proofs.WholeLemmas.{IsStart, left_reason, left_some, over_automatic, well_all, taken_upto, upto_taken}
 use Rattle.check_laws.proofs.SetLemmas.{entries_apart, rows_apart, row_entry, entry_row, boot_stage, system_stage, automatic_stage, demand_stage, driver_from, boot_phase, system_phase, automatic_phase, IsEarly, below_by, boot_early, system_early}
 use Rattle.check_laws.proofs.LineLemmas.{set_says, set_says_cycle}
 use Rattle.check_laws.proofs.WaysLemmas.{wrong_is}
@@ -115,8 +111,7 @@ module _ (set : Tree) (holds : HoldsKeys set) where
         | inl i ↦ boot_tried 2 (omega arith) new0 one.turn name m.item i m.is
         | inr i ↦ system_tried new0 new1 two.turn name m.item i m.is
       ])))
-      (new0 ++ new1) (starts_of needs2 (labels_of (new0 ++ new1))) s2.left s2.phase in
-      (
+      (new0 ++ new1) (starts_of needs2 (labels_of (new0 ++ new1))) s2.left s2.phase in (
         ran_of needs0 [] s0.left,
         ran_of needs1 new0 s1.left,
         ran_of needs2 (new0 ++ new1) s2.left,

@@ -1,15 +1,15 @@
 -- The lines about an entry are its wrong needs and its cycles.
-use Rattle.std.proofs.Common.{◌≡◌, ℕ, zero, suc, ◌+◌, ◌<◌, Bool, true, false, not, ◌&&◌, ◌||◌, nat_eq, cond, List, [], ◌∷◌, ◌++◌, length, map, Option, Some, None, refl, sym, ap, ◌∙◌, ◌⊎◌, inl, inr, subst, arith}
+use Rattle.std.proofs.Common.{◌≡◌, ℕ, ◌+◌, Bool, true, false, not, ◌&&◌, ◌||◌, nat_eq, cond, List, [], ◌∷◌, ◌++◌, length, map, Option, Some, None, refl, sym, ap, ◌∙◌, inl, inr, subst}
 use Rattle.std.specs.Prelude.{Contains, slice_get, slice_index_or, filter, position, nat_le, nat_lt, codes, option_and_then}
 use Rattle.std.specs.Option.{is_some, option_map_or}
-use Rattle.std.specs.List.{list_any, list_all, flat_map, range_with_len, filter_map}
-use Rattle.std.proofs.lemmas.Bool.{false≢true, and_parts, and_from, or_left}
+use Rattle.std.specs.List.{list_all, flat_map, range_with_len, filter_map}
+use Rattle.std.proofs.lemmas.Bool.{false≢true, and_from, or_left}
 use Rattle.std.proofs.lemmas.List.{get_or_default}
 use Rattle.std.proofs.lemmas.Option.{same_Some}
 use Rattle.std.proofs.lemmas.List.Elements.{Contains-append_left, Contains-append_right, Contains-append_cases}
 use Rattle.nt_bytes.specs.Folding.{folds_same}
 use Rattle.hive_model.specs.Tree.{Tree, Item, head, children, find_key, find_item, find_dword, dword_in}
-use Rattle.start_model.specs.Entries.{Entry, entry_of, entry_with, entries_of, services_of, is_driver, is_service}
+use Rattle.start_model.specs.Entries.{Entry, entry_of, entry_with, entries_of, is_driver, is_service}
 use Rattle.start_model.specs.Order.{GroupOrder, first_names}
 use Rattle.wait_cycles.specs.Waits.{cycles_of}
 use Rattle.wait_cycles.proofs.InverseLemmas.{none_in}
@@ -23,7 +23,7 @@ use Rattle.service_check.specs.declared.stage.Stage.TheVariants.{System, Automat
 use Rattle.service_check.specs.declared.stage.Staged.{Staged}
 use Rattle.service_check.specs.Stages.{is_taken, is_upto, rows_of}
 use Rattle.service_check.specs.Needs.{names_of, named, groups_upto, need_faults, waits_of}
-use Rattle.service_check.specs.Children.{Scope, when, has_value, missing_faults, malformed, has_malformed, malformed_faults, all_fields, number_faults, control_beyond, control_faults, has_image, image_faults, listed, tag_fault, tag_faults_of, tag_faults, order_faults, own_faults, bond_faults, entry_faults, service_faults, child_faults}
+use Rattle.service_check.specs.Children.{Scope, when, has_value, missing_faults, malformed, has_malformed, malformed_faults, all_fields, number_faults, control_beyond, control_faults, has_image, image_faults, listed, tag_fault, tag_faults_of, order_faults, own_faults, bond_faults, entry_faults, service_faults, child_faults}
 use Rattle.service_check.specs.Check.{line_when, scope_of, list_lines, about, child_lines, unlisted_in, group_line, group_lines, name_at, cycle_line, lines_of_cycle, numbered_lines, cycle_lines, services_lines, judged_lines, set_lines}
 use Rattle.service_control.proofs.LeanLemmas.{folds_itself, mapped_from, mapped_to, alone_from}
 use Rattle.service_control.proofs.LeastLemmas.{from}
@@ -111,9 +111,9 @@ wrong_of_entry : (s : Scope) (t : Tree) (r : Staged) (f : Fault) → Contains (e
 wrong_of_entry s t r f c h = elim (Contains-append_cases (own_faults s.has_images t r) (bond_faults s r) f c) [
   | inl i ↦ absurd (not_other (own_faults s.has_images t r) f (other_own s.has_images t r) i h)
   | inr i ↦ elim (Contains-append_cases (need_faults s.rows r) (order_faults s.in_order s.orders r) f i) [
-      | inl j ↦ j
-      | inr j ↦ absurd (not_other (order_faults s.in_order s.orders r) f (other_order s.in_order s.orders r) j h)
-    ]
+    | inl j ↦ j
+    | inr j ↦ absurd (not_other (order_faults s.in_order s.orders r) f (other_order s.in_order s.orders r) j h)
+  ]
 ]
 
 -- the row of a name, and a wrong need of it
@@ -207,8 +207,7 @@ cycle_member s k c =
     let cycles : List (List ℕ) = cycles_of (waits_of s.rows) in
     let i = flat_from (lines_of_cycle s.rows (cycles_of (waits_of s.rows))) (range_with_len 0 (length (cycles_of (waits_of s.rows)))) k c in
     let lt = range_in (length (cycles_of (waits_of s.rows))) i.0 i.1 in
-    let m = mapped_from (cycle_line s.rows (i.0 + 1)) (slice_index_or (cycles_of (waits_of s.rows)) i.0 []) k i.2 in
-    (
+    let m = mapped_from (cycle_line s.rows (i.0 + 1)) (slice_index_or (cycles_of (waits_of s.rows)) i.0 []) k i.2 in (
       i.0 + 1,
       slice_index_or (cycles_of (waits_of s.rows)) i.0 [],
       (i.0, lt, get_or_default (cycles_of (waits_of s.rows)) i.0 (slice_index_or (cycles_of (waits_of s.rows)) i.0 []) [] lt),
@@ -224,20 +223,20 @@ services_about s keys f name c h =
       | inr i ↦ (let m = cycle_member s (lines.About f name) i in
           absurd (unlike is_about_line (cycle_line s.rows m.0 m.3) (lines.About f name) m.5 refl refl))
       | inl i ↦ elim (Contains-append_cases (list_lines s ++ flat_map (child_lines s) keys) (group_lines s) (lines.About f name) i) [
-          | inr j ↦ absurd (group_kind is_about_line (λ count g. refl) s (lines.About f name) j refl)
-          | inl j ↦ elim (Contains-append_cases (list_lines s) (flat_map (child_lines s) keys) (lines.About f name) j) [
-              | inl k ↦ absurd (unlike is_about_line lines.NoList (lines.About f name)
-                  (when_line (not (nat_eq (length (groups_upto Automatic s.rows)) 0) && (nat_eq (length s.orders) 0)) lines.NoList (lines.About f name) k)
-                  refl refl)
-              | inr k ↦ (let t = flat_from (child_lines s) keys (lines.About f name) k in
-                  let m = mapped_from (about t.0) (child_faults s t.0) (lines.About f name) t.2 in
-                  let fault : m.item ≡ f = ap (λ (l : CheckLine). fault_of l f) m.is in
-                  let same : (head t.0).name ≡ name = ap name_of m.is in
-                  subst (λ (n : List ℕ). HasWrong s.rows n f) same
-                  (wrong_of_child s t.0 f (has_value (codes "Start") t.0 || has_value (codes "Type") t.0)
-                  (subst (Contains (child_faults s t.0)) fault m.there) h))
-            ]
+        | inr j ↦ absurd (group_kind is_about_line (λ count g. refl) s (lines.About f name) j refl)
+        | inl j ↦ elim (Contains-append_cases (list_lines s) (flat_map (child_lines s) keys) (lines.About f name) j) [
+          | inl k ↦ absurd (unlike is_about_line lines.NoList (lines.About f name)
+              (when_line (not (nat_eq (length (groups_upto Automatic s.rows)) 0) && (nat_eq (length s.orders) 0)) lines.NoList (lines.About f name) k)
+              refl refl)
+          | inr k ↦ (let t = flat_from (child_lines s) keys (lines.About f name) k in
+              let m = mapped_from (about t.0) (child_faults s t.0) (lines.About f name) t.2 in
+              let fault : m.item ≡ f = ap (λ (l : CheckLine). fault_of l f) m.is in
+              let same : (head t.0).name ≡ name = ap name_of m.is in
+              subst (λ (n : List ℕ). HasWrong s.rows n f) same
+              (wrong_of_child s t.0 f (has_value (codes "Start") t.0 || has_value (codes "Type") t.0)
+              (subst (Contains (child_faults s t.0)) fault m.there) h))
         ]
+      ]
     ]
 
 -- a line about a name is a wrong need of its row
@@ -259,16 +258,16 @@ services_cycle s keys number name c =
       | inr i ↦ (let m = cycle_member s (lines.Cycle number name) i in
           record { cycle = m.1; there = m.2; place = m.3; on = m.4; named = ap name_of m.5 })
       | inl i ↦ elim (Contains-append_cases (list_lines s ++ flat_map (child_lines s) keys) (group_lines s) (lines.Cycle number name) i) [
-          | inr j ↦ absurd (group_kind is_cycle_line (λ count g. refl) s (lines.Cycle number name) j refl)
-          | inl j ↦ elim (Contains-append_cases (list_lines s) (flat_map (child_lines s) keys) (lines.Cycle number name) j) [
-              | inl k ↦ absurd (unlike is_cycle_line lines.NoList (lines.Cycle number name)
-                  (when_line (not (nat_eq (length (groups_upto Automatic s.rows)) 0) && (nat_eq (length s.orders) 0)) lines.NoList (lines.Cycle number name) k)
-                  refl refl)
-              | inr k ↦ (let t = flat_from (child_lines s) keys (lines.Cycle number name) k in
-                  let m = mapped_from (about t.0) (child_faults s t.0) (lines.Cycle number name) t.2 in
-                  absurd (unlike is_cycle_line (about t.0 m.item) (lines.Cycle number name) m.is refl refl))
-            ]
+        | inr j ↦ absurd (group_kind is_cycle_line (λ count g. refl) s (lines.Cycle number name) j refl)
+        | inl j ↦ elim (Contains-append_cases (list_lines s) (flat_map (child_lines s) keys) (lines.Cycle number name) j) [
+          | inl k ↦ absurd (unlike is_cycle_line lines.NoList (lines.Cycle number name)
+              (when_line (not (nat_eq (length (groups_upto Automatic s.rows)) 0) && (nat_eq (length s.orders) 0)) lines.NoList (lines.Cycle number name) k)
+              refl refl)
+          | inr k ↦ (let t = flat_from (child_lines s) keys (lines.Cycle number name) k in
+              let m = mapped_from (about t.0) (child_faults s t.0) (lines.Cycle number name) t.2 in
+              absurd (unlike is_cycle_line (about t.0 m.item) (lines.Cycle number name) m.is refl refl))
         ]
+      ]
     ]
 
 -- a cycle line is that of a place in a cycle
@@ -363,12 +362,11 @@ set_says in_order number set r f apart there entry c =
 pub set_says_cycle : (in_order : Bool) (number : ℕ) (set : Tree) (e : Entry) → Contains (entries_of set) e → (cycle : List ℕ) (q : ℕ)
     → Contains (cycles_of (waits_of (rows_of set))) cycle → Contains cycle q
     → (k : ℕ) × Contains (set_lines in_order number set) (lines.Cycle k (name_at (rows_of set) q))
-set_says_cycle in_order number set e entry cycle q there on =
-    (
-      there.0 + 1,
-      later_line number (judged_lines in_order set (find_key (codes "Services" ∷ []) set)) (lines.Cycle (there.0 + 1) (name_at (rows_of set) q))
-          (by (find_key (codes "Services" ∷ []) set) entry),
-    )
+set_says_cycle in_order number set e entry cycle q there on = (
+  there.0 + 1,
+  later_line number (judged_lines in_order set (find_key (codes "Services" ∷ []) set)) (lines.Cycle (there.0 + 1) (name_at (rows_of set) q))
+      (by (find_key (codes "Services" ∷ []) set) entry),
+)
   where
     line : Contains (numbered_lines (rows_of set) (cycles_of (waits_of (rows_of set)))) (lines.Cycle (there.0 + 1) (name_at (rows_of set) q))
     line =

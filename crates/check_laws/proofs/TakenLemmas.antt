@@ -1,5 +1,5 @@
 -- Which entries a phase takes of a set.
-use Rattle.std.proofs.Common.{◌≡◌, ℕ, zero, suc, ◌+◌, ◌<◌, Bool, true, false, ◌&&◌, ◌||◌, nat_eq, cond, List, [], ◌∷◌, length, map, filter, Option, Some, None, refl, sym, ap, ◌∙◌, ◌⊎◌, inl, inr, subst, arith}
+use Rattle.std.proofs.Common.{◌≡◌, ℕ, zero, suc, Bool, true, false, ◌&&◌, ◌||◌, nat_eq, cond, List, [], ◌∷◌, length, map, Option, Some, None, refl, sym, ap, ◌∙◌, ◌⊎◌, inl, inr, subst, arith}
 use Rattle.std.specs.Prelude.{Contains, slice_get}
 use Rattle.std.specs.Option.{option_map, option_map_or}
 use Rattle.std.specs.List.{list_any, filter_map, cons_option, range_with_len}
@@ -7,7 +7,7 @@ use Rattle.std.proofs.lemmas.Bool.{false≢true, and_parts, and_from, or_left, o
 use Rattle.std.proofs.lemmas.Option.{slice_get_within, slice_get_read, get_or_from_slice_get, same_Some}
 use Rattle.nt_bytes.specs.Folding.{folds_same}
 use Rattle.hive_model.specs.Tree.{Tree}
-use Rattle.start_model.specs.Demand.{Need, starts_at, pulls, IsClosed, is_taken, automatic_of}
+use Rattle.start_model.specs.Demand.{Need, IsClosed, is_taken, automatic_of}
 use Rattle.start_model.specs.Entries.{Entry, Phase, Automatic, entries_of, is_open, places_of, need_of, needs_at, taken_of}
 use Rattle.start_model.specs.Order.{GroupOrder, Rank, is_before, placed, ordered_of, orders_of, rank_of, ranks_of, tags_count_in, plan_of}
 use Rattle.dependencies.proofs.PulledLemmas.{is_taken-closed, is_taken-least_of_all}
@@ -49,9 +49,9 @@ placed_other r [] x c = absurd (none_in x c)
 placed_other r (s ∷ ss) x c = elim (is_before r s) as (λ b. Contains (cond b (r ∷ s ∷ ss) (s ∷ placed r ss)) x) [
   | true ↦ later_in r (s ∷ ss) x c
   | false ↦ elim (in_cons s ss x c) [
-      | inl e ↦ subst (λ (y : Rank). Contains (s ∷ placed r ss) y) e (first_in s (placed r ss))
-      | inr i ↦ later_in s (placed r ss) x (placed_other r ss x i)
-    ]
+    | inl e ↦ subst (λ (y : Rank). Contains (s ∷ placed r ss) y) e (first_in s (placed r ss))
+    | inr i ↦ later_in s (placed r ss) x (placed_other r ss x i)
+  ]
 ]
 
 pub ordered_in : (rs : List Rank) (x : Rank) → Contains rs x → Contains (ordered_of rs) x
@@ -66,9 +66,9 @@ placed_from r [] x c = in_cons r [] x c
 placed_from r (s ∷ ss) x c = elim (is_before r s) as (λ b. Contains (cond b (r ∷ s ∷ ss) (s ∷ placed r ss)) x → (r ≡ x) ⊎ Contains (s ∷ ss) x) [
   | true ↦ (λ c. in_cons r (s ∷ ss) x c)
   | false ↦ (λ c. elim (in_cons s (placed r ss) x c) [
-      | inl e ↦ inr (subst (λ (y : Rank). Contains (s ∷ ss) y) e (first_in s ss))
-      | inr i ↦ elim (placed_from r ss x i) [ inl e ↦ inl e | inr j ↦ inr (later_in s ss x j) ]
-    ])
+    | inl e ↦ inr (subst (λ (y : Rank). Contains (s ∷ ss) y) e (first_in s ss))
+    | inr i ↦ elim (placed_from r ss x i) [ inl e ↦ inl e | inr j ↦ inr (later_in s ss x j) ]
+  ])
 ] c
 
 pub ordered_from : (rs : List Rank) (x : Rank) → Contains (ordered_of rs) x → Contains rs x

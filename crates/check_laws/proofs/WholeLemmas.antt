@@ -1,17 +1,17 @@
 -- A start of which each attempt goes well, and the reasons why it leaves entries out.
-use Rattle.std.proofs.Common.{◌≡◌, ℕ, zero, suc, ◌+◌, ◌<◌, Bool, true, false, not, ◌&&◌, nat_eq, cond, List, [], ◌∷◌, ◌++◌, length, map, Option, Some, None, refl, sym, ap, ◌∙◌, ◌⊎◌, inl, inr, subst, arith}
+use Rattle.std.proofs.Common.{◌≡◌, ℕ, ◌+◌, Bool, true, false, ◌&&◌, List, [], ◌∷◌, ◌++◌, Option, Some, None, refl, sym, ap, ◌∙◌, ◌⊎◌, inl, inr, subst, arith}
 use Rattle.std.specs.Prelude.{Contains, slice_get}
 use Rattle.std.specs.Option.{option_map_or}
-use Rattle.std.specs.List.{list_any, list_all}
-use Rattle.std.proofs.lemmas.Bool.{false≢true, true≢false, cases_Bool, and_parts, and_from, not-true}
+use Rattle.std.specs.List.{list_any}
+use Rattle.std.proofs.lemmas.Bool.{false≢true, cases_Bool, and_parts, and_from}
 use Rattle.std.proofs.lemmas.List.{length-map}
 use Rattle.std.proofs.lemmas.List.Elements.{Contains-append_left, Contains-append_right, Contains-append_cases}
-use Rattle.std.proofs.lemmas.Option.{slice_get_within, same_Some}
+use Rattle.std.proofs.lemmas.Option.{slice_get_within}
 use Rattle.nt_bytes.specs.Folding.{folds_same}
 use Rattle.start_model.specs.Demand.{Need}
 use Rattle.start_model.specs.Entries.{need_of}
 use Rattle.start_model.specs.Ready.{is_ready}
-use Rattle.wait_cycles.specs.Waits.{needs_at, is_held, is_stuck, leads, cycles_of}
+use Rattle.wait_cycles.specs.Waits.{is_held, is_stuck}
 use Rattle.wait_cycles.proofs.InverseLemmas.{none_in}
 use Rattle.wait_cycles.proofs.MetLemmas.{first_in, any_from, any_gives}
 use Rattle.check_lines.specs.declared.lines.Fault.{Fault}
@@ -27,8 +27,8 @@ use Rattle.check_laws.proofs.TakenLemmas.{item_here, item_place}
 use Rattle.check_laws.proofs.ProperLaws.{good_proper}
 use Rattle.check_laws.proofs.StuckLaws.{stuck_greatest}
 use Rattle.check_laws.proofs.TurnLemmas.{Ran, InTurn, IsPhase, turn_ind, turned_each}
-use Rattle.check_laws.proofs.RowLemmas.{RowsApart, stands_at, Fits, fit, by_demand}
-use Rattle.check_laws.proofs.UnmetLemmas.{IsOf, IsUpto, IsRight, Known, IsFree, ready_right, ready_free, Serves, unready_held}
+use Rattle.check_laws.proofs.RowLemmas.{RowsApart, Fits, fit, by_demand}
+use Rattle.check_laws.proofs.UnmetLemmas.{IsOf, IsUpto, IsRight, IsFree, ready_right, ready_free, Serves, unready_held}
 
 -- ---- stages
 
@@ -212,9 +212,9 @@ module _ (rows : List Staged) (apart : RowsApart rows) where
         → Contains lefts (need_of r.entry)
     reason_left p r at taken why = elim (automatic_upto r.stage (taken_upto r.stage taken)) [
       | inl u ↦ elim (system_upto r.stage u) [
-          | inl v ↦ boot_left p r at (boot_upto r.stage v) why
-          | inr e ↦ system_left p r at e why
-        ]
+        | inl v ↦ boot_left p r at (boot_upto r.stage v) why
+        | inr e ↦ system_left p r at e why
+      ]
       | inr e ↦ automatic_left p r at e why
     ]
 
@@ -245,26 +245,26 @@ module _ (rows : List Staged) (apart : RowsApart rows) where
         → Contains (a.new ++ b.new) (need_of s.entry) ⊎ (left_set q ≡ true)
     over_system q s at u = elim (system_upto s.stage u) [
       | inl v ↦ elim (over_boot q s at v) [
-          | inl i ↦ inl (Contains-append_left a.new b.new (need_of s.entry) i)
-          | inr on ↦ inr on
-        ]
+        | inl i ↦ inl (Contains-append_left a.new b.new (need_of s.entry) i)
+        | inr on ↦ inr on
+      ]
       | inr e ↦ elim (start.system.each (need_of s.entry) (is_of System q s at e)) [
-          | inl i ↦ inl (Contains-append_right a.new b.new (need_of s.entry) i)
-          | inr i ↦ inr (left_at q s at (upto_taken System s.stage u) (in_second (need_of s.entry) i))
-        ]
+        | inl i ↦ inl (Contains-append_right a.new b.new (need_of s.entry) i)
+        | inr i ↦ inr (left_at q s at (upto_taken System s.stage u) (in_second (need_of s.entry) i))
+      ]
     ]
 
     pub over_automatic : (q : ℕ) (s : Staged) → slice_get rows q ≡ Some s → is_upto Automatic s.stage ≡ true
         → Contains ((a.new ++ b.new) ++ c.new) (need_of s.entry) ⊎ (left_set q ≡ true)
     over_automatic q s at u = elim (automatic_upto s.stage u) [
       | inl v ↦ elim (over_system q s at v) [
-          | inl i ↦ inl (Contains-append_left (a.new ++ b.new) c.new (need_of s.entry) i)
-          | inr on ↦ inr on
-        ]
+        | inl i ↦ inl (Contains-append_left (a.new ++ b.new) c.new (need_of s.entry) i)
+        | inr on ↦ inr on
+      ]
       | inr e ↦ elim (start.automatic.each (need_of s.entry) (is_of Automatic q s at e)) [
-          | inl i ↦ inl (Contains-append_right (a.new ++ b.new) c.new (need_of s.entry) i)
-          | inr i ↦ inr (left_at q s at (upto_taken Automatic s.stage u) (in_third (need_of s.entry) i))
-        ]
+        | inl i ↦ inl (Contains-append_right (a.new ++ b.new) c.new (need_of s.entry) i)
+        | inr i ↦ inr (left_at q s at (upto_taken Automatic s.stage u) (in_third (need_of s.entry) i))
+      ]
     ]
 
     pub left_some : (p : ℕ) → left_set p ≡ true → (n : Need) × Contains lefts n
@@ -311,13 +311,13 @@ module _ (rows : List Staged) (apart : RowsApart rows) where
         → folds_same r.entry.name n.name ≡ true → is_held (waits_of rows) left_set p ≡ true
     held_left right p r at n i h = elim (Contains-append_cases (a.left ++ b.left) c.left n i) [
       | inl j ↦ elim (Contains-append_cases a.left b.left n j) [
-          | inl k ↦ (let e = same_need Boot n r (item_here rows p r at) (start.boot.only n k) h in
-              left_held right Boot a.new refl over_boot p r at e.0
-              (ap (is_ready (labels_of a.new)) e.1 ∙ start.boot.unready n k))
-          | inr k ↦ (let e = same_need System n r (item_here rows p r at) (start.system.only n k) h in
-              left_held right System (a.new ++ b.new) refl over_system p r at e.0
-              (ap (is_ready (labels_of (a.new ++ b.new))) e.1 ∙ start.system.unready n k))
-        ]
+        | inl k ↦ (let e = same_need Boot n r (item_here rows p r at) (start.boot.only n k) h in
+            left_held right Boot a.new refl over_boot p r at e.0
+            (ap (is_ready (labels_of a.new)) e.1 ∙ start.boot.unready n k))
+        | inr k ↦ (let e = same_need System n r (item_here rows p r at) (start.system.only n k) h in
+            left_held right System (a.new ++ b.new) refl over_system p r at e.0
+            (ap (is_ready (labels_of (a.new ++ b.new))) e.1 ∙ start.system.unready n k))
+      ]
       | inr k ↦ (let e = same_need Automatic n r (item_here rows p r at) (start.automatic.only n k) h in
           left_held right Automatic ((a.new ++ b.new) ++ c.new) refl over_automatic p r at e.0
           (ap (is_ready (labels_of ((a.new ++ b.new) ++ c.new))) e.1 ∙ start.automatic.unready n k))
@@ -345,9 +345,9 @@ module _ (rows : List Staged) (apart : RowsApart rows) where
     pub left_row : (n : Need) → Contains lefts n → IsUpto rows Automatic n
     left_row n i = elim (Contains-append_cases (a.left ++ b.left) c.left n i) [
       | inl j ↦ elim (Contains-append_cases a.left b.left n j) [
-          | inl k ↦ of_stage Boot refl n (start.boot.only n k)
-          | inr k ↦ of_stage System refl n (start.system.only n k)
-        ]
+        | inl k ↦ of_stage Boot refl n (start.boot.only n k)
+        | inr k ↦ of_stage System refl n (start.system.only n k)
+      ]
       | inr k ↦ of_stage Automatic refl n (start.automatic.only n k)
     ]
       where
