@@ -1,9 +1,9 @@
 -- A set without its wrong needs: its entries wait as before, and the stuck ones are unmet.
-use Rattle.std.proofs.Common.{◌≡◌, ℕ, ◌+◌, Bool, true, false, not, ◌&&◌, ◌||◌, nat_eq, cond, List, [], ◌∷◌, ◌++◌, length, map, Option, Some, None, refl, sym, ap, ◌∙◌, inl, inr, subst}
+use Rattle.std.proofs.Common.{◌≡◌, ℕ, ◌+◌, Bool, true, false, not, ◌&&◌, ◌||◌, nat_eq, cond, List, [], ◌∷◌, ◌++◌, length, map, Option, Some, None, refl, sym, ap, ◌∙◌, inl, inr, subst, ◌⊎◌}
 use Rattle.std.specs.Prelude.{Contains, slice_get, position, filter, option_map, option_and_then}
 use Rattle.std.specs.Option.{option_map_or, option_to_list}
 use Rattle.std.specs.List.{list_any, flat_map, range_with_len}
-use Rattle.std.proofs.lemmas.Bool.{false≢true, and_parts, and_from, not-true, not-false, eq-eqb}
+use Rattle.std.proofs.lemmas.Bool.{false≢true, and_parts, and_from, not-true, not-false, eq-eqb, eqb-true}
 use Rattle.std.proofs.lemmas.List.{length-map}
 use Rattle.std.proofs.lemmas.List.Elements.{Contains-append_cases}
 use Rattle.std.proofs.lemmas.Option.{slice_get_within, slice_get-map}
@@ -31,15 +31,21 @@ use Rattle.service_check.specs.Stages.{names_taken, taken_names, takes, stage_in
 use Rattle.service_check.specs.Needs.{names_of, named, groups_upto, name_fault, stage_fault, service_fault, group_fault, faults_at, need_faults, is_good, is_without, name_ways, is_way, ways_in, group_ways, ways_at, good_ways, waits_of}
 use Rattle.service_control.proofs.LeanLemmas.{folds_itself, mapped_from, mapped_to}
 use Rattle.check_laws.specs.Unmet.{SaysUnmet}
-use Rattle.check_laws.specs.Freed.{freed_at, freed, freed_row, IsFreedOf, SameAreTaken, StuckAreUnmet}
+use Rattle.check_laws.specs.Freed.{freed_at, freed, freed_row, IsFreedOf, SameAreTaken, StuckAreUnmet, OnlyStuckAreRefused}
 use Rattle.check_laws.proofs.TakenLemmas.{item_here, item_place, plan_from, plan_in, place_passes, passing_place, places_stand, need_at, need_from, open_places, open_table, IsAuto, auto_from, auto_need, auto_taken, AreApart}
 use Rattle.check_laws.proofs.ProperLaws.{flat_from}
 use Rattle.check_laws.proofs.StartLemmas.{start_told}
 use Rattle.check_laws.proofs.RowLemmas.{named_is, named_row, first_sub, upto_fits}
 use Rattle.check_laws.proofs.UnmetLemmas.{IsRight}
+use Rattle.service_control.specs.declared.stop.ControlStop.{ControlStop}
+use Rattle.service_control.specs.declared.stop.ControlStop.TheVariants.{Unmet}
+use Rattle.service_control.specs.First.{control_of}
+use Rattle.service_control.specs.Calls.{start_refusal}
+use Rattle.check_laws.proofs.DemandLemmas as demands
+use Rattle.check_laws.proofs.DemandLemmas.{Answered, start_answered}
 use Rattle.check_laws.proofs.WholeLemmas as whole
 use Rattle.check_laws.proofs.WholeLemmas.{reason_left, left_stuck, left_row}
-use Rattle.check_laws.proofs.SetLemmas.{entries_apart, rows_apart, row_entry, entry_row, driver_from, takes_from, takes_in, stage_automatic, plan_entry}
+use Rattle.check_laws.proofs.SetLemmas.{entries_apart, rows_apart, row_entry, entry_row, driver_from, takes_from, takes_in, stage_automatic, plan_entry, demand_stage}
 use Rattle.check_laws.proofs.AboutLemmas.{needs, start_of, says_in, says_from}
 use Rattle.check_laws.proofs.WaysLemmas.{none_of}
 
@@ -611,6 +617,47 @@ module _ (set : Tree) (other : Tree) (holds : HoldsKeys set) (holds' : HoldsKeys
         sym (ap (λ (w : List (List (List ℕ))). is_stuck w p) waits_same)
         ∙ left_stuck (rows_of other) (rows_apart other holds') (needs t.0) (needs t.1) (needs t.2) start right p (freed_row (rows_of set) r) there taken left'
 
+  -- ---- what service control refuses
+
+  right_all : (r : Staged) → Contains (rows_of other) r → IsRight (rows_of other) r
+  right_all r c = subst (λ (rs : List Staged). Contains rs r → IsRight rs r) (sym rows_same) (bare_right (rows_of set) r) c
+
+  module _ (p : ℕ) (r : Staged) (at : slice_get (rows_of set) p ≡ Some r) (late : r.stage ≡ Some Demand) where
+    f : Entry
+    f = freed (rows_of set) r
+
+    there_r : Contains (rows_of set) r
+    there_r = item_here (rows_of set) p r at
+
+    runs : (nat_eq r.entry.start 3 && (is_driver r.entry.kind || is_service r.entry.kind)) ≡ true
+    runs = demand_stage set holds r.entry (sym (row_entry set holds r (item_here (rows_of set) p r at)).1 ∙ late)
+
+    row_is : freed_row (rows_of set) r ≡ staged_in (taken_names other) (freed (rows_of set) r)
+    row_is = λ i. record { entry = freed (rows_of set) r; stage = sym (stage_same r (item_here (rows_of set) p r at)) i }
+
+    at_other : slice_get (rows_of other) p ≡ Some (staged_in (taken_names other) (freed (rows_of set) r))
+    at_other = ap (λ (rs : List Staged). slice_get rs p) rows_same ∙ at_bare (rows_of set) p ∙ ap (option_map (freed_row (rows_of set))) at
+        ∙ ap (λ (s : Staged). Some s) row_is
+
+    abbrev IsFine : Option ControlStop → Type 0
+    IsFine why = (why ≡ None) ⊎ ((why ≡ Some Unmet) × (is_stuck (waits_of (rows_of set)) p ≡ true))
+
+    fine_by : (why : Option ControlStop) → Answered other holds' p why → IsFine why
+    fine_by why (demands.done h) = inl h
+    fine_by why (demands.runs h taken) =
+        absurd (false≢true (sym (ap is_taken late) ∙ taken (freed_row (rows_of set) r)
+        (at_other ∙ ap (λ (s : Staged). Some s) (sym row_is))))
+    fine_by why (demands.held h st) = inr (h, sym (ap (λ (w : List (List (List ℕ))). is_stuck w p) waits_same) ∙ st)
+
+    only_stuck : (name : List ℕ) → folds_same name r.entry.name ≡ true → IsFine (start_refusal (control_of other) name)
+    only_stuck name h =
+        let mate = freed_mate (rows_of set) r in
+        let b = and_parts (nat_eq r.entry.start 3) (is_driver r.entry.kind || is_service r.entry.kind) runs in
+        fine_by (start_refusal (control_of other) name)
+        (start_answered other holds' right_all (freed (rows_of set) r) (freed_there r (item_here (rows_of set) p r at))
+        (sym mate.start ∙ eqb-true r.entry.start 3 b.0) (ap (λ (k : ℕ). is_driver k || is_service k) (sym mate.kind) ∙ b.1) p at_other
+        name (ap (folds_same name) (sym mate.name) ∙ h))
+
 pub same_are_taken : SameAreTaken
 same_are_taken set bare holds holds' freed_of = rows_same set bare holds holds' freed_of
 
@@ -619,3 +666,6 @@ stuck_are_unmet set bare holds holds' freed_of p r at taken = (
   unmet_stuck set bare holds holds' freed_of p r at taken,
   stuck_unmet set bare holds holds' freed_of p r at taken,
 )
+
+pub only_stuck_are_refused : OnlyStuckAreRefused
+only_stuck_are_refused set bare holds holds' freed_of p r at late name h = only_stuck set bare holds holds' freed_of p r at late name h

@@ -1,5 +1,5 @@
 -- A start of which each attempt goes well, and the reasons why it leaves entries out.
-use Rattle.std.proofs.Common.{◌≡◌, ℕ, ◌+◌, Bool, true, false, ◌&&◌, List, [], ◌∷◌, ◌++◌, Option, Some, None, refl, sym, ap, ◌∙◌, ◌⊎◌, inl, inr, subst, arith}
+use Rattle.std.proofs.Common.{◌≡◌, ℕ, ◌<◌, ◌+◌, Bool, true, false, ◌&&◌, List, [], ◌∷◌, ◌++◌, length, Option, Some, None, refl, sym, ap, ◌∙◌, ◌⊎◌, inl, inr, subst, arith}
 use Rattle.std.specs.Prelude.{Contains, slice_get}
 use Rattle.std.specs.Option.{option_map_or}
 use Rattle.std.specs.List.{list_any}
@@ -287,7 +287,7 @@ module _ (rows : List Staged) (apart : RowsApart rows) where
     }
 
     -- no taken entry has a wrong need
-    abbrev AllRight : Type 0
+    abbrev pub AllRight : Type 0
     AllRight = (r : Staged) → Contains rows r → is_taken r.stage ≡ true → IsRight rows r
 
     left_held : AllRight → (own : Stage) (now : List Need) → is_taken (Some own) ≡ true
@@ -340,6 +340,9 @@ module _ (rows : List Staged) (apart : RowsApart rows) where
     left_stuck right p r at taken i =
         stuck_greatest (waits_of rows) left_set (good_proper rows) (left_holds right) p
         (omega (arith, slice_get_within rows p r at, length-map rows (good_ways rows))) (left_at p r at taken i)
+
+    pub set_stuck : AllRight → (p : ℕ) → p < length (waits_of rows) → left_set p ≡ true → is_stuck (waits_of rows) p ≡ true
+    set_stuck right p lt on = stuck_greatest (waits_of rows) left_set (good_proper rows) (left_holds right) p lt on
 
     -- the row of what is left out
     pub left_row : (n : Need) → Contains lefts n → IsUpto rows Automatic n

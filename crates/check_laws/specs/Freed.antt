@@ -1,11 +1,17 @@
 -- What is a set with the wrong needs taken away from its entries? (this project's own)
-use Rattle.std.specs.Prelude.{◌≡◌, ◌↔◌, ℕ, true, not, List, map, filter, slice_get, Some}
+use Rattle.std.specs.Prelude.{◌≡◌, ◌↔◌, ℕ, true, not, List, map, filter, slice_get, Some, None, Option, ◌⊎◌}
 use Rattle.std.specs.Option.{option_map_or}
 use Rattle.hive_model.specs.Tree.{Tree}
 use Rattle.hive_model.specs.Valid.{HoldsKeys}
 use Rattle.start_model.specs.Entries.{Entry, entries_of}
+use Rattle.nt_bytes.specs.Folding.{folds_same}
 use Rattle.wait_cycles.specs.Waits.{is_stuck}
 use Rattle.service_check.specs.declared.stage.Stage.{Stage}
+use Rattle.service_check.specs.declared.stage.Stage.TheVariants.{Demand}
+use Rattle.service_control.specs.declared.stop.ControlStop.{ControlStop}
+use Rattle.service_control.specs.declared.stop.ControlStop.TheVariants.{Unmet}
+use Rattle.service_control.specs.First.{control_of}
+use Rattle.service_control.specs.Calls.{start_refusal}
 use Rattle.service_check.specs.declared.stage.Staged.{Staged}
 use Rattle.service_check.specs.Stages.{rows_of, is_taken}
 use Rattle.service_check.specs.Needs.{is_good, is_without, waits_of}
@@ -40,3 +46,11 @@ StuckAreUnmet =
     (set bare : Tree) → HoldsKeys set → HoldsKeys bare → IsFreedOf set bare → (p : ℕ) (r : Staged)
     → slice_get (rows_of set) p ≡ Some r → is_taken r.stage ≡ true
     → SaysUnmet bare r.entry.name ↔ (is_stuck (waits_of (rows_of set)) p ≡ true)
+
+-- of those that are started on demand only stuck ones are refused, and as unmet
+abbrev pub OnlyStuckAreRefused : Type 0
+OnlyStuckAreRefused =
+    (set bare : Tree) → HoldsKeys set → HoldsKeys bare → IsFreedOf set bare → (p : ℕ) (r : Staged)
+    → slice_get (rows_of set) p ≡ Some r → r.stage ≡ Some Demand → (name : List ℕ) → folds_same name r.entry.name ≡ true
+    → let why : Option ControlStop = start_refusal (control_of bare) name in
+    (why ≡ None) ⊎ ((why ≡ Some Unmet) × (is_stuck (waits_of (rows_of set)) p ≡ true))

@@ -1,5 +1,5 @@
 -- Who is lost where an entry fails or is off.
-use Rattle.std.proofs.Common.{◌≡◌, ℕ, ◌+◌, Bool, true, false, not, ◌&&◌, cond, List, [], ◌∷◌, ◌++◌, length, map, Option, Some, None, refl, sym, ap, ◌∙◌, ◌⊎◌, inl, inr, subst, append_assoc}
+use Rattle.std.proofs.Common.{◌≡◌, ℕ, Bool, true, false, not, ◌&&◌, cond, List, [], ◌∷◌, ◌++◌, length, map, Option, Some, None, refl, sym, ap, ◌∙◌, ◌⊎◌, inl, inr, subst, append_assoc}
 use Rattle.std.specs.Prelude.{Contains, filter, ◌↔◌}
 use Rattle.std.specs.Option.{option_map_or, option_or}
 use Rattle.std.specs.List.{list_any, list_all, flat_map, filter_map}
@@ -31,7 +31,7 @@ use Rattle.failure_effects.specs.declared.lines.EffectLine.TheVariants as lines
 use Rattle.failure_effects.specs.declared.opening.Taken.{Taken}
 use Rattle.failure_effects.specs.Effects.{plain_told}
 use Rattle.failure_effects.specs.Leans.{layer_of, first_layer, names_one, groups_one}
-use Rattle.failure_effects.specs.Lost.{has_name, other_of, is_lost, goes_on, lost_in, lost_line, lost_lines, failed_lines}
+use Rattle.failure_effects.specs.Lost.{has_name, other_of, is_lost, goes_on, lost_line, lost_lines, failed_lines}
 use Rattle.failure_effects.specs.Played.{is_started, is_unmet, started_in, unmet_in, failed_by, failure_in}
 use Rattle.failure_effects.specs.Switching.{off_set}
 use Rattle.failure_effects.proofs.HeldLemmas.{off_set_held}
