@@ -1,5 +1,5 @@
 -- Where no line is about a name, what is started on demand starts.
-use Rattle.std.proofs.Common.{◌≡◌, ℕ, ◌+◌, ◌<◌, Bool, true, false, not, ◌&&◌, ◌||◌, nat_eq, cond, List, [], ◌∷◌, ◌++◌, length, map, Option, Some, None, refl, sym, ap, ◌∙◌, ◌⊎◌, inl, inr, subst, arith}
+use Rattle.std.proofs.Common.{◌≡◌, ℕ, ◌<◌, Bool, true, false, not, ◌&&◌, ◌||◌, nat_eq, cond, List, [], ◌∷◌, ◌++◌, length, map, Option, Some, None, refl, sym, ap, ◌∙◌, ◌⊎◌, inl, inr, subst, arith}
 use Rattle.std.specs.Prelude.{Contains, slice_get, position, option_and_then}
 use Rattle.std.specs.Option.{is_some, option_map, option_map_or, option_or}
 use Rattle.std.specs.List.{list_any, flat_map, filter_map, range_with_len, list_all}
@@ -53,8 +53,7 @@ use Rattle.check_laws.proofs.TurnLemmas.{Ran, InTurn, IsPhase, named_in, named_f
 use Rattle.check_laws.proofs.TurnsLemmas.{starts}
 use Rattle.check_laws.proofs.RowLemmas.{RowsApart, stands_at, Fits, fit, by_demand, first_for, ways_of_row, way_by_name}
 use Rattle.check_laws.proofs.UnmetLemmas.{IsOf, IsUpto, IsRight, Serves, right_name, served, unready_held}
-use Rattle.check_laws.proofs.WholeLemmas as whole
-use Rattle.check_laws.proofs.WholeLemmas.{IsStart, left_reason, left_some, over_automatic, well_all, taken_upto, upto_taken, set_stuck}
+use Rattle.check_laws.proofs.WholeLemmas.{IsStart, over_automatic, well_all, taken_upto, upto_taken, set_stuck}
 use Rattle.check_laws.proofs.SetLemmas.{entries_apart, rows_apart, row_entry, entry_row, boot_stage, system_stage, automatic_stage, demand_stage, driver_from, boot_phase, system_phase, automatic_phase, IsEarly, below_by, boot_early, system_early, never_tried, automatic_late, boot_start, system_start}
 use Rattle.check_laws.proofs.LineLemmas.{set_says, set_says_cycle}
 use Rattle.check_laws.proofs.WaysLemmas.{wrong_is}

@@ -21,7 +21,7 @@ use Rattle.check_lines.specs.declared.lines.Fault.TheVariants as faults
 use Rattle.service_check.specs.declared.stage.Stage.{Stage}
 use Rattle.service_check.specs.declared.stage.Staged.{Staged}
 use Rattle.service_check.specs.Stages.{is_upto}
-use Rattle.service_check.specs.Needs.{names_of, named, name_fault, service_fault, group_fault, faults_at, need_faults, is_good, is_without, name_ways, ways_in, group_ways, ways_at, waits_of, good_ways}
+use Rattle.service_check.specs.Needs.{names_of, name_fault, service_fault, group_fault, faults_at, need_faults, is_good, is_without, name_ways, ways_in, group_ways, ways_at, waits_of, good_ways}
 use Rattle.service_control.specs.State.{labels_of}
 use Rattle.service_control.proofs.LeanLemmas.{name_alike, group_alike}
 use Rattle.check_laws.proofs.TakenLemmas.{item_here}
