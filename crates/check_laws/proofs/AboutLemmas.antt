@@ -1,9 +1,8 @@
 -- A taken entry that a line is about is unmet, and where one is unmet a line is about a taken one.
-use Rattle.std.proofs.Common.{◌≡◌, ℕ, ◌<◌, ◌≤◌, Bool, true, false, List, [], ◌∷◌, ◌++◌, length, map, Option, Some, None, refl, sym, ap, ◌∙◌, ◌⊎◌, inl, inr, subst, arith}
+use Rattle.std.proofs.Common.{◌≡◌, ℕ, ◌<◌, ◌≤◌, Bool, true, false, List, [], ◌∷◌, ◌++◌, length, map, Option, Some, refl, sym, ap, ◌∙◌, inl, inr, subst, arith}
 use Rattle.std.specs.Prelude.{Contains, slice_get}
 use Rattle.std.specs.Option.{option_map_or}
-use Rattle.std.specs.List.{list_any, list_all, flat_map, filter_map}
-use Rattle.std.proofs.lemmas.Bool.{false≢true, and_parts}
+use Rattle.std.specs.List.{filter_map}
 use Rattle.std.proofs.lemmas.List.{length-map, map-append}
 use Rattle.std.proofs.lemmas.List.Elements.{Contains-append_cases}
 use Rattle.std.proofs.lemmas.Option.{slice_get_within, same_Some}
@@ -11,42 +10,36 @@ use Rattle.nt_bytes.specs.Folding.{folded, folds_same}
 use Rattle.hive_model.specs.Tree.{Tree}
 use Rattle.hive_model.specs.Valid.{HoldsKeys}
 use Rattle.dependencies.proofs.MeetLemmas.{folded_first}
-use Rattle.dependencies.proofs.PulledLemmas.{then_gives}
 use Rattle.start_model.specs.Demand.{Need}
 use Rattle.start_model.specs.Entries as book
-use Rattle.start_model.specs.Entries.{Entry, entries_of, need_of}
+use Rattle.start_model.specs.Entries.{Entry, need_of}
 use Rattle.start_model.specs.Lines.{Line, UnmetLine}
 use Rattle.start_model.specs.Machine as machine
-use Rattle.start_model.specs.Order.{plan_of, first_names}
+use Rattle.start_model.specs.Order.{plan_of}
 use Rattle.start_model.specs.Ready.{Label}
 use Rattle.safe_boot.specs.Played.{start_lines_of}
-use Rattle.wait_cycles.specs.Waits.{needs_at, is_stuck, leads, cycles_of}
-use Rattle.wait_cycles.proofs.MetLemmas.{any_gives}
-use Rattle.check_lines.specs.declared.lines.Fault.{Fault}
-use Rattle.check_lines.specs.declared.lines.Fault.TheVariants as faults
 use Rattle.check_lines.specs.declared.lines.CheckLine.{CheckLine}
 use Rattle.check_lines.specs.declared.lines.CheckLine.TheVariants as lines
-use Rattle.service_check.specs.declared.stage.Stage.{Stage}
 use Rattle.service_check.specs.declared.stage.Stage.TheVariants as stages
 use Rattle.service_check.specs.declared.stage.Staged.{Staged}
-use Rattle.service_check.specs.Stages.{is_taken, is_upto, rows_of}
-use Rattle.service_check.specs.Needs.{need_faults, name_ways, group_ways, ways_in, good_ways, waits_of}
+use Rattle.service_check.specs.Stages.{is_taken, rows_of}
+use Rattle.service_check.specs.Needs.{need_faults, good_ways, waits_of}
 use Rattle.service_check.specs.Check.{name_at, set_lines}
 use Rattle.service_control.specs.State.{labels_of}
 use Rattle.service_control.proofs.LeanLemmas.{folds_itself, mapped_from, mapped_to}
 use Rattle.service_control.proofs.LeastLemmas.{from}
-use Rattle.check_laws.specs.Unmet.{unmet_name, is_wrong_need, IsAbout, wrong, cycle, IsTakenName, SaysUnmet, HasAbout, AboutIsUnmet, UnmetHasAbout, NoneAboutStartsWhole}
+use Rattle.check_laws.specs.Unmet.{unmet_name, IsAbout, wrong, cycle, IsTakenName, SaysUnmet, HasAbout, AboutIsUnmet, UnmetHasAbout, NoneAboutStartsWhole}
 use Rattle.check_laws.proofs.TakenLemmas.{mapped_on, item_here, item_place}
 use Rattle.check_laws.proofs.ProperLaws.{good_proper}
 use Rattle.check_laws.proofs.CycleLaws.{one_round, round_found, in_cycle_stuck}
 use Rattle.check_laws.proofs.TurnLemmas.{Ran, run, InTurn, IsPhase, IsRan, ran, ran_phase, turned_each}
 use Rattle.check_laws.proofs.StartLemmas.{IsTold, start_told}
-use Rattle.check_laws.proofs.RowLemmas.{RowsApart, stands_at}
-use Rattle.check_laws.proofs.UnmetLemmas.{IsOf, IsUpto}
+use Rattle.check_laws.proofs.RowLemmas.{stands_at}
+use Rattle.check_laws.proofs.UnmetLemmas.{IsOf}
 use Rattle.check_laws.proofs.WholeLemmas as whole
-use Rattle.check_laws.proofs.WholeLemmas.{IsStart, Reason, HasReason, reason_left, left_reason, left_row, upto_taken}
-use Rattle.check_laws.proofs.SetLemmas.{plan_entry, boot_start, entries_apart, rows_apart, row_entry, boot_phase, system_phase, automatic_phase, IsEarly, below_by, boot_early, system_early}
-use Rattle.check_laws.proofs.LineLemmas.{HasWrong, IsCyclePlace, set_about, set_cycle, set_says, set_says_cycle}
+use Rattle.check_laws.proofs.WholeLemmas.{IsStart, Reason, reason_left, left_reason}
+use Rattle.check_laws.proofs.SetLemmas.{rows_apart, row_entry, boot_phase, system_phase, automatic_phase, IsEarly, below_by, boot_early, system_early}
+use Rattle.check_laws.proofs.LineLemmas.{set_about, set_cycle, set_says, set_says_cycle}
 use Rattle.check_laws.proofs.WaysLemmas.{taken_set, taken_leads, wrong_is}
 
 -- ---- the start of a set
@@ -127,20 +120,20 @@ module _ (set : Tree) (holds : HoldsKeys set) where
   unmet_line (UnmetLine other) name h = ap UnmetLine (same_Some other name h)
   unmet_line l name h = absurd cc
 
-  says_in : (a b d : Ran Entry) → IsTold set a b d → (n : Need) → Contains (lefts a b d) n → SaysUnmet set n.name
+  pub says_in : (a b d : Ran Entry) → IsTold set a b d → (n : Need) → Contains (lefts a b d) n → SaysUnmet set n.name
   says_in a b d told n c =
       let f = from unmet_name (start_lines_of set) n.name
       (subst (λ (l : List (List ℕ)). Contains l n.name) (sym (told_names a b d told))
       (mapped_to (λ (n : Need). n.name) (lefts a b d) n c)) in
       subst (Contains (start_lines_of set)) (unmet_line f.item n.name f.is) f.there
 
-  says_from : (a b d : Ran Entry) → IsTold set a b d → (name : List ℕ) → SaysUnmet set name
-      → (n : Need) × Contains (lefts a b d) n
+  pub says_from : (a b d : Ran Entry) → IsTold set a b d → (name : List ℕ) → SaysUnmet set name
+      → (n : Need) × Contains (lefts a b d) n × (n.name ≡ name)
   says_from a b d told name c =
       let m = mapped_from (λ (n : Need). n.name) (lefts a b d) name
       (subst (λ (l : List (List ℕ)). Contains l name) (told_names a b d told)
       (mapped_on unmet_name (start_lines_of set) (UnmetLine name) name c refl)) in
-      (m.item, m.there)
+      (m.item, m.there, m.is)
 
   -- ---- reasons and lines
 

@@ -1,25 +1,22 @@
 -- There is a cycle exactly where an entry is stuck.
-use Rattle.std.proofs.Common.{◌≡◌, ℕ, zero, suc, ◌+◌, ◌<◌, ◌≤◌, Bool, true, false, not, nat_eq, ◌&&◌, ◌||◌, List, [], ◌∷◌, ◌++◌, length, map, filter, get_or, cond, Option, Some, None, refl, sym, ap, ◌∙◌, ◌⊎◌, inl, inr, subst, arith}
-use Rattle.std.specs.Prelude.{Contains, count_by, slice_get, ◌↔◌}
-use Rattle.std.specs.Option.{option_map_or}
+use Rattle.std.proofs.Common.{◌≡◌, ℕ, zero, suc, ◌+◌, ◌<◌, ◌≤◌, Bool, true, false, nat_eq, ◌&&◌, ◌||◌, List, [], ◌∷◌, ◌++◌, length, cond, refl, sym, ap, ◌∙◌, inl, inr, subst, arith}
+use Rattle.std.specs.Prelude.{Contains, count_by}
 use Rattle.std.specs.List.{list_any, list_all, flat_map, range_with_len}
-use Rattle.std.proofs.lemmas.Bool.{false≢true, cases_Bool, and_parts, and_from, or_cases, or_left, or_right, eqb-true, eq-eqb, not-true}
+use Rattle.std.proofs.lemmas.Bool.{false≢true, cases_Bool, and_parts, and_from, or_cases, or_left, or_right, eqb-true, eq-eqb}
 use Rattle.std.proofs.lemmas.Cmp.{nat_eq_equiv}
 use Rattle.std.proofs.lemmas.List.Sums.{sum_by-cons}
-use Rattle.std.proofs.lemmas.Map.Views.{Contains-from_any, list_any-from_Contains}
+use Rattle.std.proofs.lemmas.Map.Views.{list_any-from_Contains}
 use Rattle.std.proofs.lemmas.List.Elements.{Contains-append_left, Contains-append_right}
-use Rattle.start_model.specs.Demand.{member, all_sets}
-use Rattle.dependencies.proofs.PulledLemmas.{then_true, then_gives, same_bool, all_true, all_below, any_below, sets_have, listed_member}
+use Rattle.dependencies.proofs.PulledLemmas.{same_bool}
 use Rattle.wait_cycles.specs.Waits.{needs_at, is_held, is_stuck, leads, comes_to, are_in_cycle, cycle_of, begins_with, cycle_from, cycles_of}
 use Rattle.wait_cycles.proofs.InverseLemmas.{none_in}
-use Rattle.wait_cycles.proofs.MetLemmas.{first_in, later_in, all_from, all_gives, any_from, any_gives, in_range, range_in}
+use Rattle.wait_cycles.proofs.MetLemmas.{first_in, later_in, all_gives, any_from, any_gives, in_range, range_in}
 use Rattle.wait_cycles.proofs.CycleLemmas.{comes_gives, filter_in, filter_out, filter_same}
-use Rattle.service_check.specs.declared.stage.Staged.{Staged}
 use Rattle.service_check.specs.Needs.{waits_of}
-use Rattle.check_laws.specs.Laws.{AreProper, HoldsItself, NoCycleNoneStuck}
+use Rattle.check_laws.specs.Laws.{AreProper, NoCycleNoneStuck}
 use Rattle.check_laws.proofs.StuckLaws.{held_wider, stuck_holds, stuck_greatest}
 use Rattle.check_laws.proofs.ProperLaws.{good_proper, flat_from as flat_back, only_in}
-use Rattle.check_laws.proofs.StepLaws.{step_comes, comes_on, comes_through, nowhere}
+use Rattle.check_laws.proofs.StepLaws.{step_comes, comes_through, nowhere}
 
 -- ---- counts
 

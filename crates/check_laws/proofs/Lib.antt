@@ -16,3 +16,4 @@ pub mod WaysLemmas
 pub mod AboutLemmas
 pub mod TurnsLemmas
 pub mod DemandLemmas
+pub mod FreedLemmas

@@ -1,15 +1,15 @@
 -- The lines about an entry are its wrong needs and its cycles.
-use Rattle.std.proofs.Common.{◌≡◌, ℕ, zero, suc, ◌+◌, ◌<◌, Bool, true, false, not, ◌&&◌, ◌||◌, nat_eq, cond, List, [], ◌∷◌, ◌++◌, length, map, Option, Some, None, refl, sym, ap, ◌∙◌, ◌⊎◌, inl, inr, subst, arith}
+use Rattle.std.proofs.Common.{◌≡◌, ℕ, ◌+◌, Bool, true, false, not, ◌&&◌, ◌||◌, nat_eq, cond, List, [], ◌∷◌, ◌++◌, length, map, Option, Some, None, refl, sym, ap, ◌∙◌, inl, inr, subst}
 use Rattle.std.specs.Prelude.{Contains, slice_get, slice_index_or, filter, position, nat_le, nat_lt, codes, option_and_then}
 use Rattle.std.specs.Option.{is_some, option_map_or}
-use Rattle.std.specs.List.{list_any, list_all, flat_map, range_with_len, filter_map}
-use Rattle.std.proofs.lemmas.Bool.{false≢true, and_parts, and_from, or_left}
+use Rattle.std.specs.List.{list_all, flat_map, range_with_len, filter_map}
+use Rattle.std.proofs.lemmas.Bool.{false≢true, and_from, or_left}
 use Rattle.std.proofs.lemmas.List.{get_or_default}
 use Rattle.std.proofs.lemmas.Option.{same_Some}
 use Rattle.std.proofs.lemmas.List.Elements.{Contains-append_left, Contains-append_right, Contains-append_cases}
 use Rattle.nt_bytes.specs.Folding.{folds_same}
 use Rattle.hive_model.specs.Tree.{Tree, Item, head, children, find_key, find_item, find_dword, dword_in}
-use Rattle.start_model.specs.Entries.{Entry, entry_of, entry_with, entries_of, services_of, is_driver, is_service}
+use Rattle.start_model.specs.Entries.{Entry, entry_of, entry_with, entries_of, is_driver, is_service}
 use Rattle.start_model.specs.Order.{GroupOrder, first_names}
 use Rattle.wait_cycles.specs.Waits.{cycles_of}
 use Rattle.wait_cycles.proofs.InverseLemmas.{none_in}
@@ -23,7 +23,7 @@ use Rattle.service_check.specs.declared.stage.Stage.TheVariants.{System, Automat
 use Rattle.service_check.specs.declared.stage.Staged.{Staged}
 use Rattle.service_check.specs.Stages.{is_taken, is_upto, rows_of}
 use Rattle.service_check.specs.Needs.{names_of, named, groups_upto, need_faults, waits_of}
-use Rattle.service_check.specs.Children.{Scope, when, has_value, missing_faults, malformed, has_malformed, malformed_faults, all_fields, number_faults, control_beyond, control_faults, has_image, image_faults, listed, tag_fault, tag_faults_of, tag_faults, order_faults, own_faults, bond_faults, entry_faults, service_faults, child_faults}
+use Rattle.service_check.specs.Children.{Scope, when, has_value, missing_faults, malformed, has_malformed, malformed_faults, all_fields, number_faults, control_beyond, control_faults, has_image, image_faults, listed, tag_fault, tag_faults_of, order_faults, own_faults, bond_faults, entry_faults, service_faults, child_faults}
 use Rattle.service_check.specs.Check.{line_when, scope_of, list_lines, about, child_lines, unlisted_in, group_line, group_lines, name_at, cycle_line, lines_of_cycle, numbered_lines, cycle_lines, services_lines, judged_lines, set_lines}
 use Rattle.service_control.proofs.LeanLemmas.{folds_itself, mapped_from, mapped_to, alone_from}
 use Rattle.service_control.proofs.LeastLemmas.{from}

@@ -5,7 +5,7 @@ use Rattle.std.specs.List.{list_all, flat_map, range_with_len}
 use Rattle.std.specs.Option.{is_some, option_map_or}
 use Rattle.std.proofs.lemmas.Bool.{false≢true, and_parts, and_from}
 use Rattle.std.proofs.lemmas.List.Elements.{filter-append}
-use Rattle.hive_model.specs.Tree.{Tree, Item, head, children, find_key, find_dword}
+use Rattle.hive_model.specs.Tree.{Tree, head, children, find_key, find_dword}
 use Rattle.hive_model.specs.Edit.{has_child}
 use Rattle.start_model.specs.Entries.{Entry, is_driver, is_service}
 use Rattle.start_model.specs.Order.{GroupOrder, first_names}
@@ -23,8 +23,8 @@ use Rattle.service_check.specs.declared.stage.Stage.TheVariants.{System, Automat
 use Rattle.service_check.specs.declared.stage.Staged.{Staged}
 use Rattle.service_check.specs.Stages.{stage_rank, is_taken, is_upto}
 use Rattle.service_check.specs.Needs.{named, groups_upto, is_demand, stage_fault, name_fault, service_fault, is_without, group_fault, faults_at, need_faults, waits_of}
-use Rattle.service_check.specs.Children.{Scope, when, has_value, missing_faults, all_fields, has_malformed, malformed, malformed_faults, has_image, number_faults, control_beyond, control_faults, image_faults, listed, tag_fault, tag_faults_of, tag_faults, order_faults, own_faults, bond_faults, entry_faults, service_faults, child_faults}
-use Rattle.service_check.specs.Check.{line_when, select_line, failed_line, four_lines, select_lines, key_lines, scope_of, list_lines, about, child_lines, unlisted_in, group_line, group_lines, cycle_line, lines_of_cycle, cycle_lines, services_lines, judged_lines, set_lines, number_lines, found_lines}
+use Rattle.service_check.specs.Children.{Scope, when, has_value, missing_faults, all_fields, has_malformed, malformed, malformed_faults, has_image, number_faults, control_beyond, control_faults, image_faults, listed, tag_fault, tag_faults_of, order_faults, own_faults, bond_faults, entry_faults, service_faults, child_faults}
+use Rattle.service_check.specs.Check.{select_line, failed_line, four_lines, select_lines, key_lines, scope_of, list_lines, about, child_lines, unlisted_in, group_line, group_lines, cycle_line, lines_of_cycle, cycle_lines, services_lines, judged_lines, set_lines, number_lines}
 use Rattle.check_laws.specs.Laws.{is_plain_fault, is_plain, OrderOnlyAdds}
 use Rattle.check_laws.proofs.QuietLemmas.{when_all, append_all, flat_all, map_all}
 

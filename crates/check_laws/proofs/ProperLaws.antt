@@ -1,25 +1,23 @@
 -- Each good need has a way, and its ways are entries.
-use Rattle.std.proofs.Common.{◌≡◌, ℕ, zero, suc, ◌<◌, Bool, true, false, not, ◌&&◌, List, [], ◌∷◌, ◌++◌, length, map, filter, get_or, cond, Option, Some, None, refl, sym, ap, ◌∙◌, ◌⊎◌, inl, inr, subst, arith}
+use Rattle.std.proofs.Common.{◌≡◌, ℕ, zero, suc, ◌<◌, Bool, true, false, not, ◌&&◌, List, [], ◌∷◌, length, map, get_or, cond, Option, Some, None, refl, sym, ap, ◌∙◌, inl, inr, subst, arith}
 use Rattle.std.specs.Prelude.{Contains, position, slice_get}
 use Rattle.std.specs.Option.{option_map_or, option_to_list}
 use Rattle.std.specs.List.{list_any, flat_map, range_with_len}
-use Rattle.std.proofs.lemmas.Bool.{false≢true, cases_Bool, and_parts, and_from}
 use Rattle.std.proofs.lemmas.List.{length-map}
 use Rattle.std.proofs.lemmas.List.Elements.{Contains-append_cases}
 use Rattle.std.proofs.lemmas.Option.{slice_get_read}
 use Rattle.nt_bytes.specs.Folding.{folds_same}
 use Rattle.start_model.specs.Order.{first_names}
-use Rattle.wait_cycles.specs.Waits.{needs_at}
 use Rattle.wait_cycles.proofs.InverseLemmas.{none_in}
 use Rattle.wait_cycles.proofs.MetLemmas.{first_in, later_in, any_gives, in_range, range_in}
 use Rattle.wait_cycles.proofs.CycleLemmas.{filter_in, filter_out, in_cons}
 use Rattle.service_check.specs.declared.stage.Stage.{Stage}
 use Rattle.service_check.specs.declared.stage.Staged.{Staged}
 use Rattle.service_check.specs.Stages.{is_upto}
-use Rattle.service_check.specs.Needs.{names_of, group_upto, groups_upto, is_good, name_ways, is_way, ways_in, is_without, group_ways, ways_at, good_ways, waits_of}
+use Rattle.service_check.specs.Needs.{names_of, group_upto, groups_upto, is_good, name_ways, is_way, ways_in, group_ways, ways_at, good_ways}
 use Rattle.service_check.proofs.TableLemmas.{count_names}
 use Rattle.service_check.proofs.PlaceLemmas.{place_below}
-use Rattle.check_laws.specs.Laws.{AreProper, GoodNeedsAreProper}
+use Rattle.check_laws.specs.Laws.{GoodNeedsAreProper}
 
 pub flat_from : {X Y : Type 0} (f : X → List Y) (xs : List X) (v : Y) → Contains (flat_map f xs) v
     → (x : X) × Contains xs x × Contains (f x) v

@@ -1,17 +1,16 @@
 -- No line that is found is `found` or `end`.
-use Rattle.std.proofs.Common.{◌≡◌, ℕ, ◌+◌, Bool, true, false, not, nat_eq, ◌&&◌, length, List, [], ◌∷◌, ◌++◌, map, cond, Option, Some, None, refl, sym, ap, ◌∙◌}
+use Rattle.std.proofs.Common.{◌≡◌, ℕ, ◌+◌, Bool, true, false, not, nat_eq, ◌&&◌, length, List, [], ◌∷◌, ◌++◌, map, cond, Option, Some, None, refl, sym, ◌∙◌}
 use Rattle.std.specs.Prelude.{slice_index_or, codes}
 use Rattle.std.specs.List.{list_all, flat_map, range_with_len}
 use Rattle.std.specs.Option.{is_some, option_map_or}
 use Rattle.std.proofs.lemmas.Bool.{false≢true, and_parts, and_from}
 use Rattle.std.proofs.lemmas.List.Folds.{sum_by-zero, list_all-append}
-use Rattle.hive_model.specs.Tree.{Tree, head, children, find_key}
+use Rattle.hive_model.specs.Tree.{Tree, children, find_key}
 use Rattle.hive_model.specs.Edit.{has_child}
 use Rattle.start_model.specs.Order.{first_names}
 use Rattle.start_model.specs.Sets.{SelectNumbers, select_numbers_of}
 use Rattle.select_keys.specs.Sets.{usable_set}
 use Rattle.wait_cycles.specs.Waits.{cycles_of}
-use Rattle.check_lines.specs.declared.lines.Fault.{Fault}
 use Rattle.check_lines.specs.declared.lines.SelectWord.{SelectWord}
 use Rattle.check_lines.specs.declared.lines.SelectWord.TheVariants.{Current, Default, Failed, LastKnownGood}
 use Rattle.check_lines.specs.declared.lines.CheckLine.{CheckLine}
@@ -19,7 +18,7 @@ use Rattle.check_lines.specs.declared.lines.CheckLine.TheVariants as lines
 use Rattle.service_check.specs.Children.{Scope, child_faults}
 use Rattle.service_check.specs.declared.stage.Stage.TheVariants.{Automatic}
 use Rattle.service_check.specs.Needs.{groups_upto, waits_of}
-use Rattle.service_check.specs.Check.{line_when, select_line, failed_line, four_lines, select_lines, key_lines, scope_of, list_lines, about, child_lines, unlisted_in, group_line, group_lines, cycle_line, lines_of_cycle, numbered_lines, cycle_lines, services_lines, judged_lines, set_lines, number_lines, found_lines, is_finding, finding_count, check_lines}
+use Rattle.service_check.specs.Check.{line_when, select_line, failed_line, four_lines, select_lines, key_lines, scope_of, list_lines, about, child_lines, unlisted_in, group_line, group_lines, cycle_line, lines_of_cycle, cycle_lines, services_lines, judged_lines, set_lines, number_lines, found_lines, is_finding, finding_count, check_lines}
 use Rattle.check_laws.specs.Laws.{is_quiet, NothingFoundIsQuiet}
 
 -- the line is neither `found` nor `end`

@@ -1,13 +1,13 @@
 -- What the entries of a set, with their stages, are to one another.
-use Rattle.std.proofs.Common.{◌≡◌, ℕ, zero, suc, ◌+◌, ◌<◌, Bool, true, false, not, ◌&&◌, nat_eq, cond, List, [], ◌∷◌, ◌++◌, length, map, get_or, Option, Some, None, refl, sym, ap, ◌∙◌, ◌⊎◌, inl, inr, subst, arith}
-use Rattle.std.specs.Prelude.{Contains, slice_get, position, filter, nat_le, nat_lt, option_and_then}
+use Rattle.std.proofs.Common.{◌≡◌, ℕ, zero, suc, ◌<◌, Bool, true, false, not, cond, List, [], ◌∷◌, length, map, get_or, Option, Some, None, refl, sym, ap, ◌∙◌, inl, inr, subst, arith}
+use Rattle.std.specs.Prelude.{Contains, slice_get, position, filter, option_and_then}
 use Rattle.std.specs.Option.{is_some, option_map_or, option_to_list}
-use Rattle.std.specs.List.{list_any, list_all, flat_map, range_with_len}
+use Rattle.std.specs.List.{list_any, flat_map, range_with_len}
 use Rattle.std.proofs.lemmas.Bool.{false≢true, cases_Bool, and_parts, and_from}
-use Rattle.std.proofs.lemmas.List.{get_or-map, length-map}
-use Rattle.std.proofs.lemmas.List.Elements.{Contains-append_left, Contains-append_right, Contains-append_cases}
+use Rattle.std.proofs.lemmas.List.{get_or-map}
+use Rattle.std.proofs.lemmas.List.Elements.{Contains-append_left, Contains-append_right}
 use Rattle.std.proofs.lemmas.List.Quantifiers.{position-Some}
-use Rattle.std.proofs.lemmas.Option.{slice_get_within, get_or_from_slice_get, same_Some}
+use Rattle.std.proofs.lemmas.Option.{slice_get_within, get_or_from_slice_get}
 use Rattle.nt_bytes.specs.Folding.{folds_same}
 use Rattle.name_places.proofs.FoldLemmas.{alike}
 use Rattle.start_model.specs.Order.{first_names}
@@ -16,12 +16,11 @@ use Rattle.wait_cycles.specs.Waits.{needs_at}
 use Rattle.wait_cycles.proofs.InverseLemmas.{none_in}
 use Rattle.wait_cycles.proofs.MetLemmas.{first_in, later_in, any_from, any_gives, in_range}
 use Rattle.wait_cycles.proofs.CycleLemmas.{in_cons, filter_in, filter_out}
-use Rattle.check_lines.specs.declared.lines.Fault.{Fault}
 use Rattle.service_check.specs.declared.stage.Stage.{Stage}
 use Rattle.service_check.specs.declared.stage.Stage.TheVariants.{Boot, System, Automatic, Demand}
 use Rattle.service_check.specs.declared.stage.Staged.{Staged}
-use Rattle.service_check.specs.Stages.{stage_rank, is_taken, is_upto}
-use Rattle.service_check.specs.Needs.{names_of, named, group_upto, groups_upto, is_demand, stage_fault, service_fault, group_fault, is_good, is_without, name_ways, is_way, ways_in, group_ways, ways_at, good_ways, waits_of}
+use Rattle.service_check.specs.Stages.{is_upto}
+use Rattle.service_check.specs.Needs.{names_of, named, group_upto, stage_fault, is_good, is_without, name_ways, is_way, ways_in, group_ways, ways_at, good_ways, waits_of}
 use Rattle.service_check.proofs.TableLemmas.{count_names}
 use Rattle.service_control.proofs.LeanLemmas.{folds_itself, mapped_to}
 use Rattle.check_laws.proofs.TakenLemmas.{item_here}

@@ -1,21 +1,19 @@
 -- The start of a set as the phases of its rows: what a phase takes doesn't depend on what was tried before it.
-use Rattle.std.proofs.Common.{◌≡◌, ℕ, zero, suc, ◌+◌, ◌<◌, ◌≤◌, Bool, true, false, not, ◌&&◌, ◌||◌, nat_eq, cond, List, [], ◌∷◌, ◌++◌, length, map, get_or, Option, Some, None, refl, sym, ap, ◌∙◌, ◌⊎◌, inl, inr, subst, arith}
+use Rattle.std.proofs.Common.{◌≡◌, ℕ, ◌<◌, Bool, true, false, not, ◌&&◌, ◌||◌, nat_eq, cond, List, [], map, get_or, Option, Some, None, refl, sym, ap, ◌∙◌, inl, inr, subst, arith}
 use Rattle.std.specs.Prelude.{Contains, slice_get, codes}
 use Rattle.std.specs.Option.{option_map_or}
-use Rattle.std.specs.List.{list_any, filter_map}
-use Rattle.std.proofs.lemmas.Bool.{false≢true, cases_Bool, cases_lt, and_parts, and_from, or_cases, eqb-true, false_from_ne_true}
-use Rattle.std.proofs.lemmas.List.{get_or_default, length-map}
-use Rattle.std.proofs.lemmas.Option.{slice_get_within, same_Some}
+use Rattle.std.proofs.lemmas.Bool.{false≢true, cases_lt, and_parts, and_from, or_cases, eqb-true, false_from_ne_true}
+use Rattle.std.proofs.lemmas.List.{get_or_default}
+use Rattle.std.proofs.lemmas.Option.{same_Some}
 use Rattle.nt_bytes.specs.Folding.{folds_same}
 use Rattle.hive_model.specs.Tree.{Tree, head, find_dword}
 use Rattle.hive_model.specs.Valid.{HoldsKeys, KeysDiffer}
 use Rattle.reg_tree.proofs.Unlike.{folds_swap}
 use Rattle.start_model.specs.Demand.{Need}
 use Rattle.start_model.specs.Entries as book
-use Rattle.start_model.specs.Entries.{Entry, Phase, entry_of, entry_with, entries_of, services_of, is_driver, is_service, was_tried, is_driver_of, is_open, places_of, need_of, taken_of}
+use Rattle.start_model.specs.Entries.{Entry, Phase, entry_of, entry_with, entries_of, services_of, is_driver, is_service, was_tried, is_driver_of, is_open, places_of, need_of}
 use Rattle.start_model.specs.Order.{plan_of}
 use Rattle.start_model.proofs.HeldLemmas.{services_differ}
-use Rattle.wait_cycles.proofs.InverseLemmas.{none_in}
 use Rattle.wait_cycles.proofs.MetLemmas.{any_from, any_gives}
 use Rattle.service_check.specs.declared.stage.Stage.{Stage}
 use Rattle.service_check.specs.declared.stage.Stage.TheVariants as stages
@@ -23,7 +21,7 @@ use Rattle.service_check.specs.declared.stage.Staged.{Staged}
 use Rattle.service_check.specs.Stages.{names_taken, Taken, taken_names, takes, stage_in, staged_in, rows_of}
 use Rattle.service_control.proofs.LeanLemmas.{folds_itself, mapped_from, mapped_to}
 use Rattle.service_control.proofs.LeastLemmas.{from}
-use Rattle.check_laws.proofs.TakenLemmas.{item_here, item_place, Takes, plan_from, plan_in, place_passes, passing_place, is_late, AreApart, AreOpenToo, IsAuto, auto_from, auto_taken, auto_into, auto_late}
+use Rattle.check_laws.proofs.TakenLemmas.{item_here, item_place, plan_from, plan_in, place_passes, passing_place, is_late, AreApart, AreOpenToo, auto_from, auto_taken, auto_into, auto_late}
 use Rattle.check_laws.proofs.TurnLemmas.{IsPhase, phase_as}
 use Rattle.check_laws.proofs.RowLemmas.{RowsApart}
 use Rattle.check_laws.proofs.UnmetLemmas.{IsOf}
@@ -197,7 +195,7 @@ module _ (set : Tree) (holds : HoldsKeys set) where
   abbrev runs : Entry → Bool
   runs e = nat_eq e.start 3 && (is_driver e.kind || is_service e.kind)
 
-  takes_from : (phase : Phase) (e : Entry) → Contains (entries_of set) e → takes (names_taken set phase) e ≡ true
+  pub takes_from : (phase : Phase) (e : Entry) → Contains (entries_of set) e → takes (names_taken set phase) e ≡ true
       → Contains (plan_of set phase []) e
   takes_from phase e there h =
       let n = any_gives (folds_same e.name) (map (λ (e : Entry). e.name) (plan_of set phase [])) h in
@@ -205,7 +203,7 @@ module _ (set : Tree) (holds : HoldsKeys set) where
       subst (Contains (plan_of set phase [])) (sym (entries_apart set holds e f.item there (plan_entry set phase [] f.item f.there)
       (ap (folds_same e.name) f.is ∙ n.2))) f.there
 
-  takes_in : (phase : Phase) (e : Entry) → Contains (plan_of set phase []) e → takes (names_taken set phase) e ≡ true
+  pub takes_in : (phase : Phase) (e : Entry) → Contains (plan_of set phase []) e → takes (names_taken set phase) e ≡ true
   takes_in phase e c =
       any_from (folds_same e.name) (map (λ (e : Entry). e.name) (plan_of set phase [])) e.name
       (mapped_to (λ (e : Entry). e.name) (plan_of set phase []) e c) (folds_itself e.name)

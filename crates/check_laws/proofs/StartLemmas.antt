@@ -1,5 +1,5 @@
 -- What a start says in which each attempt goes well, as its turns.
-use Rattle.std.proofs.Common.{◌≡◌, ℕ, zero, suc, ◌+◌, ◌≤◌, Bool, true, false, List, [], ◌∷◌, ◌++◌, length, map, Option, Some, None, refl, sym, ap, ◌∙◌, append_assoc, arith}
+use Rattle.std.proofs.Common.{◌≡◌, ℕ, zero, suc, List, [], ◌∷◌, ◌++◌, length, map, Option, Some, None, refl, sym, ap, ◌∙◌, append_assoc}
 use Rattle.std.specs.Prelude.{slice_get, remove, option_and_then}
 use Rattle.std.specs.Option.{option_map, option_map_or}
 use Rattle.std.specs.List.{filter_map}
@@ -8,13 +8,12 @@ use Rattle.std.proofs.lemmas.List.Elements.{filter_map-append}
 use Rattle.nt_bytes.specs.Folding.{folded}
 use Rattle.hive_model.specs.Tree.{Tree}
 use Rattle.start_model.specs.Entries.{Entry, Phase, Boot, System, Automatic, Done, need_of}
-use Rattle.start_model.specs.Lines as lines
-use Rattle.start_model.specs.Lines.{Line, TryLine, TryOk, UnmetLine}
-use Rattle.start_model.specs.Machine.{Start, label_of, next_in, after_attempt, unmet_in, after_phase, phase_after, begun_with}
+use Rattle.start_model.specs.Lines.{TryLine, TryOk, UnmetLine}
+use Rattle.start_model.specs.Machine.{Start, label_of, next_in, unmet_in, phase_after}
 use Rattle.start_model.specs.Order.{plan_of}
-use Rattle.start_model.specs.Ready.{Label, next_of}
+use Rattle.start_model.specs.Ready.{Label}
 use Rattle.start_model.specs.Starter.{phase_line}
-use Rattle.safe_boot.specs.Played.{Course, at_place, waiting_at, next_entry, tried_at, attempts_of, phase_ended, phase_played, course_begun, start_lines_of}
+use Rattle.safe_boot.specs.Played.{Course, at_place, waiting_at, tried_at, attempts_of, phase_ended, phase_played, course_begun, start_lines_of}
 use Rattle.check_laws.specs.Unmet.{unmet_name}
 use Rattle.check_laws.proofs.TurnLemmas.{Ran, none_ran, with_new, run}
 

@@ -3,9 +3,9 @@ use Rattle.std.proofs.Common.{◌≡◌, ℕ, ◌<◌, Bool, true, false, List, 
 use Rattle.std.specs.List.{range_with_len}
 use Rattle.std.proofs.lemmas.Bool.{false≢true, cases_Bool, and_parts}
 use Rattle.start_model.specs.Demand.{member}
-use Rattle.wait_cycles.specs.Waits.{leads, comes_to, are_in_cycle, cycle_of, begins_with, cycle_from}
+use Rattle.wait_cycles.specs.Waits.{leads, comes_to, are_in_cycle, begins_with, cycle_from}
 use Rattle.wait_cycles.proofs.MetLemmas.{range_in}
-use Rattle.wait_cycles.proofs.CycleLemmas.{IsClosedBy, comes_from, comes_gives, filter_none}
+use Rattle.wait_cycles.proofs.CycleLemmas.{comes_from, comes_gives, filter_none}
 
 pub step_comes : (step : ℕ → ℕ → Bool) (n p q : ℕ) → q < n → step p q ≡ true → comes_to step n p q ≡ true
 step_comes step n p q lq st = comes_from step n p q (λ s by. by.begun q lq st)

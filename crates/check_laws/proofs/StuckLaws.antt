@@ -1,5 +1,5 @@
 -- The stuck places are the greatest set that holds itself.
-use Rattle.std.proofs.Common.{◌≡◌, ℕ, ◌<◌, Bool, true, false, not, ◌&&◌, ◌||◌, List, [], length, map, refl, sym, ap, ◌∙◌, subst}
+use Rattle.std.proofs.Common.{◌≡◌, ℕ, ◌<◌, Bool, true, not, ◌&&◌, ◌||◌, List, length, map, sym, ◌∙◌, subst}
 use Rattle.std.specs.Prelude.{Contains}
 use Rattle.std.specs.List.{list_any, list_all, range_with_len}
 use Rattle.std.proofs.lemmas.Bool.{and_parts, and_from}
@@ -9,7 +9,7 @@ use Rattle.dependencies.proofs.PulledLemmas.{then_true, then_gives, all_below, l
 use Rattle.wait_cycles.specs.Waits.{needs_at, is_held, holds_itself, is_stuck}
 use Rattle.wait_cycles.proofs.MetLemmas.{all_from, any_from, any_gives, any_weaker, all_weaker, range_in}
 use Rattle.wait_cycles.proofs.CycleLemmas.{some_set}
-use Rattle.check_laws.specs.Laws.{AreProper, HoldsItself, StuckHoldsItself, StuckIsGreatest}
+use Rattle.check_laws.specs.Laws.{HoldsItself, StuckHoldsItself, StuckIsGreatest}
 
 -- what is held by a set is held by one that has as much
 pub held_wider : (waits : List (List (List ℕ))) (set other : ℕ → Bool) (p : ℕ)

@@ -1,5 +1,5 @@
 -- Which entries a phase takes of a set.
-use Rattle.std.proofs.Common.{◌≡◌, ℕ, zero, suc, ◌+◌, ◌<◌, Bool, true, false, ◌&&◌, ◌||◌, nat_eq, cond, List, [], ◌∷◌, length, map, filter, Option, Some, None, refl, sym, ap, ◌∙◌, ◌⊎◌, inl, inr, subst, arith}
+use Rattle.std.proofs.Common.{◌≡◌, ℕ, zero, suc, Bool, true, false, ◌&&◌, ◌||◌, nat_eq, cond, List, [], ◌∷◌, length, map, Option, Some, None, refl, sym, ap, ◌∙◌, ◌⊎◌, inl, inr, subst, arith}
 use Rattle.std.specs.Prelude.{Contains, slice_get}
 use Rattle.std.specs.Option.{option_map, option_map_or}
 use Rattle.std.specs.List.{list_any, filter_map, cons_option, range_with_len}
@@ -7,7 +7,7 @@ use Rattle.std.proofs.lemmas.Bool.{false≢true, and_parts, and_from, or_left, o
 use Rattle.std.proofs.lemmas.Option.{slice_get_within, slice_get_read, get_or_from_slice_get, same_Some}
 use Rattle.nt_bytes.specs.Folding.{folds_same}
 use Rattle.hive_model.specs.Tree.{Tree}
-use Rattle.start_model.specs.Demand.{Need, starts_at, pulls, IsClosed, is_taken, automatic_of}
+use Rattle.start_model.specs.Demand.{Need, IsClosed, is_taken, automatic_of}
 use Rattle.start_model.specs.Entries.{Entry, Phase, Automatic, entries_of, is_open, places_of, need_of, needs_at, taken_of}
 use Rattle.start_model.specs.Order.{GroupOrder, Rank, is_before, placed, ordered_of, orders_of, rank_of, ranks_of, tags_count_in, plan_of}
 use Rattle.dependencies.proofs.PulledLemmas.{is_taken-closed, is_taken-least_of_all}

@@ -1,18 +1,18 @@
 -- Who starts as the turns come is who starts of a run.
-use Rattle.std.proofs.Common.{◌≡◌, ℕ, zero, suc, ◌+◌, ◌<◌, ◌≤◌, Bool, true, false, List, [], ◌∷◌, ◌++◌, length, map, set, replicate, Option, Some, None, refl, sym, ap, ◌∙◌, subst, arith}
+use Rattle.std.proofs.Common.{◌≡◌, ℕ, zero, suc, ◌+◌, ◌≤◌, true, false, List, [], ◌∷◌, ◌++◌, length, map, set, Option, Some, None, refl, sym, ap, ◌∙◌, subst, arith}
 use Rattle.std.specs.Prelude.{Contains, slice_get, remove}
 use Rattle.std.specs.Option.{option_map, option_map_or, option_and_then, option_to_list}
 use Rattle.std.specs.List.{filter_map, cons_option, items_where_true}
 use Rattle.std.proofs.lemmas.List.Quantifiers.{position-Some}
 use Rattle.start_model.specs.Demand.{Need}
 use Rattle.start_model.specs.Ready.{Label, is_ready, next_of}
-use Rattle.dependencies.specs.Waiting.{WaitingState, waiting_in, places_in, label_of, next_place_in, after_trying}
+use Rattle.dependencies.specs.Waiting.{WaitingState, waiting_in, places_in, label_of, after_trying}
 use Rattle.dependencies.specs.Attempts.{all_waiting}
 use Rattle.dependencies.proofs.PickedLemmas.{all_picked, as_many, picked}
 use Rattle.service_control.specs.State.{labels_of}
 use Rattle.service_control.specs.Turns.{turns, starts_of}
 use Rattle.service_control.proofs.SpreadState.{none}
-use Rattle.check_laws.proofs.TurnLemmas.{Ran, none_ran, with_new, run, IsPhase, IsRan, ran, ran_phase}
+use Rattle.check_laws.proofs.TurnLemmas.{Ran, none_ran, with_new, run, IsPhase, ran, ran_phase}
 use Rattle.check_laws.proofs.RowLemmas.{stands_at}
 
 abbrev itself : Need → Need

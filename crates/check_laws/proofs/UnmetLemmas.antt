@@ -1,14 +1,13 @@
 -- Who is unmet in a start of which each attempt goes well: those that a wrong need or a cycle keeps from it.
-use Rattle.std.proofs.Common.{◌≡◌, ℕ, zero, suc, ◌+◌, ◌<◌, Bool, true, false, not, ◌&&◌, nat_eq, cond, List, [], ◌∷◌, ◌++◌, length, map, Option, Some, None, refl, sym, ap, ◌∙◌, ◌⊎◌, inl, inr, subst, arith}
+use Rattle.std.proofs.Common.{◌≡◌, ℕ, ◌<◌, Bool, true, false, nat_eq, cond, List, [], ◌∷◌, length, map, Option, Some, None, refl, sym, ap, ◌∙◌, ◌⊎◌, inl, inr, subst, arith}
 use Rattle.std.specs.Prelude.{Contains, slice_get, position, option_and_then}
 use Rattle.std.specs.Option.{option_map_or, option_to_list}
-use Rattle.std.specs.List.{list_any, list_all, flat_map}
-use Rattle.std.proofs.lemmas.Bool.{false≢true, cases_Bool, and_parts, and_cases, and_from}
+use Rattle.std.specs.List.{list_all, flat_map}
+use Rattle.std.proofs.lemmas.Bool.{false≢true, and_parts, and_cases, and_from}
 use Rattle.std.proofs.lemmas.List.{length-map}
 use Rattle.std.proofs.lemmas.List.Elements.{Contains-append_left, Contains-append_right, Contains-append_cases}
 use Rattle.std.proofs.lemmas.Option.{slice_get_within, same_Some}
 use Rattle.nt_bytes.specs.Folding.{folds_same}
-use Rattle.name_places.proofs.FoldLemmas.{alike}
 use Rattle.start_model.specs.Demand.{Need}
 use Rattle.start_model.specs.Entries.{need_of}
 use Rattle.start_model.specs.Order.{first_names}
@@ -20,18 +19,17 @@ use Rattle.wait_cycles.proofs.CycleLemmas.{not_all}
 use Rattle.check_lines.specs.declared.lines.Fault.{Fault}
 use Rattle.check_lines.specs.declared.lines.Fault.TheVariants as faults
 use Rattle.service_check.specs.declared.stage.Stage.{Stage}
-use Rattle.service_check.specs.declared.stage.Stage.TheVariants.{Boot, System, Automatic, Demand}
 use Rattle.service_check.specs.declared.stage.Staged.{Staged}
-use Rattle.service_check.specs.Stages.{is_taken, is_upto}
-use Rattle.service_check.specs.Needs.{names_of, named, name_fault, stage_fault, service_fault, group_fault, faults_at, need_faults, is_good, is_without, name_ways, ways_in, group_ways, ways_at, waits_of, good_ways}
+use Rattle.service_check.specs.Stages.{is_upto}
+use Rattle.service_check.specs.Needs.{names_of, name_fault, service_fault, group_fault, faults_at, need_faults, is_good, is_without, name_ways, ways_in, group_ways, ways_at, waits_of, good_ways}
 use Rattle.service_control.specs.State.{labels_of}
 use Rattle.service_control.proofs.LeanLemmas.{name_alike, group_alike}
-use Rattle.check_laws.proofs.TakenLemmas.{item_here, item_place}
+use Rattle.check_laws.proofs.TakenLemmas.{item_here}
 use Rattle.check_laws.proofs.ProperLaws.{flat_from, only_in}
 use Rattle.check_laws.proofs.CycleLaws.{flat_in}
 use Rattle.check_laws.proofs.StuckLaws.{stuck_holds}
-use Rattle.check_laws.proofs.TurnLemmas.{is_member, named_in, named_from, member_in, member_from, IsPhase, InTurn, turn_ind, turned_each}
-use Rattle.check_laws.proofs.RowLemmas.{RowsApart, IsNamed, named_is, named_row, place_named, first_sub, first_for, upto_fits, Fits, fit, by_demand, fits_from, ways_of_row, way_by_name, way_by_group, way_row, row_way, with_row}
+use Rattle.check_laws.proofs.TurnLemmas.{named_in, named_from, member_in, member_from}
+use Rattle.check_laws.proofs.RowLemmas.{RowsApart, IsNamed, named_is, named_row, place_named, first_sub, first_for, upto_fits, Fits, fits_from, ways_of_row, way_by_name, way_by_group, way_row, row_way, with_row}
 
 -- ---- entries of a stage, and of all stages up to one
 

@@ -1,10 +1,9 @@
 -- What a taken entry waits for is taken, and each fault of its needs is a wrong need.
-use Rattle.std.proofs.Common.{◌≡◌, ℕ, ◌<◌, Bool, true, false, not, ◌&&◌, nat_eq, cond, List, [], ◌∷◌, ◌++◌, length, map, Option, Some, None, refl, sym, ap, ◌∙◌, ◌⊎◌, inl, inr, subst, arith}
-use Rattle.std.specs.Prelude.{Contains, slice_get, position}
+use Rattle.std.proofs.Common.{◌≡◌, ℕ, ◌<◌, Bool, true, false, not, ◌&&◌, nat_eq, cond, List, [], ◌∷◌, length, map, Option, Some, None, refl, sym, ap, ◌∙◌, inl, inr, subst, arith}
+use Rattle.std.specs.Prelude.{Contains, slice_get, position, nat_lt}
 use Rattle.std.specs.Option.{option_map_or, option_to_list}
 use Rattle.std.specs.List.{list_any, list_all, flat_map}
 use Rattle.std.proofs.lemmas.Bool.{false≢true, and_parts, eqb-true}
-use Rattle.std.proofs.lemmas.List.{length-map}
 use Rattle.std.proofs.lemmas.List.Elements.{Contains-append_cases}
 use Rattle.nt_bytes.specs.Folding.{folds_same}
 use Rattle.start_model.specs.Order.{first_names}
@@ -15,17 +14,13 @@ use Rattle.check_lines.specs.declared.lines.Fault.{Fault}
 use Rattle.check_lines.specs.declared.lines.Fault.TheVariants as faults
 use Rattle.service_check.specs.declared.stage.Stage.{Stage}
 use Rattle.service_check.specs.declared.stage.Staged.{Staged}
-use Rattle.service_check.specs.Stages.{is_taken, is_upto}
-use Rattle.service_check.specs.Needs.{names_of, named, service_fault, group_fault, is_good, is_without, name_ways, ways_in, group_ways, ways_at, good_ways, waits_of}
-use Rattle.service_check.specs.declared.stage.Stage.TheVariants.{Boot, System, Automatic, Demand}
-use Rattle.service_check.specs.Stages.{stage_rank}
-use Rattle.service_check.specs.Needs.{stage_fault, is_demand, name_fault, faults_at, need_faults}
-use Rattle.std.specs.Prelude.{nat_lt}
+use Rattle.service_check.specs.Stages.{is_taken, stage_rank}
+use Rattle.service_check.specs.Needs.{names_of, named, service_fault, group_fault, is_good, is_without, name_ways, ways_in, group_ways, waits_of, stage_fault, is_demand, name_fault, faults_at, need_faults}
 use Rattle.check_laws.specs.Unmet.{is_wrong_need}
 use Rattle.check_laws.proofs.QuietLemmas.{append_all, flat_all}
 use Rattle.check_laws.proofs.ProperLaws.{flat_from, only_in}
 use Rattle.check_laws.proofs.RowLemmas.{RowsApart, ways_of_row, way_row}
-use Rattle.check_laws.proofs.UnmetLemmas.{IsServed, served}
+use Rattle.check_laws.proofs.UnmetLemmas.{served}
 use Rattle.check_laws.proofs.WholeLemmas.{fits_upto, upto_taken}
 use Rattle.std.proofs.lemmas.Option.{same_Some}
 
@@ -75,7 +70,7 @@ wrong_is rows r f c = all_gives is_wrong_need (need_faults rows r) f (wrong_need
 abbrev pub taken_set : List Staged → ℕ → Bool
 taken_set rows p = option_map_or (λ (r : Staged). is_taken r.stage) (slice_get rows p) false
 
-none_of : (l : List Fault) → nat_eq (length l) 0 ≡ true → l ≡ []
+pub none_of : (l : List Fault) → nat_eq (length l) 0 ≡ true → l ≡ []
 none_of [] h = refl
 none_of (f ∷ fs) h = absurd (omega (arith, eqb-true (length (f ∷ fs)) 0 h))
 

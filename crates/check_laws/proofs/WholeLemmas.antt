@@ -1,17 +1,17 @@
 -- A start of which each attempt goes well, and the reasons why it leaves entries out.
-use Rattle.std.proofs.Common.{◌≡◌, ℕ, zero, suc, ◌+◌, ◌<◌, Bool, true, false, not, ◌&&◌, nat_eq, cond, List, [], ◌∷◌, ◌++◌, length, map, Option, Some, None, refl, sym, ap, ◌∙◌, ◌⊎◌, inl, inr, subst, arith}
+use Rattle.std.proofs.Common.{◌≡◌, ℕ, ◌<◌, Bool, true, false, ◌&&◌, List, [], ◌∷◌, ◌++◌, length, Option, Some, None, refl, sym, ap, ◌∙◌, ◌⊎◌, inl, inr, subst, arith}
 use Rattle.std.specs.Prelude.{Contains, slice_get}
 use Rattle.std.specs.Option.{option_map_or}
-use Rattle.std.specs.List.{list_any, list_all}
-use Rattle.std.proofs.lemmas.Bool.{false≢true, true≢false, cases_Bool, and_parts, and_from, not-true}
+use Rattle.std.specs.List.{list_any}
+use Rattle.std.proofs.lemmas.Bool.{false≢true, cases_Bool, and_parts, and_from}
 use Rattle.std.proofs.lemmas.List.{length-map}
 use Rattle.std.proofs.lemmas.List.Elements.{Contains-append_left, Contains-append_right, Contains-append_cases}
-use Rattle.std.proofs.lemmas.Option.{slice_get_within, same_Some}
+use Rattle.std.proofs.lemmas.Option.{slice_get_within}
 use Rattle.nt_bytes.specs.Folding.{folds_same}
 use Rattle.start_model.specs.Demand.{Need}
 use Rattle.start_model.specs.Entries.{need_of}
 use Rattle.start_model.specs.Ready.{is_ready}
-use Rattle.wait_cycles.specs.Waits.{needs_at, is_held, is_stuck, leads, cycles_of}
+use Rattle.wait_cycles.specs.Waits.{is_held, is_stuck}
 use Rattle.wait_cycles.proofs.InverseLemmas.{none_in}
 use Rattle.wait_cycles.proofs.MetLemmas.{first_in, any_from, any_gives}
 use Rattle.check_lines.specs.declared.lines.Fault.{Fault}
@@ -27,8 +27,8 @@ use Rattle.check_laws.proofs.TakenLemmas.{item_here, item_place}
 use Rattle.check_laws.proofs.ProperLaws.{good_proper}
 use Rattle.check_laws.proofs.StuckLaws.{stuck_greatest}
 use Rattle.check_laws.proofs.TurnLemmas.{Ran, InTurn, IsPhase, turn_ind, turned_each}
-use Rattle.check_laws.proofs.RowLemmas.{RowsApart, stands_at, Fits, fit, by_demand}
-use Rattle.check_laws.proofs.UnmetLemmas.{IsOf, IsUpto, IsRight, Known, IsFree, ready_right, ready_free, Serves, unready_held}
+use Rattle.check_laws.proofs.RowLemmas.{RowsApart, Fits, fit, by_demand}
+use Rattle.check_laws.proofs.UnmetLemmas.{IsOf, IsUpto, IsRight, IsFree, ready_right, ready_free, Serves, unready_held}
 
 -- ---- stages
 
@@ -93,7 +93,7 @@ pub record IsStart (rows : List Staged) (a b c : Ran Need) : Type 0 where
   pub automatic : IsPhase (IsOf rows Automatic) (a.new ++ b.new) c.new c.left
 
 module _ (rows : List Staged) (apart : RowsApart rows) where
-  -- the row that is at a place is the one of the need
+  -- the row that stands at a place is the one of the need
   row_of : (stage : Stage) (n : Need) (p : ℕ) (r : Staged) → IsOf rows stage n → slice_get rows p ≡ Some r
       → need_of r.entry ≡ n → r.stage ≡ Some stage
   row_of stage n p r i at need =
@@ -218,7 +218,7 @@ module _ (rows : List Staged) (apart : RowsApart rows) where
       | inr e ↦ automatic_left p r at e why
     ]
 
-    -- ---- what has been left out has a reason
+    -- ---- what is left out has a reason
 
     abbrev pub is_left : Staged → Bool
     is_left r = is_taken r.stage && list_any (λ (n : Need). folds_same r.entry.name n.name) lefts
@@ -287,7 +287,7 @@ module _ (rows : List Staged) (apart : RowsApart rows) where
     }
 
     -- no taken entry has a wrong need
-    abbrev AllRight : Type 0
+    abbrev pub AllRight : Type 0
     AllRight = (r : Staged) → Contains rows r → is_taken r.stage ≡ true → IsRight rows r
 
     left_held : AllRight → (own : Stage) (now : List Need) → is_taken (Some own) ≡ true
@@ -334,14 +334,17 @@ module _ (rows : List Staged) (apart : RowsApart rows) where
     left_holds : AllRight → HoldsItself (waits_of rows) left_set
     left_holds right p lt h = holds_by right p (slice_get rows p) refl h
 
-    -- where no taken entry has a wrong need, what has been left out is stuck
+    -- where no taken entry has a wrong need, what is left out is stuck
     pub left_stuck : AllRight → (p : ℕ) (r : Staged) → slice_get rows p ≡ Some r → is_taken r.stage ≡ true
         → Contains lefts (need_of r.entry) → is_stuck (waits_of rows) p ≡ true
     left_stuck right p r at taken i =
         stuck_greatest (waits_of rows) left_set (good_proper rows) (left_holds right) p
         (omega (arith, slice_get_within rows p r at, length-map rows (good_ways rows))) (left_at p r at taken i)
 
-    -- the row of what has been left out
+    pub set_stuck : AllRight → (p : ℕ) → p < length (waits_of rows) → left_set p ≡ true → is_stuck (waits_of rows) p ≡ true
+    set_stuck right p lt on = stuck_greatest (waits_of rows) left_set (good_proper rows) (left_holds right) p lt on
+
+    -- the row of what is left out
     pub left_row : (n : Need) → Contains lefts n → IsUpto rows Automatic n
     left_row n i = elim (Contains-append_cases (a.left ++ b.left) c.left n i) [
       | inl j ↦ elim (Contains-append_cases a.left b.left n j) [

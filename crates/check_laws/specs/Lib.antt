@@ -1,3 +1,4 @@
 pub mod Laws
 pub mod Unmet
 pub mod Demand
+pub mod Freed

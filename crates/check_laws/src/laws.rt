@@ -3,6 +3,7 @@
 ghost use Rattle.check_laws.specs.Laws.{NothingFoundIsQuiet, OrderOnlyAdds, GoodNeedsAreProper, StuckHoldsItself, StuckIsGreatest, NoCycleNoneStuck};
 ghost use Rattle.check_laws.specs.Unmet.{AboutIsUnmet, UnmetHasAbout, NoneAboutStartsWhole};
 ghost use Rattle.check_laws.specs.Demand.{NoneAboutStartsOnDemand};
+ghost use Rattle.check_laws.specs.Freed.{SameAreTaken, StuckAreUnmet, OnlyStuckAreRefused};
 
 /// The number of `found` is 0 exactly where each line is `set`, `found 0` or `end`.
 pub fn nothing_found_is_quiet()
@@ -37,4 +38,12 @@ pub fn a_start_leaves_out_whom_a_line_is_about()
 /// Where no line is about any entry, each driver or service of Start 3 can be started after such a start, or it runs already.
 pub fn what_no_line_is_about_starts_on_demand()
     ensures starts { NoneAboutStartsOnDemand }
+{}
+
+/// Of a set that has the entries of another one without their wrong needs, each entry has the stage that it had (`taken`), and exactly the stuck ones of those
+/// that a phase takes are unmet (`stuck`). Of those that are started on demand only stuck ones are refused, and as unmet (`refused`).
+pub fn without_wrong_needs_the_stuck_are_unmet()
+    ensures taken { SameAreTaken }
+    ensures stuck { StuckAreUnmet }
+    ensures refused { OnlyStuckAreRefused }
 {}

@@ -1,17 +1,16 @@
 -- The attempts of a phase of which at most one fails: who is started, and who is left.
-use Rattle.std.proofs.Common.{◌≡◌, ℕ, zero, suc, ◌+◌, ◌<◌, ◌≤◌, Bool, true, false, ◌&&◌, nat_eq, cond, List, [], ◌∷◌, ◌++◌, length, map, get_or, Option, Some, None, refl, sym, ap, ◌∙◌, ◌⊎◌, inl, inr, subst, arith, append_assoc}
+use Rattle.std.proofs.Common.{◌≡◌, ℕ, zero, suc, ◌≤◌, Bool, true, false, nat_eq, cond, List, [], ◌∷◌, ◌++◌, length, map, get_or, Option, Some, None, refl, sym, ap, ◌∙◌, ◌⊎◌, inl, inr, subst, arith, append_assoc}
 use Rattle.std.specs.Prelude.{Contains, slice_get, remove, filter, option_map, option_and_then}
 use Rattle.std.specs.Option.{is_some, option_map_or, option_or}
-use Rattle.std.specs.List.{list_any}
 use Rattle.std.proofs.lemmas.Bool.{false≢true, cases_Bool}
 use Rattle.std.proofs.lemmas.List.{map-append, append-nil, length-map, get_or-map}
-use Rattle.std.proofs.lemmas.List.Elements.{Contains-append_left, Contains-append_right, Contains-append_cases}
+use Rattle.std.proofs.lemmas.List.Elements.{Contains-append_cases}
 use Rattle.std.proofs.lemmas.List.Quantifiers.{position-Some}
-use Rattle.std.proofs.lemmas.Option.{get_or_from_slice_get, same_Some}
+use Rattle.std.proofs.lemmas.Option.{get_or_from_slice_get}
 use Rattle.nt_bytes.specs.Folding.{folded, folds_same}
 use Rattle.dependencies.proofs.MeetLemmas.{folded_first}
 use Rattle.start_model.specs.Demand.{Need}
-use Rattle.start_model.specs.Entries.{Entry, Phase, need_of}
+use Rattle.start_model.specs.Entries.{Entry, need_of}
 use Rattle.start_model.specs.Judge as book
 use Rattle.start_model.specs.Judge.{judgement_of}
 use Rattle.start_model.specs.Machine as machine
@@ -25,11 +24,11 @@ use Rattle.wait_cycles.proofs.InverseLemmas.{none_in}
 use Rattle.wait_cycles.proofs.MetLemmas.{first_in, later_in, any_from}
 use Rattle.wait_cycles.proofs.CycleLemmas.{in_cons}
 use Rattle.error_control.specs.declared.outcome.Judgement.{Judgement}
-use Rattle.failure_effects.specs.declared.told.Fate.TheVariants.{Started, Failed, Unmet}
+use Rattle.failure_effects.specs.declared.told.Fate.TheVariants.{Started, Failed}
 use Rattle.failure_effects.specs.declared.told.Told.{Told}
 use Rattle.failure_effects.specs.declared.course.Course.{Course}
 use Rattle.failure_effects.specs.Lost.{goes_on}
-use Rattle.failure_effects.specs.Played.{judgement_as, told_of, is_started, is_unmet, started_in, unmet_in, failed_by, failure_in, judged, attempted, next_course, attempts_of}
+use Rattle.failure_effects.specs.Played.{judgement_as, is_started, is_unmet, started_in, unmet_in, failed_by, failure_in, judged, attempted, attempts_of}
 use Rattle.check_laws.proofs.TakenLemmas.{item_here}
 use Rattle.check_laws.proofs.TurnLemmas.{InTurn, turn_as, removed_from, removed_or, one_removed, past}
 

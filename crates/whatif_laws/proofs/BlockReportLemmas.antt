@@ -1,5 +1,5 @@
 -- What a block says, by the reports of two runs.
-use Rattle.std.proofs.Common.{◌≡◌, ℕ, Bool, true, false, not, ◌&&◌, cond, List, [], ◌∷◌, ◌++◌, map, Option, Some, None, refl, sym, ap, ◌∙◌}
+use Rattle.std.proofs.Common.{◌≡◌, ℕ, Bool, true, false, not, ◌&&◌, cond, List, [], ◌∷◌, map, Option, Some, None, refl, sym, ap, ◌∙◌}
 use Rattle.std.specs.Prelude.{filter, slice_get, option_map}
 use Rattle.std.specs.Option.{option_or}
 use Rattle.std.specs.List.{list_any, filter_map, cons_option}
@@ -14,7 +14,7 @@ use Rattle.failure_effects.specs.declared.told.Told.{Told}
 use Rattle.failure_effects.specs.Effects.{plain_told}
 use Rattle.failure_effects.specs.Lost.{other_of, is_lost, lost_in, has_name}
 use Rattle.failure_effects.specs.Played.{is_started, started_in, failure_in, failed_by}
-use Rattle.whatif_laws.specs.Starts.{fail_told, off_told, lost_of}
+use Rattle.whatif_laws.specs.Starts.{fail_told, off_told}
 use Rattle.whatif_laws.specs.Reports.{is_entry_line, word_of, line_of, told_line, ok_name, bad_word, ok_names, missing_names, report_of, LostAreMissing, JudgementIsWord, LostOfOffAreMissing}
 use Rattle.whatif_laws.proofs.ReportLemmas.{tells_as_run, tells_off_as_run}
 

@@ -1,12 +1,8 @@
 -- Starts on a set, compared: who is started in both, and who in one alone.
-use Rattle.std.proofs.Common.{◌≡◌, ℕ, zero, suc, ◌+◌, ◌<◌, Bool, true, false, not, ◌&&◌, ◌||◌, List, [], ◌∷◌, ◌++◌, length, map, Option, Some, None, refl, sym, ap, ◌∙◌, ◌⊎◌, inl, inr, subst, arith}
-use Rattle.std.specs.Prelude.{Contains, filter}
-use Rattle.std.specs.Option.{option_map_or}
-use Rattle.std.specs.List.{list_any, list_all}
-use Rattle.std.proofs.lemmas.Bool.{false≢true, cases_Bool, and_parts, and_from, not-true, false_from_ne_true}
-use Rattle.std.proofs.lemmas.List.{map-append}
+use Rattle.std.proofs.Common.{◌≡◌, ℕ, true, false, List, [], ◌++◌, map, Option, sym, ap, ◌∙◌, inl, inr, subst, arith}
+use Rattle.std.specs.Prelude.{Contains}
+use Rattle.std.proofs.lemmas.Bool.{false≢true}
 use Rattle.std.proofs.lemmas.List.Elements.{Contains-append_left, Contains-append_right, Contains-append_cases}
-use Rattle.std.proofs.lemmas.Option.{same_Some}
 use Rattle.nt_bytes.specs.Folding.{folds_same}
 use Rattle.hive_model.specs.Tree.{Tree}
 use Rattle.hive_model.specs.Valid.{HoldsKeys}
@@ -15,16 +11,15 @@ use Rattle.start_model.specs.Entries.{Entry, Phase, Boot, System, Automatic, ent
 use Rattle.start_model.specs.Order.{plan_of}
 use Rattle.start_model.specs.Ready.{is_ready}
 use Rattle.service_control.specs.State.{labels_of}
-use Rattle.service_control.proofs.LeanLemmas.{folds_itself, mapped_from, mapped_to}
+use Rattle.service_control.proofs.LeanLemmas.{mapped_from, mapped_to}
 use Rattle.wait_cycles.proofs.InverseLemmas.{none_in}
-use Rattle.wait_cycles.proofs.MetLemmas.{first_in, any_from, any_gives}
 use Rattle.failure_effects.specs.declared.told.Told.{Told}
-use Rattle.failure_effects.specs.Played.{started_in, unmet_in, failure_in}
+use Rattle.failure_effects.specs.Played.{started_in}
 use Rattle.check_laws.proofs.TakenLemmas.{is_late}
 use Rattle.check_laws.proofs.SetLemmas.{late_above, never_tried, automatic_late, plan_entry, boot_start, system_start, entries_apart}
-use Rattle.check_laws.proofs.TurnLemmas.{InTurn, turn_as, turned_each, turn_ind, ready_wider}
+use Rattle.check_laws.proofs.TurnLemmas.{InTurn, turned_each, turn_ind, ready_wider}
 use Rattle.whatif_laws.proofs.AttemptLemmas.{fails}
-use Rattle.whatif_laws.proofs.PlayLemmas.{PlanOf, Part, Full, Whole, Ends, IsPlay}
+use Rattle.whatif_laws.proofs.PlayLemmas.{PlanOf, Full, Whole, IsPlay}
 
 -- ---- the needs of those that were started, up to a phase
 

@@ -1,6 +1,6 @@
--- The steps of a run say what is reported of a start.
-use Rattle.std.proofs.Common.{◌≡◌, ℕ, zero, suc, ◌+◌, ◌<◌, ◌≤◌, Bool, true, false, ◌&&◌, not, nat_eq, cond, List, [], ◌∷◌, ◌++◌, length, map, Option, Some, None, refl, sym, ap, ◌∙◌, subst, arith, append_assoc}
-use Rattle.std.specs.Prelude.{slice_get, remove, filter, option_map, option_and_then}
+-- The steps of a run say what is told of a start.
+use Rattle.std.proofs.Common.{◌≡◌, ℕ, zero, suc, ◌+◌, ◌≤◌, Bool, true, false, not, nat_eq, cond, List, [], ◌∷◌, ◌++◌, length, map, Option, Some, None, refl, sym, ap, ◌∙◌, arith, append_assoc}
+use Rattle.std.specs.Prelude.{slice_get, filter, option_map, option_and_then}
 use Rattle.std.specs.Option.{option_map_or}
 use Rattle.std.proofs.lemmas.Bool.{false≢true, and_left, and_right}
 use Rattle.std.proofs.lemmas.List.{map-append, append-nil, length-map}
@@ -13,24 +13,23 @@ use Rattle.start_model.specs.Judge as book
 use Rattle.start_model.specs.Judge.{judgement_of}
 use Rattle.start_model.specs.Lines.{Line, UnmetLine, TryLine, TryOk, TryWord}
 use Rattle.start_model.specs.Machine as machine
-use Rattle.start_model.specs.Machine.{Start, MachineState, failures_of, one_failure_less, next_in, after_attempt, attempt_at, attempt_of, after_phase, phase_after, is_done, is_boot, is_good, save_due, missing_in}
+use Rattle.start_model.specs.Machine.{Start, failures_of, one_failure_less, next_in, after_attempt, attempt_at, attempt_of, after_phase, phase_after, is_done, is_good, save_due, missing_in}
 use Rattle.start_model.specs.Order.{plan_of}
 use Rattle.start_model.specs.Quiet.{quiet_play}
-use Rattle.start_model.specs.Starter.{live_set, good_is_usable, phase_line, failed_word, try_line, judged, phase_begun, phase_passed, phase_step, starter_step, stepping, go_steps}
+use Rattle.start_model.specs.Starter.{live_set, good_is_usable, phase_line, failed_word, judged, phase_passed, phase_step, starter_step, go_steps}
 use Rattle.run_laws.proofs.CountLemmas.{system_count, late_count, system_plan, automatic_plan}
-use Rattle.error_control.specs.declared.outcome.Judgement.{Judgement}
-use Rattle.failure_effects.specs.declared.told.Fate.TheVariants.{Started, Failed, Unmet}
+use Rattle.failure_effects.specs.declared.told.Fate.TheVariants.{Started, Failed}
 use Rattle.failure_effects.specs.declared.told.Told.{Told}
 use Rattle.failure_effects.specs.declared.course.Course.{Course}
 use Rattle.failure_effects.specs.Played as play
-use Rattle.failure_effects.specs.Played.{judgement_as, attempted, next_course, attempts_of, waiting_count, phase_ended, phase_played}
+use Rattle.failure_effects.specs.Played.{judgement_as, attempted, next_course, waiting_count, phase_ended, phase_played}
 use Rattle.failure_effects.proofs.PlayLemmas.{one_tried, all_tried}
 use Rattle.check_laws.proofs.TurnLemmas.{one_removed, past}
 use Rattle.std.proofs.lemmas.List.Quantifiers.{position-Some}
 use Rattle.start_model.specs.Ready.{is_ready}
 use Rattle.service_control.proofs.SpreadState.{none}
 use Rattle.boot_machine.specs.Steps.{is_there}
-use Rattle.whatif_laws.specs.Reports.{is_entry_line, word_of, line_of, told_line}
+use Rattle.whatif_laws.specs.Reports.{is_entry_line, word_of, told_line}
 use Rattle.whatif_laws.proofs.AttemptLemmas.{mach, at, stepped_by, over_stays}
 
 -- ---- lines
@@ -105,13 +104,13 @@ ended_phase usable set told fs s none =
 rest_next : (usable : Bool) (set : Tree) (phase : Phase) (told : List Told) (fs : List (List ℕ × ℕ)) (s : Start)
     → is_done phase ≡ false → next_in s ≡ None
     → rest usable set phase (at told fs s) ≡ rest usable set (phase_after phase) (phase_ended set (at told fs s))
-rest_next usable set Boot told fs s on none =
-    ap (λ (x : Course). phase_played usable set (phase_played usable set x)) (ended_phase usable set told fs s none)
-rest_next usable set System told fs s on none = ap (phase_played usable set) (ended_phase usable set told fs s none)
-rest_next usable set Automatic told fs s on none = ended_phase usable set told fs s none
-rest_next usable set Done told fs s on none = absurd (false≢true (sym on))
+rest_next usable set Boot told fs s on end =
+    ap (λ (x : Course). phase_played usable set (phase_played usable set x)) (ended_phase usable set told fs s end)
+rest_next usable set System told fs s on end = ap (phase_played usable set) (ended_phase usable set told fs s end)
+rest_next usable set Automatic told fs s on end = ended_phase usable set told fs s end
+rest_next usable set Done told fs s on end = absurd (false≢true (sym on))
 
--- of a start that is over nothing more is reported
+-- of a start that is over nothing more is told
 over_phase : (usable : Bool) (set : Tree) (c : Course) → c.machine.start ≡ None
     → ((phase_played usable set c).told ≡ c.told) × ((phase_played usable set c).machine.start ≡ None)
 unfolding phase_played

@@ -1,8 +1,8 @@
 -- Who is lost where an entry fails or is off.
-use Rattle.std.proofs.Common.{◌≡◌, ℕ, zero, suc, ◌+◌, ◌<◌, Bool, true, false, not, ◌&&◌, ◌||◌, cond, List, [], ◌∷◌, ◌++◌, length, map, Option, Some, None, refl, sym, ap, ◌∙◌, ◌⊎◌, inl, inr, subst, arith, append_assoc}
+use Rattle.std.proofs.Common.{◌≡◌, ℕ, Bool, true, false, not, ◌&&◌, cond, List, [], ◌∷◌, ◌++◌, length, map, Option, Some, None, refl, sym, ap, ◌∙◌, ◌⊎◌, inl, inr, subst, append_assoc}
 use Rattle.std.specs.Prelude.{Contains, filter, ◌↔◌}
 use Rattle.std.specs.Option.{option_map_or, option_or}
-use Rattle.std.specs.List.{list_any, list_all, flat_map, filter_map, cons_option}
+use Rattle.std.specs.List.{list_any, list_all, flat_map, filter_map}
 use Rattle.std.proofs.lemmas.Bool.{false≢true, cases_Bool, and_parts, and_cases, and_from, or_left, or_right, not-true, false_from_ne_true}
 use Rattle.std.proofs.lemmas.List.Elements.{Contains-append_left, Contains-append_right, Contains-append_cases}
 use Rattle.std.proofs.lemmas.Option.{same_Some}
@@ -22,7 +22,6 @@ use Rattle.wait_cycles.proofs.InverseLemmas.{none_in}
 use Rattle.wait_cycles.proofs.MetLemmas.{first_in, later_in, any_from, any_gives, all_gives}
 use Rattle.wait_cycles.proofs.CycleLemmas.{in_cons, filter_in, filter_out, not_all}
 use Rattle.error_control.specs.declared.outcome.Judgement.{Judgement}
-use Rattle.failure_effects.specs.declared.leaning.Layer.{Layer}
 use Rattle.failure_effects.specs.declared.told.Told.{Told}
 use Rattle.failure_effects.specs.declared.told.Fate.{Fate}
 use Rattle.failure_effects.specs.declared.told.Fate.TheVariants as fates
@@ -31,25 +30,24 @@ use Rattle.failure_effects.specs.declared.lines.EffectLine.{EffectLine}
 use Rattle.failure_effects.specs.declared.lines.EffectLine.TheVariants as lines
 use Rattle.failure_effects.specs.declared.opening.Taken.{Taken}
 use Rattle.failure_effects.specs.Effects.{plain_told}
-use Rattle.failure_effects.specs.Leans.{layer_of, first_layer, names_one, groups_one, needs_one}
-use Rattle.failure_effects.specs.Lost.{has_name, other_of, is_lost, goes_on, lost_in, lost_line, lost_lines, failed_lines, fail_block}
-use Rattle.failure_effects.specs.Played.{played, is_started, is_unmet, started_in, unmet_in, failed_by, failure_in}
+use Rattle.failure_effects.specs.Leans.{layer_of, first_layer, names_one, groups_one}
+use Rattle.failure_effects.specs.Lost.{has_name, other_of, is_lost, goes_on, lost_line, lost_lines, failed_lines}
+use Rattle.failure_effects.specs.Played.{is_started, is_unmet, started_in, unmet_in, failed_by, failure_in}
 use Rattle.failure_effects.specs.Switching.{off_set}
 use Rattle.failure_effects.proofs.HeldLemmas.{off_set_held}
 use Rattle.check_laws.proofs.TakenLemmas.{mapped_on}
 use Rattle.check_laws.proofs.ProperLaws.{flat_from}
 use Rattle.check_laws.proofs.CycleLaws.{flat_in}
 use Rattle.check_laws.proofs.SetLemmas.{plan_entry, entries_apart}
-use Rattle.check_laws.proofs.TurnLemmas.{InTurn, turn_ind, turned_each, named_in, named_from, member_in, member_from, is_member, ready_wider}
-use Rattle.whatif_laws.specs.Leaning.{leaning_on, needs_entry, IsOther}
+use Rattle.check_laws.proofs.TurnLemmas.{InTurn, turn_ind, named_in, named_from, member_in, member_from, is_member, ready_wider}
+use Rattle.whatif_laws.specs.Leaning.{leaning_on}
 use Rattle.whatif_laws.specs.Starts.{fail_told, off_told, GoesOn, lost_of, StartsNoOther, LostOfFailIsUnmet, LostOfFailLeans, OffIsNoBetter, unmet_said, fail_block_of, off_block_of, FailBlockSaysUnmet, IsUntold, LostOfOffIsUnmetOrUntold, IsNewlyUnmet, FailBlockIsNew, OffBlockIsNew}
 use Rattle.whatif_laws.proofs.LeaningLemmas.{itself, another}
 use Rattle.whatif_laws.proofs.AttemptLemmas as attempt
-use Rattle.whatif_laws.proofs.AttemptLemmas.{fails}
 use Rattle.whatif_laws.proofs.PlayLemmas as play
-use Rattle.whatif_laws.proofs.PlayLemmas.{PlanOf, Part, Full, Whole, Ends, IsPlay, play_of}
+use Rattle.whatif_laws.proofs.PlayLemmas.{PlanOf, Full, Whole, Ends, IsPlay, play_of}
 use Rattle.whatif_laws.proofs.SwitchedLemmas.{off_plan}
-use Rattle.whatif_laws.proofs.CompareLemmas.{needs, InThree, in1, in2, in3, in_three, three_in, needs_three, goes_over, names_over, boot_system, boot_automatic, system_automatic, never_both}
+use Rattle.whatif_laws.proofs.CompareLemmas.{needs, InThree, in1, in2, in3, in_three, three_in, needs_three, names_over, boot_system, boot_automatic, system_automatic, never_both}
 
 -- ---- starts that end
 

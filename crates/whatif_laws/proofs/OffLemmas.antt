@@ -1,11 +1,11 @@
 -- A set with an entry off, and the edit that makes one.
 use Rattle.std.proofs.Common.{◌≡◌, ℕ, Bool, true, false, cond, List, [], ◌∷◌, ◌++◌, Option, Some, None, refl, sym, ap, ◌∙◌}
-use Rattle.std.specs.Prelude.{find, option_and_then, Result, Ok, codes}
+use Rattle.std.specs.Prelude.{find, option_and_then, Ok, codes}
 use Rattle.std.specs.Option.{is_some, is_none}
 use Rattle.std.specs.Int.{w32, to_le_bytes}
 use Rattle.std.proofs.lemmas.Option.{same_Some}
-use Rattle.hive_model.specs.Tree.{Item, Head, Tree, key, trees, listed, head, children, is_named, is_item, find_item, find_key}
-use Rattle.hive_model.specs.Edit.{at_first, of_items, of_children, at_key, with_item, value_set, unless}
+use Rattle.hive_model.specs.Tree.{Item, Tree, key, trees, children, is_named, is_item, find_item, find_key}
+use Rattle.hive_model.specs.Edit.{at_first, of_items, of_children, at_key, with_item, value_set}
 use Rattle.failure_effects.specs.Switching.{as_four, off_key, off_set}
 
 -- two changes that do the same to the first that passes

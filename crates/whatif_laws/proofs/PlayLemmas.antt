@@ -1,37 +1,35 @@
 -- The three phases of a start of which at most one attempt fails.
-use Rattle.std.proofs.Common.{◌≡◌, ℕ, zero, suc, ◌+◌, ◌<◌, ◌≤◌, Bool, true, false, nat_eq, List, [], ◌∷◌, ◌++◌, length, map, Option, Some, None, refl, sym, ap, ◌∙◌, ◌⊎◌, inl, inr, subst, arith, append_assoc}
-use Rattle.std.specs.Prelude.{Contains, option_map, filter}
+use Rattle.std.proofs.Common.{◌≡◌, ℕ, ◌<◌, ◌≤◌, Bool, true, false, nat_eq, List, [], ◌∷◌, ◌++◌, length, map, Option, Some, None, refl, sym, ap, ◌∙◌, ◌⊎◌, inl, inr, subst, arith, append_assoc}
+use Rattle.std.specs.Prelude.{Contains, option_map}
 use Rattle.std.specs.Option.{option_map_or, option_or}
-use Rattle.std.proofs.lemmas.Bool.{false≢true, or_cases, eqb-true}
+use Rattle.std.proofs.lemmas.Bool.{or_cases, eqb-true}
 use Rattle.std.proofs.lemmas.List.{map-append, append-nil}
-use Rattle.std.proofs.lemmas.List.Elements.{Contains-append_cases}
 use Rattle.nt_bytes.specs.Folding.{folded, folds_same}
 use Rattle.dependencies.proofs.MeetLemmas.{folded_first}
 use Rattle.hive_model.specs.Tree.{Tree}
 use Rattle.hive_model.specs.Valid.{HoldsKeys}
 use Rattle.start_model.specs.Demand.{Need}
-use Rattle.start_model.specs.Entries.{Entry, Phase, Boot, System, Automatic, Done, entries_of, need_of}
+use Rattle.start_model.specs.Entries.{Entry, Phase, Boot, System, Automatic, entries_of, need_of}
 use Rattle.start_model.specs.Machine as machine
-use Rattle.start_model.specs.Machine.{Start, MachineState, off_machine, after_phase, phase_after, begun_with, with_start}
+use Rattle.start_model.specs.Machine.{Start, after_phase, phase_after, begun_with}
 use Rattle.start_model.specs.Order.{plan_of}
-use Rattle.start_model.specs.Ready.{Label, is_ready}
+use Rattle.start_model.specs.Ready.{is_ready}
 use Rattle.boot_machine.specs.Steps.{on_start}
 use Rattle.service_control.specs.State.{labels_of}
-use Rattle.service_control.proofs.LeanLemmas.{mapped_from, mapped_to}
+use Rattle.service_control.proofs.LeanLemmas.{mapped_from}
 use Rattle.wait_cycles.proofs.InverseLemmas.{none_in}
 use Rattle.error_control.specs.declared.outcome.Judgement.{Judgement}
-use Rattle.failure_effects.specs.declared.told.Fate.TheVariants.{Started, Failed, Unmet}
 use Rattle.failure_effects.specs.declared.told.Told.{Told}
 use Rattle.failure_effects.specs.declared.course.Course.{Course}
 use Rattle.failure_effects.specs.declared.opening.Taken.{Taken}
 use Rattle.failure_effects.specs.Lost.{goes_on}
 use Rattle.failure_effects.specs.Played as play
-use Rattle.failure_effects.specs.Played.{started_in, unmet_in, failure_in, noted, attempts_of, waiting_count, phase_ended, phase_played, played_on, without_clone, begun, played}
+use Rattle.failure_effects.specs.Played.{started_in, unmet_in, failure_in, attempts_of, waiting_count, phase_ended, phase_played, played_on, begun, played}
 use Rattle.check_laws.proofs.TakenLemmas.{is_late}
-use Rattle.check_laws.proofs.SetLemmas.{automatic_late, never_tried, system_same, automatic_same, plan_entry, boot_start, system_start, entries_apart, below_by, IsEarly}
-use Rattle.check_laws.proofs.TurnLemmas.{InTurn, turn_as, turned_each}
+use Rattle.check_laws.proofs.SetLemmas.{automatic_late, never_tried, system_same, automatic_same, plan_entry, boot_start, system_start, below_by, IsEarly}
+use Rattle.check_laws.proofs.TurnLemmas.{InTurn, turn_as}
 use Rattle.whatif_laws.proofs.AttemptLemmas as attempt
-use Rattle.whatif_laws.proofs.AttemptLemmas.{failure_more, started_more, unmet_more, fails, State, plain, armed, spent, mach, at, IsOn, After, Tries, attempts, over_stays}
+use Rattle.whatif_laws.proofs.AttemptLemmas.{failure_more, started_more, unmet_more, fails, State, plain, armed, spent, mach, at, After, Tries, attempts, over_stays}
 
 -- ---- what is reported of those that are left
 

@@ -1,8 +1,8 @@
--- The report of a boot and all steps says what is reported of the start.
-use Rattle.std.proofs.Common.{◌≡◌, ℕ, zero, suc, ◌+◌, ◌≤◌, Bool, true, false, ◌&&◌, ◌==◌, not, nat_eq, cond, List, [], ◌∷◌, ◌++◌, length, map, Option, Some, None, Result, Ok, Err, refl, sym, ap, ◌∙◌, subst, arith}
+-- The report of a boot and all steps says what is told of the start.
+use Rattle.std.proofs.Common.{◌≡◌, ℕ, ◌+◌, ◌≤◌, Bool, true, false, ◌&&◌, ◌==◌, not, nat_eq, cond, List, [], ◌∷◌, ◌++◌, length, map, Option, Some, None, Result, Ok, Err, refl, sym, ap, ◌∙◌, subst, arith}
 use Rattle.std.specs.Prelude.{filter, nat_le, unwrap_or}
 use Rattle.std.specs.Option.{is_some}
-use Rattle.std.proofs.lemmas.Bool.{false≢true, and_parts, not-false, eqb-true}
+use Rattle.std.proofs.lemmas.Bool.{and_parts, not-false, eqb-true}
 use Rattle.std.proofs.lemmas.List.{append-nil}
 use Rattle.std.proofs.lemmas.List.Elements.{filter-append}
 use Rattle.nt_bytes.specs.Folding.{folded}
@@ -14,7 +14,7 @@ use Rattle.start_model.specs.Boot.{Choice, EntryTaken, chosen, set_line, take_se
 use Rattle.start_model.specs.Commit.{commit, committed_state}
 use Rattle.start_model.specs.Entries.{Boot}
 use Rattle.start_model.specs.EventActs.{event_step_of}
-use Rattle.start_model.specs.Events.{Event, BootNow, Go, Fail}
+use Rattle.start_model.specs.Events.{BootNow, Go}
 use Rattle.start_model.specs.Lines.{Line, StartLine, LoadLine, BeginCommit, EndLine}
 use Rattle.start_model.specs.Machine.{Start, MachineState, begun_with}
 use Rattle.start_model.specs.Possible.{Woken, loads_as}
@@ -22,24 +22,18 @@ use Rattle.start_model.specs.Quiet.{Quiet, quiet_play, quiet_from, quiet_wake, q
 use Rattle.start_model.specs.Run.{closing_act, verdict_first, first_state}
 use Rattle.start_model.specs.Sets as sets
 use Rattle.start_model.specs.Sets.{SelectNumbers, SetPlan, SetStop, SetChange, ChangeStop, NoPlan, NoControlSet, NoLastKnownGood, NoFreeNumber, select_numbers_of, usable_numbers_of, free_number_of, has_number, taken_number, begin_plan_of, guarded_plan, plan_with, stepped, changed_by, planned, begin_of, set_of, is_usable}
-use Rattle.start_model.specs.Starter.{no_set, live_set, good_is_usable, go_steps, enough_steps}
+use Rattle.start_model.specs.Starter.{no_set, live_set, good_is_usable, enough_steps}
 use Rattle.start_laws.proofs.UsableLemmas.{usable_is}
-use Rattle.run_laws.proofs.CountLemmas.{system_count, late_count, all_counts}
-use Rattle.select_keys.specs.Sets.{usable_set}
-use Rattle.failure_effects.specs.declared.opening.Opening.{Opening}
-use Rattle.failure_effects.specs.declared.opening.Opening.TheVariants.{NoSet, NoPhase, Begun}
+use Rattle.run_laws.proofs.CountLemmas.{all_counts}
+use Rattle.failure_effects.specs.declared.opening.Opening.TheVariants.{Begun}
 use Rattle.failure_effects.specs.declared.opening.StartChoice.TheVariants.{OnSet}
 use Rattle.failure_effects.specs.declared.opening.Taken.{Taken}
-use Rattle.failure_effects.specs.declared.told.Told.{Told}
-use Rattle.failure_effects.specs.Opening as opening
 use Rattle.failure_effects.specs.Opening.{taken_set, taken_of, opened, opening_of}
-use Rattle.failure_effects.specs.Played as play
 use Rattle.failure_effects.specs.Played.{begun, played, played_on}
 use Rattle.failure_effects.specs.Switching.{off_set}
-use Rattle.whatif_laws.specs.Starts.{off_told}
-use Rattle.whatif_laws.specs.Reports.{is_entry_line, told_line, boot_and_go, script_of, Opens, TellsAsRun, TellsOffAsRun}
-use Rattle.whatif_laws.proofs.AttemptLemmas.{mach, at}
-use Rattle.whatif_laws.proofs.GoLemmas.{said, ph, bare, rest, steps_for, run_at, all_says}
+use Rattle.whatif_laws.specs.Reports.{is_entry_line, told_line, boot_and_go, Opens, TellsAsRun, TellsOffAsRun}
+use Rattle.whatif_laws.proofs.AttemptLemmas.{at}
+use Rattle.whatif_laws.proofs.GoLemmas.{said, bare, rest, steps_for, run_at, all_says}
 
 -- ---- the beginning of a start
 

@@ -1,20 +1,17 @@
 -- Which entries a set has with one off, and which of them a phase takes.
-use Rattle.std.proofs.Common.{◌≡◌, ℕ, zero, suc, ◌+◌, ◌<◌, Bool, true, false, not, ◌&&◌, ◌||◌, nat_eq, cond, List, [], ◌∷◌, length, Option, Some, None, refl, sym, ap, ◌∙◌, ◌⊎◌, inl, inr, subst, arith}
+use Rattle.std.proofs.Common.{◌≡◌, ℕ, Bool, true, false, nat_eq, cond, List, [], ◌∷◌, Option, Some, None, refl, sym, ap, ◌∙◌, ◌⊎◌, inl, inr, subst, arith}
 use Rattle.std.specs.Prelude.{Contains, find, slice_get, codes, option_map, option_and_then}
 use Rattle.std.specs.Option.{option_map_or}
-use Rattle.std.specs.List.{filter_map}
-use Rattle.std.proofs.lemmas.Bool.{false≢true, cases_Bool, and_parts, or_cases, eqb-true}
-use Rattle.std.proofs.lemmas.Option.{same_Some}
+use Rattle.std.proofs.lemmas.Bool.{false≢true, cases_Bool, or_cases, eqb-true}
 use Rattle.nt_bytes.specs.Folding.{folds_same}
 use Rattle.name_places.proofs.FoldLemmas.{alike}
-use Rattle.dependencies.proofs.MeetLemmas.{names_flip}
 use Rattle.hive_model.specs.Tree.{Item, Tree, key, head, children, is_named, is_item, find_item, find_dword, find_key, dword_in}
-use Rattle.hive_model.specs.Edit.{at_first, of_items, of_children, at_key}
+use Rattle.hive_model.specs.Edit.{at_first, of_children}
 use Rattle.hive_model.specs.Valid.{HoldsKeys}
 use Rattle.start_model.proofs.HeldLemmas.{services_differ}
-use Rattle.start_model.specs.Entries.{Entry, Phase, Boot, System, Automatic, Done, entry_of, entry_with, entries_of, services_of, is_driver, is_driver_of, is_open, places_of}
+use Rattle.start_model.specs.Entries.{Entry, Phase, Boot, System, Automatic, Done, entry_of, entry_with, entries_of, services_of, is_driver_of, places_of}
 use Rattle.start_model.specs.Order.{plan_of}
-use Rattle.start_laws.proofs.FindLemmas.{find-at_first, find_passes}
+use Rattle.start_laws.proofs.FindLemmas.{find-at_first}
 use Rattle.start_laws.proofs.StepLemmas.{children-of_children}
 use Rattle.service_control.proofs.LeastLemmas.{from}
 use Rattle.wait_cycles.proofs.InverseLemmas.{none_in}
@@ -22,7 +19,7 @@ use Rattle.wait_cycles.proofs.MetLemmas.{first_in, later_in}
 use Rattle.wait_cycles.proofs.CycleLemmas.{in_cons}
 use Rattle.failure_effects.proofs.HeldLemmas.{off_set_held}
 use Rattle.failure_effects.specs.Switching.{as_four, off_key, off_set}
-use Rattle.check_laws.proofs.TakenLemmas.{item_here, item_place, mapped_on, Takes, plan_from, plan_in, place_passes, passing_place, is_late, AreOpenToo, auto_from, auto_taken, auto_into, auto_late}
+use Rattle.check_laws.proofs.TakenLemmas.{item_here, item_place, mapped_on, plan_from, plan_in, place_passes, passing_place, is_late, AreOpenToo, auto_from, auto_taken, auto_into, auto_late}
 use Rattle.check_laws.proofs.SetLemmas.{one_key, entry_name, entries_apart, driver_from}
 
 -- ---- the first that passes, changed

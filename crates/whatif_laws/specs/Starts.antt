@@ -1,5 +1,5 @@
 -- What holds of starts of which one attempt fails, and of starts with an entry off? (this project's own)
-use Rattle.std.specs.Prelude.{◌≡◌, ◌↔◌, ℕ, Bool, true, false, List, [], ◌∷◌, length, map, Option, Some, None, ◌⊎◌}
+use Rattle.std.specs.Prelude.{◌≡◌, ◌↔◌, ℕ, true, false, List, [], ◌∷◌, length, map, Some, None, ◌⊎◌}
 use Rattle.std.specs.List.{Contains, list_any, flat_map}
 use Rattle.nt_bytes.specs.Folding.{folds_same}
 use Rattle.hive_model.specs.Valid.{HoldsKeys}
