@@ -93,7 +93,7 @@ pub record IsStart (rows : List Staged) (a b c : Ran Need) : Type 0 where
   pub automatic : IsPhase (IsOf rows Automatic) (a.new ++ b.new) c.new c.left
 
 module _ (rows : List Staged) (apart : RowsApart rows) where
-  -- the row that stands at a place is the one of the need
+  -- the row that is at a place is the one of the need
   row_of : (stage : Stage) (n : Need) (p : ℕ) (r : Staged) → IsOf rows stage n → slice_get rows p ≡ Some r
       → need_of r.entry ≡ n → r.stage ≡ Some stage
   row_of stage n p r i at need =
@@ -218,7 +218,7 @@ module _ (rows : List Staged) (apart : RowsApart rows) where
       | inr e ↦ automatic_left p r at e why
     ]
 
-    -- ---- what is left out has a reason
+    -- ---- what has been left out has a reason
 
     abbrev pub is_left : Staged → Bool
     is_left r = is_taken r.stage && list_any (λ (n : Need). folds_same r.entry.name n.name) lefts
@@ -334,7 +334,7 @@ module _ (rows : List Staged) (apart : RowsApart rows) where
     left_holds : AllRight → HoldsItself (waits_of rows) left_set
     left_holds right p lt h = holds_by right p (slice_get rows p) refl h
 
-    -- where no taken entry has a wrong need, what is left out is stuck
+    -- where no taken entry has a wrong need, what has been left out is stuck
     pub left_stuck : AllRight → (p : ℕ) (r : Staged) → slice_get rows p ≡ Some r → is_taken r.stage ≡ true
         → Contains lefts (need_of r.entry) → is_stuck (waits_of rows) p ≡ true
     left_stuck right p r at taken i =
@@ -344,7 +344,7 @@ module _ (rows : List Staged) (apart : RowsApart rows) where
     pub set_stuck : AllRight → (p : ℕ) → p < length (waits_of rows) → left_set p ≡ true → is_stuck (waits_of rows) p ≡ true
     set_stuck right p lt on = stuck_greatest (waits_of rows) left_set (good_proper rows) (left_holds right) p lt on
 
-    -- the row of what is left out
+    -- the row of what has been left out
     pub left_row : (n : Need) → Contains lefts n → IsUpto rows Automatic n
     left_row n i = elim (Contains-append_cases (a.left ++ b.left) c.left n i) [
       | inl j ↦ elim (Contains-append_cases a.left b.left n j) [

@@ -1,4 +1,4 @@
--- The steps of a run say what is told of a start.
+-- The steps of a run say what is reported of a start.
 use Rattle.std.proofs.Common.{◌≡◌, ℕ, zero, suc, ◌+◌, ◌≤◌, Bool, true, false, not, nat_eq, cond, List, [], ◌∷◌, ◌++◌, length, map, Option, Some, None, refl, sym, ap, ◌∙◌, arith, append_assoc}
 use Rattle.std.specs.Prelude.{slice_get, filter, option_map, option_and_then}
 use Rattle.std.specs.Option.{option_map_or}
@@ -110,7 +110,7 @@ rest_next usable set System told fs s on end = ap (phase_played usable set) (end
 rest_next usable set Automatic told fs s on end = ended_phase usable set told fs s end
 rest_next usable set Done told fs s on end = absurd (false≢true (sym on))
 
--- of a start that is over nothing more is told
+-- of a start that is over nothing more is reported
 over_phase : (usable : Bool) (set : Tree) (c : Course) → c.machine.start ≡ None
     → ((phase_played usable set c).told ≡ c.told) × ((phase_played usable set c).machine.start ≡ None)
 unfolding phase_played

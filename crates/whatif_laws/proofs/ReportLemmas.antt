@@ -1,4 +1,4 @@
--- The report of a boot and all steps says what is told of the start.
+-- The report of a boot and all steps says what is reported of the start.
 use Rattle.std.proofs.Common.{◌≡◌, ℕ, ◌+◌, ◌≤◌, Bool, true, false, ◌&&◌, ◌==◌, not, nat_eq, cond, List, [], ◌∷◌, ◌++◌, length, map, Option, Some, None, Result, Ok, Err, refl, sym, ap, ◌∙◌, subst, arith}
 use Rattle.std.specs.Prelude.{filter, nat_le, unwrap_or}
 use Rattle.std.specs.Option.{is_some}
