@@ -3,4 +3,4 @@
 
 mod laws;
 
-pub use laws::images_lose_no_start;
+pub use laws::{a_named_mode_is_as_if_the_entry_asked_for_it, images_lose_no_start};
