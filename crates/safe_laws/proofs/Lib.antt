@@ -1,0 +1,4 @@
+pub mod LineLemmas
+pub mod TakenLemmas
+pub mod StartedLemmas
+pub mod ModeLemmas
