@@ -130,3 +130,13 @@ LostOfOffAreMissing =
     (choice other : Option ℕ → Choice) (placed off : Woken) (taken : Taken) (name : List ℕ) → Opens choice placed taken
     → Opens other off (record taken { set = off_set name taken.set })
     → lost_of taken name (off_told taken name) ≡ missing_names name (report_of choice placed None) (report_of other off None)
+
+-- and those that the report of the edited hive doesn't start
+abbrev pub LostOfEditedAreMissing : Type 0
+LostOfEditedAreMissing =
+    (choice : Option ℕ → Choice) (placed edited : Woken) (taken off : Taken) (name : List ℕ) (k : Tree) (v : Item) → Opens choice placed taken
+    → find_key (set_name taken.number ∷ codes "Services" ∷ name ∷ []) placed.state.tree ≡ Some k → find_item (codes "Start") k ≡ Some v
+    → value_set (set_name taken.number ∷ codes "Services" ∷ name ∷ []) (codes "Start") 4 (to_le_bytes w32 4) placed.state.tree
+    ≡ Ok edited.state.tree
+    → Opens choice edited off
+    → lost_of taken name (off_told taken name) ≡ missing_names name (report_of choice placed None) (report_of choice edited None)

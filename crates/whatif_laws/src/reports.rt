@@ -1,6 +1,6 @@
 //! What the reports of runs say of the same starts.
 
-ghost use Rattle.whatif_laws.specs.Reports.{TellsAsRun, TellsOffAsRun, TellsEditedAsRun, LostAreMissing, JudgementIsWord, LostOfOffAreMissing};
+ghost use Rattle.whatif_laws.specs.Reports.{TellsAsRun, TellsOffAsRun, TellsEditedAsRun, LostAreMissing, JudgementIsWord, LostOfOffAreMissing, LostOfEditedAreMissing};
 
 /// The lines `try` and `unmet` of the report of `boot` and `go`, perhaps after `fail NAME 1`, are those of what is told of the start: the same
 /// names with the same words, in one order, on a disk without cuts and faults (`failure`). Where the disk loads as a tree of which a start takes the
@@ -14,9 +14,10 @@ pub fn what_is_told_is_what_a_run_reports()
 
 /// What a block says by two reports: the lost are the names, other than the one that fails, that the plain report starts and the report of the failure doesn't
 /// (`lost`), and the judgement is the word of the first attempt that fails in it (`judgement`); so are the lost of an entry off by the report of
-/// such a tree (`off`).
+/// such a tree (`off`) and by that of the edited one (`edited`).
 pub fn a_block_is_what_two_reports_differ_in()
     ensures lost { LostAreMissing }
     ensures judgement { JudgementIsWord }
     ensures off { LostOfOffAreMissing }
+    ensures edited { LostOfEditedAreMissing }
 {}
