@@ -15,7 +15,8 @@ use Rattle.failure_effects.specs.Effects.{plain_told}
 use Rattle.failure_effects.specs.Lost.{other_of, is_lost, lost_in, has_name}
 use Rattle.failure_effects.specs.Played.{is_started, started_in, failure_in, failed_by}
 use Rattle.whatif_laws.specs.Starts.{fail_told, off_told}
-use Rattle.whatif_laws.specs.Reports.{is_entry_line, word_of, line_of, told_line, ok_name, bad_word, ok_names, missing_names, report_of, LostAreMissing, JudgementIsWord, LostOfOffAreMissing}
+use Rattle.whatif_laws.specs.Reports.{is_entry_line, word_of, line_of, told_line, ok_name, bad_word, ok_names, missing_names, report_of, LostAreMissing, JudgementIsWord, LostOfOffAreMissing, LostOfEditedAreMissing}
+use Rattle.whatif_laws.proofs.EditedLemmas.{tells_edited_as_run}
 use Rattle.whatif_laws.proofs.ReportLemmas.{tells_as_run, tells_off_as_run}
 
 -- ---- lines that tell of no entry say nothing here
@@ -132,3 +133,10 @@ lost_of_off_are_missing choice other placed off taken name o p =
     missing_is name (report_of choice placed None) (report_of other off None) (plain_told taken) (off_told taken name)
     (by_lines (report_of choice placed None) (plain_told taken) (tells_as_run choice placed taken None o))
     (by_lines (report_of other off None) (off_told taken name) (tells_off_as_run other off taken name p))
+
+pub lost_of_edited_are_missing : LostOfEditedAreMissing
+lost_of_edited_are_missing choice placed edited taken off name k v o is start made p =
+    missing_is name (report_of choice placed None) (report_of choice edited None) (plain_told taken) (off_told taken name)
+    (by_lines (report_of choice placed None) (plain_told taken) (tells_as_run choice placed taken None o))
+    (by_lines (report_of choice edited None) (off_told taken name)
+    (tells_edited_as_run choice placed edited taken off name k v o is start made p))

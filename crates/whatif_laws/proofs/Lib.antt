@@ -9,3 +9,4 @@ pub mod LostLemmas
 pub mod GoLemmas
 pub mod ReportLemmas
 pub mod BlockReportLemmas
+pub mod EditedLemmas

@@ -42,7 +42,7 @@ same_key (key h ts) v is =
 of_same : (f g : List Tree → List Tree) (t : Tree) → f (children t) ≡ g (children t) → of_children f t ≡ of_children g t
 of_same f g (key h ts) same = ap (λ us. key h (trees us)) same
 
-below : (name : List ℕ) (f g : Tree → Tree) (t k : Tree) → find (is_named name) (children t) ≡ Some k → f k ≡ g k
+pub below : (name : List ℕ) (f g : Tree → Tree) (t k : Tree) → find (is_named name) (children t) ≡ Some k → f k ≡ g k
     → of_children (at_first (is_named name) f) t ≡ of_children (at_first (is_named name) g) t
 below name f g t k is same =
     of_same (at_first (is_named name) f) (at_first (is_named name) g) t (same_first (is_named name) f g (children t) k is same)
@@ -73,7 +73,7 @@ not_none : (o : Option Tree) (k : Tree) → o ≡ Some k → is_none o ≡ false
 not_none None k h = absurd cc
 not_none (Some x) k h = refl
 
-edited : (set : Tree) (name : List ℕ) (k : Tree) (v : Item) → find_key (codes "Services" ∷ name ∷ []) set ≡ Some k
+pub edited : (set : Tree) (name : List ℕ) (k : Tree) (v : Item) → find_key (codes "Services" ∷ name ∷ []) set ≡ Some k
     → find_item (codes "Start") k ≡ Some v
     → at_key (codes "Services" ∷ name ∷ []) (of_items (with_item (codes "Start") 4 (to_le_bytes w32 4))) set ≡ off_set name set
 edited set name k v is start =

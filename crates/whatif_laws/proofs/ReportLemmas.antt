@@ -37,7 +37,7 @@ use Rattle.whatif_laws.proofs.GoLemmas.{said, bare, rest, steps_for, run_at, all
 
 -- ---- the beginning of a start
 
-same_taken : (a b : Taken) → Begun a ≡ Begun b → a ≡ b
+pub same_taken : (a b : Taken) → Begun a ≡ Begun b → a ≡ b
 same_taken a b e = cc
 
 same_ok : {X E : Type 0} (a b : X) → ◌≡◌ {A = Result X E} (Ok a) (Ok b) → a ≡ b
@@ -75,9 +75,9 @@ chosen_usable t on_good plan h = by (has_number (usable_numbers_of t) n) refl h
     by true is e = is_chosen (good (old.good == n) e) is
 
 -- what a beginning makes of the tree
-record Begins (t : Tree) (change : SetChange) : Type 0 where
-  usable : is_usable t change.chosen ≡ true
-  same : change.has_steps ≡ false → change.tree ≡ t
+pub record Begins (t : Tree) (change : SetChange) : Type 0 where
+  pub usable : is_usable t change.chosen ≡ true
+  pub same : change.has_steps ≡ false → change.tree ≡ t
 
 no_steps : (version : HiveVersion) (t u : Tree) (steps : List Step) → stepped version t steps ≡ Ok u
     → not (nat_eq (length steps) 0) ≡ false → u ≡ t
@@ -85,7 +85,7 @@ no_steps version t u [] h none = sym (same_ok t u h)
 no_steps version t u (s ∷ ss) h none =
     absurd (omega (arith, eqb-true (length (s ∷ ss)) 0 (not-false (nat_eq (length (s ∷ ss)) 0) none)))
 
-begins : (version : HiveVersion) (t : Tree) (on_good : Bool) (change : SetChange) → begin_of version t on_good ≡ Ok change → Begins t change
+pub begins : (version : HiveVersion) (t : Tree) (on_good : Bool) (change : SetChange) → begin_of version t on_good ≡ Ok change → Begins t change
 begins version t on_good change h = by (begin_plan_of (select_numbers_of t) (usable_numbers_of t) on_good) refl h
   where
     stepped_by : (plan : SetPlan) → is_usable t plan.chosen ≡ true → (r : Result Tree Refusal) → stepped version t plan.steps ≡ r
@@ -106,7 +106,7 @@ begins version t on_good change h = by (begin_plan_of (select_numbers_of t) (usa
     by (Err e) is h = absurd cc
 
 -- the set of a number from 1 to 999
-set_same : (t u : Tree) (n : ℕ) → is_usable t n ≡ true → unwrap_or (set_of u n) no_set ≡ taken_set u n
+pub set_same : (t u : Tree) (n : ℕ) → is_usable t n ≡ true → unwrap_or (set_of u n) no_set ≡ taken_set u n
 set_same t u n h =
     by (set_of u n) ∙ sym (ap (λ (b : Bool). unwrap_or (cond (b && is_some (set_of u n)) (set_of u n) None) no_set)
     (and_parts (nat_le 1 n && nat_le n 999) (is_some (set_of t n)) h).0)
@@ -220,7 +220,7 @@ go_said choice m fs set number on_good =
 -- ---- the report
 
 -- a boot and all steps, from a machine that is off
-report_said : (choice : Option ℕ → Choice) (placed : Woken) (taken : Taken) (fs : List (List ℕ × ℕ)) → Opens choice placed taken
+pub report_said : (choice : Option ℕ → Choice) (placed : Woken) (taken : Taken) (fs : List (List ℕ × ℕ)) → Opens choice placed taken
     → filter is_entry_line (quiet_from choice boot_and_go (placed_with placed fs)).lines
     ≡ map told_line (played_on taken.usable taken.set (at [] fs (bare (begun_with taken.set taken.number taken.on_good)))).told
 report_said choice placed taken fs o =

@@ -59,13 +59,13 @@ first_changed {X} p f (z ∷ xs) x c h = by (p z) refl (λ i. first_changed p f 
 
 -- ---- the services of a set with one off
 
-head_name : (change : List Tree → List Tree) (t : Tree) → (head (of_children change t)).name ≡ (head t).name
+pub head_name : (change : List Tree → List Tree) (t : Tree) → (head (of_children change t)).name ≡ (head t).name
 head_name change (key h ts) = refl
 
 off_name : (t : Tree) → (head (off_key t)).name ≡ (head t).name
 off_name (key h ts) = refl
 
-last_step : (o : Option Tree) → option_and_then (find_key []) o ≡ o
+pub last_step : (o : Option Tree) → option_and_then (find_key []) o ≡ o
 last_step None = refl
 last_step (Some t) = refl
 

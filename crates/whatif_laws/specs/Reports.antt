@@ -1,7 +1,11 @@
 -- Which lines of a report tell what became of entries? (this project's own)
-use Rattle.std.specs.Prelude.{◌≡◌, ℕ, Bool, true, false, not, ◌&&◌, List, [], ◌∷◌, map, filter, slice_get, Option, Some, None, option_map}
+use Rattle.std.specs.Prelude.{◌≡◌, ℕ, Bool, true, false, not, ◌&&◌, List, [], ◌∷◌, map, filter, slice_get, Option, Some, None, option_map, Ok, codes}
 use Rattle.std.specs.List.{list_any, filter_map}
+use Rattle.std.specs.Int.{w32, to_le_bytes}
 use Rattle.nt_bytes.specs.Folding.{folds_same}
+use Rattle.hive_model.specs.Tree.{Item, Tree, find_item, find_key}
+use Rattle.hive_model.specs.Edit.{value_set}
+use Rattle.start_model.specs.Sets.{set_name}
 use Rattle.start_model.specs.Boot.{Choice, EntryTaken}
 use Rattle.start_model.specs.Events.{Event, BootNow, Go, Fail}
 use Rattle.start_model.specs.Lines.{Line, TryWord, TryLine, TryOk, TryIgnored, TryLogged, TryFallBack, TryStop, UnmetLine}
@@ -71,6 +75,17 @@ TellsOffAsRun =
     → Opens choice placed (record taken { set = off_set name taken.set })
     → filter is_entry_line (quiet_run_of choice boot_and_go placed).lines ≡ map told_line (off_told taken name)
 
+-- and so where the disk loads as the tree in which the value Start of that entry, in the set that is taken, was set to the DWORD 4, and
+-- a start takes a set of it
+abbrev pub TellsEditedAsRun : Type 0
+TellsEditedAsRun =
+    (choice : Option ℕ → Choice) (placed edited : Woken) (taken off : Taken) (name : List ℕ) (k : Tree) (v : Item) → Opens choice placed taken
+    → find_key (set_name taken.number ∷ codes "Services" ∷ name ∷ []) placed.state.tree ≡ Some k → find_item (codes "Start") k ≡ Some v
+    → value_set (set_name taken.number ∷ codes "Services" ∷ name ∷ []) (codes "Start") 4 (to_le_bytes w32 4) placed.state.tree
+    ≡ Ok edited.state.tree
+    → Opens choice edited off
+    → filter is_entry_line (quiet_run_of choice boot_and_go edited).lines ≡ map told_line (off_told taken name)
+
 -- ---- blocks by two reports
 
 -- the name of a `try` line with `ok`
@@ -115,3 +130,13 @@ LostOfOffAreMissing =
     (choice other : Option ℕ → Choice) (placed off : Woken) (taken : Taken) (name : List ℕ) → Opens choice placed taken
     → Opens other off (record taken { set = off_set name taken.set })
     → lost_of taken name (off_told taken name) ≡ missing_names name (report_of choice placed None) (report_of other off None)
+
+-- and those that the report of the edited hive doesn't start
+abbrev pub LostOfEditedAreMissing : Type 0
+LostOfEditedAreMissing =
+    (choice : Option ℕ → Choice) (placed edited : Woken) (taken off : Taken) (name : List ℕ) (k : Tree) (v : Item) → Opens choice placed taken
+    → find_key (set_name taken.number ∷ codes "Services" ∷ name ∷ []) placed.state.tree ≡ Some k → find_item (codes "Start") k ≡ Some v
+    → value_set (set_name taken.number ∷ codes "Services" ∷ name ∷ []) (codes "Start") 4 (to_le_bytes w32 4) placed.state.tree
+    ≡ Ok edited.state.tree
+    → Opens choice edited off
+    → lost_of taken name (off_told taken name) ≡ missing_names name (report_of choice placed None) (report_of choice edited None)

@@ -1,20 +1,23 @@
 //! What the reports of runs say of the same starts.
 
-ghost use Rattle.whatif_laws.specs.Reports.{TellsAsRun, TellsOffAsRun, LostAreMissing, JudgementIsWord, LostOfOffAreMissing};
+ghost use Rattle.whatif_laws.specs.Reports.{TellsAsRun, TellsOffAsRun, TellsEditedAsRun, LostAreMissing, JudgementIsWord, LostOfOffAreMissing, LostOfEditedAreMissing};
 
-/// The lines `try` and `unmet` of the report of `boot` and `go`, perhaps after `fail NAME 1`, are those of what is reported of the start: the same
+/// The lines `try` and `unmet` of the report of `boot` and `go`, perhaps after `fail NAME 1`, are those of what is told of the start: the same
 /// names with the same words, in one order, on a disk without cuts and faults (`failure`). Where the disk loads as a tree of which a start takes the
-/// same set with the entry of a name off, they are those of what is reported of the start with it off (`off`).
+/// same set with the entry of a name off, they are those of what is told of the start with it off (`off`); and so they are where it loads as the tree
+/// in which the value `Start` of that entry, in the set that is taken, was set to the DWORD 4, and a start takes a set of that (`edited`).
 pub fn what_is_told_is_what_a_run_reports()
     ensures failure { TellsAsRun }
     ensures off { TellsOffAsRun }
+    ensures edited { TellsEditedAsRun }
 {}
 
 /// What a block says by two reports: the lost are the names, other than the one that fails, that the plain report starts and the report of the failure doesn't
 /// (`lost`), and the judgement is the word of the first attempt that fails in it (`judgement`); so are the lost of an entry off by the report of
-/// such a tree (`off`).
+/// such a tree (`off`) and by that of the edited one (`edited`).
 pub fn a_block_is_what_two_reports_differ_in()
     ensures lost { LostAreMissing }
     ensures judgement { JudgementIsWord }
     ensures off { LostOfOffAreMissing }
+    ensures edited { LostOfEditedAreMissing }
 {}
