@@ -1,0 +1,6 @@
+pub mod Apart
+pub mod Reaching
+pub mod Arranging
+pub mod Searching
+pub mod Withins
+pub mod Files
