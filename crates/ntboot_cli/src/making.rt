@@ -121,14 +121,26 @@ fn summary_text(alloc: Global, count: u32, summary: &Summary) -> Result<Vec<u8>,
     Ok(line)
 }
 
+fn push_tried(out: &mut Vec<u8>, count: u32, started: u32) -> Result<(), AllocError>
+    ensures { OnOk result (out.new.items ≡ out.old.items ++ fields_text ((codes "services", Number count) ∷ (codes "started", Number started) ∷ [])) }
+{
+    push_number_field(out, b"services", u64::from(count))?;
+    push_number_field(out, b"started", u64::from(started))
+}
+
+fn push_lost(out: &mut Vec<u8>, failed: u32, unmet: u32) -> Result<(), AllocError>
+    ensures { OnOk result (out.new.items ≡ out.old.items ++ fields_text ((codes "failed", Number failed) ∷ (codes "unmet", Number unmet) ∷ [])) }
+{
+    push_number_field(out, b"failed", u64::from(failed))?;
+    push_number_field(out, b"unmet", u64::from(unmet))
+}
+
 fn push_counts(out: &mut Vec<u8>, count: u32, summary: &Summary) -> Result<(), AllocError>
     ensures { OnOk result (out.new.items ≡ out.old.items ++ fields_text ((codes "services", Number count) ∷ (codes "started", Number summary.now.started)
         ∷ (codes "failed", Number summary.now.failed) ∷ (codes "unmet", Number summary.now.unmet) ∷ [])) }
 {
-    push_number_field(out, b"services", u64::from(count))?;
-    push_number_field(out, b"started", u64::from(summary.started))?;
-    push_number_field(out, b"failed", u64::from(summary.failed))?;
-    push_number_field(out, b"unmet", u64::from(summary.unmet))
+    push_tried(out, count, summary.started)?;
+    push_lost(out, summary.failed, summary.unmet)
 }
 
 fn push_end(out: &mut Vec<u8>, verdict: &[u8], sequence: u32) -> Result<(), AllocError>
@@ -138,11 +150,18 @@ fn push_end(out: &mut Vec<u8>, verdict: &[u8], sequence: u32) -> Result<(), Allo
     push_number_field(out, b"sequence", u64::from(sequence))
 }
 
+fn push_outcome(out: &mut Vec<u8>, verdict: Option<Verdict>, sequence: u32) -> Result<(), AllocError>
+    ensures { OnOk result (out.new.items ≡ out.old.items ++ fields_text ((codes "verdict", Text (last_word (option_map verdict_of verdict)))
+        ∷ (codes "sequence", Number sequence) ∷ [])) }
+{
+    push_end(out, last_word(verdict).as_bytes(), sequence)
+}
+
 fn push_fields(out: &mut Vec<u8>, count: u32, summary: &Summary) -> Result<(), AllocError>
     ensures { OnOk result (out.new.items ≡ out.old.items ++ fields_text (summary_fields count (summary_in summary.now))) }
 {
     push_counts(out, count, summary)?;
-    push_end(out, last_word(summary.verdict).as_bytes(), summary.sequence)
+    push_outcome(out, summary.verdict, summary.sequence)
 }
 
 fn push_summary(out: &mut Vec<u8>, count: u32, summary: &Summary) -> Result<(), AllocError>

@@ -1,8 +1,10 @@
-use Rattle.std.proofs.Common.{subst}
+use Rattle.std.proofs.Common.{ap, sym, subst, ◌∙◌}
 use Rattle.std.specs.Prelude.{Err}
 use Rattle.command_words.specs.Views.{make_seen}
 use Rattle.command_parts.specs.declared.refusal.Obstacle.{Obstacle}
-use Rattle.command_parts.specs.Leaves.{Reads}
+use Rattle.command_parts.specs.declared.status.Status.{Status}
+use Rattle.command_parts.specs.Leaves.{Reads, stopped_as}
+use Rattle.ntboot_cli.specs.Answer.{MakesAlone}
 use Rattle.ntboot_cli.specs.Made.{usual_in}
 use Rattle.ntboot_cli.proofs.UsualLemmas.{never_refused, unread_usual}
 use Rattle.ntboot_cli.proofs.making.make.Goals as goal
@@ -15,6 +17,8 @@ returns-in-Err-Refused g c =
 pub returns-in-Err-Stopped : goal.returns-in-Err-Stopped
 returns-in-Err-Stopped g c =
     let reads = subst (λ (o : Obstacle). Reads usual_in (Err o)) c.in-Err-Stopped.field-0-is c.in-Err-Stopped.ensures in
-    rw c.stopped.ensures
-    (unread_usual c.args.form (make_seen c.args.words) c.in-Err-Stopped.stop (g.H.Host.state c.args.host.now)
-    (g.B.Disk.state c.args.bench.now) c.requires.fresh reads)
+    let host = g.H.Host.state c.args.host.now in
+    let disk = g.B.Disk.state c.args.bench.now in
+    subst (λ (s : Status). MakesAlone c.args.form usual_in (make_seen c.args.words) s host host disk)
+    (sym (c.stopped.ensures ∙ ap stopped_as c.in-Err-Stopped.stop-is))
+    (unread_usual c.args.form (make_seen c.args.words) c.in-Err-Stopped.stop host disk c.requires.fresh reads)
