@@ -1,0 +1,9 @@
+pub mod FoldLemmas
+pub mod PlainLemmas
+pub mod PlanLemmas
+pub mod CourseLemmas
+pub mod LineLemmas
+pub mod SteadyLemmas
+pub mod ApartLemmas
+pub mod PairLemmas
+pub mod FollowLemmas
