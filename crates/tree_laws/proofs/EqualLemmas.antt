@@ -26,6 +26,7 @@ use Rattle.diff_laws.proofs.AgreeLemmas.{and_of}
 use Rattle.diff_laws.proofs.NoneLemmas.{none_append, none_when, none_flat, all_map, not_not}
 use Rattle.diff_laws.proofs.OwnTrees.{own_tree}
 use Rattle.tree_laws.specs.Laws.{AreEqualButForName, NoLineWhereEqual}
+use Rattle.tree_laws.proofs.CountLemmas.{uncounted, all_parts}
 use Rattle.tree_laws.proofs.PairLemmas.{Paired, all_paired, same_by_shared}
 
 -- ---- the parts of no line
@@ -128,17 +129,6 @@ keys_paired path ts us apart order quiet =
 abbrev is_off : Marks → Bool
 is_off m = not m.stamp && not m.flags
 
--- where nothing is counted, none passes
-uncounted : (p : Marks → Bool) (n : ℕ) (ms : List Marks) → fold (λ (k : ℕ) (m : Marks). k + cond (p m) 1 0) n ms ≡ 0
-    → (n ≡ 0) × (list_all (λ m. not (p m)) ms ≡ true)
-uncounted p n [] e = (e, refl)
-uncounted p n (m ∷ ms) e = by (p m) (uncounted p (n + cond (p m) 1 0) ms e)
-  where
-    by : (b : Bool) → (n + cond b 1 0 ≡ 0) × (list_all (λ x. not (p x)) ms ≡ true)
-        → (n ≡ 0) × ((not b && list_all (λ x. not (p x)) ms) ≡ true)
-    by true rest = absurd (omega (arith, rest.0))
-    by false rest = (omega (arith, rest.0), rest.1)
-
 both_off : (ms : List Marks) → list_all (λ m. not m.stamp) ms ≡ true → list_all (λ m. not m.flags) ms ≡ true → list_all is_off ms ≡ true
 both_off [] stamps flags = refl
 both_off (m ∷ ms) stamps flags =
@@ -154,14 +144,6 @@ marks_off ms quiet =
     both_off ms
     (uncounted (λ m. m.stamp) 0 ms (eqb-true stamps 0 (unless_none (nat_eq stamps 0) (Stamps stamps) [] lines.0))).1
     (uncounted (λ m. m.flags) 0 ms (eqb-true flags 0 (unless_none (nat_eq flags 0) (Flags flags) [] lines.1))).1
-
-all_parts : {X : Type 0} (p : X → Bool) (xs ys : List X) → list_all p (xs ++ ys) ≡ true
-    → (list_all p xs ≡ true) × (list_all p ys ≡ true)
-all_parts p [] ys all = (refl, all)
-all_parts p (x ∷ xs) ys all =
-    let both = and_parts (p x) (list_all p (xs ++ ys)) all in
-    let rest = all_parts p xs ys both.1 in
-    (and_of (p x) (list_all p xs) both.0 rest.0, rest.1)
 
 -- ---- two keys, but for their names and children
 
