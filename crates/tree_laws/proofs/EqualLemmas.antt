@@ -1,6 +1,6 @@
 -- The trees of two sets have no line exactly where they are equal but for the names of the sets' own keys.
-use Rattle.std.proofs.Common.{◌≡◌, ℕ, ◌+◌, Bool, true, false, not, ◌&&◌, cond, nat_eq, List, [], ◌∷◌, ◌++◌, map, refl, sym, ap, ◌∙◌, arith}
-use Rattle.std.specs.Prelude.{Option, Some, bytes_eq, count_by, fold}
+use Rattle.std.proofs.Common.{◌≡◌, ℕ, Bool, true, false, not, ◌&&◌, cond, nat_eq, List, [], ◌∷◌, ◌++◌, map, refl, sym, ap, ◌∙◌}
+use Rattle.std.specs.Prelude.{Option, bytes_eq, count_by}
 use Rattle.std.specs.List.{list_all, flat_map}
 use Rattle.std.specs.Option.{option_map_or}
 use Rattle.std.proofs.lemmas.Bool.{false≢true, and_parts, eqb-true}
@@ -197,7 +197,7 @@ keys_order top path h k ts us quiet =
     let content = two_none (orders_lines path vs ws (key_names ts) (key_names us)) (items_lines path h.values k.values) own.1 in
     (two_none (order_lines Values path vs ws) (order_lines Keys path (key_names ts) (key_names us)) content.0).1
 
--- and below the topmost keys the names are too
+-- below the topmost keys the names are equal too
 name_equal : (path : List (List ℕ)) (t u : Tree) → is_none (key_lines false path t u) ≡ true → (head t).name ≡ (head u).name
 name_equal path (key h ts) (key k us) quiet =
     let lines = three_none (own_lines false path h (listed ts) k (listed us)) (keys_lines path (listed us) ts)

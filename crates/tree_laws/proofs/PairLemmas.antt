@@ -1,5 +1,5 @@
--- Where the names of two lists fold to the same, place by place, each finds what stands at its own place in the other list.
-use Rattle.std.proofs.Common.{◌≡◌, ℕ, Bool, true, false, ◌&&◌, cond, List, [], ◌∷◌, map, filter, refl, sym, ap, ◌∙◌}
+-- Where the names of two lists fold to the same, place by place, each name finds what has its own place in the other list.
+use Rattle.std.proofs.Common.{◌≡◌, ℕ, Bool, true, false, cond, List, [], ◌∷◌, map, filter, refl, sym, ap, ◌∙◌}
 use Rattle.std.specs.Prelude.{Option, Some, find, position, slice_get, option_and_then}
 use Rattle.std.specs.List.{list_all}
 use Rattle.std.proofs.lemmas.Bool.{false≢true, and_parts}
@@ -28,7 +28,7 @@ same_by_shared ns ms here there same =
 
 -- ---- pairs
 
--- each name of the first list finds what stands at its place in the second
+-- each name of the first list finds what has its place in the second
 abbrev pub Paired : {X : Type 0} → (List ℕ → Option X) → (X → List ℕ) → List X → List X → Type 0
 Paired found name [] [] = Unit {0}
 Paired found name [] (y ∷ ys) = ⊥
@@ -64,8 +64,7 @@ found_pairs name [] [] apart same = tt
 found_pairs name [] (y ∷ ys) apart same = absurd (false≢true same)
 found_pairs name (x ∷ xs) [] apart same = absurd (false≢true same)
 found_pairs name (x ∷ xs) (y ∷ ys) apart same =
-    let both = and_parts (folds_same (name x) (name y)) (names_same (map name xs) (map name ys)) same in
-    (
+    let both = and_parts (folds_same (name x) (name y)) (names_same (map name xs) (map name ys)) same in (
       ap (λ (b : Bool). cond b (Some y) (find (λ z. folds_same (name x) (name z)) ys)) both.0,
       paired_more name y xs ys ys
           (each_more (λ z. folds_same (name z) (name x) ≡ false) (λ z. folds_same (name z) (name y) ≡ false) xs

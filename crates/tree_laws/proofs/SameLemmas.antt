@@ -1,7 +1,6 @@
 -- Two sets are the same with all keys and values compared exactly where they are without, and their trees are equal.
 use Rattle.std.proofs.Common.{◌≡◌, ◌↔◌, ℕ, Bool, true, false, not, cond, List, [], ◌∷◌, ◌++◌, refl, sym, ap, ◌∙◌}
 use Rattle.std.specs.Prelude.{Option, Some, None}
-use Rattle.std.specs.List.{list_all}
 use Rattle.std.proofs.lemmas.Bool.{false≢true}
 use Rattle.hive_model.specs.Tree.{Tree}
 use Rattle.hive_model.specs.Valid.{HoldsKeys}
@@ -48,7 +47,7 @@ held_set t n holds = by (is_usable t n) (set_of t n) refl
     by true (Some k) is = held_key (set_name n ∷ []) t k holds is
     by false o is = tt
 
--- the two sets have the same lines with more after them, of which none reports a difference only where there are none
+-- the lines on the trees come after those without them, and where there are any, one of them reports a difference
 sets_same : (n m : ℕ) (a b : Tree) → HoldsKeys a
     → (difference_count (both_found true n (Some a) m (Some b)) ≡ 0)
     ↔ ((difference_count (both_found false n (Some a) m (Some b)) ≡ 0) × AreBothEqual (Some a) (Some b))

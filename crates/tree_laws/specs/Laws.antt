@@ -1,5 +1,5 @@
 -- When does nothing differ between the trees of two control sets? (this project's own)
-use Rattle.std.specs.Prelude.{◌≡◌, ◌↔◌, ℕ, Bool, true, false, [], Option, Some, None}
+use Rattle.std.specs.Prelude.{◌≡◌, ◌↔◌, ℕ, Bool, true, false, [], Option, Some}
 use Rattle.hive_model.specs.Tree.{Tree, head}
 use Rattle.hive_model.specs.Edit.{renamed}
 use Rattle.hive_model.specs.Valid.{HoldsKeys}
