@@ -28,7 +28,7 @@ use Rattle.salvage_laws.proofs.WholeBins.{marked, layout-whole, layout-broken}
 use Rattle.salvage_laws.proofs.WholeCells.{none-loose, same-cells}
 
 abbrev found_of : List BrokenBin → List WalkLine → Option Tree → BinsFound
-found_of broken lines tree = record { broken = broken; lines = lines; tree = tree }
+found_of broken lines tree = record { broken = broken; lines = lines; said = []; tree = tree }
 
 -- the cells of bins that are whole
 module _ (version : HiveVersion) (bytes : List ℕ) (bins : List Bin) (is : IsBins bytes bins) where
@@ -65,7 +65,7 @@ found-broken version bytes root fault fits small h =
     (first_told (salvaged (ground_in version bytes (layout_of bytes).marks) root).1.lines)) b.2
 
 pub holds-so : (r : Recovered) (s : HiveState) → Holds r s
-    → found_in (version_of r.base.minor) r.bins r.base.root ≡ record { broken = []; lines = []; tree = Some s.tree }
+    → found_in (version_of r.base.minor) r.bins r.base.root ≡ record { broken = []; lines = []; said = []; tree = Some s.tree }
 holds-so r s h = found-tree (version_of r.base.minor) r.bins h.bins h.cells r.base.root s.tree h.tree
 
 pub fault-so : (r : Recovered) (fault : HiveFault) → IsBytes r.bins → length r.bins ≤ 16777216 → HeldFault r fault

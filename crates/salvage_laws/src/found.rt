@@ -13,7 +13,7 @@ ghost use Rattle.salvage_laws.specs.Told.{first_found};
 /// reported is the one that a load has first. Where none is reported they hold a state.
 pub fn what_is_found_is_what_a_load_finds()
     ensures holds { (r : Recovered) (s : HiveState) → Holds r s
-        → found_in (version_of r.base.minor) r.bins r.base.root ≡ record { broken = []; lines = []; tree = Some s.tree } }
+        → found_in (version_of r.base.minor) r.bins r.base.root ≡ record { broken = []; lines = []; said = []; tree = Some s.tree } }
     ensures fault { (r : Recovered) (fault : HiveFault) → ((k : ℕ) → slice_index r.bins k < 256) → length r.bins ≤ 16777216
         → HeldFault r fault → first_found (found_in (version_of r.base.minor) r.bins r.base.root) ≡ Some fault }
     ensures silent { (r : Recovered) → ((k : ℕ) → slice_index r.bins k < 256) → length r.bins ≤ 16777216
