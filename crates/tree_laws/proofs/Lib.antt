@@ -1,0 +1,5 @@
+pub mod PairLemmas
+pub mod CountLemmas
+pub mod EqualLemmas
+pub mod TellingLemmas
+pub mod SameLemmas

@@ -1,0 +1,11 @@
+//! Laws of comparisons of the trees of two control sets.
+//!
+//! When there is no line on keys and values, and when the answer with `--all` is that nothing differs. Definitions: `specs/Laws.antt`. This
+//! project's own.
+#![tactic(auto)]
+
+mod laws;
+
+pub use laws::{
+    sets_are_the_same_with_all_where_their_trees_are_equal, trees_have_no_line_where_they_are_equal,
+};
