@@ -145,7 +145,8 @@ fn push_reached(out: &mut Vec<u8>, phase: Phase) -> Result<(), AllocError>
 }
 
 fn push_taken(out: &mut Vec<u8>, reason: &[u8]) -> Result<(), AllocError>
-    ensures { OnOk result (out.new.items ≡ out.old.items ++ fields_text ((codes "word", Text (codes "not-taken")) ∷ (codes "reason", Text reason.now) ∷ [])) }
+    ensures { OnOk result (out.new.items ≡ out.old.items ++ fields_text ((codes "word", Text (codes "not-taken"))
+        ∷ (codes "reason", Text reason.now) ∷ [])) }
 {
     push_word(out, b"word", b"not-taken")?;
     push_word(out, b"reason", reason)
