@@ -1,0 +1,4 @@
+pub mod Words
+pub mod Choices
+pub mod Watch
+pub mod Play

@@ -1,0 +1,42 @@
+//! Words of the report and numbers of phases.
+
+ghost use Rattle.std.specs.Prelude.{◌≡◌};
+ghost use Rattle.boot_machine.specs.Views.{tried_in};
+ghost use Rattle.boot_machine.specs.Codes.{phase_number};
+ghost use Rattle.boot_phases.specs.Phases.{phase_in};
+ghost use Rattle.start_model.specs.Lines.{TryOk};
+ghost use Rattle.start_model.specs.Starter.{failed_word};
+ghost use Rattle.std.specs.Prelude.{if◌then◌else◌};
+ghost use Rattle.quiet_run.specs.Words.{try_as};
+
+use boot_machine::Tried;
+use boot_phases::Phase;
+use boot_report::TryWord;
+use error_control::Judgement;
+
+/// How an attempt went.
+pub(crate) fn try_word(tried: &Tried) -> TryWord
+    ensures { result ≡ try_as (if tried.now.ok then TryOk else failed_word (tried_in tried.now).judgement) }
+{
+    if tried.ok {
+        return TryWord::Ok;
+    }
+    match tried.judgement {
+        Judgement::Ignore => TryWord::Ignored,
+        Judgement::Log => TryWord::Logged,
+        Judgement::FallBack => TryWord::FallBack,
+        Judgement::Stop => TryWord::Stop,
+    }
+}
+
+/// How many phases come before this one.
+pub(crate) fn phase_number(phase: Phase) -> usize
+    ensures { result ≡ phase_number (phase_in phase) }
+{
+    match phase {
+        Phase::Boot => 0,
+        Phase::System => 1,
+        Phase::Automatic => 2,
+        Phase::Done => 3,
+    }
+}

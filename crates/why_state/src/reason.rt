@@ -1,0 +1,81 @@
+//! Why no phase takes a name.
+
+ghost use Rattle.std.specs.Prelude.{◌≡◌};
+ghost use Rattle.std.specs.Option.{option_copied};
+ghost use Rattle.start_model.specs.Entries.{is_driver, is_service};
+ghost use Rattle.why_state.specs.States.{reason_at, reason_with, reason_in, key_named, reason_of};
+
+use reg_tree::Key;
+use why_lines::Reason;
+
+const SERVICES: [u16; 8] = [0x53, 0x65, 0x72, 0x76, 0x69, 0x63, 0x65, 0x73];
+
+const START: [u16; 5] = [0x53, 0x74, 0x61, 0x72, 0x74];
+
+const TYPE: [u16; 4] = [0x54, 0x79, 0x70, 0x65];
+
+/// Whether this Type is that of a driver.
+pub(crate) fn is_driver(kind: u32) -> bool
+    ensures { result ≡ is_driver kind }
+{
+    kind & 0x0b != 0
+}
+
+/// Whether this Type is that of a service.
+pub(crate) fn is_service(kind: u32) -> bool
+    ensures { result ≡ is_service kind }
+{
+    kind & 0x30 != 0 && kind & 0x0b == 0
+}
+
+/// Of a key with this Start and this Type.
+fn reason_at(start: u32, kind: u32) -> Reason
+    ensures { result ≡ reason_at start kind }
+{
+    if !(is_driver(kind) || is_service(kind)) {
+        Reason::Kind
+    } else if start == 4 {
+        Reason::Disabled
+    } else if 4 < start {
+        Reason::Beyond
+    } else if is_service(kind) && start < 2 {
+        Reason::TooEarly
+    } else {
+        Reason::Demand
+    }
+}
+
+fn reason_with(start: Option<u32>, kind: Option<u32>) -> Reason
+    ensures { result ≡ reason_with start kind }
+{
+    match start {
+        None => Reason::NoStart,
+        Some(start) => match kind {
+            None => Reason::NoType,
+            Some(kind) => reason_at(start, kind),
+        },
+    }
+}
+
+fn reason_in(key: &Key) -> Reason
+    ensures { result ≡ reason_in key.now }
+{
+    reason_with(key.dword(&START), key.dword(&TYPE))
+}
+
+/// The key of the services that has the name.
+pub fn key_named<'a>(set: &'a Key, name: &[u16]) -> Option<&'a Key>
+    ensures { option_copied result ≡ key_named set.now name.now }
+{
+    set.child(&SERVICES)?.child(name)
+}
+
+/// Of a name in a set.
+pub(crate) fn reason_of(set: &Key, name: &[u16]) -> Reason
+    ensures { result ≡ reason_of set.now name.now }
+{
+    match key_named(set, name) {
+        Some(key) => reason_in(key),
+        None => Reason::NoKey,
+    }
+}

@@ -1,0 +1,11 @@
+//! Where an entry stands in a start, and why it was started or not: the lines as texts or as objects of JSON.
+//!
+//! `lines_text` prints the lines in one of the two forms. Definitions: `specs/Lines.antt`.
+#![tactic(auto)]
+
+mod json;
+mod printing;
+mod text;
+mod words;
+
+pub use printing::lines_text;
