@@ -150,7 +150,11 @@ fn push_end(out: &mut Vec<u8>, verdict: &[u8], sequence: u32) -> Result<(), Allo
     push_number_field(out, b"sequence", u64::from(sequence))
 }
 
-fn push_outcome(out: &mut Vec<u8>, verdict: Option<Verdict>, sequence: u32) -> Result<(), AllocError>
+fn push_outcome(
+    out: &mut Vec<u8>,
+    verdict: Option<Verdict>,
+    sequence: u32,
+) -> Result<(), AllocError>
     ensures { OnOk result (out.new.items ≡ out.old.items ++ fields_text ((codes "verdict", Text (last_word (option_map verdict_of verdict)))
         ∷ (codes "sequence", Number sequence) ∷ [])) }
 {

@@ -42,7 +42,6 @@ pub off_by : (o : Option Start) → ◌≡◌ {A = Option (ℕ × Bool)} None (o
 off_by None h = refl
 off_by (Some s) h = absurd cc
 
-
 pub noted_by : (w : Watched) (o : Option Start) (n : ℕ) (g : Bool) (p : Phase)
     → ◌≡◌ {A = Option (ℕ × Bool)} (Some (n, g)) (option_map numbered o) → p ≡ option_map_or (λ (s : Start). s.phase) o Done
     → phase_noted w.state p n w.last ≡ option_map_or (λ (s : Start). phase_noted w.state s.phase s.number w.last) o w.last
@@ -50,7 +49,6 @@ noted_by w None n g p h q = absurd cc
 noted_by w (Some s) n g p h q =
     let pair : ◌≡◌ {A = ℕ × Bool} (n, g) (s.number, s.on_good) = cc in
     λ i. phase_noted w.state (q i) ((pair i).0) w.last
-
 
 -- ---- the next phase
 

@@ -80,7 +80,6 @@ due_is b o s h on = h ∙ ap (λ (x : Option Start). option_map_or save_due x fa
 clone_is : (c : Option Tree) (o : Option Start) (s : Start) → c ≡ option_and_then (λ (x : Start). x.clone) o → o ≡ Some s → c ≡ s.clone
 clone_is c o s h on = h ∙ ap (option_and_then (λ (x : Start). x.clone)) on
 
-
 pub due : (m : RunState) (s : Start) (l : LastStart) (new : Watched) (b : Bool) (clone : Tree) (machine : MachineState)
     → m.machine.start ≡ Some s → b ≡ option_map_or save_due m.machine.start false → b ≡ true
     → Some clone ≡ option_and_then (λ (x : Start). x.clone) m.machine.start
@@ -96,7 +95,6 @@ due m s l new b clone machine on h is_on has is f =
     ∙ apart m s clone (Some (record s { clone = None })) (save_of m.version m.live clone) l
     ∙ ap (λ (c : Option Tree). watch (save s c m done) l) (clone_is (Some clone) m.machine.start s has on)
     ∙ ap (λ (d : Bool). watch (cond d (save s s.clone m done) (done m)) l) (sym is_on ∙ due_is b m.machine.start s h on)
-
 
 -- ---- the logon
 

@@ -116,7 +116,7 @@ last_set w = option_map_or (λ (taken : ℕ × Bool). unwrap_or (usable_set w.st
 abbrev pub unplayed : HiveVersion → Tree → Watched
 unplayed version tree = record { state = first_state (placed_as version tree); last = fresh_start 0 }
 
--- what is left of the last start
+-- what remains of the last start
 abbrev pub left_of : Watched → QuietRun
 left_of w = record { start = w.last; set = last_set w }
 

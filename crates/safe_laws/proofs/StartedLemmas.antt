@@ -82,9 +82,9 @@ module _ (fewer more : List Staged) (into : AreOfToo fewer more) (a b d : Ran Ne
       (goes Automatic refl (a'.new ++ b'.new) d'.new d'.left other.automatic) (a.new ++ b.new) d.new
       (λ m c. Contains-append_left (a'.new ++ b'.new) d'.new m (second m c)) start.automatic.turn
 
--- ---- what is said of them
+-- ---- what is printed for them
 
--- whose name is said to be started is one of those that start
+-- whose name is printed to be started is one of those that start
 says_from : (set : Tree) (a b d : Ran Entry) → IsTold set a b d → (name : List ℕ) → SaysStarted (start_lines_of set) name
     → (n : Need) × Contains (map need_of (all_new a b d)) n × (n.name ≡ name)
 says_from set a b d told name c =

@@ -1,4 +1,4 @@
--- Which lines are said of entries that were unmet? (this project's own)
+-- Which lines are printed of entries that were unmet? (this project's own)
 --
 -- Each entry's line, then its lacking names, then its lacking groups. The members of a group follow its first line in that phase.
 use Rattle.std.specs.Prelude.{ℕ, ◌+◌, nat_lt, Bool, List, [], ◌∷◌, ◌++◌, map, length, slice_get, if◌then◌else◌}

@@ -1,4 +1,4 @@
-//! Where an entry stands in a start, and why it was started or not, line by line.
+//! Where an entry is in a start, and why it was started or not, line by line.
 //!
 //! The types alone: `why_text` says how they are printed.
 #![tactic(auto)]

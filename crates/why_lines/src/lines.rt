@@ -1,4 +1,4 @@
-//! Where an entry stands in a start, line by line. Numbers and places count from 1, and names are spelled as in the registry or the script.
+//! Where an entry is in a start, line by line. Numbers and places count from 1, and names are spelled as in the registry or the script.
 
 use boot_phases::Phase;
 use boot_report::Verdict;
@@ -79,7 +79,7 @@ pub enum NameState {
     NotTaken(Reason),
 }
 
-/// How a need stands at the end of a phase.
+/// How a need is at the end of a phase.
 #[derive(Clone, Copy, Debug, PartialEq, Eq)]
 pub enum NeedState {
     Started,
@@ -97,8 +97,13 @@ pub enum NeedState {
 pub enum WhyLine {
     /// No boot was accepted.
     NoBoot,
-    Start { number: u32 },
-    Set { number: u32, on_good: bool },
+    Start {
+        number: u32,
+    },
+    Set {
+        number: u32,
+        on_good: bool,
+    },
     Verdict(Verdict),
     /// The attempt of this entry ended the start.
     EndedBy(Units),
@@ -107,18 +112,41 @@ pub enum WhyLine {
     /// The name that is asked for.
     Name(Units),
     /// Its entry: what it is, Start, Type and ErrorControl.
-    Entry { kind: EntryKind, start: u32, number: u32, control: u32 },
+    Entry {
+        kind: EntryKind,
+        start: u32,
+        number: u32,
+        control: u32,
+    },
     /// Its place in the plan of its phase, of that many.
-    Place { phase: Phase, place: u64, of: u64 },
-    Group { place: GroupPlace, name: Units },
+    Place {
+        phase: Phase,
+        place: u64,
+        of: u64,
+    },
+    Group {
+        place: GroupPlace,
+        name: Units,
+    },
     NoGroup,
-    Tag { tag: u32, place: TagPlace },
+    Tag {
+        tag: u32,
+        place: TagPlace,
+    },
     NoTag,
-    Registry { place: u64 },
+    Registry {
+        place: u64,
+    },
     /// It comes after this one in the plan.
-    After { by: OrderWord, name: Units },
+    After {
+        by: OrderWord,
+        name: Units,
+    },
     /// It comes before this one in the plan.
-    Before { by: OrderWord, name: Units },
+    Before {
+        by: OrderWord,
+        name: Units,
+    },
     /// An entry of Start 3 is taken since this one names it.
     Pulled(Units),
     /// It was ready when its phase began.
@@ -127,11 +155,23 @@ pub enum WhyLine {
     ReadyAfter(Units),
     State(NameState),
     /// An entry that was unmet; what it lacked follows.
-    Unmet { phase: Phase, name: Units },
-    LackService { state: NeedState, name: Units },
+    Unmet {
+        phase: Phase,
+        name: Units,
+    },
+    LackService {
+        state: NeedState,
+        name: Units,
+    },
     /// A group that has members in the set, or none.
-    LackGroup { has_members: bool, name: Units },
-    Member { state: NeedState, name: Units },
+    LackGroup {
+        has_members: bool,
+        name: Units,
+    },
+    Member {
+        state: NeedState,
+        name: Units,
+    },
     /// Each needs the next one, and the last the first.
     Cycle(Units),
     End,

@@ -1,4 +1,4 @@
-//! Where an entry stands in the plan of its phase, and by what.
+//! Where an entry is in the plan of its phase, and by what.
 
 ghost use Rattle.std.specs.Prelude.{◌≡◌, ◌<◌, ◌+◌, ◌++◌, length, IfOk, OnOk, slice_get};
 ghost use Rattle.std.specs.Option.{option_copied, option_map_or};

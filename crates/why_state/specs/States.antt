@@ -1,4 +1,4 @@
--- Where does a name stand in a start, and how did a need stand at the end of a phase? (this project's own)
+-- Where does a name are in a start, and how did a need are at the end of a phase? (this project's own)
 use Rattle.std.specs.Prelude.{ℕ, zero, suc, ◌+◌, nat_lt, not, ◌&&◌, ◌||◌, ◌==◌, List, length, slice_get, find, position, codes, Option, None, Some, if◌then◌else◌}
 use Rattle.std.specs.Option.{option_map, option_map_or, option_and_then, option_or, is_some}
 use Rattle.nt_bytes.specs.Folding.{folds_same}
@@ -123,7 +123,7 @@ placed_of r name = placed_below r.views (length r.views) name
 abbrev pub state_of : ViewedRun → List ℕ → NameState
 state_of r name = if length r.views == 0 then states.NoPhase else state_by r name (placed_of r name)
 
--- ---- how a need stands at the end of a phase
+-- ---- how a need is at the end of a phase
 
 abbrev pub fate_as : TryWord → NeedState
 fate_as tries.Ok = needs.Started
@@ -150,7 +150,7 @@ untaken_need r at name =
 abbrev pub unplanned_need : ViewedRun → ℕ → PhaseView → List ℕ → NeedState
 unplanned_need r at v name = option_map_or (coming_need v) (first_coming v.coming name) (untaken_need r at name)
 
--- how a name stands at the end of the phase at a place
+-- how a name is at the end of the phase at a place
 abbrev pub need_of : ViewedRun → ℕ → PhaseView → List ℕ → NeedState
 need_of r at v name =
     option_map_or (λ (place : ℕ × ℕ). planned_need r v name) (placed_below r.views (at + 1) name) (unplanned_need r at v name)

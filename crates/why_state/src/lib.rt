@@ -1,4 +1,4 @@
-//! Where a name stands in a start, and how a need stood at the end of a phase.
+//! Where a name is in a start, and how a need stood at the end of a phase.
 //!
 //! `viewed` looks at what a script left of its last start: each phase with its plan, and what phases take after it. `state_of` says what
 //! became of a name, `need_of` how a need stood at the end of a phase, and `push_head` the first lines about the start.

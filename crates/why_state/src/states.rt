@@ -1,4 +1,4 @@
-//! Where a name stands in a start, and how a need stood at the end of a phase.
+//! Where a name is in a start, and how a need stood at the end of a phase.
 
 ghost use Rattle.std.specs.Prelude.{◌≡◌, ◌<◌, ◌+◌, nat_lt, length, slice_get, Some, None, if◌then◌else◌};
 ghost use Rattle.std.specs.Option.{is_some, option_map, option_map_or};
@@ -223,7 +223,7 @@ pub fn state_of(run: &ViewedRun, name: &[u16]) -> NameState
     state_by(run, name, placed_of(run, name))
 }
 
-// ---- how a need stands at the end of a phase
+// ---- how a need is at the end of a phase
 
 fn fate_as(outcome: TryWord) -> NeedState
     ensures { result ≡ fate_as outcome }
@@ -288,7 +288,7 @@ fn unplanned_need(run: &ViewedRun, at: usize, view: &PhaseView, name: &[u16]) ->
     }
 }
 
-/// How a name stands at the end of the phase at a place, of which there are that many.
+/// How a name is at the end of the phase at a place, of which there are that many.
 pub fn need_of(run: &ViewedRun, at: usize, view: &PhaseView, name: &[u16]) -> NeedState
     requires { at < length run.now.views }
     ensures { result ≡ need_of run.now at view.now name.now }

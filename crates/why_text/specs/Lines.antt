@@ -1,4 +1,4 @@
--- How are the lines printed that say where an entry stands in a start? (this project's own)
+-- How are the lines printed that say where an entry is in a start? (this project's own)
 use Rattle.std.specs.Prelude.{ℕ, Bool, if◌then◌else◌, List, [], ◌∷◌, ◌++◌, codes}
 use Rattle.std.specs.List.{flat_map}
 use Rattle.std.specs.Fmt.{decimal}
