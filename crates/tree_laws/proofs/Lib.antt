@@ -3,3 +3,4 @@ pub mod CountLemmas
 pub mod EqualLemmas
 pub mod TellingLemmas
 pub mod SameLemmas
+pub mod OnlyLemmas

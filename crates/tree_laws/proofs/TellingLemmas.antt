@@ -31,28 +31,28 @@ is_quiet lines = list_all (λ line. not (is_difference line)) lines
 abbrev pub Tells : List DiffLine → Type 0
 Tells lines = is_quiet lines ≡ true → is_none lines ≡ true
 
-tells_both : (xs ys : List DiffLine) → Tells xs → Tells ys → Tells (xs ++ ys)
+pub tells_both : (xs ys : List DiffLine) → Tells xs → Tells ys → Tells (xs ++ ys)
 tells_both xs ys f g quiet =
     let parts = all_parts (λ line. not (is_difference line)) xs ys quiet in
     none_append xs ys ∙ and_of (is_none xs) (is_none ys) (f parts.0) (g parts.1)
 
-tells_three : (xs ys zs : List DiffLine) → Tells xs → Tells ys → Tells zs → Tells (xs ++ ys ++ zs)
+pub tells_three : (xs ys zs : List DiffLine) → Tells xs → Tells ys → Tells zs → Tells (xs ++ ys ++ zs)
 tells_three xs ys zs f g h = tells_both (xs ++ ys) zs (tells_both xs ys f g) h
 
-tells_each : {X : Type 0} (f : X → List DiffLine) (xs : List X) → ((x : X) → Tells (f x)) → Tells (flat_map f xs)
+pub tells_each : {X : Type 0} (f : X → List DiffLine) (xs : List X) → ((x : X) → Tells (f x)) → Tells (flat_map f xs)
 tells_each f [] each quiet = refl
 tells_each f (x ∷ xs) each quiet = tells_both (f x) (flat_map f xs) (each x) (tells_each f xs each) quiet
 
-tells_pair : {X : Type 0} (f : X → List DiffLine) (o : Option X) → ((x : X) → Tells (f x)) → Tells (option_map_or f o [])
+pub tells_pair : {X : Type 0} (f : X → List DiffLine) (o : Option X) → ((x : X) → Tells (f x)) → Tells (option_map_or f o [])
 tells_pair f None each quiet = refl
 tells_pair f (Some x) each quiet = each x quiet
 
-tells_where : (b : Bool) (line : DiffLine) (lines : List DiffLine) → is_difference line ≡ true → Tells (cond b (line ∷ lines) [])
+pub tells_where : (b : Bool) (line : DiffLine) (lines : List DiffLine) → is_difference line ≡ true → Tells (cond b (line ∷ lines) [])
 tells_where true line lines differs quiet =
     absurd (false≢true (sym (ap (λ (b : Bool). not b && is_quiet lines) differs) ∙ quiet))
 tells_where false line lines differs quiet = refl
 
-tells_unless : (b : Bool) (line : DiffLine) (lines : List DiffLine) → is_difference line ≡ true → Tells (cond b [] (line ∷ lines))
+pub tells_unless : (b : Bool) (line : DiffLine) (lines : List DiffLine) → is_difference line ≡ true → Tells (cond b [] (line ∷ lines))
 tells_unless true line lines differs quiet = refl
 tells_unless false line lines differs quiet =
     absurd (false≢true (sym (ap (λ (b : Bool). not b && is_quiet lines) differs) ∙ quiet))

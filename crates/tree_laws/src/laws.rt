@@ -1,6 +1,7 @@
 //! The laws. Each has its statement in `specs/Laws.antt`.
 
 ghost use Rattle.tree_laws.specs.Laws.{NoLineWhereEqual, SameWithAll};
+ghost use Rattle.tree_laws.specs.Same.{SameOnlyWhereAgree};
 
 /// There is no line on the keys and values of two sets exactly where the two trees are equal but for the names of the sets' own keys: class, security
 /// descriptor, flags and time of the last write of each key, its values in order with name, type and data, and its children in order with their
@@ -14,4 +15,9 @@ pub fn trees_have_no_line_where_they_are_equal()
 /// trees are equal but for the names of the sets' own keys. Each key of the first hive must be one that a hive can hold.
 pub fn sets_are_the_same_with_all_where_their_trees_are_equal()
     ensures { SameWithAll }
+{}
+
+/// Without all keys and values compared, the answer is that two sets are the same only where their services, groups and boots agree.
+pub fn sets_are_the_same_only_where_they_agree()
+    ensures { SameOnlyWhereAgree }
 {}

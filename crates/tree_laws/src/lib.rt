@@ -7,5 +7,7 @@
 mod laws;
 
 pub use laws::{
-    sets_are_the_same_with_all_where_their_trees_are_equal, trees_have_no_line_where_they_are_equal,
+    sets_are_the_same_only_where_they_agree,
+    sets_are_the_same_with_all_where_their_trees_are_equal,
+    trees_have_no_line_where_they_are_equal,
 };
