@@ -1,0 +1,3 @@
+pub mod Namers
+pub mod Layers
+pub mod Pulled
