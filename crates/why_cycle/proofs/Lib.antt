@@ -1,0 +1,3 @@
+pub mod RowsLemmas
+pub mod FreedLemmas
+pub mod RoundLemmas

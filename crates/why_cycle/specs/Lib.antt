@@ -1,0 +1,3 @@
+pub mod Freed
+pub mod Rows
+pub mod Walk
