@@ -1,14 +1,14 @@
 -- What is met in the graph is the least set of freed items.
-use Rattle.std.proofs.Common.{◌≡◌, ℕ, zero, suc, ◌+◌, ◌<◌, ◌≤◌, Bool, true, false, not, nat_eq, ◌&&◌, ◌||◌, List, [], ◌∷◌, ◌++◌, length, take, map, get_or, cond, refl, sym, ap, ◌∙◌, ◌⊎◌, inl, inr, subst, arith}
-use Rattle.std.specs.Prelude.{Contains, nat_lt}
+use Rattle.std.proofs.Common.{◌≡◌, ℕ, zero, suc, ◌<◌, ◌≤◌, Bool, true, false, not, ◌&&◌, ◌||◌, List, [], ◌∷◌, length, take, map, get_or, cond, refl, sym, ap, ◌∙◌, inl, inr, subst, arith}
+use Rattle.std.specs.Prelude.{nat_lt}
 use Rattle.std.specs.List.{list_any, list_all, range_with_len}
-use Rattle.std.proofs.lemmas.Bool.{false≢true, cases_lt, lt-ltb, le-ltb}
+use Rattle.std.proofs.lemmas.Bool.{cases_lt, lt-ltb, le-ltb}
 use Rattle.std.proofs.lemmas.List.{get_or-take, length-map, length-take-le}
 use Rattle.start_model.specs.Demand.{member, all_sets}
 use Rattle.dependencies.proofs.PulledLemmas.{then_true, then_gives, same_bool, all_true, all_below, sets_have}
 use Rattle.dependencies.proofs.KeptLemmas.{within_waits}
 use Rattle.wait_cycles.specs.Waits.{needs_at}
-use Rattle.wait_cycles.specs.Graph.{row_at, HasEdge, AreWaits, waits_in, is_ripe, IsMetBy, IsMet}
+use Rattle.wait_cycles.specs.Graph.{row_at, AreWaits, waits_in, IsMetBy, IsMet}
 use Rattle.wait_cycles.proofs.MetLemmas.{all_from, all_gives, any_gives, any_from, range_in, ripe_by_all, ripe_by_one, ripe_all, ripe_one}
 use Rattle.why_cycle.specs.Freed.{frees, has_freed, is_freed}
 use Rattle.why_cycle.specs.Rows.{all_needs, AreBelow, rows_of}

@@ -4,7 +4,6 @@ use Rattle.std.specs.Prelude.{nat_eq, position}
 use Rattle.std.specs.Option.{option_map_or}
 use Rattle.indexmap.specs.IndexSet.{insert_key}
 use Rattle.std.specs.List.{list_any, position_or_len}
-use Rattle.std.proofs.lemmas.Bool.{false≢true}
 use Rattle.boot_phases.proofs.TriedLemmas.{within}
 use Rattle.why_cycle.specs.Walk.{gone_round}
 

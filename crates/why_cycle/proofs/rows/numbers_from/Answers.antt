@@ -1,4 +1,4 @@
-use Rattle.std.proofs.Common.{List, ℕ, ◌∷◌, [], ◌++◌, sym, ◌∙◌}
+use Rattle.std.proofs.Common.{◌∷◌, [], ◌++◌, sym, ◌∙◌}
 use Rattle.why_cycle.proofs.RowsLemmas.{numbers_more}
 use Rattle.why_cycle.proofs.rows.numbers_from.Goals as goal
 
