@@ -101,8 +101,8 @@ fn cycle_places(
     cycle_of(alloc, waits.as_slice(), freed.as_slice())
 }
 
-/// Puts the lines of the cycle after the others that the first of these entries waits for; none where it is freed. The others are all that it
-/// leads to, as `items` finds them.
+/// Puts the lines of the cycle after the others that keeps the first of these entries from its attempt; none where it is freed. The entries are
+/// those that `items` finds: the first one, and all that it leads to.
 #[tactic(auto, unfolding(crate::specs::Cycle::cycle_lines))]
 pub fn push_cycle(
     alloc: Global,
