@@ -2,7 +2,7 @@
 --
 -- Layer 0 has the entries of Start 2. Layer i + 1 has those of Start 3 that one of layer i names, and that are in no earlier layer. They
 -- are found breadth first: what an entry names and was not found before is one layer behind it.
-use Rattle.std.specs.Prelude.{ℕ, zero, suc, ◌+◌, ◌-◌, ◌==◌, nat_eq, List, [], ◌∷◌, ◌++◌, length, slice_get, replicate, position, Option, None, Some, if◌then◌else◌}
+use Rattle.std.specs.Prelude.{ℕ, zero, suc, ◌+◌, ◌-◌, ◌==◌, nat_eq, List, [], ◌++◌, length, slice_get, replicate, position, Option, None, Some, if◌then◌else◌}
 use Rattle.std.specs.Option.{option_map_or, option_and_then}
 use Rattle.std.specs.List.{filter_map, range_with_len}
 use Rattle.indexmap.specs.IndexSet.{insert_all}
