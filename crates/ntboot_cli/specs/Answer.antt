@@ -50,13 +50,14 @@ use Rattle.text_commands.specs.Exported.{EndsExported}
 use Rattle.ntboot_cli.specs.Made.{told, usual_in, made_text, IsMade, IsPartMade}
 use Rattle.command_parts.specs.Leaves.{Leaves}
 use Rattle.command_parts.specs.OnHive.{EndsOnHive}
+use Rattle.command_parts.specs.Reporting.{EndsReport}
 use Rattle.line_text.specs.declared.form.ReportForm.{ReportForm}
 use Rattle.line_text.specs.declared.form.ReportForm.TheVariants.{Text, Json}
 use Rattle.key_command.specs.Answer.{question_in as key_question_in}
-use Rattle.replay_command.specs.Answer.{EndsReplay, report_in}
+use Rattle.replay_command.specs.Answer.{report_in}
 use Rattle.check_command.specs.Answer.{question_in as check_question_in}
 use Rattle.whatif_command.specs.Answer.{question_in as whatif_question_in}
-use Rattle.salvage_command.specs.Answer.{EndsSalvage, report_in as salvage_report_in}
+use Rattle.salvage_command.specs.Answer.{report_in as salvage_report_in}
 use Rattle.diff_command.specs.Answer.{EndsDiff}
 use Rattle.diff_command.specs.Asks.{AsksDiff}
 use Rattle.command_parts.specs.Placed.{image_in, placed_disk, IsUnrun, IsUntouchedBy}
@@ -221,13 +222,13 @@ EndsWords (asks (export words) json) files after disk status old new =
 EndsWords (asks (key words) json) files after disk status old new =
     EndsOnHive (key_question_in (form_of json) words files) status old new × (disk ≡ new_state)
 EndsWords (asks (replay words) json) files after disk status old new =
-    EndsReplay (report_in (form_of json) words files) words.save_hive files after status old new × (disk ≡ new_state)
+    EndsReport (report_in (form_of json) words files) words.save_hive files after status old new × (disk ≡ new_state)
 EndsWords (asks (check words) json) files after disk status old new =
     EndsOnHive (check_question_in (form_of json) words files) status old new × (disk ≡ new_state)
 EndsWords (asks (whatif words) json) files after disk status old new =
     EndsOnHive (whatif_question_in (form_of json) words files) status old new × (disk ≡ new_state)
 EndsWords (asks (salvage words) json) files after disk status old new =
-    EndsSalvage (salvage_report_in (form_of json) words files) words.save_hive files after status old new × (disk ≡ new_state)
+    EndsReport (salvage_report_in (form_of json) words files) words.save_hive files after status old new × (disk ≡ new_state)
 EndsWords (asks (diff words) json) files after disk status old new = EndsDiff (form_of json) words files status old new × (disk ≡ new_state)
 
 -- the same number of files are asked for as are in the written order, up to the first obstacle; for `import` and `diff` more, where the hive has no fault
