@@ -25,19 +25,15 @@ use Rattle.replay_command.specs.Answer.{report_in}
 use Rattle.check_command.specs.Answer.{question_in as check_question_in}
 use Rattle.whatif_command.specs.Answer.{question_in as whatif_question_in}
 use Rattle.salvage_command.specs.Answer.{report_in as salvage_report_in}
-use Rattle.safe_command.specs.declared.inputs.SafeInputs.{SafeInputs}
-use Rattle.safe_command.specs.Answer.{EndsSafe}
-use Rattle.safe_command.specs.Inputs.{inputs_in as safe_inputs_in}
-use Rattle.control_command.specs.declared.inputs.ControlInputs.{ControlInputs}
-use Rattle.control_command.specs.Answer.{EndsControl}
-use Rattle.control_command.specs.Inputs.{inputs_in as control_inputs_in}
+use Rattle.safe_command.specs.Answer.{question_in as safe_question_in}
+use Rattle.control_command.specs.Answer.{question_in as control_question_in}
 use Rattle.twin_command.specs.Twinned.{EndsTwin, stands_by, twin_saves}
 use Rattle.text_commands.specs.declared.said.How.{How}
 use Rattle.text_commands.specs.Imported.{EndsImport, import_how, import_saves}
 use Rattle.text_commands.specs.Exported.{EndsExported}
 use Rattle.ntboot_cli.specs.declared.inputs.Inputs.{Inputs}
 use Rattle.ntboot_cli.specs.declared.making.Usual.{Usual}
-use Rattle.ntboot_cli.specs.Answer.{EndsInputs, EndsMade, EndsShown, EndsWords, form_of, saves_of}
+use Rattle.ntboot_cli.specs.Answer.{EndsInputs, EndsMade, EndsWords, form_of, saves_of, show_question_in}
 use Rattle.ntboot_cli.specs.Inputs.{inputs_in}
 use Rattle.ntboot_cli.specs.Made.{usual_in}
 use Rattle.ntboot_cli.proofs.MakeLemmas.{new_part, part_more}
@@ -46,21 +42,6 @@ unread_inputs : (wanted : Result Inputs Refusal) (saves : Saves) (disk : DiskSta
     → disk ≡ new_state → EndsInputs wanted saves disk statuses.Memory said said
 unread_inputs (Err r) saves disk said fresh = (inr (no_front (refusal_text r) said said refl), fresh)
 unread_inputs (Ok inputs) saves disk said fresh = inl (inr (inr (refl, refl, unrun disk fresh)))
-
-unread_shown : (form : ReportForm) (wanted : Result HiveFiles Refusal) (said : List ℕ)
-    → EndsShown form wanted statuses.Memory said said
-unread_shown form (Err r) said = inr (no_front (refusal_text r) said said refl)
-unread_shown form (Ok files) said = inr (inr (inl refl, refl))
-
-unread_safe : (form : ReportForm) (wanted : Result SafeInputs Refusal) (said : List ℕ)
-    → EndsSafe form wanted statuses.Memory said said
-unread_safe form (Err r) said = inr (no_front (refusal_text r) said said refl)
-unread_safe form (Ok inputs) said = inr (inr (inl refl, refl))
-
-unread_control : (form : ReportForm) (wanted : Result ControlInputs Refusal) (said : List ℕ)
-    → EndsControl form wanted statuses.Memory said said
-unread_control form (Err r) said = inr (no_front (refusal_text r) said said refl)
-unread_control form (Ok inputs) said = inr (inr (inl refl, refl))
 
 unread_hive : (wanted : Result Question Refusal) (said : List ℕ) → EndsOnHive wanted statuses.Memory said said
 unread_hive (Err r) said = inr (no_front (refusal_text r) said said refl)
@@ -115,13 +96,13 @@ unread_words version host disk fresh = (inr (no_front _ host.said host.said refl
 unread_words (asks (run words) json) host disk fresh =
     unread_inputs (inputs_in words host.files) (saves_of (asks (run words) json)) disk host.said fresh
 unread_words (asks (show words) json) host disk fresh =
-    (unread_shown (form_of json) (hive_in host.files words.hive words.log) host.said, fresh)
+    (unread_hive (show_question_in (form_of json) words host.files) host.said, fresh)
 unread_words (asks (make words) json) host disk fresh =
     unread_made (form_of json) usual_in words (saves_of (asks (make words) json)) disk host.said fresh
 unread_words (asks (safe words) json) host disk fresh =
-    (unread_safe (form_of json) (safe_inputs_in words host.files) host.said, fresh)
+    (unread_hive (safe_question_in (form_of json) words host.files) host.said, fresh)
 unread_words (asks (control words) json) host disk fresh =
-    (unread_control (form_of json) (control_inputs_in words host.files) host.said, fresh)
+    (unread_hive (control_question_in (form_of json) words host.files) host.said, fresh)
 unread_words (asks (twin words) json) host disk fresh =
     unread_twin (form_of json) (hive_in host.files words.hive words.alt) (stands_by words.scheme) words.default (twin_saves words)
     disk host.said fresh
