@@ -1,7 +1,7 @@
 //! What the values of a command's options ask for.
 
 ghost use Rattle.std.specs.Prelude.{◌≡◌, codes, option_and_then, option_map, Some};
-ghost use Rattle.command_words.specs.Table.{count_of, depth_of, encoding_of, mode_of, set_of};
+ghost use Rattle.command_words.specs.Table.{count_of, depth_of, encoding_of, mode_of};
 ghost use Rattle.command_words.specs.Commands.{needed_in, system_in, set_in, scheme_of, counted, asks_of};
 ghost use Rattle.command_words.specs.Commands.{run_by, show_by, make_by, safe_by, control_by, twin_by, export_by, import_by};
 ghost use Rattle.command_words.specs.Commands.{flag_in, levels_in, encoding_in, current_in, paired};

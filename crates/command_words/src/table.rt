@@ -1,7 +1,7 @@
 //! The commands and their options.
 
 ghost use Rattle.std.specs.Prelude.{◌≡◌, map, option_map};
-ghost use Rattle.command_words.specs.Table.{known_from, option_known, free_known, is_flag, is_free};
+ghost use Rattle.command_words.specs.Table.{option_known, free_known, is_flag, is_free};
 ghost use Rattle.command_words.specs.Commands.{commands, row_named};
 ghost use Rattle.command_words.specs.Views.{entry_seen, found_seen, option_seen};
 

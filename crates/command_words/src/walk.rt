@@ -1,6 +1,6 @@
 //! The arguments of a command, read from left to right.
 
-ghost use Rattle.std.specs.Prelude.{◌≡◌, ◌||◌, codes, is_ok, map, None, option_map, slice_set, Some};
+ghost use Rattle.std.specs.Prelude.{◌≡◌, ◌||◌, is_ok, map, None, option_map, slice_set, Some};
 ghost use Rattle.std.specs.Prelude.{Ok};
 ghost use Rattle.std.specs.List.{before_first};
 ghost use Rattle.nt_bytes.specs.Text.{is_equals};
