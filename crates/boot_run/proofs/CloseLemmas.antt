@@ -16,9 +16,9 @@ use Rattle.start_model.specs.Commit.{committed_state, opened_state, commit}
 use Rattle.start_model.specs.EventActs.{flush_act, off_act}
 use Rattle.start_model.specs.Run.{play}
 use Rattle.boot_machine.specs.Steps.{is_there, falls_back}
-use Rattle.run_parts.specs.Parts.{Told, Tells, Goes, PlaysOr, TellsOr}
+use Rattle.printed_parts.specs.Parts.{Told, Tells, Goes, PlaysOr, TellsOr}
 use Rattle.run_parts.proofs.CountLemmas.{Still, still}
-use Rattle.run_parts.proofs.GoesLemmas.{goes-nothing, goes-line}
+use Rattle.printed_parts.proofs.GoesLemmas.{goes-nothing, goes-line}
 use Rattle.boot_run.specs.declared.runner.Runner.{Runner}
 use Rattle.boot_run.specs.Agrees.{IsUp, IsLive, IsSound, IsOnSet, IsRunningBy, Counts, CommitLeft, TurnLeft, OffLeft, IsEnding}
 use Rattle.boot_run.proofs.DiskLemmas.{still-off, left-off}

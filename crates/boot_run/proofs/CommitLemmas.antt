@@ -14,19 +14,21 @@ use Rattle.hive_store.specs.Session.{Session}
 use Rattle.hive_store.specs.Commits as store
 use Rattle.hive_commit.specs.Stages.{LoadsAsEither}
 use Rattle.hive_commit.specs.Stages.{next_number}
-use Rattle.start_model.specs.Lines.{CommitLine, VerdictLine, CommitWord, Verdict, line_text}
+use Rattle.start_model.specs.Lines.{CommitLine, VerdictLine, CommitWord, Verdict}
 use Rattle.start_model.specs.Fits.{outcomes_in, MayLoad}
 use Rattle.start_model.specs.Causes.{HasCause}
+use Rattle.line_objects.specs.Objects.{printed}
 use Rattle.run_parts.specs.Counted.{CountedIn}
 use Rattle.start_model.specs.Machine.{ended}
 use Rattle.start_model.specs.Possible.{Outcome, Finished, settled_at, open_between}
 use Rattle.start_model.specs.Act.{Act, done, mark, Held, RunState, next_state, start_over, end_with}
 use Rattle.start_model.specs.Commit.{committed_state, opened_state, committed, commit}
 use Rattle.start_model.specs.Run.{play}
-use Rattle.run_parts.specs.Parts.{Told, Tells, Goes, Breaks, Stays, since_wake, tally_now}
+use Rattle.run_parts.specs.Parts.{Stays, since_wake, tally_now}
+use Rattle.printed_parts.specs.Parts.{Told, Tells, Goes, Breaks}
 use Rattle.run_parts.proofs.CountLemmas.{Alone, alone-by}
-use Rattle.run_parts.proofs.GoesLemmas.{goes-then, goes-told, goes-held}
-use Rattle.run_parts.proofs.BreakLemmas.{breaks-silent, breaks-told}
+use Rattle.printed_parts.proofs.GoesLemmas.{goes-then, goes-told, goes-held}
+use Rattle.printed_parts.proofs.BreakLemmas.{breaks-silent, breaks-told}
 use Rattle.boot_run.specs.Agrees.{IsUp, IsDown, LoadsAny, IsStored, IsLive, Counts}
 use Rattle.boot_run.specs.declared.runner.Runner.{Runner}
 use Rattle.boot_run.proofs.DiskLemmas.{still_leaves, settled_loads, open_loads, alone-off, counted-off, left-off}
@@ -91,11 +93,11 @@ module _ (m : RunState) (next : RunState → Act) (what : CommitWord) (s : Sessi
         (goes-held s.tree (next (committed_state m s.tree)) y e)
 
     pub commit_breaks : tally_now e ≡ tally_now d → Stays next → (x : Told) (y : List ℕ)
-        → SaysFront x.said y (line_text (CommitLine what number))
+        → SaysFront x.said y (printed x.form (CommitLine what number))
         → Breaks (commit what s.tree m next) x y d e
     commit_breaks quiet stays x y f =
         let r : Act = mark (Held s.tree) (next (committed_state m s.tree)) in
-        let P : ℕ → Type 0 = λ n. SaysFront x.said y (line_text (CommitLine what n)) in
+        let P : ℕ → Type 0 = λ n. SaysFront x.said y (printed x.form (CommitLine what n)) in
         breaks-told (open_between m.disk.settled (next_state m s.tree)) (committed what s.tree m next)
         (CommitLine what (next_state m s.tree).sequence) Finished r x y d e
         commit_alone tt quiet refl refl (subst P commit_number f) commit_open
@@ -122,7 +124,7 @@ module _ (m : RunState) (next : RunState → Act) (what : CommitWord) (s : Sessi
         (done (start_over false (opened_state m s.tree))) x y d f (alone-off d e f commit_alone off)
         stop_cause (counted-off u d e f counted off) told is said
 
-    pub stop_breaks : CountedIn u (tally_now d) (tally_now e) → (x : Told) (y : List ℕ) → SaysFront x.said y (line_text (VerdictLine verdict))
+    pub stop_breaks : CountedIn u (tally_now d) (tally_now e) → (x : Told) (y : List ℕ) → SaysFront x.said y (printed x.form (VerdictLine verdict))
         → Breaks (commit what s.tree m next) x y d f
     stop_breaks counted x y front =
         breaks-told (open_between m.disk.settled (next_state m s.tree)) (committed what s.tree m next)

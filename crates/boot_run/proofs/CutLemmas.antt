@@ -19,10 +19,11 @@ use Rattle.start_model.specs.Act.{Act, Note, RunState, Cuts, Ended, Ordered, don
 use Rattle.start_model.specs.EventActs.{cut_act, arm_act}
 use Rattle.start_model.specs.Run.{play}
 use Rattle.run_parts.specs.Counted.{with_cut}
-use Rattle.run_parts.specs.Parts.{Told, Tells, Goes, GoesBut, Grew, Breaks, PlaysOr, TellsOr, IsMarked, NoLess, since_wake, tally_now, cuts_behind}
+use Rattle.run_parts.specs.Parts.{Grew, IsMarked, NoLess, since_wake, tally_now, cuts_behind}
+use Rattle.printed_parts.specs.Parts.{Told, Tells, Goes, GoesBut, Breaks, PlaysOr, TellsOr}
 use Rattle.run_parts.proofs.CountLemmas.{still, no_less-same, no_less-bounded, rises-since}
-use Rattle.run_parts.proofs.GoesLemmas.{tells-nothing}
-use Rattle.run_parts.proofs.BreakLemmas.{breaks-silent, breaks-front}
+use Rattle.printed_parts.proofs.GoesLemmas.{tells-nothing}
+use Rattle.printed_parts.proofs.BreakLemmas.{breaks-silent, breaks-front}
 use Rattle.boot_run.specs.declared.runner.Runner.{Runner}
 use Rattle.boot_run.specs.Agrees.{IsUp, IsDown, LoadsAny, IsLive, Counts, OffLeft}
 use Rattle.boot_run.proofs.DiskLemmas.{still_leaves}

@@ -21,7 +21,8 @@ use Rattle.start_model.specs.Report.{Going}
 use Rattle.start_model.specs.Fits.{MayLoad}
 use Rattle.start_model.specs.Possible.{Possible, Outcome, PowerCut, DeviceFault, settled_at, open_between}
 use Rattle.run_parts.specs.Counted.{CountedIn}
-use Rattle.run_parts.specs.Parts.{Told, GoesBut, Grew, Later, IsMarked, NoLess, since_wake, tally_now, tallies, tally_at}
+use Rattle.run_parts.specs.Parts.{Grew, Later, IsMarked, NoLess, since_wake, tally_now, tallies, tally_at}
+use Rattle.printed_parts.specs.Parts.{Told, GoesBut}
 use Rattle.run_parts.proofs.CountLemmas.{Alone, Still, still, later-then, later-same, no_less-then, no_less-bounded, rises-since, since-grown}
 
 -- with nothing in flight a cut leaves what is held

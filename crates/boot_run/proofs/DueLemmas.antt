@@ -17,9 +17,10 @@ use Rattle.start_model.specs.Commit.{committed, committed_state, commit, saved_b
 use Rattle.start_model.specs.EventActs.{logon_act}
 use Rattle.start_model.specs.Run.{play}
 use Rattle.boot_machine.specs.Steps.{on_start}
-use Rattle.run_parts.specs.Parts.{Told, Goes, Stays}
+use Rattle.run_parts.specs.Parts.{Stays}
+use Rattle.printed_parts.specs.Parts.{Told, Goes}
 use Rattle.run_parts.proofs.CountLemmas.{still}
-use Rattle.run_parts.proofs.GoesLemmas.{goes-nothing}
+use Rattle.printed_parts.proofs.GoesLemmas.{goes-nothing}
 use Rattle.boot_run.specs.declared.runner.Runner.{Runner}
 use Rattle.boot_run.specs.Agrees.{IsUp, IsLive, IsSound, IsOnSet, IsRunningBy, Counts, OnLeft, TurnLeft}
 use Rattle.boot_run.specs.Saves.{HandedOut, noting}

@@ -11,10 +11,10 @@ use Rattle.start_model.specs.Sets.{set_of}
 use Rattle.start_model.specs.Act.{Act, RunState, done}
 use Rattle.start_model.specs.Starter.{no_set, live_set, stepping, go_steps, enough_steps}
 use Rattle.start_model.specs.Run.{play}
-use Rattle.run_parts.specs.Parts.{Told, Goes, Breaks}
+use Rattle.printed_parts.specs.Parts.{Told, Goes, Breaks}
 use Rattle.run_parts.proofs.CountLemmas.{still}
-use Rattle.run_parts.proofs.GoesLemmas.{goes-nothing, goes-then}
-use Rattle.run_parts.proofs.BreakLemmas.{breaks-then}
+use Rattle.printed_parts.proofs.GoesLemmas.{goes-nothing, goes-then}
+use Rattle.printed_parts.proofs.BreakLemmas.{breaks-then}
 use Rattle.boot_run.specs.declared.runner.Runner.{Runner}
 use Rattle.boot_run.specs.Agrees.{IsLive, IsRunningBy, Counts, Agrees, TurnLeft, OnLeft}
 use Rattle.boot_run.specs.Starts.{is_under_way, StepsTo}

@@ -5,14 +5,15 @@ use Rattle.std.specs.Result.{is_err}
 use Rattle.nt_edge.specs.Disk.{DiskState}
 use Rattle.nt_edge.specs.Crash.{EachCrash}
 use Rattle.nt_edge.specs.Host.{SaysFront}
-use Rattle.start_model.specs.Lines.{Line, line_text}
+use Rattle.start_model.specs.Lines.{Line}
 use Rattle.start_model.specs.Fits.{outcomes_in, MayLoad}
 use Rattle.start_model.specs.Act.{Act, say}
 use Rattle.start_model.specs.Run.{play}
-use Rattle.run_parts.specs.Parts.{Told, Tells, PlaysOr}
+use Rattle.line_objects.specs.Objects.{printed}
+use Rattle.printed_parts.specs.Parts.{Told, Tells, PlaysOr}
 use Rattle.run_parts.proofs.CountLemmas.{still}
-use Rattle.run_parts.proofs.GoesLemmas.{goes-line}
-use Rattle.run_parts.proofs.BreakLemmas.{or-breaks, breaks-line}
+use Rattle.printed_parts.proofs.GoesLemmas.{goes-line}
+use Rattle.printed_parts.proofs.BreakLemmas.{or-breaks, breaks-line}
 use Rattle.boot_run.proofs.PlayLemmas.{plays-as, plays-then}
 
 -- the line was reported, and a call after it plays the rest
@@ -29,7 +30,7 @@ said_then r Left whole l rest same x y z d f is eq none told p =
 -- a prefix of the line was printed, and the call was refused
 pub said_front : {T E : Type 0} → (r : Result T E) (Left : T → Act → Type 0) → is_err r ≡ true
     → (whole : Act) (l : Line) (rest : Act) (x y : Told) (d : DiskState)
-    → say l rest ≡ whole → outcomes_in (l ∷ []) ≡ [] → SaysFront x.said y.said (line_text l)
+    → say l rest ≡ whole → outcomes_in (l ∷ []) ≡ [] → SaysFront x.said y.said (printed x.form l)
     → EachCrash d (MayLoad (play rest [] []).disk) → PlaysOr whole x y d d r Left
 said_front r Left err whole l rest x y d is none front left =
     plays-as r Left Left (say l rest) whole x y d d is (λ v a k. k)

@@ -14,18 +14,20 @@ use Rattle.nt_edge.specs.Host.{SaysFront}
 use Rattle.nt_edge.specs.Bench.{woken, turned_off}
 use Rattle.hive_store.specs.Session.{Session}
 use Rattle.hive_store.specs.Loading as store
-use Rattle.start_model.specs.Lines.{Line, LoadLine, VerdictLine, Verdict, line_text}
+use Rattle.start_model.specs.Lines.{Line, LoadLine, VerdictLine, Verdict}
 use Rattle.start_model.specs.Fits.{outcomes_in, MayLoad, IsPossible}
 use Rattle.start_model.specs.Causes.{HasCause}
+use Rattle.line_objects.specs.Objects.{printed}
 use Rattle.run_parts.specs.Counted.{CountedIn}
 use Rattle.start_model.specs.Possible.{Possible, Woken, Outcome, Finished, settled_at, woken_at}
 use Rattle.start_model.specs.Act.{Act, done, ask, mark, wake, Woke, Held, Note, RunState, start_over, end_with}
 use Rattle.start_model.specs.Boot.{woken_state, loaded_state}
 use Rattle.start_model.specs.Run.{play}
-use Rattle.run_parts.specs.Parts.{Told, Tells, Goes, Breaks, Stays, Grew, since_wake, tally_now}
+use Rattle.run_parts.specs.Parts.{Stays, Grew, since_wake, tally_now}
+use Rattle.printed_parts.specs.Parts.{Told, Tells, Goes, Breaks}
 use Rattle.run_parts.proofs.CountLemmas.{Alone, alone-by, none_fell-same}
-use Rattle.run_parts.proofs.GoesLemmas.{tells-nothing, goes-then, goes-told, goes-held}
-use Rattle.run_parts.proofs.BreakLemmas.{breaks-silent, breaks-then, breaks-told}
+use Rattle.printed_parts.proofs.GoesLemmas.{tells-nothing, goes-then, goes-told, goes-held}
+use Rattle.printed_parts.proofs.BreakLemmas.{breaks-silent, breaks-then, breaks-told}
 use Rattle.boot_run.specs.Acts as acts
 use Rattle.boot_run.specs.Acts.{loaded, load}
 use Rattle.boot_run.specs.Agrees.{IsDown, LoadsAny, IsLive}
@@ -135,10 +137,10 @@ module _ (m : RunState) (next : RunState → Act) (i : Image) (d d1 e : DiskStat
         load_alone tt quiet refl refl (subst P (load_line number is) said))
 
     pub load_breaks : tally_now e ≡ tally_now d1 → Stays next → (number : ℕ) → number ≡ s.base.first → (x : Told) (y : List ℕ)
-        → SaysFront x.said y (line_text (LoadLine number dirty))
+        → SaysFront x.said y (printed x.form (LoadLine number dirty))
         → Breaks (load m next) x y d e
     load_breaks quiet stays number is x y f =
-        let P : Line → Type 0 = λ l. SaysFront x.said y (line_text l) in
+        let P : Line → Type 0 = λ l. SaysFront x.said y (printed x.form l) in
         breaks-then (load m next) (ask (woken_at may.woken) (loaded m next may.woken)) x x y d d1 e (load_begins x)
         (breaks-told (woken_at may.woken) (loaded m next may.woken) (LoadLine may.woken.state.sequence may.woken.dirty)
         Finished (next (loaded_state m may.woken)) x y d1 e
@@ -169,7 +171,7 @@ module _ (m : RunState) (next : RunState → Act) (i : Image) (d d1 e : DiskStat
         (done (start_over false (woken_state m may.woken))) x y d1 f
         (alone-off d1 e f load_alone off) stopped_cause (counted-off u d1 e f counted off) told is said)
 
-    pub stopped_breaks : CountedIn u (tally_now d1) (tally_now e) → (x : Told) (y : List ℕ) → SaysFront x.said y (line_text (VerdictLine verdict))
+    pub stopped_breaks : CountedIn u (tally_now d1) (tally_now e) → (x : Told) (y : List ℕ) → SaysFront x.said y (printed x.form (VerdictLine verdict))
         → Breaks (load m next) x y d f
     stopped_breaks counted x y front =
         breaks-then (load m next) (ask (woken_at may.woken) (loaded m next may.woken)) x x y d d1 f (load_begins x)

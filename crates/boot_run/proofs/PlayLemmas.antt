@@ -5,15 +5,16 @@ use Rattle.hive_model.specs.Image.{Image}
 use Rattle.nt_edge.specs.Disk.{DiskState}
 use Rattle.nt_edge.specs.Crash.{EachCrash}
 use Rattle.hive_store.specs.Session.{Session}
-use Rattle.start_model.specs.Lines.{Line, Verdict, line_text}
+use Rattle.start_model.specs.Lines.{Line, Verdict}
 use Rattle.start_model.specs.Fits.{outcomes_in, MayLoad}
 use Rattle.start_model.specs.Possible.{Possible}
 use Rattle.start_model.specs.Act.{Act, RunState, done, say, end_with}
 use Rattle.start_model.specs.Run.{play}
-use Rattle.run_parts.specs.Parts.{Told, Goes, Breaks, PlaysOr, TellsOr, Stays}
+use Rattle.run_parts.specs.Parts.{Stays}
+use Rattle.printed_parts.specs.Parts.{Told, Goes, Breaks, PlaysOr, TellsOr}
 use Rattle.run_parts.proofs.CountLemmas.{Still}
-use Rattle.run_parts.proofs.GoesLemmas.{goes-then, goes-line}
-use Rattle.run_parts.proofs.BreakLemmas.{breaks-then, breaks-line}
+use Rattle.printed_parts.proofs.GoesLemmas.{goes-then, goes-line}
+use Rattle.printed_parts.proofs.BreakLemmas.{breaks-then, breaks-line}
 use Rattle.boot_run.specs.declared.runner.Runner.{Runner}
 use Rattle.boot_run.specs.Agrees.{IsUp, IsStored, IsLive, IsSound, Counts, AgreesBy, TurnLeft}
 use Rattle.boot_run.proofs.DiskLemmas.{still_leaves, settled_loads}

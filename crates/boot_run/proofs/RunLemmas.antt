@@ -12,7 +12,7 @@ use Rattle.nt_edge.specs.Disk.{DiskState}
 use Rattle.nt_edge.specs.Crash.{EachCrash}
 use Rattle.nt_edge.specs.Bench.{turned_off}
 use Rattle.start_model.specs.Lines as lines
-use Rattle.start_model.specs.Lines.{Line, text_of}
+use Rattle.start_model.specs.Lines.{Line}
 use Rattle.start_model.specs.Machine.{Start, MachineState, ending_of}
 use Rattle.start_model.specs.Fits.{outcomes_in, MayLoad}
 use Rattle.start_model.specs.Events.{Event}
@@ -26,11 +26,13 @@ use Rattle.start_model.specs.Run.{RunResult, reached, behind, play, then_run, cl
 use Rattle.run_laws.specs.Open.{IsClosed}
 use Rattle.run_laws.proofs.PartLemmas.{then-behind}
 use Rattle.run_laws.proofs.StillLemmas.{run-may, event-closed}
-use Rattle.run_parts.specs.Parts.{Told, Tells, Goes, GoesBut, Breaks, RunBreaks, PlaysOr, TellsOr}
-use Rattle.run_parts.specs.Reports.{Reports, ReportsFront}
+use Rattle.line_text.specs.declared.form.ReportForm.{ReportForm}
+use Rattle.line_objects.specs.Objects.{printed_lines}
+use Rattle.printed_parts.specs.Parts.{Told, Tells, Goes, GoesBut, Breaks, RunBreaks, PlaysOr, TellsOr}
+use Rattle.printed_parts.specs.Reports.{Reports, ReportsFront}
 use Rattle.run_parts.proofs.CountLemmas.{Still, still}
-use Rattle.run_parts.proofs.GoesLemmas.{goes-nothing, goes-then, goes-but, text_of-append}
-use Rattle.run_parts.proofs.ReportLemmas.{reports_of, reports_front_of}
+use Rattle.printed_parts.proofs.GoesLemmas.{goes-nothing, goes-then, goes-but, printed-append}
+use Rattle.printed_parts.proofs.ReportLemmas.{reports_of, reports_front_of}
 use Rattle.boot_run.specs.Agrees.{IsSound, Agrees, AgreesBy, Counts, TurnLeft}
 use Rattle.boot_run.specs.Begins.{Played, RunsOr, untold}
 use Rattle.boot_run.specs.Views.{told_by, summary_in}
@@ -122,14 +124,16 @@ module _ (choice : Option ℕ → Choice) where
       let P : Act → Type 0 = λ a. Goes (before es (event_step_of choice ev m)) (before es a) x y d e in
       subst P is (goes-before [] es (event_step_of choice ev m) rest x y d e p)
 
-  front-then : (part : List ℕ) (go : RunState → List Woken → List Outcome → RunResult) (r : RunResult)
-      (rest : Option (RunState × List Woken × List Outcome)) → IsFront (text_of r.lines) part
-      → IsFront (text_of (then_run go r rest).lines) part
-  front-then part go r None f = f
-  front-then part go r (Some (m, ws, os)) f = record {
-    rest = f.rest ++ text_of (go m ws os).lines;
-    cut = text_of-append r.lines (go m ws os).lines ∙ ap (λ (t : List ℕ). t ++ text_of (go m ws os).lines) f.cut
-        ∙ append_assoc part f.rest (text_of (go m ws os).lines);
+  front-then : (form : ReportForm) (part : List ℕ) (go : RunState → List Woken → List Outcome → RunResult)
+      (r : RunResult) (rest : Option (RunState × List Woken × List Outcome))
+      → IsFront (printed_lines form r.lines) part
+      → IsFront (printed_lines form (then_run go r rest).lines) part
+  front-then form part go r None f = f
+  front-then form part go r (Some (m, ws, os)) f = record {
+    rest = f.rest ++ printed_lines form (go m ws os).lines;
+    cut = printed-append form r.lines (go m ws os).lines
+        ∙ ap (λ (t : List ℕ). t ++ printed_lines form (go m ws os).lines) f.cut
+        ∙ append_assoc part f.rest (printed_lines form (go m ws os).lines);
   }
 
   -- an event that was given up: so is the script
@@ -149,7 +153,7 @@ module _ (choice : Option ℕ → Choice) where
         part = b.part;
         said_is = b.said_is;
         cut_off = b.cut_off;
-        front = front-then b.part (run_from choice es) (play b.rest [] (b.outcome ∷ []))
+        front = front-then b.mid.form b.part (run_from choice es) (play b.rest [] (b.outcome ∷ []))
             (play b.rest [] (b.outcome ∷ [])).rest b.front;
         left = λ c crash. then-may (run_from choice es) c (run-may c choice es) b.rest ends
             (play b.rest [] []).rest refl (b.left c crash);
@@ -341,22 +345,40 @@ pub placed_loads : (placed : Woken) (d : DiskState) → EachCrash d (λ (c : Ima
 placed_loads placed d loads image crash =
     record { woken = placed; loads = loads image crash; possible = record { state = inl refl; dirty = refl } }
 
--- the whole run: what was reported before it is nothing
+-- the form in which more is to be printed is no part of a report
+in_form : (form : ReportForm) (run : Going) (x y : Told) (d e : DiskState) → Reports run x y d e
+    → Reports run x (record y { form = form }) d e
+in_form form run x y d e r = record {
+  text = r.text;
+  added = r.added;
+  report = r.report;
+  said_is = r.said_is;
+  grew = r.grew;
+  adds_up = r.adds_up;
+  summary = r.summary;
+}
+
+-- the whole run in this form: what was reported before it is nothing
 pub whole_report : (choice : Option ℕ → Choice) (script : List Event) (placed : Woken) (host : HostState) (s : Summary)
-    (y : Told) (d e f : DiskState) → f ≡ turned_off e → summary_in s ≡ no_summary
+    (form : ReportForm) (y : Told) (d e f : DiskState) → f ≡ turned_off e → summary_in s ≡ no_summary → s.form ≡ form
     → Played (run_from choice script (first_state placed)) (told_by host s) y d e
-    → Reports (run_of choice script placed) (untold host) y d f
+    → Reports (run_of choice script placed) (untold form host) (record y { form = form }) d f
 unfolding run_of
-whole_report choice script placed host s y d e f off none p =
+whole_report choice script placed host s form y d e f off none same p =
+    let whole : Going = run_from choice script (first_state placed) in
     let P : book.Summary → Type 0 =
-    λ t. Played (run_from choice script (first_state placed)) (record { said = host.said; summary = t }) y d e in
-    reports_off (run_from choice script (first_state placed)) (untold host) y d e f off (subst P none p)
+    λ t. Played whole (record { said = host.said; form = s.form; summary = t }) y d e in
+    let Q : ReportForm → Type 0 = λ k. Played whole (untold k host) y d e in
+    in_form form whole (untold form host) y d f
+    (reports_off whole (untold form host) y d e f off (subst Q same (subst P none p)))
 
 pub whole_front : (choice : Option ℕ → Choice) (script : List Event) (placed : Woken) (host : HostState) (s : Summary)
-    (y : List ℕ) (d e f : DiskState) → f ≡ turned_off e → summary_in s ≡ no_summary
+    (form : ReportForm) (y : List ℕ) (d e f : DiskState) → f ≡ turned_off e → s.form ≡ form
     → RunBreaks (run_from choice script (first_state placed)) (told_by host s) y d e
-    → ReportsFront (run_of choice script placed) host.said y d f
+    → ReportsFront form (run_of choice script placed) host.said y d f
 unfolding run_of
-whole_front choice script placed host s y d e f off none b =
-    reports_front_of (run_from choice script (first_state placed)) (told_by host s) y d f
-    (reports_front_off (run_from choice script (first_state placed)) (told_by host s) y d e f off b)
+whole_front choice script placed host s form y d e f off same b =
+    let P : ReportForm → Type 0 = λ k. ReportsFront k (run_of choice script placed) host.said y d f in
+    subst P same
+    (reports_front_of (run_from choice script (first_state placed)) (told_by host s) y d f
+    (reports_front_off (run_from choice script (first_state placed)) (told_by host s) y d e f off b))

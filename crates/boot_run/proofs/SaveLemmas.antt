@@ -12,7 +12,7 @@ use Rattle.nt_edge.specs.Disk.{DiskState}
 use Rattle.nt_edge.specs.Crash.{EachCrash}
 use Rattle.nt_edge.specs.Host.{SaysFront}
 use Rattle.hive_store.specs.Session.{Session}
-use Rattle.start_model.specs.Lines.{Line, SaveCommit, line_text}
+use Rattle.start_model.specs.Lines.{Line, SaveCommit}
 use Rattle.start_model.specs.Machine.{Start, MachineState}
 use Rattle.start_model.specs.Fits.{outcomes_in, MayLoad}
 use Rattle.start_model.specs.Sets.{SelectNumbers, SetPlan, SetChange, ChangeStop, NoPlan, Full, set_of, select_numbers_of, usable_numbers_of, stepped, changed_by, planned, save_of}
@@ -29,10 +29,12 @@ use Rattle.start_laws.proofs.SaveLemmas.{save_case, saves}
 use Rattle.start_laws.proofs.UsableLemmas.{usable_parts, usable_from}
 use Rattle.run_laws.proofs.StillLemmas.{opens}
 use Rattle.boot_machine.specs.Steps.{on_start}
-use Rattle.run_parts.specs.Parts.{Told, Tells, Goes, PlaysOr, TellsOr, Stays}
+use Rattle.line_objects.specs.Objects.{printed}
+use Rattle.run_parts.specs.Parts.{Stays}
+use Rattle.printed_parts.specs.Parts.{Told, Tells, Goes, PlaysOr, TellsOr}
 use Rattle.run_parts.proofs.CountLemmas.{still}
-use Rattle.run_parts.proofs.GoesLemmas.{goes-nothing, goes-line, goes-saved}
-use Rattle.run_parts.proofs.BreakLemmas.{breaks-line}
+use Rattle.printed_parts.proofs.GoesLemmas.{goes-nothing, goes-line, goes-saved}
+use Rattle.printed_parts.proofs.BreakLemmas.{breaks-line}
 use Rattle.boot_run.specs.declared.runner.Runner.{Runner}
 use Rattle.boot_run.specs.Agrees.{IsUp, IsLive, IsStored, IsSound, IsOnSet, IsRunningBy, Counts, LeavesUp, CommitLeft, OnLeft, TurnLeft}
 use Rattle.boot_run.specs.Saves.{HandedOut, IsSavePlan, noting}
@@ -118,7 +120,7 @@ noted_plays (Ok v) line told ok s m next h r r' x y d is none out counts up live
       ),
     )
 noted_plays (Err e) line told ok s m next h r r' x y d is none out counts up live stays said machine starts =
-    let P : Line → Type 0 = λ l. SaysFront x.said y.said (line_text l) in
+    let P : Line → Type 0 = λ l. SaysFront x.said y.said (printed x.form l) in
     breaks-line line (next (noted_saved ok s m)) x y.said d d (still d) none (subst P is said)
     (noted_may ok s m next h d up live stays)
 

@@ -18,7 +18,7 @@ use Rattle.start_model.specs.Entries.{Entry, Phase, Boot, System, Automatic, Don
 use Rattle.start_model.specs.Order.{plan_of}
 use Rattle.start_model.specs.Judge.{Judgement, Ignore, Log, FallBack, Stop}
 use Rattle.start_model.specs.Lines as lines
-use Rattle.start_model.specs.Lines.{Line, VerdictLine, UnmetLine, VitalLine, Verdict, line_text}
+use Rattle.start_model.specs.Lines.{Line, VerdictLine, UnmetLine, VitalLine, Verdict}
 use Rattle.start_model.specs.Machine.{Start, MachineState, Tried, next_in, attempt_at, attempt_in, attempt_of, after_phase, phase_after, unmet_in, missing_in, is_done, with_start, ended}
 use Rattle.start_model.specs.Fits.{outcomes_in, MayLoad}
 use Rattle.start_model.specs.Sets.{set_of}
@@ -30,10 +30,12 @@ use Rattle.start_model.specs.Run.{behind, play}
 use Rattle.run_laws.proofs.CountLemmas.{plan_few}
 use Rattle.start_laws.proofs.UsableLemmas.{usable_parts}
 use Rattle.boot_machine.specs.Steps.{falls_back, is_last_phase, is_in_last_phase, on_start}
-use Rattle.run_parts.specs.Parts.{Told, Tells, Goes, Breaks, PlaysOr, TellsOr, Stays}
+use Rattle.line_objects.specs.Objects.{printed}
+use Rattle.run_parts.specs.Parts.{Stays}
+use Rattle.printed_parts.specs.Parts.{Told, Tells, Goes, Breaks, PlaysOr, TellsOr}
 use Rattle.run_parts.proofs.CountLemmas.{alone, still}
-use Rattle.run_parts.proofs.GoesLemmas.{outcomes_in-append, tells-nothing, tells-then}
-use Rattle.run_parts.proofs.BreakLemmas.{breaks-line, breaks-then}
+use Rattle.printed_parts.proofs.GoesLemmas.{outcomes_in-append, tells-nothing, tells-then}
+use Rattle.printed_parts.proofs.BreakLemmas.{breaks-line, breaks-then}
 use Rattle.boot_run.specs.declared.stop.RunStop.{RunStop}
 use Rattle.boot_run.specs.declared.runner.Runner.{Runner}
 use Rattle.boot_run.specs.Agrees.{IsUp, IsLive, IsSound, IsOnSet, IsRunningBy, Counts, TurnLeft, OnLeft}
@@ -265,7 +267,7 @@ says_none [] l x = record {
   parts = refl;
   mid = x;
   told = tells-nothing x;
-  front = record { front = []; rest = line_text l; cut = refl; said = sym (append-nil x.said) };
+  front = record { front = []; rest = printed x.form l; cut = refl; said = sym (append-nil x.said) };
 }
 says_none (k ∷ ls) l x =
     record {
@@ -275,7 +277,7 @@ says_none (k ∷ ls) l x =
       parts = refl;
       mid = x;
       told = tells-nothing x;
-      front = record { front = []; rest = line_text k; cut = refl; said = sym (append-nil x.said) };
+      front = record { front = []; rest = printed x.form k; cut = refl; said = sym (append-nil x.said) };
     }
 
 pub says_more : (ls more : List Line) (x : Told) (y : List ℕ) → SaysPart ls x y → SaysPart (ls ++ more) x y

@@ -32,10 +32,10 @@ use Rattle.nt_bytes.specs.declared.names.Names.{Names}
 use Rattle.nt_bytes.specs.declared.units.Units.{Units}
 use Rattle.nt_edge.specs.declared.disk.DiskCall as calls
 use Rattle.nt_edge.specs.declared.disk.Keep as keeps
-use Rattle.run_parts.specs.Parts.{Told, Goes, Breaks, PlaysOr, TellsOr}
+use Rattle.printed_parts.specs.Parts.{Told, Goes, Breaks, PlaysOr, TellsOr}
 use Rattle.run_parts.proofs.CountLemmas.{still}
-use Rattle.run_parts.proofs.GoesLemmas.{goes-nothing}
-use Rattle.run_parts.proofs.BreakLemmas.{breaks-silent}
+use Rattle.printed_parts.proofs.GoesLemmas.{goes-nothing}
+use Rattle.printed_parts.proofs.BreakLemmas.{breaks-silent}
 use Rattle.boot_run.specs.declared.runner.Runner.{Runner}
 use Rattle.boot_run.specs.Agrees.{IsUp, IsDown, IsLive, IsSound, IsRunningBy, RunsOnBy, Counts, Agrees, AgreesBy, TurnLeft}
 use Rattle.boot_run.specs.Begins.{aside_machine, aside_disk, aside_act, IsStepOf, IsEdit}

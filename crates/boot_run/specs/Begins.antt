@@ -25,9 +25,10 @@ use Rattle.start_model.specs.Act.{RunState, Act, done, end_with, with_machine}
 use Rattle.start_model.specs.Boot.{begin_with}
 use Rattle.start_model.specs.EventActs.{arm_act}
 use Rattle.start_model.specs.Run.{reached}
-use Rattle.run_parts.specs.Parts.{Told, Goes, RunBreaks}
+use Rattle.line_text.specs.declared.form.ReportForm.{ReportForm}
+use Rattle.printed_parts.specs.Parts.{Told, Goes, RunBreaks}
 use Rattle.boot_run.specs.Agrees.{IsUp, IsDown, IsEnding}
-use Rattle.boot_run.specs.Views.{told_by}
+use Rattle.boot_run.specs.Views.{summary_in}
 use Rattle.boot_run.specs.declared.summary.Summary.{Summary}
 use Rattle.boot_run.specs.declared.stop.RunStop.{RunStop}
 
@@ -103,11 +104,11 @@ abbrev pub RunsOr : {T E : Type 0} → Going → Told → Told → DiskState →
 RunsOr whole told told' old new (Ok x) = Played whole told told' old new
 RunsOr whole told told' old new (Err e) = RunBreaks whole told told'.said old new
 
--- what was reported before the run
-abbrev pub untold : HostState → Told
-untold host = record { said = host.said; summary = no_summary }
+-- what was reported before a run whose lines are printed in this form
+abbrev pub untold : ReportForm → HostState → Told
+untold form host = record { said = host.said; form = form; summary = no_summary }
 
 -- what was reported in it: the summary is the answer
-abbrev pub answered : HostState → Result Summary RunStop → Told
-answered host (Ok summary) = told_by host summary
-answered host (Err stop) = untold host
+abbrev pub answered : ReportForm → HostState → Result Summary RunStop → Told
+answered form host (Ok summary) = record { said = host.said; form = form; summary = summary_in summary }
+answered form host (Err stop) = untold form host

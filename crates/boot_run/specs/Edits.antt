@@ -6,7 +6,7 @@ use Rattle.reg_tree.specs.declared.stop.EditStop.{EditStop}
 use Rattle.start_model.specs.Events.{Event}
 use Rattle.start_model.specs.Lines.{Line, EditOkLine, RefusedLine}
 use Rattle.start_model.specs.EventActs.{event_word_of, reason_of}
-use Rattle.run_parts.specs.Parts.{Told, TellsOr}
+use Rattle.printed_parts.specs.Parts.{Told, TellsOr}
 
 -- the line of an edit, by how it ended; lack of memory has none
 abbrev pub refusal_line : Event → Option Refusal → Option Line

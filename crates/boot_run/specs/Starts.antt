@@ -13,7 +13,7 @@ use Rattle.hive_store.specs.Session.{Session}
 use Rattle.start_model.specs.Act.{RunState, Act, say_all}
 use Rattle.start_model.specs.Starter.{phase_line, phase_begun, go_steps}
 use Rattle.start_model.specs.Run.{play}
-use Rattle.run_parts.specs.Parts.{Told, Goes}
+use Rattle.printed_parts.specs.Parts.{Told, Goes}
 use Rattle.boot_run.specs.declared.runner.Runner.{Runner}
 use Rattle.boot_run.specs.Agrees.{OnLeft}
 

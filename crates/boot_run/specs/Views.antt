@@ -5,8 +5,9 @@ use Rattle.nt_edge.specs.Host.{HostState, SaysFront}
 use Rattle.start_model.specs.Summary as book
 use Rattle.boot_report.specs.Report.{verdict_of}
 use Rattle.start_model.specs.Act.{Act}
-use Rattle.start_model.specs.Lines.{Line, line_text}
-use Rattle.run_parts.specs.Parts.{Told, Tells, PlaysOr}
+use Rattle.start_model.specs.Lines.{Line}
+use Rattle.line_objects.specs.Objects.{printed}
+use Rattle.printed_parts.specs.Parts.{Told, Tells, PlaysOr}
 use Rattle.boot_run.specs.declared.summary.Summary.{Summary}
 use Rattle.boot_run.specs.declared.runner.Runner.{Runner}
 use Rattle.boot_run.specs.declared.stop.RunStop.{RunStop}
@@ -14,9 +15,9 @@ use Rattle.boot_run.specs.declared.stop.RunStop.{RunStop}
 abbrev pub summary_in : Summary → book.Summary
 summary_in s = record { started = s.started; failed = s.failed; unmet = s.unmet; verdict = option_map verdict_of s.verdict; sequence = s.sequence }
 
--- what a host was reported, counted so
+-- what a host was reported, in which form, counted so
 abbrev pub told_by : HostState → Summary → Told
-told_by host summary = record { said = host.said; summary = summary_in summary }
+told_by host summary = record { said = host.said; form = summary.form; summary = summary_in summary }
 
 -- what was reported through the runner
 abbrev pub told_in : HostState → Runner → Told
@@ -43,7 +44,7 @@ pub record SaysPart (lines : List Line) (old : Told) (said : List ℕ) : Type 0 
   pub parts : lines ≡ first ++ line ∷ rest
   pub mid : Told
   pub told : Tells old mid first
-  pub front : SaysFront mid.said said (line_text line)
+  pub front : SaysFront mid.said said (printed mid.form line)
 
 -- of these lines those before the rest were reported
 pub record TellsBefore (lines rest : List Line) (old new : Told) : Type 0 where

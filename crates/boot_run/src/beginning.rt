@@ -15,7 +15,7 @@ ghost use Rattle.start_model.specs.Act.{RunState, Act};
 ghost use Rattle.start_model.specs.Starter.{no_set};
 ghost use Rattle.start_model.specs.Commit as commit_book;
 ghost use Rattle.start_model.specs.Boot as boot_book;
-ghost use Rattle.run_parts.specs.Parts.{PlaysOr};
+ghost use Rattle.printed_parts.specs.Parts.{PlaysOr};
 ghost use Rattle.boot_run.specs.Agrees.{IsUp, IsLive, IsStored, IsSound, Counts, CommitLeft, TurnLeft};
 ghost use Rattle.boot_run.specs.Hosts.{LeavesHost};
 ghost use Rattle.boot_run.specs.Begins.{Planned, begin_planned, SetLeft, IsTaken, IsUpOrDown};

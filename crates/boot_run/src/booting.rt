@@ -9,7 +9,7 @@ ghost use Rattle.start_model.specs.Act.{RunState};
 ghost use Rattle.start_model.specs.Boot.{boot_act};
 ghost use Rattle.start_model.specs.Act as acts;
 ghost use Rattle.start_model.specs.Boot as boot_book;
-ghost use Rattle.run_parts.specs.Parts.{TellsOr};
+ghost use Rattle.printed_parts.specs.Parts.{TellsOr};
 ghost use Rattle.boot_run.specs.Agrees.{IsDown, IsSound, Counts, TurnLeft};
 ghost use Rattle.boot_run.specs.Choices.{is_on_good, choice_in, choices};
 ghost use Rattle.boot_run.specs.Hosts.{LeavesHost};

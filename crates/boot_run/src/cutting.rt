@@ -8,7 +8,7 @@ ghost use Rattle.nt_edge.specs.Crash.{EachCrash};
 ghost use Rattle.start_model.specs.Fits.{MayLoad};
 ghost use Rattle.start_model.specs.Act.{RunState, done};
 ghost use Rattle.start_model.specs.EventActs.{cut_act, arm_act};
-ghost use Rattle.run_parts.specs.Parts.{Told, PlaysOr};
+ghost use Rattle.printed_parts.specs.Parts.{Told, PlaysOr};
 ghost use Rattle.boot_run.specs.Agrees.{IsUp, IsLive, IsSound, Counts, OffLeft};
 ghost use Rattle.boot_run.specs.Hosts.{LeavesHost};
 ghost use Rattle.boot_run.specs.Views.{moment, RunsTo};

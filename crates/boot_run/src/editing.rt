@@ -10,7 +10,7 @@ ghost use Rattle.start_model.specs.Events.{Edit, Edits, is_protected};
 ghost use Rattle.start_model.specs.Events as book;
 ghost use Rattle.start_model.specs.Act.{RunState};
 ghost use Rattle.start_model.specs.EventActs.{edit_done};
-ghost use Rattle.run_parts.specs.Parts.{PlaysOr};
+ghost use Rattle.printed_parts.specs.Parts.{PlaysOr};
 ghost use Rattle.boot_run.specs.Agrees.{IsLive, IsSound, Counts, TurnLeft, RunsOn};
 ghost use Rattle.boot_run.specs.Edits.{edit_line, TellsLine};
 ghost use Rattle.boot_run.specs.Hosts.{LeavesHost};

@@ -10,7 +10,7 @@ ghost use Rattle.start_model.specs.Machine.{ended};
 ghost use Rattle.boot_report.specs.Report.{verdict_of};
 ghost use Rattle.boot_machine.specs.Steps.{falls_back};
 ghost use Rattle.nt_edge.specs.Bench.{turned_off};
-ghost use Rattle.run_parts.specs.Parts.{TellsOr};
+ghost use Rattle.printed_parts.specs.Parts.{TellsOr};
 ghost use Rattle.boot_run.specs.Hosts.{LeavesHost};
 ghost use Rattle.boot_run.specs.Agrees.{LoadsAny, IsSound, Counts, IsEnding, TurnLeft};
 ghost use Rattle.boot_run.specs.Views.{told_in, moment, RunsTo};

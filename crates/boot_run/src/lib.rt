@@ -1,7 +1,7 @@
 //! The run of a script on a disk: each start begins from what the disk then loads as.
 //!
-//! `run` plays the events in order over any host and any bench, and says each line at once, after the step that it reports.
-//! What was printed is the report of the book's run on what the disk woke up with; at a refusal it is a prefix of it. Rules:
+//! `run` plays the events in order over any host and any bench, and says each line at once, in one of two forms, after the step that it
+//! reports. What was printed is the report of the book's run on what the disk woke up with; at a refusal it is a prefix of it. Rules:
 //! docs/startup.md, "The order of a start" and "The script"; docs/texts.md, "The report".
 #![tactic(auto)]
 

@@ -2,17 +2,18 @@
 
 ghost use Rattle.std.specs.Prelude.{◌≡◌, true};
 ghost use Rattle.boot_report.specs.Report.{line_of};
-ghost use Rattle.run_parts.specs.Parts.{TellsOr};
+ghost use Rattle.printed_parts.specs.Parts.{TellsOr};
 ghost use Rattle.boot_run.specs.Hosts.{LeavesHost};
 ghost use Rattle.boot_run.specs.Views.{told_by};
 
 use crate::stop::RunStop;
 use crate::summary::Summary;
-use boot_report::{Line, line_bytes};
+use boot_report::Line;
+use line_objects::printed_bytes;
 use nt_edge::{Host, HostStop};
 use std::alloc::Global;
 
-/// Says a line of the report, and counts it.
+/// Says a line of the report in its form, and counts it.
 pub(crate) fn say<H: Host>(
     alloc: Global,
     host: &mut H,
@@ -23,7 +24,7 @@ pub(crate) fn say<H: Host>(
         → TellsOr (line_of line) (told_by (H.state host.old) summary.old) (told_by (H.state host.new) summary.new) result }
     ensures host { LeavesHost result (H.state host.old) (H.state host.new) }
 {
-    let Ok(bytes) = line_bytes(alloc, &line) else {
+    let Ok(bytes) = printed_bytes(alloc, summary.form, &line) else {
         return Err(RunStop::Memory);
     };
     match host.say(bytes.as_slice()) {

@@ -9,7 +9,8 @@ ghost use Rattle.start_model.specs.Machine.{Start, MachineState, Tried, attempt_
 ghost use Rattle.start_model.specs.Act.{RunState, Act};
 ghost use Rattle.start_model.specs.Starter.{good_is_usable, try_line, judged, starter_step, phase_step, stepping, go_steps, go_act, enough_steps};
 ghost use Rattle.boot_machine.specs.Steps.{is_at_end, is_in_last_phase, on_start};
-ghost use Rattle.run_parts.specs.Parts.{Stays, TellsOr};
+ghost use Rattle.run_parts.specs.Parts.{Stays};
+ghost use Rattle.printed_parts.specs.Parts.{TellsOr};
 ghost use Rattle.boot_run.specs.Agrees.{IsRunningBy, IsLive, IsSound, Counts, OnLeft, TurnLeft};
 ghost use Rattle.boot_run.specs.Hosts.{LeavesHost};
 ghost use Rattle.boot_run.specs.Starts.{is_under_way, EndsBy, Attempts, NextPhase, phase_lines, phase_gone};

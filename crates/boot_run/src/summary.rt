@@ -6,10 +6,13 @@ ghost use Rattle.start_model.specs.Summary as book;
 ghost use Rattle.boot_run.specs.Views.{summary_in};
 
 use boot_report::{Line, TryWord, Verdict};
+use line_text::ReportForm;
 
 /// The lines of a report, counted: each count ends at 4,294,967,295 and stays there.
 #[derive(Clone, Copy, Debug, PartialEq, Eq)]
 pub struct Summary {
+    /// How the lines are printed.
+    pub form: ReportForm,
     /// Attempts that went well.
     pub started: u32,
     /// Attempts that failed.
@@ -24,10 +27,12 @@ pub struct Summary {
 
 impl Summary {
     /// That of a report without a line.
-    pub fn new() -> Summary
-        ensures { summary_in result ≡ book.no_summary }
+    pub fn new(form: ReportForm) -> Summary
+        ensures empty { summary_in result ≡ book.no_summary }
+        ensures form { result.form ≡ form }
     {
         Summary {
+            form,
             started: 0,
             failed: 0,
             unmet: 0,
@@ -38,7 +43,8 @@ impl Summary {
 
     /// Counts one more line.
     pub(crate) fn count(&mut self, line: &Line)
-        ensures { summary_in self.new ≡ book.with_line (summary_in self.old) (line_of line.now) }
+        ensures counted { summary_in self.new ≡ book.with_line (summary_in self.old) (line_of line.now) }
+        ensures form { self.new.form ≡ self.old.form }
     {
         match line {
             Line::Load { sequence, .. } | Line::Commit { sequence, .. } => self.sequence =
@@ -51,7 +57,8 @@ impl Summary {
     }
 
     fn count_try(&mut self, outcome: TryWord)
-        ensures { summary_in self.new ≡ book.with_try (try_of outcome) (summary_in self.old) }
+        ensures counted { summary_in self.new ≡ book.with_try (try_of outcome) (summary_in self.old) }
+        ensures form { self.new.form ≡ self.old.form }
     {
         match outcome {
             TryWord::Ok => self.started = self.started.saturating_add(1),

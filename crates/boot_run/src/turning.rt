@@ -14,7 +14,7 @@ ghost use Rattle.start_model.specs.Machine.{Start, failing, requiring, refusal_o
 ghost use Rattle.start_model.specs.Act.{RunState, done};
 ghost use Rattle.start_model.specs.Boot.{Choice};
 ghost use Rattle.start_model.specs.EventActs.{accepted_act, idle_act, event_step_of, event_word_of};
-ghost use Rattle.run_parts.specs.Parts.{Told, PlaysOr, TellsOr};
+ghost use Rattle.printed_parts.specs.Parts.{Told, PlaysOr, TellsOr};
 ghost use Rattle.boot_run.specs.Agrees.{IsLive, IsSound, Counts, Agrees, TurnLeft};
 ghost use Rattle.boot_run.specs.Begins.{aside_machine, aside_disk, aside_act, IsStepOf, IsEdit};
 ghost use Rattle.boot_run.specs.Choices.{choices};

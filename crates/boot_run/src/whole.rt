@@ -12,8 +12,8 @@ ghost use Rattle.start_model.specs.Fits.{MayLoad};
 ghost use Rattle.start_model.specs.Possible.{Woken};
 ghost use Rattle.start_model.specs.Act.{RunState, Act, done};
 ghost use Rattle.start_model.specs.Run.{play, verdict_first, closing_act, run_from, run_of};
-ghost use Rattle.run_parts.specs.Parts.{PlaysOr};
-ghost use Rattle.run_parts.specs.Reports.{ReportsOr};
+ghost use Rattle.printed_parts.specs.Parts.{PlaysOr};
+ghost use Rattle.printed_parts.specs.Reports.{ReportsOr};
 ghost use Rattle.boot_run.specs.Agrees.{IsDown, Counts};
 ghost use Rattle.boot_run.specs.Begins.{RunsOr, untold, answered};
 ghost use Rattle.boot_run.specs.Choices.{choices};
@@ -30,6 +30,7 @@ use boot_ini::BootIni;
 use boot_machine::Machine;
 use boot_report::Line;
 use boot_script::Event;
+use line_text::ReportForm;
 use nt_edge::{Bench, Host};
 use std::alloc::Global;
 
@@ -90,7 +91,7 @@ fn events<H: Host, B: Bench>(
     }
 }
 
-/// Plays a script on a disk that is off, whatever it wakes up with. Each line is printed at once, after the step that it reports.
+/// Plays a script on a disk that is off, whatever it wakes up with. Each line is printed at once in this form, after the step that it reports.
 /// The disk is off afterwards, whatever the answer.
 ///
 /// # Errors
@@ -101,6 +102,7 @@ pub fn run<H: Host, B: Bench>(
     script: &[Event],
     ini: &BootIni,
     system: &Arc,
+    form: ReportForm,
     host: &mut H,
     bench: &mut B,
 ) -> Result<Summary, RunStop>
@@ -111,14 +113,14 @@ pub fn run<H: Host, B: Bench>(
     // done to the disk are the run's notes, or a prefix of them.
     ensures report { (placed : Woken) → (H.state host.old).tells ≡ true
         → EachCrash (B.state bench.old) (λ (c : Image). Loads c placed.state placed.dirty)
-        → ReportsOr (run_of (choices ini.now system.now) (map event_in script.now) placed) (untold (H.state host.old))
-        (answered (H.state host.new) result) (B.state bench.old) (B.state bench.new) result }
+        → ReportsOr (run_of (choices ini.now system.now) (map event_in script.now) placed) (untold form (H.state host.old))
+        (answered form (H.state host.new) result) (B.state bench.old) (B.state bench.new) result }
     ensures host { LeavesHost result (H.state host.old) (H.state host.new) }
 {
     let mut runner = Runner {
         machine: Machine::new(alloc),
         starts: 0,
-        summary: Summary::new(),
+        summary: Summary::new(form),
     };
     let played = events(alloc, script, ini, system, &mut runner, host, bench);
     bench.power_off();

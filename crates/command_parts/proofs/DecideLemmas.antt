@@ -1,5 +1,5 @@
 -- What a part of the program leaves, by what its search for inputs came to.
-use Rattle.std.proofs.Common.{◌≡◌, inl, inr, ℕ, true, false, List, [], Option, None, Some, refl, sym, ap, subst, ◌∙◌, arith}
+use Rattle.std.proofs.Common.{◌≡◌, inl, inr, ℕ, false, List, Some, refl, sym, ap, subst, ◌∙◌, arith}
 use Rattle.std.specs.Prelude.{Result, Ok, Err}
 use Rattle.hive_model.specs.Image.{Image}
 use Rattle.nt_edge.specs.Disk.{DiskState, new_state}
@@ -12,7 +12,7 @@ use Rattle.command_parts.specs.declared.refusal.Obstacle.TheVariants.{Refused, S
 use Rattle.command_parts.specs.declared.status.Status.{Status}
 use Rattle.command_parts.specs.declared.status.Status.TheVariants as statuses
 use Rattle.command_parts.specs.Decides.{Decides, DecidesAlone}
-use Rattle.command_parts.specs.Leaves.{Leaves, Looks, CountsBy, stop_in, stopped_as}
+use Rattle.command_parts.specs.Leaves.{Leaves, Looks, stop_in, stopped_as}
 use Rattle.command_parts.specs.Placed.{IsUnrun, IsUntouchedBy}
 use Rattle.command_parts.specs.Refusals.{Ends, IsToldAs, refusal, refusal_status}
 use Rattle.command_parts.specs.Saves.{Saves, no_saves, FilesAs}
@@ -61,6 +61,7 @@ pub refused_open : (r : Refusal) → refusal_status r ≡ statuses.Done → ⊥
 refused_open refusals.Usage e = absurd cc
 refused_open (refusals.NoFile name) e = absurd cc
 refused_open (refusals.ScriptFault fault) e = absurd cc
+refused_open refusals.NoSweep e = absurd cc
 refused_open refusals.IniTooLong e = absurd cc
 refused_open refusals.IniTooManyEntries e = absurd cc
 refused_open (refusals.HiveFault fault) e = absurd cc
@@ -69,6 +70,7 @@ refused_read : (r : Refusal) → refusal_status r ≡ statuses.ReadFault → ⊥
 refused_read refusals.Usage e = absurd cc
 refused_read (refusals.NoFile name) e = absurd cc
 refused_read (refusals.ScriptFault fault) e = absurd cc
+refused_read refusals.NoSweep e = absurd cc
 refused_read refusals.IniTooLong e = absurd cc
 refused_read refusals.IniTooManyEntries e = absurd cc
 refused_read (refusals.HiveFault fault) e = absurd cc

@@ -1,7 +1,7 @@
 -- What the disk is once a hive and its log were placed.
 use Rattle.std.proofs.Common.{◌≡◌, ℕ, List, [], length, take, min, Option, None, Some, refl, sym, ap, ◌∙◌, arith}
-use Rattle.std.specs.Prelude.{Result, Ok, Err, OnOk, OnErr}
-use Rattle.hive_model.specs.Image.{File, Primary, Log, Address, Image, sector_of, with_file, image_of}
+use Rattle.std.specs.Prelude.{Result, Ok, Err, OnOk}
+use Rattle.hive_model.specs.Image.{File, Primary, Log, Image, with_file, image_of}
 use Rattle.nt_edge.specs.Disk.{DiskState, new_state}
 use Rattle.nt_edge.specs.Bench.{placed}
 use Rattle.nt_edge.proofs.Images.{same_images}

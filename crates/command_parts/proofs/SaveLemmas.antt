@@ -1,11 +1,11 @@
 -- What saving the files of a disk leaves of it, and of the host.
-use Rattle.std.proofs.Common.{◌≡◌, ◌≤◌, ◌+◌, inl, inr, ℕ, true, false, List, Option, Some, None, if◌then◌else◌, cond, refl, sym, ap, subst, ◌∙◌, arith}
+use Rattle.std.proofs.Common.{◌≡◌, ◌+◌, inl, inr, ℕ, true, false, List, Option, Some, None, cond, refl, sym, ap, subst, ◌∙◌, arith}
 use Rattle.std.specs.Prelude.{Result, Ok, Err, OnOk, OnErr, IfSome, bytes_eq}
 use Rattle.std.proofs.lemmas.Slice.Eq.{bytes_eq-Decides}
-use Rattle.hive_model.specs.Image.{File, Primary, Log, Image, Content, IsInFlight, IsCrashImage, IsFileOf}
+use Rattle.hive_model.specs.Image.{File, Primary, Log, Image, IsCrashImage, IsFileOf}
 use Rattle.nt_edge.specs.Bench.{taken}
 use Rattle.nt_edge.specs.Disk.{DiskState}
-use Rattle.nt_edge.specs.Host.{HostState, Files, KeepsHost, KeepsOthers, Puts, CountsFault}
+use Rattle.nt_edge.specs.Host.{HostState, Files, KeepsOthers, Puts, CountsFault}
 use Rattle.nt_edge.specs.declared.host.HostStop.{HostStop}
 use Rattle.nt_edge.specs.declared.host.HostStop.TheVariants.{Read, Write, Memory}
 use Rattle.nt_edge.proofs.Images.{still_crash}
@@ -13,7 +13,7 @@ use Rattle.run_parts.specs.Reports.{LeftOf}
 use Rattle.command_parts.specs.declared.status.Status.TheVariants as statuses
 use Rattle.command_parts.specs.Leaves.{CountsBy, more, named, stop_in}
 use Rattle.command_parts.specs.Placed.{IsUntouchedBy}
-use Rattle.command_parts.specs.Saves.{Saves, saved_count, saved_status, FilesAs, SavedAs, HasSaved, IsSaved, KeepsUnsaved, Settles, IsStill, WritesAlone, SavesFile, SavesBoth}
+use Rattle.command_parts.specs.Saves.{Saves, saved_count, saved_status, FilesAs, SavedAs, HasSaved, KeepsUnsaved, Settles, IsStill, WritesAlone, SavesFile, SavesBoth}
 use Rattle.command_parts.proofs.AskLemmas.{more_more}
 use Rattle.command_parts.proofs.LeaveLemmas.{keeps_then, fault_then}
 use Rattle.std.proofs.lemmas.Bool.{false_from_ne_true}

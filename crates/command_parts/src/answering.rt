@@ -1,7 +1,7 @@
 //! How a command ends that answers by what a hive loads as.
 
 ghost use Rattle.std.specs.Prelude.{◌≡◌, ℕ, Err, Result};
-ghost use Rattle.nt_edge.specs.Host.{HostState, AsksNone};
+ghost use Rattle.nt_edge.specs.Host.{HostState};
 ghost use Rattle.command_parts.specs.Leaves.{AsksBy, AsksUntil, IsBadUsage, stop_in};
 ghost use Rattle.command_parts.specs.OnHive.{DecidesOnHive, Question, SeeksAnswer, told_answer};
 ghost use Rattle.command_parts.specs.Refusals.{IsToldAs};

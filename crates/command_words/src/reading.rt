@@ -1,6 +1,6 @@
 //! What the command line asks for.
 
-ghost use Rattle.std.specs.Prelude.{◌≡◌, ◌∷◌, [], false, Some, map, None, option_map};
+ghost use Rattle.std.specs.Prelude.{◌≡◌, [], false, Some, map, None, option_map};
 ghost use Rattle.std.specs.List.{list_any};
 ghost use Rattle.command_words.specs.Commands.{row_named};
 ghost use Rattle.command_words.specs.Reading.{page_of_row};

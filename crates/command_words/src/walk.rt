@@ -1,6 +1,6 @@
 //! The arguments of a command, read from left to right.
 
-ghost use Rattle.std.specs.Prelude.{◌≡◌, ◌||◌, codes, is_ok, map, None, option_map, slice_set, Some};
+ghost use Rattle.std.specs.Prelude.{◌≡◌, ◌||◌, is_ok, map, None, option_map, slice_set, Some};
 ghost use Rattle.std.specs.Prelude.{Ok};
 ghost use Rattle.std.specs.List.{before_first};
 ghost use Rattle.nt_bytes.specs.Text.{is_equals};
@@ -73,6 +73,7 @@ fn accepts(alloc: Global, takes: Takes, value: &str) -> bool
         Takes::Flag => true,
         Takes::Any => true,
         Takes::Count => count_in(value.as_bytes()).is_some(),
+        Takes::Name => true,
         Takes::System => is_arc_path(alloc, value.as_bytes()),
         Takes::Scheme => is_either(value, "alt", "log"),
         Takes::SetNumber => set_number_in(value.as_bytes()).is_some(),

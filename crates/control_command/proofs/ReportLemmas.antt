@@ -1,6 +1,6 @@
 -- What is printed for commands, in sequence.
 use Rattle.std.proofs.Common.{◌≡◌, ℕ, ◌+◌, List, ◌++◌, Option, Some, refl, sym, ap, ◌∙◌, subst}
-use Rattle.std.specs.Prelude.{codes, Result, Ok, Err, OnOk, IfOk}
+use Rattle.std.specs.Prelude.{Result, Ok, Err, OnOk, IfOk}
 use Rattle.std.specs.Option.{option_map_or}
 use Rattle.service_control.specs.declared.stop.ControlStop.{ControlStop}
 use Rattle.service_control.specs.declared.stop.ControlStop.TheVariants as stops

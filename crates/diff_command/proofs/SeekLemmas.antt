@@ -4,7 +4,7 @@ use Rattle.std.specs.Prelude.{List, Option, Result, Ok, Err, IfOk, IfErr}
 use Rattle.nt_bytes.specs.declared.fault.HiveFault.{HiveFault}
 use Rattle.nt_bytes.specs.declared.version.HiveVersion.{HiveVersion}
 use Rattle.nt_edge.specs.Disk.{new_state}
-use Rattle.nt_edge.specs.Host.{Files, HostState, KeepsHost, KeepsFiles, KeepsCounts, Counts, AsksNone}
+use Rattle.nt_edge.specs.Host.{Files, HostState, KeepsHost, KeepsFiles, KeepsCounts, Counts}
 use Rattle.nt_edge.specs.declared.host.HostStop.{HostStop}
 use Rattle.nt_edge.specs.declared.host.HostStop.TheVariants.{Read, Write, Memory}
 use Rattle.hive_model.specs.Image.{Image}
@@ -20,9 +20,9 @@ use Rattle.command_parts.specs.declared.status.Status.{Status}
 use Rattle.command_parts.specs.declared.status.Status.TheVariants as statuses
 use Rattle.command_parts.specs.Decides.{Decides}
 use Rattle.command_parts.specs.Inputs.{hive_in}
-use Rattle.command_parts.specs.Leaves.{Leaves, Looks, CountsBy, CountsObstacle, stop_in, stopped_as}
+use Rattle.command_parts.specs.Leaves.{Leaves, Looks, CountsObstacle, stop_in, stopped_as}
 use Rattle.command_parts.specs.Placed.{image_in}
-use Rattle.command_parts.specs.Refusals.{Answer, Ends, IsToldAs, refusal, refusal_status}
+use Rattle.command_parts.specs.Refusals.{Answer, Ends, refusal}
 use Rattle.command_parts.specs.Saves.{no_saves}
 use Rattle.command_parts.proofs.DecideLemmas.{nothing_saved, untouched_by}
 use Rattle.command_parts.proofs.LeaveLemmas.{keeps_then, files_then, counts_by, stop_counts}

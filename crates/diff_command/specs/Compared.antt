@@ -1,5 +1,5 @@
 -- Which sets are compared, and what is printed of them? (this project's own)
-use Rattle.std.specs.Prelude.{ℕ, Bool, not, ◌==◌, List, [], ◌++◌, Option, Some, None, unwrap_or, if◌then◌else◌}
+use Rattle.std.specs.Prelude.{ℕ, Bool, not, ◌==◌, List, [], ◌++◌, Option, Some, unwrap_or, if◌then◌else◌}
 use Rattle.hive_model.specs.Tree.{Tree}
 use Rattle.start_model.specs.Sets.{select_numbers_of}
 use Rattle.select_keys.specs.Sets.{usable_set}

@@ -1,8 +1,8 @@
 //! The events of a script that orders no disk.
 
-ghost use Rattle.std.specs.Prelude.{◌≡◌, IfOk, IfErr};
+ghost use Rattle.std.specs.Prelude.{◌≡◌, IfOk};
 ghost use Rattle.boot_script.specs.declared.stop.ScriptStop.TheVariants as stops;
-ghost use Rattle.boot_script.specs.Script.{script_of, FailsBy, GivesScript, IsBounded};
+ghost use Rattle.boot_script.specs.Script.{FailsBy, GivesScript, IsBounded};
 ghost use Rattle.quiet_script.specs.Quiet.{up_to, quiet_script_of};
 
 use crate::orders::first_order;

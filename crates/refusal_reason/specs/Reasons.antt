@@ -2,7 +2,7 @@
 --
 -- Exactly one where the command line asks for it and the status is no answer, and else none. For words that cannot be parsed it is
 -- the first reason from the left.
-use Rattle.std.specs.Prelude.{◌≡◌, ◌⊎◌, ◌++◌, ◌&&◌, ℕ, Bool, true, false, List, Some, codes}
+use Rattle.std.specs.Prelude.{◌≡◌, ◌⊎◌, ◌++◌, ◌&&◌, Bool, true, false, List, Some, codes}
 use Rattle.nt_edge.specs.Host.{HostState, SaysError}
 use Rattle.command_words.specs.Words.{Text, Reading, refused}
 use Rattle.command_words.specs.Reading.{wants_reason}

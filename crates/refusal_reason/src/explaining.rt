@@ -1,6 +1,6 @@
 //! The reason of a refusal, printed on standard error.
 
-ghost use Rattle.std.specs.Prelude.{◌≡◌, ◌⊎◌, false, true, map, IfOk};
+ghost use Rattle.std.specs.Prelude.{◌≡◌, false, true, map, IfOk};
 ghost use Rattle.command_words.specs.Reading.{reading_of};
 ghost use Rattle.refusal_reason.specs.Reasons.{IsExplained, IsLineOn, explains, has_reason, usage_line};
 

@@ -1,4 +1,1 @@
 pub mod CountLemmas
-pub mod GoesLemmas
-pub mod BreakLemmas
-pub mod ReportLemmas

@@ -1,5 +1,5 @@
 -- When is what was printed the report of a run, or a prefix of it, and what was done to the disk? (this project's own)
-use Rattle.std.specs.Prelude.{◌≡◌, ℕ, List, [], ◌∷◌, ◌++◌, map, Result, Ok, Err}
+use Rattle.std.specs.Prelude.{◌≡◌, ℕ, List, [], ◌∷◌, ◌++◌, map}
 use Rattle.hive_model.specs.Image.{Image, IsCrashImage}
 use Rattle.nt_edge.specs.Disk.{DiskState, Wake}
 use Rattle.start_model.specs.Act.{Ended}
@@ -33,8 +33,3 @@ pub record ReportsFront (run : Going) (said said' : List ℕ) (old new : DiskSta
   pub report : ReportFront run (map (λ w. w.image) added) (LeftOf new) text
   pub grew : Grew report.notes added old new
   pub adds_up : AddsUp (report.notes ++ Ended report.outcome ∷ []) (tallies added) (tally_now old) (tally_now new)
-
--- the report was printed whole; or up to a refusal a prefix of it
-abbrev pub ReportsOr : {T E : Type 0} → Going → Told → Told → DiskState → DiskState → Result T E → Type 0
-ReportsOr run told told' old new (Ok x) = Reports run told told' old new
-ReportsOr run told told' old new (Err e) = ReportsFront run told.said told'.said old new

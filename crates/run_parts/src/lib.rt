@@ -1,6 +1,5 @@
-//! What a part of a run came to on a disk: one that was played, and one that was given up.
+//! What was done to a disk in a part of a run, and when what was printed is the report of a run.
 //!
-//! A part is an act of the book of startup. The relations of `specs/Parts` say what was printed and done so far and which act is
-//! left, whatever wakes and outcomes may follow; so parts compose in sequence, and a whole script is one more part.
-//! Of code there is none: the run's crate has it.
+//! The relations of `specs/Parts` say by the notes of the book of startup what was done to the disk; `specs/Reports` says when a text, or a
+//! prefix of it, is the report of what was done. Of code there is none: the run's crate has it.
 #![tactic(auto)]

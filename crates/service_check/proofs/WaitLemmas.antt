@@ -1,9 +1,9 @@
 -- The graph has the good needs of the entries.
-use Rattle.std.proofs.Common.{◌≡◌, ℕ, zero, suc, ◌+◌, ◌-◌, ◌<◌, ◌≤◌, Bool, true, false, not, nat_eq, ◌&&◌, ◌||◌, List, [], ◌∷◌, ◌++◌, length, take, map, filter, get_or, set, cond, Option, Some, None, refl, sym, ap, ◌∙◌, ◌⊎◌, inl, inr, subst, arith}
+use Rattle.std.proofs.Common.{◌≡◌, ℕ, zero, suc, ◌+◌, ◌-◌, ◌<◌, ◌≤◌, Bool, true, false, not, nat_eq, ◌&&◌, List, [], ◌∷◌, ◌++◌, length, take, map, get_or, set, cond, Option, Some, None, refl, sym, ap, ◌∙◌, ◌⊎◌, inl, inr, subst, arith}
 use Rattle.std.specs.Prelude.{Contains, replicate, position, slice_get, option_and_then, Result, Ok, Err, OnOk}
 use Rattle.std.specs.Option.{option_map_or, option_to_list, is_some}
-use Rattle.std.specs.List.{list_any, flat_map, range_with_len}
-use Rattle.std.proofs.lemmas.Bool.{false≢true, cases_eq, cases_lt, cases_Bool, eqb-true, eq-eqb, ne_eqb}
+use Rattle.std.specs.List.{flat_map, range_with_len}
+use Rattle.std.proofs.lemmas.Bool.{cases_eq, cases_lt, eq-eqb, ne_eqb}
 use Rattle.std.proofs.lemmas.List.{get_or_past, get_or-replicate, get_or-set_same, get_or-set_other, get_or_append_left, get_or-append-add, get_or-append_right, get_or_read, length-set, length-replicate, length-append, length-map, append-nil, append_assoc, map-append, take_at}
 use Rattle.std.proofs.lemmas.List.FromFn.{length-map-range_with_len, get_or-map-range_with_len}
 use Rattle.std.proofs.lemmas.List.Elements.{Contains-append_cases}
@@ -13,17 +13,17 @@ use Rattle.name_places.proofs.FoldLemmas.{alike}
 use Rattle.boot_phases.proofs.TriedLemmas.{some_place}
 use Rattle.dependencies.proofs.PulledLemmas.{same_bool, filter-range_more}
 use Rattle.dependencies.proofs.KeptLemmas.{range_push}
-use Rattle.wait_cycles.specs.Graph.{row_at, HasEdge, AreWaits, waits_in}
+use Rattle.wait_cycles.specs.Graph.{row_at, AreWaits, waits_in}
 use Rattle.wait_cycles.proofs.InverseLemmas.{none_in, edge_from}
-use Rattle.wait_cycles.proofs.MetLemmas.{first_in, range_in}
+use Rattle.wait_cycles.proofs.MetLemmas.{range_in}
 use Rattle.wait_cycles.proofs.CycleLemmas.{filter_out, filter_same, in_cons}
 use Rattle.service_check.specs.declared.waits.Bases.{Bases}
 use Rattle.service_check.specs.declared.stage.Stage.{Stage}
 use Rattle.service_check.specs.declared.stage.Stage.TheVariants as stages
 use Rattle.service_check.specs.declared.stage.Staged.{Staged}
 use Rattle.service_check.specs.Stages.{is_upto}
-use Rattle.service_check.specs.Needs.{names_of, is_good, groups_upto, is_without, is_way, ways_in, name_ways, group_ways, ways_at, good_ways, waits_of}
-use Rattle.service_check.specs.Vertices.{base_of, name_ids, ids_from, group_ids, ids_at, entry_ids, group_place, is_there, members_upto}
+use Rattle.service_check.specs.Needs.{names_of, is_good, groups_upto, is_way, ways_in, name_ways, group_ways, ways_at, good_ways, waits_of}
+use Rattle.service_check.specs.Vertices.{base_of, name_ids, group_ids, ids_at, entry_ids, group_place, is_there, members_upto}
 use Rattle.service_check.specs.Grouped.{AreGrouped, with_one, PutsMember}
 use Rattle.service_check.proofs.TableLemmas.{same_upto, same_groups, count_names}
 use Rattle.service_check.proofs.PlaceLemmas.{place_here, place_below, got}

@@ -19,7 +19,7 @@ use Rattle.check_lines.specs.declared.lines.CheckLine.{CheckLine}
 use Rattle.check_lines.specs.declared.lines.CheckLine.TheVariants.{Select, CurrentSetKey, Set, NoSet, NoServices, NoList, About, GroupUnlisted, Cycle, Found, End}
 use Rattle.service_check.specs.declared.stage.Stage.TheVariants.{Automatic}
 use Rattle.service_check.specs.declared.stage.Staged.{Staged}
-use Rattle.service_check.specs.Stages.{rows_of, is_taken}
+use Rattle.service_check.specs.Stages.{rows_of}
 use Rattle.service_check.specs.Needs.{groups_upto, waits_of}
 use Rattle.wait_cycles.specs.Waits.{cycles_of}
 use Rattle.service_check.specs.Children.{Scope, has_image, child_faults}

@@ -2,7 +2,7 @@
 --
 -- First the entries; then for each the need that it alone meets; then for each stage a need for each group that has entries
 -- taken by it. A group has the place at which it stands first among these.
-use Rattle.std.specs.Prelude.{ℕ, ◌+◌, Bool, false, nat_eq, List, [], ◌∷◌, ◌++◌, map, filter, length, position, slice_get, Option, None, option_and_then, if◌then◌else◌}
+use Rattle.std.specs.Prelude.{ℕ, ◌+◌, Bool, false, nat_eq, List, [], ◌++◌, map, filter, length, position, slice_get, Option, None, option_and_then, if◌then◌else◌}
 use Rattle.std.specs.List.{flat_map, range_with_len}
 use Rattle.std.specs.Option.{option_map_or, option_to_list}
 use Rattle.nt_bytes.specs.Folding.{folds_same}

@@ -1,13 +1,12 @@
 //! The lines of a check.
 
-ghost use Rattle.std.specs.Prelude.{◌≡◌, ◌++◌, ◌∷◌, [], ◌&&◌, ◌==◌, not, map, codes, length, count_by, Some, None, IfOk, OnOk, if◌then◌else◌};
+ghost use Rattle.std.specs.Prelude.{◌≡◌, ◌++◌, ◌∷◌, [], ◌&&◌, ◌==◌, map, Some, None, IfOk, OnOk};
 ghost use Rattle.std.specs.List.{list_any, flat_map};
-ghost use Rattle.std.specs.Option.{is_some, option_copied, option_map_or};
-ghost use Rattle.hive_model.specs.Tree.{head, children, find_key};
+ghost use Rattle.std.specs.Option.{is_some};
 ghost use Rattle.hive_model.specs.Valid.{HoldsKeys};
 ghost use Rattle.start_model.specs.Entries.{entry_of};
 ghost use Rattle.start_model.specs.Sets.{select_numbers_of};
-ghost use Rattle.service_check.specs.Check.{line_when, is_imaged, scope_of, list_lines, about, child_lines, services_lines, judged_lines, set_lines, number_lines, found_lines, select_line, failed_line, four_lines, select_lines, key_lines, is_finding, finding_count, check_lines};
+ghost use Rattle.service_check.specs.Check.{line_when, is_imaged, scope_of, list_lines, about, child_lines, services_lines, set_lines, number_lines, found_lines, select_line, failed_line, four_lines, select_lines, key_lines, is_finding, finding_count, check_lines};
 
 use crate::child::{Scope, child_faults, has_image};
 use crate::cycles::put_cycles;

@@ -1,9 +1,9 @@
 //! Entries that wait for one another.
 
-ghost use Rattle.std.specs.Prelude.{◌≡◌, ◌+◌, ◌<◌, ◌++◌, ◌^◌, map, length, slice_index_or, [], IfOk, OnOk};
+ghost use Rattle.std.specs.Prelude.{◌≡◌, ◌+◌, ◌<◌, ◌++◌, map, slice_index_or, [], IfOk, OnOk};
 ghost use Rattle.wait_cycles.specs.Waits.{cycles_of};
 ghost use Rattle.service_check.specs.Needs.{waits_of};
-ghost use Rattle.service_check.specs.Check.{name_at, cycle_line, lines_of_cycle, numbered_lines, cycle_lines};
+ghost use Rattle.service_check.specs.Check.{name_at, cycle_line, numbered_lines, cycle_lines};
 
 use crate::child::Scope;
 use crate::table::Table;

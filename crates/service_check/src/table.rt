@@ -5,7 +5,6 @@ ghost use Rattle.std.specs.List.{list_any};
 ghost use Rattle.std.specs.Option.{option_copied, option_to_list};
 ghost use Rattle.nt_bytes.specs.Folding.{folds_same};
 ghost use Rattle.hive_model.specs.Valid.{HoldsKeys};
-ghost use Rattle.start_model.specs.Entries.{entries_of};
 ghost use Rattle.service_check.specs.Stages.{staged_in, rows_of};
 ghost use Rattle.service_check.specs.Needs.{names_of, named, group_upto, groups_upto};
 

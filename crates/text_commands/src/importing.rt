@@ -9,8 +9,7 @@ ghost use Rattle.command_words.specs.Views.{import_seen};
 ghost use Rattle.command_parts.specs.Placed.{image_in};
 ghost use Rattle.command_parts.specs.Views.{saves_seen};
 ghost use Rattle.text_commands.specs.Asks.{AsksImport};
-ghost use Rattle.text_commands.specs.Changed.{steps_in};
-ghost use Rattle.text_commands.specs.Imported.{import_how, DecidesImport};
+ghost use Rattle.text_commands.specs.Imported.{DecidesImport};
 ghost use Rattle.text_commands.specs.Imports.{GivesText, IsChecked, IsLoadable, TellsFault, DecidesEdits, DecidesText, DecidesFile};
 
 use crate::changing::import_into;

@@ -1,4 +1,4 @@
-//! `twin`: the command line, the files that they name, and which way keeps the hive.
+//! `twin`: the command line, the files that it names, and which way keeps the hive.
 
 ghost use Rattle.std.specs.Prelude.{◌≡◌};
 ghost use Rattle.nt_edge.specs.Disk.{new_state};

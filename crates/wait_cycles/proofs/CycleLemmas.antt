@@ -1,20 +1,17 @@
 -- What the marks and the edges have to do with stuck places and with cycles.
-use Rattle.std.proofs.Common.{◌≡◌, ℕ, zero, suc, ◌+◌, ◌<◌, ◌≤◌, Bool, true, false, not, nat_eq, ◌&&◌, ◌||◌, List, [], ◌∷◌, ◌++◌, length, take, map, filter, get_or, cond, refl, sym, ap, ◌∙◌, ◌⊎◌, inl, inr, subst, arith}
-use Rattle.std.specs.Prelude.{Contains, replicate, nat_lt}
+use Rattle.std.proofs.Common.{◌≡◌, ℕ, zero, suc, ◌+◌, ◌<◌, ◌≤◌, Bool, true, false, not, nat_eq, ◌&&◌, ◌||◌, List, [], ◌∷◌, ◌++◌, length, map, filter, cond, refl, sym, ap, ◌∙◌, ◌⊎◌, inl, inr, subst, arith}
+use Rattle.std.specs.Prelude.{Contains, nat_lt}
 use Rattle.std.specs.List.{list_any, list_all, flat_map, range_with_len}
-use Rattle.std.proofs.lemmas.Bool.{false≢true, cases_eq, cases_lt, cases_Bool, and_parts, and_from, or_cases, or_left, or_right, eqb-true, eq-eqb, lt-ltb, le-ltb, not-true, not-false}
-use Rattle.std.proofs.lemmas.Cmp.{nat_eq_equiv}
-use Rattle.std.proofs.lemmas.Map.Views.{Contains-from_any, list_any-from_Contains}
-use Rattle.std.proofs.lemmas.List.{get_or_past, get_or-take, length-map, length-take-le, append-nil, append_assoc}
+use Rattle.std.proofs.lemmas.Bool.{false≢true, cases_lt, cases_Bool, and_parts, and_from, or_cases, or_left, or_right, eqb-true, eq-eqb, lt-ltb, le-ltb}
+use Rattle.std.proofs.lemmas.List.{append-nil, append_assoc}
 use Rattle.std.proofs.lemmas.List.FromFn.{length-map-range_with_len}
 use Rattle.start_model.specs.Demand.{member, all_sets}
 use Rattle.dependencies.proofs.PulledLemmas.{then_true, then_gives, same_bool, all_true, all_below, any_below, sets_have, listed_member}
 use Rattle.dependencies.proofs.KeptLemmas.{range_push}
-use Rattle.wait_cycles.specs.Waits.{needs_at, is_held, holds_itself, is_stuck, leads, is_next, is_closed_from, comes_to, are_in_cycle, cycle_of, begins_with, cycle_from, cycles_of}
-use Rattle.wait_cycles.specs.Graph.{row_at, HasEdge, AreEdges, AreWaits, waits_in, IsInverse, IsClosedFrom, IsReach, is_ripe, IsMetBy, IsMet, left_rows, IsTwoEdges, AreLeads}
+use Rattle.wait_cycles.specs.Waits.{leads, is_next, is_closed_from, comes_to, are_in_cycle, cycle_of, begins_with, cycle_from, cycles_of}
+use Rattle.wait_cycles.specs.Graph.{row_at, AreEdges, AreWaits, IsInverse, IsClosedFrom, IsReach, IsTwoEdges, AreLeads}
 use Rattle.wait_cycles.proofs.InverseLemmas.{none_in, edge_from}
-use Rattle.wait_cycles.proofs.ReachLemmas.{member_none}
-use Rattle.wait_cycles.proofs.MetLemmas.{first_in, later_in, all_from, all_gives, any_gives, any_from, in_range, range_in, ripe_by_all, ripe_by_one, ripe_all, ripe_one, ripe_weaker}
+use Rattle.wait_cycles.proofs.MetLemmas.{first_in, later_in, all_from, all_gives, any_gives, range_in}
 
 -- ---- lists
 

@@ -1,16 +1,16 @@
 -- From the places without needs to all that is met.
-use Rattle.std.proofs.Common.{◌≡◌, ℕ, zero, suc, ◌+◌, ◌*◌, ◌<◌, ◌≤◌, Bool, true, false, not, nat_eq, ◌&&◌, ◌||◌, List, [], ◌∷◌, ◌++◌, length, take, get_or, set, cond, refl, sym, ap, ◌∙◌, ◌⊎◌, inl, inr, subst, arith}
-use Rattle.std.specs.Prelude.{All, Contains, count_by, replicate, nat_lt}
+use Rattle.std.proofs.Common.{◌≡◌, ℕ, zero, suc, ◌+◌, ◌<◌, ◌≤◌, Bool, true, false, not, nat_eq, List, [], ◌∷◌, ◌++◌, length, take, get_or, set, cond, refl, sym, ap, ◌∙◌, inl, inr, subst, arith}
+use Rattle.std.specs.Prelude.{All, Contains, replicate}
 use Rattle.std.specs.List.{list_any, list_all, range_with_len}
-use Rattle.std.proofs.lemmas.Bool.{false≢true, cases_eq, cases_lt, cases_Bool, and_parts, and_from, or_cases, or_left, or_right, ltb-true, ltb-false, eqb-true, lt-ltb, le-ltb, not-false}
+use Rattle.std.proofs.lemmas.Bool.{false≢true, cases_lt, cases_Bool, and_parts, and_from, or_cases, or_left, or_right, eqb-true, lt-ltb, le-ltb}
 use Rattle.std.proofs.lemmas.Cmp.{nat_eq_equiv}
 use Rattle.std.proofs.lemmas.Map.Views.{Contains-from_any, list_any-from_Contains}
-use Rattle.std.proofs.lemmas.List.{get_or-set_same, get_or-set_other, length-set, length-replicate, length_push, take_more, take_all}
+use Rattle.std.proofs.lemmas.List.{get_or-set_same, length-set, length-replicate, length_push, take_more, take_all}
 use Rattle.std.proofs.lemmas.List.FromFn.{get_or-range_with_len, length-range_with_len}
-use Rattle.std.proofs.lemmas.List.Elements.{Contains-get_or, Contains-push, Contains-push_cases, Contains-append_left, Contains-append_right, Contains-append_cases}
+use Rattle.std.proofs.lemmas.List.Elements.{Contains-get_or, Contains-push, Contains-push_cases, Contains-append_left, Contains-append_cases}
 use Rattle.start_model.specs.Demand.{member}
 use Rattle.dependencies.proofs.KeptLemmas.{within_waits}
-use Rattle.wait_cycles.specs.Graph.{row_at, HasEdge, AreWaits, IsInverse, is_ripe, IsMetBy, IsMet, Settles}
+use Rattle.wait_cycles.specs.Graph.{row_at, HasEdge, AreWaits, IsInverse, is_ripe, IsMet, Settles}
 use Rattle.wait_cycles.specs.Working.{is_done, IsSettling}
 use Rattle.wait_cycles.proofs.InverseLemmas.{none_in, edge_from}
 use Rattle.wait_cycles.proofs.ReachLemmas.{member_none, one_fewer, set_mark, still_set}

@@ -1,13 +1,13 @@
 -- From the start to all that edges lead to.
-use Rattle.std.proofs.Common.{◌≡◌, ℕ, ◌+◌, ◌*◌, ◌<◌, ◌≤◌, Bool, true, false, not, List, [], ◌∷◌, ◌++◌, length, take, get_or, set, cond, refl, sym, ap, ◌∙◌, ◌⊎◌, inl, inr, subst, arith}
-use Rattle.std.specs.Prelude.{All, Contains, count_by, replicate}
-use Rattle.std.proofs.lemmas.Bool.{false≢true, cases_eq, cases_lt, cases_Bool}
+use Rattle.std.proofs.Common.{◌≡◌, ℕ, ◌+◌, ◌<◌, Bool, true, false, not, List, [], ◌∷◌, ◌++◌, length, take, get_or, set, cond, refl, sym, ap, ◌∙◌, ◌⊎◌, inl, inr, subst, arith}
+use Rattle.std.specs.Prelude.{Contains, count_by, replicate}
+use Rattle.std.proofs.lemmas.Bool.{false≢true, cases_eq, cases_lt}
 use Rattle.std.proofs.lemmas.List.{get_or-set_same, get_or-set_other, get_or_past, get_or-replicate, length-set, length-replicate, length_push, take_more, take_all}
 use Rattle.std.proofs.lemmas.List.Elements.{Contains-push, Contains-push_cases, Contains-append_left, Contains-append_right, Contains-append_cases}
 use Rattle.std.proofs.lemmas.List.Sums.{sum_by-set}
 use Rattle.start_model.specs.Demand.{member}
 use Rattle.dependencies.proofs.KeptLemmas.{within_waits}
-use Rattle.wait_cycles.specs.Graph.{row_at, HasEdge, AreEdges, IsClosedFrom, IsReach, Marks}
+use Rattle.wait_cycles.specs.Graph.{row_at, HasEdge, IsReach, Marks}
 use Rattle.wait_cycles.specs.Working.{IsReaching}
 use Rattle.wait_cycles.proofs.InverseLemmas.{none_in}
 

@@ -1,17 +1,16 @@
 -- The places that aren't met are the stuck ones, and what is left of the edges leads as they do.
-use Rattle.std.proofs.Common.{◌≡◌, ℕ, zero, suc, ◌+◌, ◌<◌, ◌≤◌, Bool, true, false, not, nat_eq, ◌&&◌, ◌||◌, List, [], ◌∷◌, ◌++◌, length, take, map, filter, get_or, cond, refl, sym, ap, ◌∙◌, ◌⊎◌, inl, inr, subst, arith}
+use Rattle.std.proofs.Common.{◌≡◌, ℕ, zero, suc, ◌<◌, ◌≤◌, Bool, true, false, not, nat_eq, ◌&&◌, ◌||◌, List, [], ◌∷◌, length, take, map, filter, get_or, cond, refl, sym, ap, ◌∙◌, inl, inr, subst, arith}
 use Rattle.std.specs.Prelude.{Contains, nat_lt}
 use Rattle.std.specs.List.{list_any, list_all, range_with_len}
-use Rattle.std.proofs.lemmas.Bool.{false≢true, cases_lt, cases_Bool, and_parts, and_from, eqb-true, lt-ltb, le-ltb, not-true, not-false}
+use Rattle.std.proofs.lemmas.Bool.{false≢true, cases_lt, cases_Bool, and_parts, and_from, eqb-true, lt-ltb, le-ltb, not-true}
 use Rattle.std.proofs.lemmas.Cmp.{nat_eq_equiv}
 use Rattle.std.proofs.lemmas.Map.Views.{Contains-from_any, list_any-from_Contains}
-use Rattle.std.proofs.lemmas.List.{get_or_past, get_or-take, length-map, length-take-le}
+use Rattle.std.proofs.lemmas.List.{get_or-take, length-map, length-take-le}
 use Rattle.std.proofs.lemmas.List.FromFn.{length-map-range_with_len}
 use Rattle.start_model.specs.Demand.{member, all_sets}
 use Rattle.dependencies.proofs.PulledLemmas.{then_true, then_gives, same_bool, all_below, listed_member}
-use Rattle.wait_cycles.specs.Waits.{needs_at, is_held, holds_itself, is_stuck, leads}
-use Rattle.wait_cycles.specs.Graph.{row_at, HasEdge, AreWaits, waits_in, is_ripe, IsMetBy, IsMet, left_rows, IsTwoEdges, AreLeads}
-use Rattle.wait_cycles.proofs.InverseLemmas.{none_in}
+use Rattle.wait_cycles.specs.Waits.{needs_at, is_held, holds_itself, is_stuck}
+use Rattle.wait_cycles.specs.Graph.{row_at, HasEdge, AreWaits, waits_in, is_ripe, IsMetBy, IsMet, left_rows, AreLeads}
 use Rattle.wait_cycles.proofs.MetLemmas.{all_from, all_gives, any_gives, any_from, range_in, ripe_by_all, ripe_by_one, ripe_all, ripe_one, ripe_weaker}
 use Rattle.wait_cycles.proofs.CycleLemmas.{any_map, not_all, some_set, filter_in, filter_out}
 

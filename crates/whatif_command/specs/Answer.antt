@@ -2,7 +2,6 @@
 use Rattle.std.specs.Prelude.{ℕ, Bool, false, List, Option, None, option_map, Result, Ok, Err}
 use Rattle.std.specs.Option.{option_map_or}
 use Rattle.nt_edge.specs.Host.{Files}
-use Rattle.boot_ini.specs.declared.ini.OsEntry.{OsEntry}
 use Rattle.boot_ini.specs.declared.ini.BootIni.{BootIni}
 use Rattle.boot_ini.specs.declared.choosing.Chosen.{Chosen}
 use Rattle.boot_ini.specs.declared.choosing.Chosen.TheVariants as chosen

@@ -5,7 +5,7 @@ use Rattle.start_model.specs.Act.{start_over}
 use Rattle.start_model.specs.Commit.{committed_state, opened_state}
 use Rattle.start_model.specs.Boot.{begin_start}
 use Rattle.run_parts.proofs.CountLemmas.{still}
-use Rattle.run_parts.proofs.GoesLemmas.{goes-nothing}
+use Rattle.printed_parts.proofs.GoesLemmas.{goes-nothing}
 use Rattle.start_model.specs.Run.{play}
 use Rattle.boot_run.specs.Agrees.{CommitLeft, TurnLeft}
 use Rattle.boot_run.specs.Begins.{IsUpOrDown}

@@ -2,7 +2,7 @@ use Rattle.std.proofs.Common.{◌≡◌, ◌∙◌, ap, sym, subst}
 use Rattle.hive_model.specs.Base.{version_of}
 use Rattle.start_model.specs.Sets.{SetPlan}
 use Rattle.start_model.specs.Boot.{begin_start}
-use Rattle.run_parts.specs.Parts.{Goes, Breaks}
+use Rattle.printed_parts.specs.Parts.{Goes, Breaks}
 use Rattle.start_model.specs.Act.{Act}
 use Rattle.start_model.specs.Run.{play}
 use Rattle.boot_run.specs.Begins.{IsTaken}

@@ -4,8 +4,8 @@ use Rattle.hive_store.specs.Session.{Session}
 use Rattle.start_model.specs.Lines as book
 use Rattle.start_model.specs.Commit.{commit}
 use Rattle.start_model.specs.Boot.{begin_start}
-use Rattle.run_parts.proofs.BreakLemmas.{or-breaks, breaks-then}
-use Rattle.run_parts.proofs.GoesLemmas.{goes-then}
+use Rattle.printed_parts.proofs.BreakLemmas.{or-breaks, breaks-then}
+use Rattle.printed_parts.proofs.GoesLemmas.{goes-then}
 use Rattle.boot_run.specs.Views.{told_in}
 use Rattle.boot_run.proofs.PlayLemmas.{plays-then}
 use Rattle.boot_run.proofs.BeginLemmas.{stays_begin, up_or_down, still_off, still_taken}

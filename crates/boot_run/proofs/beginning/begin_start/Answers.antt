@@ -1,14 +1,15 @@
 use Rattle.std.proofs.Common.{◌≡◌, ◌∙◌, ◌∷◌, [], refl, subst}
 use Rattle.nt_edge.specs.Host.{SaysFront}
 use Rattle.start_model.specs.Lines as book
-use Rattle.start_model.specs.Lines.{Line, line_text}
+use Rattle.start_model.specs.Lines.{Line}
 use Rattle.start_model.specs.Act.{Act, done, say}
 use Rattle.start_model.specs.Commit.{select_line}
 use Rattle.start_model.specs.Boot.{begin_start, begun_state}
-use Rattle.run_parts.specs.Parts.{Tells}
+use Rattle.line_objects.specs.Objects.{printed}
+use Rattle.printed_parts.specs.Parts.{Tells}
 use Rattle.run_parts.proofs.CountLemmas.{still}
-use Rattle.run_parts.proofs.GoesLemmas.{goes-line}
-use Rattle.run_parts.proofs.BreakLemmas.{or-breaks, breaks-silent, breaks-line}
+use Rattle.printed_parts.proofs.GoesLemmas.{goes-line}
+use Rattle.printed_parts.proofs.BreakLemmas.{or-breaks, breaks-silent, breaks-line}
 use Rattle.boot_run.specs.Views.{told_in, told_by}
 use Rattle.boot_run.proofs.PlayLemmas.{plays-then, plays-line, live_left}
 use Rattle.boot_run.proofs.BeginLemmas.{on_done, begin_sound, begun}
@@ -24,7 +25,7 @@ pub returns-in_err-say-clause-plays : goal.returns-in_err-say-clause-plays
 returns-in_err-say-clause-plays g c = λ m d tells up counts live.
     let x = told_in (g.H.Host.state c.args.host.now) c.args.runner.now in
     let y = told_by (g.H.Host.state c.say.new.host) c.say.new.summary in
-    let P : Line → Type 0 = λ l. SaysFront x.said y.said (line_text l) in
+    let P : Line → Type 0 = λ l. SaysFront x.said y.said (printed x.form l) in
     or-breaks _ c.from_residual.result c.from_residual.ensures.0
     (begin_start c.args.number c.args.on_good c.args.numbers m) x y d d
     (breaks-line (select_line c.args.numbers)

@@ -11,8 +11,8 @@ use Rattle.start_model.specs.Act.{end_with}
 use Rattle.start_model.specs.Commit.{commit}
 use Rattle.start_model.specs.Boot.{begin_start}
 use Rattle.run_parts.proofs.CountLemmas.{still}
-use Rattle.run_parts.proofs.BreakLemmas.{breaks-silent}
-use Rattle.run_parts.specs.Parts.{PlaysOr}
+use Rattle.printed_parts.proofs.BreakLemmas.{breaks-silent}
+use Rattle.printed_parts.specs.Parts.{PlaysOr}
 use Rattle.boot_run.specs.Agrees.{LoadsAny, TurnLeft}
 use Rattle.boot_run.specs.Begins.{begin_planned, IsTaken}
 use Rattle.boot_run.specs.Views.{told_in}

@@ -2,16 +2,17 @@ use Rattle.std.proofs.Common.{◌≡◌, ◌∷◌, [], false, refl, subst}
 use Rattle.std.specs.Prelude.{Result, Ok, Err}
 use Rattle.nt_edge.specs.Host.{SaysFront}
 use Rattle.start_model.specs.Lines as book
-use Rattle.start_model.specs.Lines.{Line, line_text}
+use Rattle.start_model.specs.Lines.{Line}
 use Rattle.select_keys.specs.declared.stop.SelectStop.{SelectStop}
 use Rattle.start_model.specs.Sets.{NoControlSet, NoLastKnownGood, NoFreeNumber, select_numbers_of, usable_numbers_of, begin_plan_of, stepped}
 use Rattle.start_model.specs.Act.{Act, say, end_with}
 use Rattle.start_model.specs.Boot.{set_line, take_set}
 use Rattle.start_model.specs.Run.{play}
-use Rattle.run_parts.specs.Parts.{Tells, Goes, Breaks}
+use Rattle.line_objects.specs.Objects.{printed}
+use Rattle.printed_parts.specs.Parts.{Tells, Goes, Breaks}
 use Rattle.run_parts.proofs.CountLemmas.{still}
-use Rattle.run_parts.proofs.GoesLemmas.{goes-nothing, goes-line}
-use Rattle.run_parts.proofs.BreakLemmas.{breaks-silent, breaks-line}
+use Rattle.printed_parts.proofs.GoesLemmas.{goes-nothing, goes-line}
+use Rattle.printed_parts.proofs.BreakLemmas.{breaks-silent, breaks-line}
 use Rattle.boot_run.specs.Begins.{begin_planned, Planned}
 use Rattle.boot_run.specs.Views.{told_by}
 use Rattle.boot_run.proofs.PlayLemmas.{live_left}
@@ -57,7 +58,7 @@ returns-in-Err-clause-plays g c = λ m d tells up live.
     let y = told_by (g.H.Host.state c.say.new.host) c.say.new.summary in
     let plan = c.in-Ok-planned.plan in
     let rest : Act = begin_planned c.args.on_good m plan (stepped m.version m.live plan.steps) in
-    let P : Line → Type 0 = λ l. SaysFront x.said y.said (line_text l) in
+    let P : Line → Type 0 = λ l. SaysFront x.said y.said (printed x.form l) in
     let Q : Act → Type 0 = λ a. Breaks a x y.said d d in
     let line = set_line_is m c.args.hive.now.tree c.args.on_good c.taken.result c.in-Ok.numbers live.live
     c.in-Ok.ensures c.taken.ensures in
@@ -95,7 +96,7 @@ returns-in-Err-say-clause-plays g c = λ m d tells up live.
     let x = told_by (g.H.Host.state c.args.host.now) c.args.summary.now in
     let y = told_by (g.H.Host.state c.say-in-Err-NoFreeNumber.new.host) c.say-in-Err-NoFreeNumber.new.summary in
     let rest : Act = end_with book.NoNumber false m in
-    let P : Line → Type 0 = λ l. SaysFront x.said y.said (line_text l) in
+    let P : Line → Type 0 = λ l. SaysFront x.said y.said (printed x.form l) in
     let Q : Act → Type 0 = λ a. Breaks a x y.said d d in
     let line = set_line_is m c.args.hive.now.tree c.args.on_good c.taken.result c.in-Ok.numbers live.live
     c.in-Ok.ensures c.taken.ensures in

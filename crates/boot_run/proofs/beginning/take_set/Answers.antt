@@ -5,7 +5,7 @@ use Rattle.start_model.specs.Act.{end_with}
 use Rattle.start_model.specs.Boot.{take_set}
 use Rattle.boot_report.specs.declared.words.Verdict.{Verdict}
 use Rattle.boot_report.specs.Report.{verdict_of}
-use Rattle.run_parts.proofs.BreakLemmas.{or-breaks}
+use Rattle.printed_parts.proofs.BreakLemmas.{or-breaks}
 use Rattle.boot_run.specs.Agrees.{TurnLeft, LoadsAny}
 use Rattle.boot_run.specs.Begins.{begin_planned, SetLeft}
 use Rattle.boot_run.specs.Views.{told_in, told_by}

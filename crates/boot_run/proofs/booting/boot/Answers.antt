@@ -2,16 +2,17 @@ use Rattle.std.proofs.Common.{rules, ◌≡◌, ◌+◌, ◌∷◌, [], ◌∙�
 use Rattle.std.specs.Prelude.{◌||◌}
 use Rattle.nt_edge.specs.Host.{SaysFront}
 use Rattle.boot_ini.specs.declared.choosing.Chosen.{Chosen}
-use Rattle.start_model.specs.Lines.{Line, StartLine, line_text}
+use Rattle.start_model.specs.Lines.{Line, StartLine}
 use Rattle.start_model.specs.Machine.{MachineState}
 use Rattle.start_model.specs.Possible.{Possible}
 use Rattle.start_model.specs.Act.{Act}
 use Rattle.start_model.specs.Boot.{Choice, chosen, accepted_state, boot_act}
 use Rattle.start_model.specs.Fits.{MayLoad}
-use Rattle.run_parts.specs.Parts.{Tells}
+use Rattle.line_objects.specs.Objects.{printed}
+use Rattle.printed_parts.specs.Parts.{Tells}
 use Rattle.run_parts.proofs.CountLemmas.{still}
-use Rattle.run_parts.proofs.GoesLemmas.{goes-line}
-use Rattle.run_parts.proofs.BreakLemmas.{breaks-silent, breaks-then}
+use Rattle.printed_parts.proofs.GoesLemmas.{goes-line}
+use Rattle.printed_parts.proofs.BreakLemmas.{breaks-silent, breaks-then}
 use Rattle.boot_run.specs.Agrees.{TurnLeft}
 use Rattle.boot_run.specs.Choices.{choices, choice_in}
 use Rattle.boot_run.specs.Views.{told_in, told_by}
@@ -35,7 +36,7 @@ returns-in_err-say-clause-plays g c = λ m tells counts left.
     let y = told_by (g.H.Host.state c.say.new.host) c.say.new.summary in
     let rest : Act = chosen (m.machine.fallback_due || c.args.last_known_good) (accepted_state m)
     (choice c.args.entry) in
-    let P : ℕ → Type 0 = λ n. SaysFront x.said y.said (line_text (StartLine n)) in
+    let P : ℕ → Type 0 = λ n. SaysFront x.said y.said (printed x.form (StartLine n)) in
     let number = number_is m c.args.runner.now c.in-Some.number counts (search rules) in
     said_front c.from_residual.result _ c.from_residual.ensures.0
     (boot_act choice c.args.entry c.args.last_known_good m) (StartLine (m.starts + 1)) rest x y d refl refl

@@ -5,8 +5,8 @@ use Rattle.start_model.specs.Act.{wake}
 use Rattle.start_model.specs.Boot.{take_set, woken, loaded_state}
 use Rattle.start_model.specs.Act as book
 use Rattle.start_model.specs.Run.{play}
-use Rattle.run_parts.specs.Parts.{Goes}
-use Rattle.run_parts.proofs.BreakLemmas.{or-breaks}
+use Rattle.printed_parts.specs.Parts.{Goes}
+use Rattle.printed_parts.proofs.BreakLemmas.{or-breaks}
 use Rattle.boot_run.specs.Acts.{load}
 use Rattle.boot_run.specs.Agrees.{LoadsUp, LoadLeft, TurnLeft}
 use Rattle.boot_run.specs.Views.{told_in}

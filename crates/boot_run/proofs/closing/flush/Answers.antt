@@ -4,7 +4,7 @@ use Rattle.start_model.specs.Act.{done, say}
 use Rattle.start_model.specs.Commit.{commit}
 use Rattle.start_model.specs.EventActs.{flush_act}
 use Rattle.run_parts.proofs.CountLemmas.{still}
-use Rattle.run_parts.proofs.BreakLemmas.{breaks-line, or-breaks}
+use Rattle.printed_parts.proofs.BreakLemmas.{breaks-line, or-breaks}
 use Rattle.boot_run.specs.Agrees.{CommitLeft, TurnLeft}
 use Rattle.boot_run.specs.Views.{told_in, told_by}
 use Rattle.boot_run.proofs.PlayLemmas.{plays-as, live_left, stored, stays_done}

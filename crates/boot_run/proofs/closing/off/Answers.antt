@@ -8,7 +8,7 @@ use Rattle.start_model.specs.Machine.{MachineState, ending_of}
 use Rattle.start_model.specs.Act.{done, end_with}
 use Rattle.start_model.specs.Commit.{commit}
 use Rattle.start_model.specs.EventActs.{off_act}
-use Rattle.run_parts.proofs.BreakLemmas.{or-breaks}
+use Rattle.printed_parts.proofs.BreakLemmas.{or-breaks}
 use Rattle.boot_run.specs.Agrees.{CommitLeft, OffLeft, IsEnding}
 use Rattle.boot_run.specs.Views.{told_in}
 use Rattle.boot_run.proofs.PlayLemmas.{plays-as, plays-then, live_left, stored, stays_end}

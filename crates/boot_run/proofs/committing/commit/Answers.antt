@@ -10,7 +10,7 @@ use Rattle.start_model.specs.Lines as book
 use Rattle.start_model.specs.Possible.{PowerCut, DeviceFault}
 use Rattle.start_model.specs.Act.{done, start_over}
 use Rattle.start_model.specs.Commit.{commit, committed_state, opened_state}
-use Rattle.run_parts.proofs.BreakLemmas.{or-breaks}
+use Rattle.printed_parts.proofs.BreakLemmas.{or-breaks}
 use Rattle.boot_run.specs.Views.{told_in, told_by}
 use Rattle.boot_run.proofs.DiskLemmas.{marked-by, cut-cause, fault-cause, commit-done, commit-lacked, commit-failed}
 use Rattle.boot_run.proofs.CommitLemmas.{Committed, commit_down, commit_memory, commit_live, commit_goes, commit_breaks, stop_open, stop_goes, stop_breaks, counts_over}

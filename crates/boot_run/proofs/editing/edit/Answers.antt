@@ -9,7 +9,7 @@ use Rattle.start_model.specs.Events.{Event, Edits}
 use Rattle.start_model.specs.Events as book
 use Rattle.start_model.specs.EventActs.{edit_done}
 use Rattle.run_parts.proofs.CountLemmas.{still}
-use Rattle.run_parts.proofs.BreakLemmas.{breaks-silent, or-breaks}
+use Rattle.printed_parts.proofs.BreakLemmas.{breaks-silent, or-breaks}
 use Rattle.boot_machine.specs.Views.{event_in}
 use Rattle.boot_run.specs.Edits.{edit_line, TellsLine}
 use Rattle.boot_run.specs.declared.stop.RunStop.{RunStop}

@@ -14,7 +14,7 @@ use Rattle.start_model.specs.Possible.{PowerCut, DeviceFault}
 use Rattle.start_model.specs.Act.{done, start_over}
 use Rattle.start_model.specs.Boot.{loaded_state, woken_state}
 use Rattle.run_parts.proofs.CountLemmas.{Still, still}
-use Rattle.run_parts.proofs.BreakLemmas.{breaks-silent, or-breaks}
+use Rattle.printed_parts.proofs.BreakLemmas.{breaks-silent, or-breaks}
 use Rattle.boot_run.specs.Acts.{load}
 use Rattle.boot_run.specs.Views.{told_in, told_by}
 use Rattle.boot_run.proofs.CommitLemmas.{counts_over}

@@ -1,7 +1,7 @@
 use Rattle.std.proofs.Common.{◌∙◌, refl, false}
 use Rattle.start_model.specs.Lines as lines
 use Rattle.start_model.specs.Act.{say_all, end_with}
-use Rattle.run_parts.proofs.BreakLemmas.{or-breaks}
+use Rattle.printed_parts.proofs.BreakLemmas.{or-breaks}
 use Rattle.boot_run.specs.Agrees.{OffLeft, IsEnding}
 use Rattle.boot_run.specs.Starts.{stop_lines}
 use Rattle.boot_run.specs.Views.{told_in, told_by}

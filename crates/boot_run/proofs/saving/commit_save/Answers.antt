@@ -2,8 +2,8 @@ use Rattle.std.proofs.Common.{◌∙◌}
 use Rattle.start_model.specs.Lines.{SaveCommit}
 use Rattle.start_model.specs.Commit.{commit}
 use Rattle.start_model.specs.Run.{play}
-use Rattle.run_parts.proofs.GoesLemmas.{goes-then}
-use Rattle.run_parts.proofs.BreakLemmas.{breaks-then, or-breaks}
+use Rattle.printed_parts.proofs.GoesLemmas.{goes-then}
+use Rattle.printed_parts.proofs.BreakLemmas.{breaks-then, or-breaks}
 use Rattle.boot_run.specs.Saves.{noting}
 use Rattle.boot_run.specs.Views.{told_in}
 use Rattle.boot_run.proofs.SaveLemmas.{noting_stays, leaves_sound}

@@ -7,8 +7,8 @@ use Rattle.start_model.specs.Commit.{save_where_due}
 use Rattle.start_model.specs.EventActs.{logon_act}
 use Rattle.boot_machine.specs.Steps.{on_start}
 use Rattle.run_parts.proofs.CountLemmas.{still}
-use Rattle.run_parts.proofs.GoesLemmas.{goes-line}
-use Rattle.run_parts.proofs.BreakLemmas.{breaks-line, or-breaks}
+use Rattle.printed_parts.proofs.GoesLemmas.{goes-line}
+use Rattle.printed_parts.proofs.BreakLemmas.{breaks-line, or-breaks}
 use Rattle.boot_run.specs.Agrees.{Counts, OnLeft, TurnLeft, IsRunningBy}
 use Rattle.boot_run.specs.Views.{told_in, told_by}
 use Rattle.boot_run.proofs.PlayLemmas.{live_left, plays-as, plays-then, stays_done}

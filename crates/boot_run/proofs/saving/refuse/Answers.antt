@@ -3,8 +3,8 @@ use Rattle.start_model.specs.Lines.{SaveRefusedLine}
 use Rattle.start_model.specs.Commit.{save_refused, noted_saved}
 use Rattle.std.proofs.Common.{false}
 use Rattle.run_parts.proofs.CountLemmas.{still}
-use Rattle.run_parts.proofs.GoesLemmas.{goes-line}
-use Rattle.run_parts.proofs.BreakLemmas.{or-breaks, breaks-line}
+use Rattle.printed_parts.proofs.GoesLemmas.{goes-line}
+use Rattle.printed_parts.proofs.BreakLemmas.{or-breaks, breaks-line}
 use Rattle.boot_run.specs.Views.{told_in}
 use Rattle.boot_run.proofs.SaveLemmas.{noted_may, noted_left, noted_sound}
 use Rattle.boot_run.proofs.saving.refuse.Goals as goal

@@ -3,7 +3,7 @@ use Rattle.start_model.specs.Sets.{SetPlan, save_of, save_plan_of, select_number
 use Rattle.std.proofs.Common.{Option, subst}
 use Rattle.boot_run.specs.Saves.{PlansOr}
 use Rattle.run_parts.proofs.CountLemmas.{still}
-use Rattle.run_parts.proofs.BreakLemmas.{breaks-silent, or-breaks}
+use Rattle.printed_parts.proofs.BreakLemmas.{breaks-silent, or-breaks}
 use Rattle.boot_run.specs.Views.{told_in}
 use Rattle.boot_run.proofs.PlayLemmas.{live_left}
 use Rattle.boot_run.proofs.SaveLemmas.{saved_may}

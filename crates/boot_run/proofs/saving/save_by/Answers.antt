@@ -6,10 +6,10 @@ use Rattle.reg_tree.specs.Fitting.{Fits}
 use Rattle.start_model.specs.Sets.{SetPlan, save_of}
 use Rattle.start_model.specs.Commit.{saved_by, commit}
 use Rattle.run_parts.proofs.CountLemmas.{still}
-use Rattle.run_parts.proofs.BreakLemmas.{breaks-silent}
+use Rattle.printed_parts.proofs.BreakLemmas.{breaks-silent}
 use Rattle.hive_store.specs.Session.{Session}
 use Rattle.start_model.specs.Lines.{SaveCommit}
-use Rattle.run_parts.specs.Parts.{PlaysOr}
+use Rattle.printed_parts.specs.Parts.{PlaysOr}
 use Rattle.boot_run.specs.Agrees.{IsSound, IsLive, OnLeft}
 use Rattle.boot_run.specs.Saves.{noting}
 use Rattle.boot_run.specs.Views.{told_in}

@@ -3,7 +3,7 @@ use Rattle.start_model.specs.Lines as lines
 use Rattle.start_model.specs.Act.{Act, say_all, end_with}
 use Rattle.start_model.specs.Starter.{phase_step}
 use Rattle.run_parts.proofs.CountLemmas.{still}
-use Rattle.run_parts.proofs.BreakLemmas.{breaks-silent, or-breaks}
+use Rattle.printed_parts.proofs.BreakLemmas.{breaks-silent, or-breaks}
 use Rattle.boot_run.specs.Agrees.{LoadsAny, OnLeft, TurnLeft}
 use Rattle.boot_run.specs.Starts.{phase_gone, stop_lines}
 use Rattle.boot_run.specs.Views.{told_in}

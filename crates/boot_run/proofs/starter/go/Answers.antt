@@ -1,8 +1,8 @@
 use Rattle.std.proofs.Common.{◌≡◌, refl}
 use Rattle.start_model.specs.Starter.{go_steps, go_act}
 use Rattle.run_parts.proofs.CountLemmas.{still}
-use Rattle.run_parts.proofs.BreakLemmas.{breaks-silent, or-breaks}
-use Rattle.run_parts.specs.Parts.{Breaks, Goes}
+use Rattle.printed_parts.proofs.BreakLemmas.{breaks-silent, or-breaks}
+use Rattle.printed_parts.specs.Parts.{Breaks, Goes}
 use Rattle.std.proofs.Common.{subst}
 use Rattle.start_model.specs.Act.{Act}
 use Rattle.start_model.specs.Run.{play}

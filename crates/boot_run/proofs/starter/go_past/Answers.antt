@@ -3,8 +3,8 @@ use Rattle.start_model.specs.Machine.{MachineState, after_phase, with_start}
 use Rattle.start_model.specs.Act.{Act, say_all, with_machine}
 use Rattle.start_model.specs.Commit.{save_where_due}
 use Rattle.start_model.specs.Starter.{live_set}
-use Rattle.run_parts.specs.Parts.{Breaks}
-use Rattle.run_parts.proofs.BreakLemmas.{or-breaks}
+use Rattle.printed_parts.specs.Parts.{Breaks}
+use Rattle.printed_parts.proofs.BreakLemmas.{or-breaks}
 use Rattle.boot_run.specs.Agrees.{OnLeft}
 use Rattle.boot_run.specs.Starts.{phase_lines, phase_gone}
 use Rattle.boot_run.specs.Views.{told_in}

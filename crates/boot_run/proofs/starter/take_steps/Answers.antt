@@ -1,6 +1,6 @@
 use Rattle.std.proofs.Common.{◌≡◌, ◌≤◌, ◌-◌, ◌∙◌, ℕ, suc, Some, sym, false, rules, arith}
 use Rattle.start_model.specs.Starter.{go_steps}
-use Rattle.run_parts.proofs.BreakLemmas.{or-breaks}
+use Rattle.printed_parts.proofs.BreakLemmas.{or-breaks}
 use Rattle.boot_run.specs.Starts.{is_under_way}
 use Rattle.boot_run.specs.Views.{told_in}
 use Rattle.boot_run.proofs.HostLemmas.{still-host, still-then}

@@ -2,10 +2,10 @@ use Rattle.std.proofs.Common.{◌≡◌, ◌∙◌, ap, sym, subst, refl, Option
 use Rattle.start_model.specs.Machine.{Start, MachineState, Tried, attempt_of}
 use Rattle.start_model.specs.Act.{say, with_machine}
 use Rattle.start_model.specs.Starter.{judged, starter_step, good_is_usable, try_line}
-use Rattle.run_parts.specs.Parts.{Breaks}
+use Rattle.printed_parts.specs.Parts.{Breaks}
 use Rattle.run_parts.proofs.CountLemmas.{still}
-use Rattle.run_parts.proofs.GoesLemmas.{goes-line}
-use Rattle.run_parts.proofs.BreakLemmas.{breaks-silent, breaks-line, or-breaks}
+use Rattle.printed_parts.proofs.GoesLemmas.{goes-line}
+use Rattle.printed_parts.proofs.BreakLemmas.{breaks-silent, breaks-line, or-breaks}
 use Rattle.boot_run.specs.Agrees.{Counts, IsRunningBy, OnLeft}
 use Rattle.boot_run.specs.Views.{told_in}
 use Rattle.boot_run.proofs.PlayLemmas.{live_left, plays-as, plays-then}

@@ -2,7 +2,7 @@ use Rattle.std.proofs.Common.{◌≡◌, ap, sym, subst}
 use Rattle.boot_machine.specs.Views.{event_in}
 use Rattle.start_model.specs.Events.{Event}
 use Rattle.start_model.specs.Act.{done}
-use Rattle.run_parts.specs.Parts.{PlaysOr}
+use Rattle.printed_parts.specs.Parts.{PlaysOr}
 use Rattle.boot_run.specs.Begins.{aside_machine, aside_act}
 use Rattle.boot_run.proofs.TurnLemmas.{aside_goes, fail_act, vital_act, aside_breaks, other_does_nothing}
 use Rattle.boot_run.proofs.turning.aside.Goals as goal

@@ -8,7 +8,7 @@ use Rattle.start_model.specs.Machine.{Start}
 use Rattle.start_model.specs.Act.{Act}
 use Rattle.start_model.specs.EventActs.{edit_done, accepted_act}
 use Rattle.run_parts.proofs.CountLemmas.{still}
-use Rattle.run_parts.proofs.BreakLemmas.{breaks-silent}
+use Rattle.printed_parts.proofs.BreakLemmas.{breaks-silent}
 use Rattle.boot_run.specs.Agrees.{RunsOnBy, TurnLeft}
 use Rattle.boot_run.specs.Views.{told_in}
 use Rattle.boot_run.proofs.EditLemmas.{edit_may}

@@ -3,7 +3,7 @@ use Rattle.boot_machine.specs.Views.{event_in}
 use Rattle.start_model.specs.Events.{Event}
 use Rattle.start_model.specs.Boot.{boot_act}
 use Rattle.start_model.specs.EventActs.{idle_act}
-use Rattle.run_parts.specs.Parts.{PlaysOr}
+use Rattle.printed_parts.specs.Parts.{PlaysOr}
 use Rattle.boot_run.specs.Agrees.{TurnLeft}
 use Rattle.boot_run.specs.Begins.{aside_act}
 use Rattle.boot_run.specs.Choices.{choices}

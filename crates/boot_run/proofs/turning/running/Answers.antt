@@ -6,7 +6,7 @@ use Rattle.start_model.specs.Events.{Go, Flush, Logon, Off, CutNow}
 use Rattle.start_model.specs.Act.{Act, done}
 use Rattle.start_model.specs.Starter.{go_act}
 use Rattle.start_model.specs.EventActs.{flush_act, logon_act, off_act, cut_act, accepted_act}
-use Rattle.run_parts.specs.Parts.{PlaysOr}
+use Rattle.printed_parts.specs.Parts.{PlaysOr}
 use Rattle.boot_run.specs.Agrees.{TurnLeft}
 use Rattle.boot_run.specs.Begins.{aside_act}
 use Rattle.boot_run.specs.Views.{told_in, told_by}

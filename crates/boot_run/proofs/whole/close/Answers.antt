@@ -2,7 +2,7 @@ use Rattle.std.proofs.Common.{◌∙◌}
 use Rattle.start_model.specs.Lines as book
 use Rattle.start_model.specs.Act.{done, say}
 use Rattle.start_model.specs.Run.{closing_act}
-use Rattle.run_parts.proofs.BreakLemmas.{or-breaks}
+use Rattle.printed_parts.proofs.BreakLemmas.{or-breaks}
 use Rattle.boot_run.specs.Views.{told_in, told_by}
 use Rattle.boot_run.proofs.RunLemmas.{closes}
 use Rattle.boot_run.proofs.whole.close.Goals as goal

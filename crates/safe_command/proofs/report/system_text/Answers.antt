@@ -1,4 +1,4 @@
-use Rattle.std.proofs.Common.{[], ◌∷◌, ◌++◌, ap, ◌∙◌}
+use Rattle.std.proofs.Common.{[], ◌∷◌, ◌++◌, ◌∙◌}
 use Rattle.start_model.specs.Lines.{EntryLine}
 use Rattle.boot_ini.specs.Choice.{path_at}
 use Rattle.line_objects.specs.Objects.{printed_lines}

@@ -1,5 +1,4 @@
-use Rattle.std.proofs.Common.{◌≡◌, ℕ, List, ◌+◌, ◌++◌, map, sym, ap, ◌∙◌, arith}
-use Rattle.std.specs.List.{flat_map, range_with_len}
+use Rattle.std.proofs.Common.{ℕ, List, ◌+◌, ◌++◌, map, ap, ◌∙◌}
 use Rattle.service_check.specs.Check.{cycle_line, lines_of_cycle}
 use Rattle.service_check.proofs.WaitLemmas.{lines_more}
 use Rattle.service_check.proofs.cycles.put_all.Goals as goal

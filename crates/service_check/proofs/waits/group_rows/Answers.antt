@@ -1,4 +1,4 @@
-use Rattle.std.proofs.Common.{◌≡◌, ℕ, ◌^◌, ◌<◌, List, length, ◌∙◌, subst, ap, arith}
+use Rattle.std.proofs.Common.{ℕ, ◌^◌, ◌<◌, List, length, subst, ap, arith}
 use Rattle.wait_cycles.proofs.InverseLemmas.{if_ok}
 use Rattle.service_check.specs.declared.stage.Staged.{Staged}
 use Rattle.service_check.specs.Needs.{groups_upto}

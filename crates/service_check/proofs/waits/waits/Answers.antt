@@ -3,7 +3,7 @@ use Rattle.std.specs.List.{range_with_len}
 use Rattle.wait_cycles.specs.Graph.{AreWaits, waits_in}
 use Rattle.wait_cycles.proofs.InverseLemmas.{if_ok}
 use Rattle.service_check.specs.Needs.{waits_of}
-use Rattle.service_check.proofs.WaitLemmas.{AreParts, graph, graph_made, graph_waits, graph_needs}
+use Rattle.service_check.proofs.WaitLemmas.{AreParts, graph_made, graph_waits, graph_needs}
 use Rattle.service_check.proofs.waits.waits.Goals as goal
 
 pub returns-clause-waits : goal.returns-clause-waits

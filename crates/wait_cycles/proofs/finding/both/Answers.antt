@@ -1,4 +1,4 @@
-use Rattle.std.proofs.Common.{◌≡◌, ℕ, Bool, ◌&&◌, sym, ◌∙◌}
+use Rattle.std.proofs.Common.{ℕ, Bool, ◌&&◌, sym, ◌∙◌}
 use Rattle.start_model.specs.Demand.{member}
 use Rattle.dependencies.proofs.PulledLemmas.{filter-range_push, filter-range_skip}
 use Rattle.wait_cycles.proofs.finding.both.Goals as goal

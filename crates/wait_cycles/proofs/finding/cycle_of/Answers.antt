@@ -1,4 +1,4 @@
-use Rattle.std.proofs.Common.{◌≡◌, ℕ, Bool, ◌&&◌, List, filter, ◌∙◌}
+use Rattle.std.proofs.Common.{◌≡◌, ℕ, ◌&&◌, List, filter, ◌∙◌}
 use Rattle.std.specs.List.{range_with_len}
 use Rattle.start_model.specs.Demand.{member}
 use Rattle.wait_cycles.specs.Waits.{cycle_of}

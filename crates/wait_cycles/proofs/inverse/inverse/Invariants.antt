@@ -1,5 +1,3 @@
-use Rattle.std.proofs.Common.{◌≡◌, ℕ, length, take}
-use Rattle.wait_cycles.specs.Graph.{HasEdge}
 use Rattle.wait_cycles.proofs.InverseLemmas.{IsTurned}
 use Rattle.wait_cycles.proofs.inverse.inverse.Given as goal
 

@@ -1,4 +1,4 @@
-use Rattle.std.proofs.Common.{◌≡◌, List, ℕ, ◌∙◌}
+use Rattle.std.proofs.Common.{◌∙◌}
 use Rattle.wait_cycles.specs.Graph.{Settles}
 use Rattle.wait_cycles.specs.Working.{IsSettling}
 use Rattle.wait_cycles.proofs.InverseLemmas.{on_ok}

@@ -1,4 +1,4 @@
-use Rattle.std.proofs.Common.{◌≡◌, List, ℕ, arith}
+use Rattle.std.proofs.Common.{arith}
 use Rattle.std.proofs.lemmas.List.{nil_from_length}
 use Rattle.wait_cycles.proofs.MetLemmas.{back_within, settling_more, settled_all}
 use Rattle.wait_cycles.proofs.met.met.Goals as goal

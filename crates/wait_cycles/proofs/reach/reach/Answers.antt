@@ -1,7 +1,6 @@
-use Rattle.std.proofs.Common.{◌≡◌, ◌<◌, List, ℕ, length, sym, ◌∙◌, subst, arith}
+use Rattle.std.proofs.Common.{◌<◌, List, ℕ, length, sym, subst, arith}
 use Rattle.std.specs.Prelude.{All}
 use Rattle.std.proofs.lemmas.List.{nil_from_length}
-use Rattle.wait_cycles.specs.Graph.{Marks}
 use Rattle.wait_cycles.proofs.InverseLemmas.{within}
 use Rattle.wait_cycles.proofs.ReachLemmas.{reaching_more, reached}
 use Rattle.wait_cycles.proofs.reach.reach.Goals as goal

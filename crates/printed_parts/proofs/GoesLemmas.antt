@@ -1,0 +1,293 @@
+-- Parts of a run in sequence.
+use Rattle.std.proofs.Common.{◌≡◌, ℕ, List, [], ◌∷◌, ◌++◌, map, refl, sym, ap, subst, ◌∙◌, append-nil, append_assoc}
+use Rattle.std.proofs.lemmas.Grind.{flat_map-append}
+use Rattle.std.proofs.lemmas.List.{map-append}
+use Rattle.hive_model.specs.Image.{Image}
+use Rattle.hive_model.specs.Tree.{Tree}
+use Rattle.nt_edge.specs.Disk.{DiskState, Wake}
+use Rattle.start_model.specs.Lines as book
+use Rattle.start_model.specs.Lines.{Line, StartLine, EntryLine, LoadLine, SetLine, CommitLine, SelectLine, PhaseLine, TryLine, UnmetLine, VitalLine, LogonLine, SaveRefusedLine, EditOkLine, FlushNothingLine, RefusedLine, VerdictLine, EndLine}
+use Rattle.start_model.specs.Fits.{outcomes_in, verdict_outcome, woke_in, Fits}
+use Rattle.start_model.specs.Causes.{Tally, HasCause}
+use Rattle.run_parts.specs.Counted.{CountedIn, AddsUp}
+use Rattle.start_model.specs.Possible.{Possible, Woken, Outcome, Finished}
+use Rattle.start_model.specs.Act.{Act, say, ask, mark, Note, Woke, Held, Saved, Ordered, Cuts, Ended}
+use Rattle.start_model.specs.Run.{RunResult, play, behind}
+use Rattle.start_model.specs.Report.{Going}
+use Rattle.start_model.specs.Summary.{Summary, with_line, with_lines}
+use Rattle.line_text.specs.declared.form.ReportForm.{ReportForm}
+use Rattle.line_objects.specs.Objects.{printed, printed_lines}
+use Rattle.run_parts.specs.Parts.{tallies, tally_now, since_wake, Grew}
+use Rattle.printed_parts.specs.Parts.{Told, Tells, Goes, GoesBut}
+use Rattle.run_parts.proofs.CountLemmas.{Alone, Still, alone, grew-then, adds-then, tallies-append}
+
+-- ---- lists
+
+pub printed-append : (form : ReportForm) (a b : List Line)
+    → printed_lines form (a ++ b) ≡ printed_lines form a ++ printed_lines form b
+printed-append form a b = flat_map-append (printed form) a b
+
+verdict_outcome-append : (w : book.Verdict) (a b : List Outcome) → verdict_outcome w (a ++ b) ≡ verdict_outcome w a ++ b
+verdict_outcome-append book.Good a b = refl
+verdict_outcome-append book.GoodUnsaved a b = refl
+verdict_outcome-append book.Running a b = refl
+verdict_outcome-append book.FallBack a b = refl
+verdict_outcome-append book.Stopped a b = refl
+verdict_outcome-append book.Cut a b = refl
+verdict_outcome-append book.Device a b = refl
+verdict_outcome-append book.Full a b = refl
+verdict_outcome-append book.NoNumber a b = refl
+verdict_outcome-append book.NoEntry a b = refl
+verdict_outcome-append book.OtherLoader a b = refl
+verdict_outcome-append book.NoSystem a b = refl
+verdict_outcome-append book.NoControlSet a b = refl
+verdict_outcome-append book.NoLastKnownGood a b = refl
+
+pub outcomes_in-append : (a b : List Line) → outcomes_in (a ++ b) ≡ outcomes_in a ++ outcomes_in b
+outcomes_in-append [] b = refl
+outcomes_in-append (StartLine number ∷ a) b = outcomes_in-append a b
+outcomes_in-append (EntryLine number path ∷ a) b = outcomes_in-append a b
+outcomes_in-append (LoadLine sequence recovered ∷ a) b =
+    ap (λ (os : List Outcome). Finished ∷ os) (outcomes_in-append a b)
+outcomes_in-append (SetLine number on_good ∷ a) b = outcomes_in-append a b
+outcomes_in-append (CommitLine what sequence ∷ a) b = ap (λ (os : List Outcome). Finished ∷ os) (outcomes_in-append a b)
+outcomes_in-append (SelectLine current default failed good ∷ a) b = outcomes_in-append a b
+outcomes_in-append (PhaseLine word ∷ a) b = outcomes_in-append a b
+outcomes_in-append (TryLine name outcome ∷ a) b = outcomes_in-append a b
+outcomes_in-append (UnmetLine name ∷ a) b = outcomes_in-append a b
+outcomes_in-append (VitalLine name ∷ a) b = outcomes_in-append a b
+outcomes_in-append (LogonLine ∷ a) b = outcomes_in-append a b
+outcomes_in-append (SaveRefusedLine full ∷ a) b = outcomes_in-append a b
+outcomes_in-append (EditOkLine ∷ a) b = outcomes_in-append a b
+outcomes_in-append (FlushNothingLine ∷ a) b = outcomes_in-append a b
+outcomes_in-append (RefusedLine event why ∷ a) b = outcomes_in-append a b
+outcomes_in-append (VerdictLine word ∷ a) b =
+    ap (verdict_outcome word) (outcomes_in-append a b) ∙ verdict_outcome-append word (outcomes_in a) (outcomes_in b)
+outcomes_in-append (EndLine ∷ a) b = outcomes_in-append a b
+
+pub woke_in-append : (a b : List Note) → woke_in (a ++ b) ≡ woke_in a ++ woke_in b
+woke_in-append [] b = refl
+woke_in-append (Woke p ∷ a) b = ap (λ (ps : List Possible). p ∷ ps) (woke_in-append a b)
+woke_in-append (Held t ∷ a) b = woke_in-append a b
+woke_in-append (Saved t ∷ a) b = woke_in-append a b
+woke_in-append (Ordered x ∷ a) b = woke_in-append a b
+woke_in-append (Cuts ∷ a) b = woke_in-append a b
+woke_in-append (Ended o ∷ a) b = woke_in-append a b
+
+fits-append : (a b : List Image) (v w : List Woken) (p q : List Possible) → Fits a v p → Fits b w q
+    → Fits (a ++ b) (v ++ w) (p ++ q)
+fits-append [] b [] w [] q f g = g
+fits-append [] b [] w (x ∷ p) q f g = absurd f
+fits-append [] b (x ∷ v) w p q f g = absurd f
+fits-append (x ∷ a) b [] w p q f g = absurd f
+fits-append (x ∷ a) b (y ∷ v) w [] q f g = absurd f
+fits-append (x ∷ a) b (y ∷ v) w (z ∷ p) q f g = (f.0, f.1, fits-append a b v w p q f.2 g)
+
+-- the image of a wake
+abbrev pub image_at : Wake → Image
+image_at w = w.image
+
+-- ---- parts that were played
+
+pub behind-append : (a b : List Line) (j k : List Note) (r : RunResult)
+    → behind (a ++ b) (j ++ k) r ≡ behind a j (behind b k r)
+behind-append a b j k r =
+    λ i. record { lines = append_assoc a b r.lines i; notes = append_assoc j k r.notes i; disk = r.disk; rest = r.rest }
+
+-- nothing was reported
+pub tells-nothing : (x : Told) → Tells x x []
+tells-nothing x = record { said = sym (append-nil x.said); form = refl; summary = refl }
+
+with_lines-append : (s : Summary) (a b : List Line) → with_lines s (a ++ b) ≡ with_lines (with_lines s a) b
+with_lines-append s [] b = refl
+with_lines-append s (l ∷ a) b = with_lines-append (with_line s l) a b
+
+-- lines were reported, and then others
+pub tells-then : (x y z : Told) (a b : List Line) → Tells x y a → Tells y z b → Tells x z (a ++ b)
+tells-then x y z a b p q =
+    let f = x.form in
+    record {
+      said = q.said ∙ ap (λ (g : ReportForm). y.said ++ printed_lines g b) p.form
+          ∙ ap (λ (t : List ℕ). t ++ printed_lines f b) p.said
+          ∙ append_assoc x.said (printed_lines f a) (printed_lines f b)
+          ∙ ap (λ (t : List ℕ). x.said ++ t) (sym (printed-append f a b));
+      form = q.form ∙ p.form;
+      summary = q.summary ∙ ap (λ (s : Summary). with_lines s b) p.summary ∙ sym (with_lines-append x.summary a b);
+    }
+
+-- nothing happened
+pub goes-nothing : (a : Going) (x : Told) (d e : DiskState) → Still d e → Goes a a x x d e
+goes-nothing a x d e s =
+    record {
+      lines = [];
+      notes = [];
+      added = [];
+      woken = [];
+      tells = tells-nothing x;
+      grew = s.alone;
+      fits = tt;
+      goes = λ w o. refl;
+      adds_up = s.same;
+    }
+
+-- an operation ended, and that is not reported yet
+pub goes-untold : (u : Outcome) (a : Going) (x : Told) (d e : DiskState) → Alone d e
+    → CountedIn u (tally_now d) (tally_now e)
+    → GoesBut (Ended u ∷ []) a a x x d e
+goes-untold u a x d e s counted =
+    record {
+      lines = [];
+      notes = [];
+      added = [];
+      woken = [];
+      tells = tells-nothing x;
+      grew = s;
+      fits = tt;
+      goes = λ w o. refl;
+      adds_up = (tally_now e, (counted, refl));
+    }
+
+-- one part after another
+pub goes-but : (untold : List Note) (a b c : Going) (x y z : Told) (d e f : DiskState) → Goes a b x y d e
+    → GoesBut untold b c y z e f
+    → GoesBut untold a c x z d f
+goes-but untold a b c x y z d e f p q =
+    let P : List Possible → Type 0 = λ ps. Fits (map image_at (p.added ++ q.added)) (p.woken ++ q.woken) ps in
+    let Q : List Image → Type 0 = λ is. Fits is (p.woken ++ q.woken) (woke_in p.notes ++ woke_in q.notes) in
+    let fits : Fits (map image_at p.added ++ map image_at q.added) (p.woken ++ q.woken)
+    (woke_in p.notes ++ woke_in q.notes) =
+    fits-append (map image_at p.added) (map image_at q.added) p.woken q.woken (woke_in p.notes) (woke_in q.notes)
+    p.fits q.fits in
+    let R : List Note → Type 0 = λ ns. AddsUp ns (tallies p.added) (tally_now d) (tally_now e) in
+    let S : List Note → Type 0 = λ ns. AddsUp ns (tallies (p.added ++ q.added)) (tally_now d) (tally_now f) in
+    let T : List Tally → Type 0 = λ ts. AddsUp (p.notes ++ (q.notes ++ untold)) ts (tally_now d) (tally_now f) in
+    let both : AddsUp (p.notes ++ (q.notes ++ untold)) (tallies p.added ++ tallies q.added) (tally_now d)
+    (tally_now f) =
+    adds-then p.notes (q.notes ++ untold) (tallies p.added) (tallies q.added) (tally_now d) (tally_now e) (tally_now f)
+    (subst R (append-nil p.notes) p.adds_up) q.adds_up in
+    record {
+      lines = p.lines ++ q.lines;
+      notes = p.notes ++ q.notes;
+      added = p.added ++ q.added;
+      woken = p.woken ++ q.woken;
+      tells = tells-then x y z p.lines q.lines p.tells q.tells;
+      grew = grew-then p.notes q.notes p.added q.added d e f p.grew q.grew;
+      fits = subst P (sym (woke_in-append p.notes q.notes)) (subst Q (sym (map-append image_at p.added q.added)) fits);
+      goes = λ w o.
+          ap (λ (ws : List Woken). a ws (outcomes_in (p.lines ++ q.lines) ++ o)) (append_assoc p.woken q.woken w)
+          ∙ ap (λ (os : List Outcome). a (p.woken ++ (q.woken ++ w)) (os ++ o)) (outcomes_in-append p.lines q.lines)
+          ∙ ap (λ (os : List Outcome). a (p.woken ++ (q.woken ++ w)) os)
+          (append_assoc (outcomes_in p.lines) (outcomes_in q.lines) o)
+          ∙ p.goes (q.woken ++ w) (outcomes_in q.lines ++ o)
+          ∙ ap (behind p.lines p.notes) (q.goes w o)
+          ∙ sym (behind-append p.lines q.lines p.notes q.notes (c w o));
+      adds_up = subst S (sym (append_assoc p.notes q.notes untold)) (subst T (sym (tallies-append p.added q.added)) both);
+    }
+
+pub goes-then : (a b c : Going) (x y z : Told) (d e f : DiskState) → Goes a b x y d e → Goes b c y z e f
+    → Goes a c x z d f
+goes-then a b c x y z d e f p q = goes-but [] a b c x y z d e f p q
+
+-- a line that reports no outcome
+pub goes-line : (l : Line) (r : Act) (x y : Told) (d e : DiskState) → Still d e → outcomes_in (l ∷ []) ≡ []
+    → Tells x y (l ∷ [])
+    → Goes (play (say l r)) (play r) x y d e
+goes-line l r x y d e s none said =
+    record {
+      lines = l ∷ [];
+      notes = [];
+      added = [];
+      woken = [];
+      tells = said;
+      grew = s.alone;
+      fits = tt;
+      goes = λ w o. ap (λ (os : List Outcome). play (say l r) w (os ++ o)) none;
+      adds_up = s.same;
+    }
+
+-- what was done to the disk where an operation ended so, and nothing else
+pub grew-ended : (u : Outcome) (d e : DiskState) → Alone d e → HasCause u (since_wake d) (tally_now e)
+    → Grew (Ended u ∷ []) [] d e
+grew-ended u d e s cause =
+    record {
+      wakes = s.wakes;
+      armings = s.armings;
+      cut_calls = s.cut_calls;
+      placings = s.placings;
+      takings = s.takings;
+      later = s.later;
+      caused = (cause, tt);
+    }
+
+-- an operation of the disk, and the line that reports its outcome
+pub goes-told : (disk : Possible) (next : Outcome → Act) (l : Line) (u : Outcome) (r : Act) (x y : Told)
+    (d e : DiskState)
+    → Alone d e → HasCause u (since_wake d) (tally_now e) → CountedIn u (tally_now d) (tally_now e)
+    → outcomes_in (l ∷ []) ≡ u ∷ [] → next u ≡ say l r
+    → Tells x y (l ∷ [])
+    → Goes (play (ask disk next)) (play r) x y d e
+goes-told disk next l u r x y d e s cause counted told is said =
+    record {
+      lines = l ∷ [];
+      notes = Ended u ∷ [];
+      added = [];
+      woken = [];
+      tells = said;
+      grew = grew-ended u d e s cause;
+      fits = tt;
+      goes = λ w o.
+          ap (λ (os : List Outcome). play (ask disk next) w (os ++ o)) told
+          ∙ ap (λ (a : Act). behind [] (Ended u ∷ []) (play a w o)) is;
+      adds_up = (tally_now e, (counted, refl));
+    }
+
+-- a tree that the disk holds, or a clone that was saved: the disk has no part in the note
+pub goes-held : (t : Tree) (r : Act) (x : Told) (d : DiskState) → Goes (play (mark (Held t) r)) (play r) x x d d
+goes-held t r x d =
+    let s : Alone d d = alone d in
+    let g : Grew (Held t ∷ []) [] d d =
+    record {
+      wakes = s.wakes;
+      armings = s.armings;
+      cut_calls = refl;
+      placings = refl;
+      takings = refl;
+      later = s.later;
+      caused = tt;
+    } in
+    record {
+      lines = [];
+      notes = Held t ∷ [];
+      added = [];
+      woken = [];
+      tells = tells-nothing x;
+      grew = g;
+      fits = tt;
+      goes = λ w o. refl;
+      adds_up = refl;
+    }
+
+pub goes-saved : (t : Tree) (r : Act) (x : Told) (d : DiskState) → Goes (play (mark (Saved t) r)) (play r) x x d d
+goes-saved t r x d =
+    let s : Alone d d = alone d in
+    let g : Grew (Saved t ∷ []) [] d d =
+    record {
+      wakes = s.wakes;
+      armings = s.armings;
+      cut_calls = refl;
+      placings = refl;
+      takings = refl;
+      later = s.later;
+      caused = tt;
+    } in
+    record {
+      lines = [];
+      notes = Saved t ∷ [];
+      added = [];
+      woken = [];
+      tells = tells-nothing x;
+      grew = g;
+      fits = tt;
+      goes = λ w o. refl;
+      adds_up = refl;
+    }
