@@ -1,5 +1,7 @@
 pub mod AskLemmas
 pub mod LeaveLemmas
+pub mod ReportLemmas
+pub mod SeekLemmas
 pub mod PlacedLemmas
 pub mod SaveLemmas
 pub mod DecideLemmas
