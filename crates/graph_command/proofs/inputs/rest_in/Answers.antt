@@ -1,0 +1,69 @@
+use Rattle.std.proofs.Common.{◌≡◌, ◌∙◌, ℕ, List, subst}
+use Rattle.std.specs.Prelude.{Ok, Err}
+use Rattle.nt_edge.specs.Host.{Files}
+use Rattle.command_parts.specs.Inputs.{bytes_in, ini_in}
+use Rattle.command_parts.specs.Leaves.{AsksUntil, Reads, more, named}
+use Rattle.command_parts.specs.declared.inputs.HiveFiles.{HiveFiles}
+use Rattle.command_parts.proofs.AskLemmas.{reads_asks, behind_asks, more_behind}
+use Rattle.command_words.specs.Views.{graph_seen}
+use Rattle.graph_command.specs.declared.inputs.RestInputs.{RestInputs}
+use Rattle.graph_command.specs.Inputs.{asks_rest}
+use Rattle.graph_command.proofs.AskLemmas.{by_hive, by_text, ini_asked, hive_asked, first_asks}
+use Rattle.graph_command.proofs.inputs.rest_in.Goals as goal
+
+pub returns-in_err-text-clause-asks : goal.returns-in_err-text-clause-asks
+returns-in_err-text-clause-asks g c = λ tells.
+    let old = g.H.Host.state c.args.host.now in
+    let asked = graph_seen c.args.words in
+    first_asks (List ℕ) RestInputs (asks_rest asked old.files) (named asked.boot_ini)
+    (bytes_in old.files asked.boot_ini) (by_text asked old.files)
+    c.in_err-text.field-0.0 c.from_residual-in_err-text.result
+    old.gets (g.H.Host.state c.bytes_in.new.host).gets (λ j. asks_rest asked old.files) (c.in_err-text.ensures.looks.found tells)
+    c.in_err-text.ensures.looks.unwritten c.in_err-text.ensures.until c.from_residual-in_err-text.ensures.1
+
+pub returns-in_err-ini-clause-asks : goal.returns-in_err-ini-clause-asks
+returns-in_err-ini-clause-asks g c = λ tells.
+    let old = g.H.Host.state c.args.host.now in
+    let asked = graph_seen c.args.words in
+    let n = ini_asked old.files asked c.in_ok-text.text (c.in_ok-text.ensures.looks.found tells) in
+    let reads = subst (λ (t : List ℕ). Reads (ini_in t asked.system) (Err c.in_err-ini.field-0.0)) c.as_slice.ensures
+    (subst (λ (p : List ℕ). Reads (ini_in c.as_slice.result.now p) (Err c.in_err-ini.field-0.0))
+    c.as_bytes.ensures.value c.in_err-ini.ensures) in
+    reads_asks (asks_rest asked old.files) (named asked.boot_ini) _
+    (λ i. by_hive asked old.files) c.in_err-ini.field-0.0 c.from_residual-in_err-ini.result old.gets _
+    n reads c.from_residual-in_err-ini.ensures.1 c.in_ok-text.ensures.asks
+
+pub returns-in_err-hive-clause-asks : goal.returns-in_err-hive-clause-asks
+returns-in_err-hive-clause-asks g c = λ tells.
+    let old = g.H.Host.state c.args.host.now in
+    let asked = graph_seen c.args.words in
+    let ini = subst (λ (t : List ℕ). ini_in t asked.system ≡ Ok c.in_ok-ini.ini) c.as_slice.ensures
+    (subst (λ (p : List ℕ). ini_in c.as_slice.result.now p ≡ Ok c.in_ok-ini.ini)
+    c.as_bytes.ensures.value c.in_ok-ini.ensures) in
+    let looks = c.in_ok-text.ensures.looks in
+    let all = hive_asked old.files asked c.in_ok-text.text c.in_ok-ini.ini (looks.found tells) ini in
+    let mid = g.H.Host.state c.bytes_in.new.host in
+    let new = g.H.Host.state c.hive_in.new.host in
+    let here = subst (λ (f : Files). AsksUntil {A = HiveFiles} (by_hive asked f) (Err c.in_err-hive.field-0.0)
+    mid.gets new.gets) (looks.files tells)
+    (c.in_err-hive.ensures.asks (looks.keeps.tells ∙ tells)) in
+    behind_asks HiveFiles (asks_rest asked old.files) (named asked.boot_ini) (by_hive asked old.files)
+    c.in_err-hive.field-0.0
+    c.from_residual-in_err-hive.result old.gets mid.gets new.gets all c.in_ok-text.ensures.asks here
+    c.from_residual-in_err-hive.ensures.1
+
+pub returns-clause-asks : goal.returns-clause-asks
+returns-clause-asks g c = λ tells.
+    let old = g.H.Host.state c.args.host.now in
+    let asked = graph_seen c.args.words in
+    let ini = subst (λ (t : List ℕ). ini_in t asked.system ≡ Ok c.in_ok-ini.ini) c.as_slice.ensures
+    (subst (λ (p : List ℕ). ini_in c.as_slice.result.now p ≡ Ok c.in_ok-ini.ini)
+    c.as_bytes.ensures.value c.in_ok-ini.ensures) in
+    let looks = c.in_ok-text.ensures.looks in
+    let all = hive_asked old.files asked c.in_ok-text.text c.in_ok-ini.ini (looks.found tells) ini in
+    let mid = g.H.Host.state c.bytes_in.new.host in
+    let new = g.H.Host.state c.hive_in.new.host in
+    let here = subst (λ (f : Files). new.gets ≡ more (by_hive asked f) mid.gets) (looks.files tells)
+    (c.in_ok-hive.ensures.asks (looks.keeps.tells ∙ tells)) in
+    more_behind (asks_rest asked old.files) (named asked.boot_ini) (by_hive asked old.files)
+    old.gets mid.gets new.gets all c.in_ok-text.ensures.asks here
