@@ -3,6 +3,7 @@ use Rattle.std.proofs.Common.{◌≡◌, ◌≤◌, ℕ, ◌+◌, refl, sym, ap,
 use Rattle.std.specs.Prelude.{List, Result, Ok, Err}
 use Rattle.std.specs.Result.{IsErrAnd}
 use Rattle.nt_edge.specs.Host.{Files}
+use Rattle.nt_edge.specs.declared.host.HostStop.{HostStop}
 use Rattle.nt_edge.specs.declared.host.HostStop.TheVariants.{Read, Write, Memory}
 use Rattle.arc_path.specs.declared.arc.Arc.{Arc}
 use Rattle.arc_path.specs.Reading.{arc_of}
@@ -13,7 +14,7 @@ use Rattle.command_parts.specs.declared.refusal.Refusal.{Refusal}
 use Rattle.command_parts.specs.declared.refusal.Obstacle.{Obstacle}
 use Rattle.command_parts.specs.declared.refusal.Obstacle.TheVariants.{Refused, Stopped}
 use Rattle.command_parts.specs.Inputs.{system_in, bytes_in, ini_in, behind_step, asks_hive}
-use Rattle.command_parts.specs.Leaves.{more, named, AsksSome, AsksUntil, Gives}
+use Rattle.command_parts.specs.Leaves.{more, named, AsksSome, AsksStopped, AsksUntil, Gives, Reads}
 use Rattle.graph_command.specs.Inputs.{script_in, asks_rest, asks_graph}
 
 abbrev pub by_hive : GraphAsked → Files → ℕ
@@ -56,24 +57,27 @@ rest_asked files asked system script is found =
 nothing_more : (p : ℕ) → p + 0 ≡ p
 nothing_more p = omega arith
 
--- a step that asked for all of p files and found no way on
-pub step_asks : (A B : Type 0) (n p : ℕ) (s : Result A Refusal) (k : A → ℕ) (e : Obstacle) (q : Result B Obstacle) (g h : ℕ)
-    → n ≡ p + behind_step s k → Gives s (Err e) → (e ≡ Stopped Write → ⊥) → h ≡ more p g
-    → (e ≡ Stopped Read → 1 ≤ p) → IsErrAnd q (λ x. x ≡ e) → AsksUntil n q g h
-step_asks A B n p s k e (Ok x) g h whole gives unwritten asked some is = absurd is
-step_asks A B n p s k e (Err x) g h whole gives unwritten asked some is =
-    subst (λ (y : Obstacle). AsksUntil {A = B} n (Err y) g h) (sym is) (by_kind e gives unwritten some)
+-- a step that asked for n files before, and for none itself
+pub read_until : {A : Type 0} (n : ℕ) (s : Result A Refusal) (q : Result A Obstacle) (g h : ℕ) → Reads s q → h ≡ more n g
+    → AsksUntil n q g h
+read_until n s (Ok x) g h reads asked = asked
+read_until n s (Err (Refused why)) g h reads asked = asked
+read_until n s (Err (Stopped stop)) g h reads asked =
+    subst (λ (t : HostStop). AsksStopped t n g h) (sym reads)
+    (record { asked = n; not_less = omega arith; not_more = omega arith; gets = asked })
+
+-- the same where it ends the search
+pub read_err : {A B : Type 0} (n : ℕ) (s : Result A Refusal) (e : Obstacle) (q : Result B Obstacle) (g h : ℕ) → Reads s (Err e)
+    → IsErrAnd q (λ x. x ≡ e) → h ≡ more n g → AsksUntil n q g h
+read_err n s e (Ok x) g h reads is asked = absurd is
+read_err {A} {B} n s e (Err x) g h reads is asked =
+    subst (λ (y : Obstacle). AsksUntil {A = B} n (Err y) g h) (sym is) (by_kind e reads)
   where
-    by_kind : (y : Obstacle) → Gives s (Err y) → (y ≡ Stopped Write → ⊥) → (y ≡ Stopped Read → 1 ≤ p)
-        → AsksUntil {A = B} n (Err y) g h
-    by_kind (Refused r) gives unwritten some =
-        let all : n ≡ p = whole ∙ ap (λ (t : Result A Refusal). p + behind_step t k) gives ∙ nothing_more p in
-        asked ∙ ap (λ (m : ℕ). more m g) (sym all)
-    by_kind (Stopped Read) gives unwritten some =
-        record { asked = p; not_less = some refl; not_more = omega (arith, whole); gets = asked }
-    by_kind (Stopped Write) gives unwritten some = absurd (unwritten refl)
-    by_kind (Stopped Memory) gives unwritten some =
-        record { asked = p; not_less = omega arith; not_more = omega (arith, whole); gets = asked }
+    by_kind : (y : Obstacle) → Reads s (Err y) → AsksUntil {A = B} n (Err y) g h
+    by_kind (Refused why) reads = asked
+    by_kind (Stopped stop) reads =
+        subst (λ (t : HostStop). AsksStopped t n g h) (sym reads)
+        (record { asked = n; not_less = omega arith; not_more = omega arith; gets = asked })
 
 wider : (least n m g h : ℕ) → n ≤ m → AsksSome least n g h → AsksSome least m g h
 wider least n m g h le some =

@@ -43,7 +43,8 @@ fn named_script<H: Host>(alloc: Global, host: &mut H, name: &str) -> Result<Scri
     ensures kept { result ≡ Err (Obstacle.Refused Refusal.Usage) → ⊥ }
 {
     let text = file_in(alloc, host, name)?;
-    events_in(alloc, text.as_slice())
+    let script = events_in(alloc, text.as_slice())?;
+    Ok(script)
 }
 
 fn no_script(alloc: Global) -> Result<Script, Obstacle>

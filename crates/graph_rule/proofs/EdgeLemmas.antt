@@ -17,7 +17,8 @@ use Rattle.why_state.specs.declared.views.ViewedRun.{ViewedRun}
 use Rattle.why_state.specs.States.{place_in}
 use Rattle.graph_rule.specs.declared.parts.GraphParts.{GraphParts}
 use Rattle.graph_rule.specs.declared.whole.WholeGraph.{WholeGraph}
-use Rattle.graph_rule.specs.Rows.{grouped_at, members_of, members_in, parts_by, name_vertex, group_vertex, entry_row, is_drawn, group_row, rows_of, whole_by}
+use Rattle.graph_rule.specs.Entries.{entries_in}
+use Rattle.graph_rule.specs.Rows.{grouped_at, members_of, members_in, parts_by, name_vertex, group_vertex, entry_row, is_drawn, group_row, rows_of, whole_by, whole_of}
 
 abbrev Below : ℕ → List ℕ → Type 0
 Below n vs = All (λ v. v < n) vs
@@ -155,6 +156,11 @@ edges_from rows all u v edge =
     (All-get_or (Below (length rows)) rows u [] (edge_from rows u v edge) all) edge
 
 -- ---- the whole
+
+pub whole_is : (r : ViewedRun) (of : Option (List ℕ)) (es : List Entry) (w : WholeGraph) → es ≡ entries_in r
+    → w ≡ whole_by (parts_by r of es) of → w ≡ whole_of r of
+unfolding whole_of
+whole_is r of es w found is = is ∙ ap (λ (x : List Entry). whole_by (parts_by r of x) of) found
 
 pub edges_whole : (r : ViewedRun) (of : Option (List ℕ)) (es : List Entry) (w : WholeGraph) → w ≡ whole_by (parts_by r of es) of
     → AreEdges w.rows

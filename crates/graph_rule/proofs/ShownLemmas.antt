@@ -65,7 +65,7 @@ reach_is rows n step p q marks len edges test is lp lq =
       closed = λ u v lu lv at s. is.closed.closed u v at (test.made u v s);
     }) lq)
 
-back_edges : (rows back : List (List ℕ)) → IsInverse rows back → AreEdges back
+pub back_edges : (rows back : List (List ℕ)) → IsInverse rows back → AreEdges back
 back_edges rows back turned' u v edge = omega (arith, edge_from rows v u (turned'.only v u edge), turned'.len)
 
 pub shown_about : (rows back : List (List ℕ)) (s v : ℕ) (on to : List Bool) → AreEdges rows → IsInverse rows back

@@ -88,6 +88,9 @@ drawn_by w numbers = record {
 abbrev pub drawn : WholeGraph → Graph
 drawn w = drawn_by w (numbers_from 1 (marks_of w w.start))
 
+abbrev pub no_graph : Graph
+no_graph = record { nodes = []; edges = [] }
+
 -- the graph of a start, or of a name in it; nothing is shown of one that came to no phase
 unfoldable pub graph_of : ViewedRun → Option (List ℕ) → Graph
-graph_of r of = if length r.views == 0 then record { nodes = []; edges = [] } else drawn (whole_of r of)
+graph_of r of = if length r.views == 0 then no_graph else drawn (whole_of r of)

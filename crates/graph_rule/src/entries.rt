@@ -68,12 +68,7 @@ fn begun_at(alloc: Global, run: &ViewedRun, at: usize) -> Result<Names, AllocErr
     }
 }
 
-fn push_begun(
-    alloc: Global,
-    run: &ViewedRun,
-    at: usize,
-    out: &mut Names,
-) -> Result<(), AllocError>
+fn push_begun(alloc: Global, run: &ViewedRun, at: usize, out: &mut Names) -> Result<(), AllocError>
     ensures { OnOk result (out.new ≡ out.old ++ begun_at run.now at) }
 {
     let names = begun_at(alloc, run, at)?;

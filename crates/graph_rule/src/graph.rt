@@ -4,7 +4,7 @@ ghost use Rattle.std.specs.Prelude.{◌≡◌, IfOk};
 ghost use Rattle.std.specs.Option.{option_copied};
 ghost use Rattle.hive_model.specs.Valid.{HoldsKeys};
 ghost use Rattle.graph_rule.specs.Rows.{whole_of};
-ghost use Rattle.graph_rule.specs.Shown.{drawn, graph_of};
+ghost use Rattle.graph_rule.specs.Shown.{drawn, no_graph, graph_of};
 
 use crate::marks::marks_of;
 use crate::numbers::{drawn_by, numbers};
@@ -25,7 +25,10 @@ fn drawn(alloc: Global, run: &ViewedRun, of: Option<&Units>) -> Result<Graph, Al
     drawn_by(alloc, &whole, numbers.as_slice())
 }
 
-fn no_graph(alloc: Global) -> Graph {
+/// Nothing is shown.
+fn no_graph(alloc: Global) -> Graph
+    ensures { result ≡ no_graph }
+{
     Graph {
         nodes: GraphNodes::new(alloc),
         edges: GraphEdges::new(alloc),

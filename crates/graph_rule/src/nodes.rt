@@ -93,7 +93,12 @@ fn named_node(
 fn entry_node(alloc: Global, run: &ViewedRun, entry: &Entry) -> Result<GraphNode, AllocError>
     ensures { IfOk result (λ node. node ≡ entry_node run.now entry.now) }
 {
-    named_node(alloc, run, &entry.name, state_of(run, entry.name.as_slice()))
+    named_node(
+        alloc,
+        run,
+        &entry.name,
+        state_of(run, entry.name.as_slice()),
+    )
 }
 
 /// The nodes of entries.

@@ -178,15 +178,17 @@ fn push_edges(
         return Ok(());
     }
     let of_group = is_group_at(whole.nodes.as_slice(), at);
-    push_row(numbers, from, of_group, row_at(whole.rows.as_slice(), at), out)
+    push_row(
+        numbers,
+        from,
+        of_group,
+        row_at(whole.rows.as_slice(), at),
+        out,
+    )
 }
 
 /// The edges between what is shown.
-fn edges_shown(
-    alloc: Global,
-    whole: &WholeGraph,
-    numbers: &[u64],
-) -> Result<GraphEdges, AllocError>
+fn edges_shown(alloc: Global, whole: &WholeGraph, numbers: &[u64]) -> Result<GraphEdges, AllocError>
     ensures { IfOk result (λ out. out ≡ flat_map (edges_at whole.now numbers.now) (range_with_len 0 (length numbers.now))) }
 {
     let mut out = GraphEdges::new(alloc);

@@ -90,11 +90,7 @@ fn push_group(parts: &GraphParts, name: &Units, out: &mut Vertices) -> Result<()
 }
 
 /// The vertices of names.
-fn name_vertices(
-    alloc: Global,
-    parts: &GraphParts,
-    names: &[Units],
-) -> Result<Vertices, AllocError>
+fn name_vertices(alloc: Global, parts: &GraphParts, names: &[Units]) -> Result<Vertices, AllocError>
     ensures { IfOk result (λ out. out ≡ filter_map (name_vertex parts.now) names.now) }
 {
     let mut out = Vertices::new(alloc);
@@ -221,11 +217,7 @@ fn push_entry_rows(
     Ok(())
 }
 
-fn push_empty_rows(
-    alloc: Global,
-    names: &[Units],
-    rows: &mut VertexRows,
-) -> Result<(), AllocError>
+fn push_empty_rows(alloc: Global, names: &[Units], rows: &mut VertexRows) -> Result<(), AllocError>
     ensures { OnOk result (rows.new ≡ rows.old ++ map (λ name. []) names.now) }
 {
     for _name in names {

@@ -137,11 +137,7 @@ fn start_in(parts: &GraphParts, of: Option<&Units>) -> Result<Option<usize>, All
     }
 }
 
-fn whole_by(
-    alloc: Global,
-    parts: GraphParts,
-    of: Option<&Units>,
-) -> Result<WholeGraph, AllocError>
+fn whole_by(alloc: Global, parts: GraphParts, of: Option<&Units>) -> Result<WholeGraph, AllocError>
     ensures { IfOk result (λ whole. whole ≡ whole_by parts (option_copied of.entry)) }
 {
     let rows = rows_of(alloc, &parts, of)?;

@@ -1,6 +1,6 @@
 -- A line without its end.
 use Rattle.std.proofs.Common.{◌≡◌, ℕ, ◌-◌, List, [], ◌∷◌, ◌++◌, length, take, refl, sym, ap, ◌∙◌, arith}
-use Rattle.std.specs.Prelude.{codes}
+use Rattle.std.specs.Prelude.{codes, Result, Ok, Err, OnOk}
 use Rattle.std.proofs.lemmas.List.{length-append, append-nil, take_at}
 use Rattle.line_text.specs.declared.form.ReportForm.TheVariants.{Text}
 use Rattle.why_lines.specs.declared.lines.WhyLine.{WhyLine}
@@ -14,6 +14,12 @@ printed : (line : WhyLine) → printed_lines Text (line ∷ []) ≡ head_part li
 unfolding printed_lines
 printed line = append-nil (line_text line)
 
-pub part_of : (line : WhyLine) (text : List ℕ) → text ≡ printed_lines Text (line ∷ []) → take (length text - 1) text ≡ head_part line
+part_of : (line : WhyLine) (text : List ℕ) → text ≡ printed_lines Text (line ∷ []) → take (length text - 1) text ≡ head_part line
 part_of line text is =
     ap (λ (t : List ℕ). take (length t - 1) t) (is ∙ printed line) ∙ unended (head_part line) 10
+
+-- the line was appended without its end
+pub part_put : {E : Type 0} (r : Result (Unit {0}) E) (old new text : List ℕ) (line : WhyLine) → text ≡ printed_lines Text (line ∷ [])
+    → OnOk r (new ≡ old ++ take (length text - 1) text) → OnOk r (new ≡ old ++ head_part line)
+part_put (Ok u) old new text line is put = put ∙ ap (λ (xs : List ℕ). old ++ xs) (part_of line text is)
+part_put (Err e) old new text line is put = tt

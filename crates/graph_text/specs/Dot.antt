@@ -62,7 +62,7 @@ style_text states.Untaken = codes ",color=gray"
 style_text states.NoEntry = codes ",color=gray,style=dashed"
 
 -- a node by its number, with the spaces before it
-abbrev pub node_text : List ℕ → ℕ → GraphNode → List ℕ
+unfoldable pub node_text : List ℕ → ℕ → GraphNode → List ℕ
 node_text before n node =
     before ++ codes "n" ++ decimal n ++ codes " [label=\"" ++ in_quotes (label_text node) ++ codes "\""
     ++ shape_text node.kind ++ style_text node.state ++ codes "];\n"
@@ -92,13 +92,15 @@ nodes_text place before n (node ∷ nodes) = node_where place before n node ++ n
 
 -- ---- phases
 
-abbrev pub cluster_text : Phase → List GraphNode → List ℕ
-cluster_text phase nodes =
+unfoldable pub cluster_front : Phase → List ℕ
+cluster_front phase =
     codes "  subgraph cluster_" ++ phase_word phase ++ codes " {\n    label=\"" ++ phase_word phase ++ codes "\";\n"
-    ++ nodes_text (Some phase) (codes "    ") 1 nodes ++ codes "  }\n"
+
+unfoldable pub cluster_text : Phase → List GraphNode → List ℕ
+cluster_text phase nodes = cluster_front phase ++ nodes_text (Some phase) (codes "    ") 1 nodes ++ codes "  }\n"
 
 -- a phase, where a node is in it
-abbrev pub phase_text : Phase → List GraphNode → List ℕ
+unfoldable pub phase_text : Phase → List GraphNode → List ℕ
 phase_text phase nodes =
     if list_any (λ (node : GraphNode). stands_in (Some phase) node.phase) nodes then cluster_text phase nodes else []
 
@@ -107,15 +109,15 @@ phase_text phase nodes =
 abbrev pub dotted_text : Bool → List ℕ
 dotted_text of_group = if of_group then codes " [style=dotted]" else []
 
-abbrev pub edge_text : GraphEdge → List ℕ
+unfoldable pub edge_text : GraphEdge → List ℕ
 edge_text edge = codes "  n" ++ decimal edge.from ++ codes " -> n" ++ decimal edge.to ++ dotted_text edge.of_group ++ codes ";\n"
 
 -- ---- the whole
 
-abbrev pub opening_text : List WhyLine → List ℕ
+unfoldable pub opening_text : List WhyLine → List ℕ
 opening_text head = codes "digraph ntboot {\n  label=\"" ++ in_quotes (head_text head) ++ codes "\";\n"
 
-abbrev pub all_nodes_text : List GraphNode → List ℕ
+unfoldable pub all_nodes_text : List GraphNode → List ℕ
 all_nodes_text nodes =
     phase_text phases.Boot nodes ++ phase_text phases.System nodes ++ phase_text phases.Automatic nodes ++ nodes_text None (codes "  ") 1 nodes
 

@@ -53,12 +53,15 @@ node_fields n node =
 abbrev pub edge_fields : GraphEdge → Fields
 edge_fields edge = (codes "from", Number edge.from) ∷ (codes "to", Number edge.to) ∷ []
 
+unfoldable pub node_json : ℕ → GraphNode → List ℕ
+node_json n node = object_text (codes "node") (node_fields n node)
+
 -- nodes, of which the first has this number
 abbrev pub nodes_json : ℕ → List GraphNode → List ℕ
 nodes_json n [] = []
-nodes_json n (node ∷ nodes) = object_text (codes "node") (node_fields n node) ++ nodes_json (n + 1) nodes
+nodes_json n (node ∷ nodes) = node_json n node ++ nodes_json (n + 1) nodes
 
-abbrev pub edge_json : GraphEdge → List ℕ
+unfoldable pub edge_json : GraphEdge → List ℕ
 edge_json edge = object_text (codes "edge") (edge_fields edge)
 
 -- the first lines about the start, and then the graph

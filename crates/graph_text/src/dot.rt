@@ -5,9 +5,9 @@ ghost use Rattle.std.specs.List.{flat_map, list_any};
 ghost use Rattle.std.specs.Fmt.{decimal};
 ghost use Rattle.start_model.specs.Lines.{name_text};
 ghost use Rattle.graph_lines.specs.declared.graph.GraphNode.{GraphNode as Node};
-ghost use Rattle.graph_text.specs.Dot.{in_quotes, number_text, label_text, node_text, is_phase, stands_in, node_where, nodes_text, cluster_text, phase_text, edge_text, opening_text, all_nodes_text, dot_text};
+ghost use Rattle.graph_text.specs.Dot.{in_quotes, number_text, label_text, node_text, is_phase, stands_in, node_where, nodes_text, cluster_front, cluster_text, phase_text, edge_text, opening_text, all_nodes_text, dot_text};
 
-use crate::quotes::{push_head, push_in_quotes};
+use crate::quotes::{push_head, push_in_quotes, push_text};
 use crate::words::{dotted_text, phase_word, shape_text, style_text};
 use boot_phases::Phase;
 use boot_report::push_name;
@@ -48,10 +48,10 @@ fn push_label(alloc: Global, out: &mut Vec<u8>, node: &GraphNode) -> Result<(), 
 fn push_front(out: &mut Vec<u8>, before: &[u8], number: u64) -> Result<(), AllocError>
     ensures { OnOk result (out.new.items ≡ out.old.items ++ before.now ++ codes "n" ++ decimal number ++ codes " [label=\"") }
 {
-    out.extend_from_slice(before)?;
-    out.extend_from_slice(b"n")?;
+    push_text(out, before)?;
+    push_text(out, b"n")?;
     push_number(out, number)?;
-    out.extend_from_slice(b" [label=\"")
+    push_text(out, b" [label=\"")
 }
 
 /// Appends a node by its number.
@@ -66,10 +66,10 @@ fn push_node(
 {
     push_front(out, before, number)?;
     push_label(alloc, out, node)?;
-    out.extend_from_slice(b"\"")?;
-    out.extend_from_slice(shape_text(node.kind))?;
-    out.extend_from_slice(style_text(node.state))?;
-    out.extend_from_slice(b"];\n")
+    push_text(out, b"\"")?;
+    push_text(out, shape_text(node.kind))?;
+    push_text(out, style_text(node.state))?;
+    push_text(out, b"];\n")
 }
 
 // ---- phases
@@ -173,6 +173,17 @@ fn push_nodes(
     }
 }
 
+fn push_cluster_front(out: &mut Vec<u8>, phase: Phase) -> Result<(), AllocError>
+    ensures { OnOk result (out.new.items ≡ out.old.items ++ cluster_front phase) }
+{
+    push_text(out, b"  subgraph cluster_")?;
+    push_text(out, phase_word(phase))?;
+    push_text(out, b" {\n    label=\"")?;
+    push_text(out, phase_word(phase))?;
+    push_text(out, b"\";\n")
+}
+
+#[tactic(auto, unfolding(crate::specs::Dot::cluster_text))]
 fn push_cluster(
     alloc: Global,
     out: &mut Vec<u8>,
@@ -181,13 +192,9 @@ fn push_cluster(
 ) -> Result<(), AllocError>
     ensures { OnOk result (out.new.items ≡ out.old.items ++ cluster_text phase nodes.now) }
 {
-    out.extend_from_slice(b"  subgraph cluster_")?;
-    out.extend_from_slice(phase_word(phase))?;
-    out.extend_from_slice(b" {\n    label=\"")?;
-    out.extend_from_slice(phase_word(phase))?;
-    out.extend_from_slice(b"\";\n")?;
+    push_cluster_front(out, phase)?;
     push_nodes(alloc, out, Some(phase), b"    ", nodes)?;
-    out.extend_from_slice(b"  }\n")
+    push_text(out, b"  }\n")
 }
 
 fn has_some(phase: Phase, nodes: &[GraphNode]) -> bool
@@ -197,6 +204,7 @@ fn has_some(phase: Phase, nodes: &[GraphNode]) -> bool
 }
 
 /// Appends a phase, where a node is in it.
+#[tactic(auto, unfolding(crate::specs::Dot::phase_text))]
 fn push_phase(
     alloc: Global,
     out: &mut Vec<u8>,
@@ -211,6 +219,7 @@ fn push_phase(
     Ok(())
 }
 
+#[tactic(auto, unfolding(crate::specs::Dot::all_nodes_text))]
 fn push_all_nodes(alloc: Global, out: &mut Vec<u8>, nodes: &[GraphNode]) -> Result<(), AllocError>
     ensures { OnOk result (out.new.items ≡ out.old.items ++ all_nodes_text nodes.now) }
 {
@@ -222,15 +231,16 @@ fn push_all_nodes(alloc: Global, out: &mut Vec<u8>, nodes: &[GraphNode]) -> Resu
 
 // ---- edges, and the whole
 
+#[tactic(auto, unfolding(crate::specs::Dot::edge_text))]
 fn push_edge(out: &mut Vec<u8>, edge: &GraphEdge) -> Result<(), AllocError>
     ensures { OnOk result (out.new.items ≡ out.old.items ++ edge_text edge.now) }
 {
-    out.extend_from_slice(b"  n")?;
+    push_text(out, b"  n")?;
     push_number(out, edge.from)?;
-    out.extend_from_slice(b" -> n")?;
+    push_text(out, b" -> n")?;
     push_number(out, edge.to)?;
-    out.extend_from_slice(dotted_text(edge.of_group))?;
-    out.extend_from_slice(b";\n")
+    push_text(out, dotted_text(edge.of_group))?;
+    push_text(out, b";\n")
 }
 
 fn push_edges(out: &mut Vec<u8>, edges: &[GraphEdge]) -> Result<(), AllocError>
@@ -247,9 +257,9 @@ fn push_opening(alloc: Global, out: &mut Vec<u8>, head: &[WhyLine]) -> Result<()
 {
     let mut label = Vec::new(alloc);
     push_head(alloc, &mut label, head)?;
-    out.extend_from_slice(b"digraph ntboot {\n  label=\"")?;
+    push_text(out, b"digraph ntboot {\n  label=\"")?;
     push_in_quotes(alloc, out, label.as_slice())?;
-    out.extend_from_slice(b"\";\n")
+    push_text(out, b"\";\n")
 }
 
 /// Appends the graph with the first lines about the start.
@@ -265,5 +275,5 @@ pub(crate) fn push_dot(
     push_opening(alloc, out, head)?;
     push_all_nodes(alloc, out, graph.nodes.as_slice())?;
     push_edges(out, graph.edges.as_slice())?;
-    out.extend_from_slice(b"}\n")
+    push_text(out, b"}\n")
 }

@@ -4,7 +4,7 @@ ghost use Rattle.std.specs.Prelude.{◌≡◌, [], ◌++◌, codes, OnOk};
 ghost use Rattle.std.specs.List.{flat_map};
 ghost use Rattle.line_text.specs.Objects.{fields_text, object_text};
 ghost use Rattle.why_text.specs.Lines.{printed_lines};
-ghost use Rattle.graph_text.specs.Objects.{node_fields, edge_fields, nodes_json, edge_json, json_text};
+ghost use Rattle.graph_text.specs.Objects.{node_fields, edge_fields, node_json, nodes_json, edge_json, json_text};
 
 use crate::words::{kind_word, place_word, state_word};
 use graph_lines::{Graph, GraphEdge, GraphNode};
@@ -27,7 +27,7 @@ fn push_node_fields(out: &mut Vec<u8>, number: u64, node: &GraphNode) -> Result<
 }
 
 fn push_node(out: &mut Vec<u8>, number: u64, node: &GraphNode) -> Result<(), AllocError>
-    ensures { OnOk result (out.new.items ≡ out.old.items ++ object_text (codes "node") (node_fields number node.now)) }
+    ensures { OnOk result (out.new.items ≡ out.old.items ++ node_json number node.now) }
 {
     open_object(out, b"node")?;
     push_node_fields(out, number, node)?;
@@ -57,6 +57,7 @@ fn push_edge_fields(out: &mut Vec<u8>, edge: &GraphEdge) -> Result<(), AllocErro
     push_number_field(out, b"to", edge.to)
 }
 
+#[tactic(auto, unfolding(crate::specs::Objects::edge_json))]
 fn push_edge(out: &mut Vec<u8>, edge: &GraphEdge) -> Result<(), AllocError>
     ensures { OnOk result (out.new.items ≡ out.old.items ++ edge_json edge.now) }
 {

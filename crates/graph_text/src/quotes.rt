@@ -10,6 +10,13 @@ use std::slice::from_ref;
 use why_lines::WhyLine;
 use why_text::lines_text;
 
+/// Appends a text.
+pub(crate) fn push_text(out: &mut Vec<u8>, text: &[u8]) -> Result<(), AllocError>
+    ensures { OnOk result (out.new.items ≡ out.old.items ++ text.now) }
+{
+    out.extend_from_slice(text)
+}
+
 /// Appends a byte, or what stands for it.
 fn push_byte(out: &mut Vec<u8>, byte: u8, other: &[u8], c: u8) -> Result<(), AllocError>
     ensures { OnOk result (out.new.items ≡ out.old.items ++ stand_in byte other.now c) }
