@@ -61,10 +61,14 @@ style_text states.NotReached = codes ",style=dotted"
 style_text states.Untaken = codes ",color=gray"
 style_text states.NoEntry = codes ",color=gray,style=dashed"
 
+-- the beginning of a node, up to its label
+abbrev pub node_front : List ℕ → ℕ → List ℕ
+node_front before n = before ++ codes "n" ++ decimal n ++ codes " [label=\""
+
 -- a node by its number, with the spaces before it
 unfoldable pub node_text : List ℕ → ℕ → GraphNode → List ℕ
 node_text before n node =
-    before ++ codes "n" ++ decimal n ++ codes " [label=\"" ++ in_quotes (label_text node) ++ codes "\""
+    node_front before n ++ in_quotes (label_text node) ++ codes "\""
     ++ shape_text node.kind ++ style_text node.state ++ codes "];\n"
 
 abbrev pub is_phase : Phase → Phase → Bool

@@ -5,7 +5,7 @@ ghost use Rattle.std.specs.List.{flat_map, list_any};
 ghost use Rattle.std.specs.Fmt.{decimal};
 ghost use Rattle.start_model.specs.Lines.{name_text};
 ghost use Rattle.graph_lines.specs.declared.graph.GraphNode.{GraphNode as Node};
-ghost use Rattle.graph_text.specs.Dot.{in_quotes, number_text, label_text, node_text, is_phase, stands_in, node_where, nodes_text, cluster_front, cluster_text, phase_text, edge_text, opening_text, all_nodes_text, dot_text};
+ghost use Rattle.graph_text.specs.Dot.{in_quotes, number_text, label_text, node_front, node_text, is_phase, stands_in, node_where, nodes_text, cluster_front, cluster_text, phase_text, edge_text, opening_text, all_nodes_text, dot_text};
 
 use crate::quotes::{push_head, push_in_quotes, push_text};
 use crate::words::{dotted_text, phase_word, shape_text, style_text};
@@ -46,7 +46,7 @@ fn push_label(alloc: Global, out: &mut Vec<u8>, node: &GraphNode) -> Result<(), 
 
 /// Appends the beginning of a node, up to its label.
 fn push_front(out: &mut Vec<u8>, before: &[u8], number: u64) -> Result<(), AllocError>
-    ensures { OnOk result (out.new.items ≡ out.old.items ++ before.now ++ codes "n" ++ decimal number ++ codes " [label=\"") }
+    ensures { OnOk result (out.new.items ≡ out.old.items ++ node_front before.now number) }
 {
     push_text(out, before)?;
     push_text(out, b"n")?;

@@ -1,7 +1,6 @@
 use Rattle.std.proofs.Common.{◌++◌, refl}
 use Rattle.std.specs.Prelude.{codes}
-use Rattle.std.specs.Fmt.{decimal}
-use Rattle.graph_text.specs.Dot.{in_quotes, label_text, shape_text, style_text, node_text}
+use Rattle.graph_text.specs.Dot.{in_quotes, label_text, shape_text, style_text, node_front, node_text}
 use Rattle.graph_text.proofs.PartLemmas.{then_part, last_part}
 use Rattle.graph_text.proofs.dot.push_node.Goals as goal
 
@@ -15,7 +14,7 @@ returns c =
     let m3 = c.push_text.new.out.items in
     let m4 = c.push_text-2.new.out.items in
     let m5 = c.push_text-3.new.out.items in
-    let front = c.args.before.now ++ codes "n" ++ decimal c.args.number ++ codes " [label=\"" in
+    let front = node_front c.args.before.now c.args.number in
     let label = in_quotes (label_text node) in
     let quote = codes "\"" in
     let shape = shape_text node.kind in
