@@ -1,6 +1,5 @@
 pub mod AskLemmas
 pub mod LeaveLemmas
-pub mod ReportLemmas
 pub mod SeekLemmas
 pub mod PlacedLemmas
 pub mod SaveLemmas
