@@ -1,2 +1,2 @@
-pub mod Inputs
 pub mod Answer
+pub mod Inputs

@@ -10,10 +10,10 @@ ghost use Rattle.command_parts.specs.Refusals.{IsToldAs};
 ghost use Rattle.command_words.specs.Views.{graph_seen};
 ghost use Rattle.why_state.specs.Views.{viewed_of};
 ghost use Rattle.written_name.specs.Written.{written_of};
-ghost use Rattle.graph_command.specs.Answer.{run_on, text_by, text_on, question_at, question_on, question_in};
-ghost use Rattle.graph_command.specs.Inputs.{arguments_in, asks_graph, AsksGraph};
+ghost use Rattle.start_inputs.specs.Inputs.{arguments_in, files_seen, AsksStart};
+ghost use Rattle.graph_command.specs.Answer.{start_asked, run_on, text_by, text_on, question_at, question_on, question_in};
+ghost use Rattle.graph_command.specs.Inputs.{arguments_in as graph_arguments_in, asks_graph};
 
-use crate::inputs::{GraphInputs, inputs_in};
 use command_parts::{Obstacle, Refusal, Status, Told, answer, no_memory, read};
 use command_words::GraphWords;
 use graph_rule::graph_in;
@@ -23,16 +23,30 @@ use nt_bytes::{Bytes, HiveVersion, ReadStop, Units};
 use nt_edge::Host;
 use quiet_run::quiet_run;
 use reg_tree::Key;
+use start_inputs::{StartFiles, StartInputs, start_inputs};
 use std::alloc::{AllocError, Global};
 use why_lines::WhyLines;
 use why_state::{ViewedRun, push_head, viewed};
 use written_name::written_name;
 
+/// The files that the command line names.
+fn files_of<'a>(words: &GraphWords<'a>) -> StartFiles<'a>
+    ensures { files_seen result ≡ start_asked (graph_seen words.now) }
+{
+    StartFiles {
+        hive: words.hive,
+        log: words.log,
+        boot_ini: words.boot_ini,
+        system: words.system,
+        script: words.script,
+    }
+}
+
 /// What the script leaves of its last start on the tree of a hive.
 #[tactic(auto, unfolding(why_state::specs::Views::viewed_of))]
 fn run_on(
     alloc: Global,
-    inputs: &GraphInputs,
+    inputs: &StartInputs,
     root: Key,
     version: HiveVersion,
 ) -> Result<ViewedRun, AllocError>
@@ -70,7 +84,7 @@ fn text_by(
 /// The graph on the tree of a hive, in a form.
 fn text_on(
     alloc: Global,
-    inputs: &GraphInputs,
+    inputs: &StartInputs,
     form: ReportForm,
     of: Option<&Units>,
     root: Key,
@@ -86,7 +100,7 @@ fn text_on(
 /// The graph on the hive, or its first fault.
 fn report_at(
     alloc: Global,
-    inputs: &GraphInputs,
+    inputs: &StartInputs,
     form: ReportForm,
     of: Option<&Units>,
 ) -> Result<Told, Obstacle>
@@ -115,7 +129,7 @@ fn name_in(alloc: Global, word: Option<&str>) -> Result<Option<Units>, AllocErro
 /// The graph that the command line asks for, or the hive's first fault.
 fn report_on(
     alloc: Global,
-    inputs: &GraphInputs,
+    inputs: &StartInputs,
     words: GraphWords<'_>,
     form: ReportForm,
 ) -> Result<Told, Obstacle>
@@ -135,11 +149,11 @@ fn seek<H: Host>(
     host: &mut H,
 ) -> Result<Told, Obstacle>
     ensures seeks { SeeksAnswer (question_in form (graph_seen words.entry) (H.state host.old).files) result (H.state host.old) (H.state host.new) }
-    ensures asks { AsksGraph (graph_seen words.entry) result (H.state host.old) (H.state host.new) }
-    ensures usage { result ≡ Err (Obstacle.Refused Refusal.Usage) → arguments_in (graph_seen words.entry) ≡ Err Refusal.Usage }
-    ensures refused { arguments_in (graph_seen words.entry) ≡ Err Refusal.Usage → IsBadUsage result }
+    ensures asks { AsksStart (start_asked (graph_seen words.entry)) result (H.state host.old) (H.state host.new) }
+    ensures usage { result ≡ Err (Obstacle.Refused Refusal.Usage) → arguments_in (start_asked (graph_seen words.entry)) ≡ Err Refusal.Usage }
+    ensures refused { arguments_in (start_asked (graph_seen words.entry)) ≡ Err Refusal.Usage → IsBadUsage result }
 {
-    match inputs_in(alloc, words, host) {
+    match start_inputs(alloc, files_of(&words), host) {
         Ok(inputs) => report_on(alloc, &inputs, words, form),
         Err(obstacle) => Err(obstacle),
     }
@@ -155,8 +169,8 @@ pub fn graph<H: Host>(
 ) -> Status
     ensures decides { DecidesOnHive (question_in form (graph_seen words.entry) (H.state host.old).files) result (H.state host.old) (H.state host.new) }
     ensures asked { AsksSoMany (asks_graph (graph_seen words.entry)) result (H.state host.old) (H.state host.new) }
-    ensures usage { result ≡ Status.Usage → arguments_in (graph_seen words.entry) ≡ Err Refusal.Usage }
-    ensures refused { arguments_in (graph_seen words.entry) ≡ Err Refusal.Usage → IsToldAs Status.Usage result }
+    ensures usage { result ≡ Status.Usage → graph_arguments_in (graph_seen words.entry) ≡ Err Refusal.Usage }
+    ensures refused { graph_arguments_in (graph_seen words.entry) ≡ Err Refusal.Usage → IsToldAs Status.Usage result }
 {
     let told = seek(alloc, words, form, host);
     answer(alloc, host, told)

@@ -5,8 +5,5 @@
 #![tactic(auto)]
 
 mod command;
-mod inputs;
-mod script;
 
 pub use command::graph;
-pub use inputs::GraphInputs;

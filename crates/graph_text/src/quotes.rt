@@ -49,7 +49,11 @@ fn in_quotes(alloc: Global, text: &[u8]) -> Result<Vec<u8>, AllocError>
 }
 
 /// Appends the text as it is between quotes.
-pub(crate) fn push_in_quotes(alloc: Global, out: &mut Vec<u8>, text: &[u8]) -> Result<(), AllocError>
+pub(crate) fn push_in_quotes(
+    alloc: Global,
+    out: &mut Vec<u8>,
+    text: &[u8],
+) -> Result<(), AllocError>
     ensures { OnOk result (out.new.items ≡ out.old.items ++ in_quotes text.now) }
 {
     let text = in_quotes(alloc, text)?;
@@ -89,7 +93,11 @@ fn push_more(alloc: Global, out: &mut Vec<u8>, lines: &[WhyLine]) -> Result<(), 
 }
 
 /// Appends the lines without their ends, with commas between them.
-pub(crate) fn push_head(alloc: Global, out: &mut Vec<u8>, head: &[WhyLine]) -> Result<(), AllocError>
+pub(crate) fn push_head(
+    alloc: Global,
+    out: &mut Vec<u8>,
+    head: &[WhyLine],
+) -> Result<(), AllocError>
     ensures { OnOk result (out.new.items ≡ out.old.items ++ head_text head.now) }
 {
     let [first, rest @ ..] = head else {
