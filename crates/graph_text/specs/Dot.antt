@@ -1,6 +1,5 @@
 -- How is the graph of a start printed in the DOT language? (this project's own; DOT is the language of Graphviz)
 use Rattle.std.specs.Prelude.{ℕ, ◌+◌, ◌==◌, Bool, true, false, List, [], ◌∷◌, ◌++◌, codes, Option, None, Some, if◌then◌else◌}
-use Rattle.std.specs.Option.{is_some, option_map_or}
 use Rattle.std.specs.List.{flat_map, join_by, list_any}
 use Rattle.std.specs.Fmt.{decimal}
 use Rattle.start_model.specs.Lines.{name_text}

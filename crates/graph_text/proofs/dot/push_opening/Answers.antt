@@ -1,4 +1,4 @@
-use Rattle.std.proofs.Common.{◌++◌, List, ℕ, refl, ap, ◌∙◌}
+use Rattle.std.proofs.Common.{◌++◌, List, ℕ, ap, ◌∙◌}
 use Rattle.std.specs.Prelude.{codes}
 use Rattle.graph_text.specs.Dot.{in_quotes, head_text, opening_text}
 use Rattle.graph_text.proofs.PartLemmas.{then_part, last_part}

@@ -1,4 +1,4 @@
-use Rattle.std.proofs.Common.{◌≡◌, ap, ◌∙◌}
+use Rattle.std.proofs.Common.{ap, ◌∙◌}
 use Rattle.line_text.specs.declared.form.ReportForm.TheVariants.{Text}
 use Rattle.why_text.specs.Lines.{printed_lines}
 use Rattle.graph_text.proofs.EndLemmas.{part_put}
