@@ -1,17 +1,16 @@
 -- Edges lead to vertices, and the name that is asked for is one.
-use Rattle.std.proofs.Common.{◌≡◌, ℕ, ◌+◌, ◌<◌, ◌≤◌, List, [], ◌∷◌, ◌++◌, length, map, filter, Option, Some, None, refl, sym, ap, ◌∙◌, subst, arith}
-use Rattle.std.specs.Prelude.{All, IfSome, Contains, position, slice_get}
+use Rattle.std.proofs.Common.{◌≡◌, ℕ, ◌+◌, ◌<◌, ◌≤◌, List, [], ◌∷◌, ◌++◌, length, map, Option, Some, None, refl, sym, ap, ◌∙◌, subst, arith}
+use Rattle.std.specs.Prelude.{All, IfSome, slice_get}
 use Rattle.std.specs.Option.{option_map, option_and_then, option_or}
 use Rattle.std.specs.List.{filter_map, cons_option, range_with_len}
 use Rattle.std.proofs.lemmas.List.{length-append, length-map}
 use Rattle.std.proofs.lemmas.List.Elements.{All-nil, All-cons, All-append, All-map, All-filter, All-get_or, All-contains}
 use Rattle.std.proofs.lemmas.Option.{slice_get_within, get_or_from_slice_get}
-use Rattle.nt_bytes.specs.Folding.{folds_same}
 use Rattle.name_places.specs.Places.{places_named}
 use Rattle.name_places.proofs.PlaceLemmas.{place_within}
 use Rattle.start_model.specs.Entries.{Entry}
 use Rattle.start_model.specs.Order.{first_names}
-use Rattle.wait_cycles.specs.Graph.{row_at, HasEdge, AreEdges}
+use Rattle.wait_cycles.specs.Graph.{row_at, AreEdges}
 use Rattle.wait_cycles.proofs.InverseLemmas.{edge_from}
 use Rattle.why_state.specs.declared.views.ViewedRun.{ViewedRun}
 use Rattle.why_state.specs.States.{place_in}

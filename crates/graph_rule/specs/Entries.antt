@@ -1,7 +1,7 @@
 -- Which entries does the graph of a start have, and in which order? (this project's own)
 --
 -- Each folded name has one: that of the last plan that has it, or else that of the set as it is in the end.
-use Rattle.std.specs.Prelude.{ℕ, nat_lt, ◌==◌, Bool, false, List, [], ◌∷◌, ◌++◌, filter, length, slice_get, Option, if◌then◌else◌}
+use Rattle.std.specs.Prelude.{ℕ, nat_lt, ◌==◌, Bool, false, List, [], ◌++◌, filter, length, slice_get, Option, if◌then◌else◌}
 use Rattle.std.specs.Option.{option_map_or, option_and_then, option_or}
 use Rattle.std.specs.List.{filter_map, flat_map, range_with_len}
 use Rattle.start_model.specs.Entries.{Entry, entries_of}

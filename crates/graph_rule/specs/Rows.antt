@@ -1,7 +1,7 @@
 -- Which edges has the graph of a start, shown or not? (this project's own)
 --
 -- Its vertices are the entries, then the missing names, then the groups, numbered from 0.
-use Rattle.std.specs.Prelude.{ℕ, ◌+◌, Bool, true, false, not, ◌||◌, List, [], ◌∷◌, ◌++◌, map, filter, length, slice_get, Option, None, Some, if◌then◌else◌}
+use Rattle.std.specs.Prelude.{ℕ, ◌+◌, Bool, true, false, not, ◌||◌, List, [], ◌++◌, map, filter, length, slice_get, Option, if◌then◌else◌}
 use Rattle.std.specs.Option.{is_some, option_map, option_map_or, option_and_then, option_or, option_to_list}
 use Rattle.std.specs.List.{filter_map, flat_map, list_any, range_with_len}
 use Rattle.nt_bytes.specs.Folding.{folds_same}

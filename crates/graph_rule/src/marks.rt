@@ -1,9 +1,9 @@
 //! Which part of the graph is shown.
 
-ghost use Rattle.std.specs.Prelude.{◌≡◌, ◌<◌, map, length, nat_eq, Some, None, ◌||◌, IfOk, IfSome};
+ghost use Rattle.std.specs.Prelude.{◌≡◌, ◌<◌, map, length, nat_eq, ◌||◌, IfOk, IfSome};
 ghost use Rattle.std.specs.List.{list_any, range_with_len};
 ghost use Rattle.start_model.specs.Demand.{member};
-ghost use Rattle.wait_cycles.specs.Graph.{AreEdges, IsInverse, IsReach, row_at};
+ghost use Rattle.wait_cycles.specs.Graph.{AreEdges, IsInverse, row_at};
 ghost use Rattle.graph_rule.specs.Shown.{is_entry, is_taken, is_shown_of_all, is_shown_about, marks_of};
 
 use crate::rows::is_untaken;

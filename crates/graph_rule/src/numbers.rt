@@ -1,6 +1,6 @@
 //! Numbers of what is shown, and nodes and edges by them.
 
-ghost use Rattle.std.specs.Prelude.{◌≡◌, ◌+◌, ◌<◌, ◌^◌, ◌++◌, ◌∷◌, [], length, OnOk, IfOk};
+ghost use Rattle.std.specs.Prelude.{◌≡◌, ◌+◌, ◌<◌, ◌^◌, ◌++◌, length, OnOk, IfOk};
 ghost use Rattle.std.specs.List.{flat_map, range_with_len};
 ghost use Rattle.std.specs.Option.{option_copied, option_to_list};
 ghost use Rattle.graph_rule.specs.Shown.{number_if, next_if, numbers_from, number_at, node_at, is_group, is_group_at, edge_to, edges_at, drawn_by};

@@ -1,10 +1,10 @@
 //! The edges of the graph, shown or not.
 
-ghost use Rattle.std.specs.Prelude.{◌≡◌, ◌+◌, [], ◌++◌, filter, map, IfOk, OnOk, slice_get};
+ghost use Rattle.std.specs.Prelude.{◌≡◌, ◌+◌, [], ◌++◌, filter, map, IfOk, OnOk};
 ghost use Rattle.std.specs.List.{filter_map};
 ghost use Rattle.std.specs.Option.{option_copied, option_map, option_to_list};
 ghost use Rattle.why_state.specs.States.{place_in};
-ghost use Rattle.graph_rule.specs.Rows.{name_vertex, group_vertex, entry_row, is_untaken, is_asked, is_drawn, members_in, group_row, rows_of};
+ghost use Rattle.graph_rule.specs.Rows.{name_vertex, group_vertex, entry_row, is_untaken, is_asked, is_drawn, group_row, rows_of};
 
 use crate::names::first_names;
 use crate::parts::{GraphParts, members_in};

@@ -1,9 +1,7 @@
 //! The graph as text of the DOT language.
 
-ghost use Rattle.std.specs.Prelude.{◌≡◌, ◌≤◌, ◌+◌, ◌<◌, ◌^◌, ◌++◌, length, Some, codes, OnOk};
+ghost use Rattle.std.specs.Prelude.{◌≡◌, ◌++◌, Some, OnOk};
 ghost use Rattle.std.specs.List.{flat_map, list_any};
-ghost use Rattle.std.specs.Fmt.{decimal};
-ghost use Rattle.start_model.specs.Lines.{name_text};
 ghost use Rattle.graph_lines.specs.declared.graph.GraphNode.{GraphNode as Node};
 ghost use Rattle.graph_text.specs.Dot.{in_quotes, number_text, label_text, node_front, node_text, is_phase, stands_in, node_where, nodes_text, cluster_front, cluster_text, phase_text, edge_text, opening_text, all_nodes_text, dot_text};
 

@@ -1,7 +1,7 @@
 //! Text between quotes, and the head of the graph.
 
-ghost use Rattle.std.specs.Prelude.{◌≡◌, ◌≤◌, ◌-◌, ◌++◌, length, take, codes, OnOk, IfOk};
-ghost use Rattle.std.specs.List.{flat_map, join_by};
+ghost use Rattle.std.specs.Prelude.{◌≡◌, ◌-◌, ◌++◌, length, take, codes, OnOk, IfOk};
+ghost use Rattle.std.specs.List.{flat_map};
 ghost use Rattle.graph_text.specs.Dot.{stand_in, replaced, in_quotes, head_part, head_text};
 
 use line_text::ReportForm;

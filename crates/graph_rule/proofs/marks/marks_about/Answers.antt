@@ -1,4 +1,4 @@
-use Rattle.std.proofs.Common.{◌≡◌, ℕ, nat_eq, ◌||◌, List, length, map, ◌∙◌}
+use Rattle.std.proofs.Common.{◌≡◌, ℕ, nat_eq, ◌||◌, length, map, ◌∙◌}
 use Rattle.std.specs.List.{range_with_len}
 use Rattle.start_model.specs.Demand.{member}
 use Rattle.wait_cycles.proofs.InverseLemmas.{if_ok}
