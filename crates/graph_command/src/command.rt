@@ -10,9 +10,9 @@ ghost use Rattle.command_parts.specs.Refusals.{IsToldAs};
 ghost use Rattle.command_words.specs.Views.{graph_seen};
 ghost use Rattle.why_state.specs.Views.{viewed_of};
 ghost use Rattle.written_name.specs.Written.{written_of};
-ghost use Rattle.start_inputs.specs.Inputs.{AsksStart, arguments_in as start_arguments_in, files_seen};
-ghost use Rattle.graph_command.specs.Answer.{run_on, start_asked, text_by, text_on, question_at, question_on, question_in};
-ghost use Rattle.graph_command.specs.Inputs.{arguments_in, asks_graph};
+ghost use Rattle.start_inputs.specs.Inputs.{arguments_in, files_seen, AsksStart};
+ghost use Rattle.graph_command.specs.Answer.{start_asked, run_on, text_by, text_on, question_at, question_on, question_in};
+ghost use Rattle.graph_command.specs.Inputs.{arguments_in as graph_arguments_in, asks_graph};
 
 use command_parts::{Obstacle, Refusal, Status, Told, answer, no_memory, read};
 use command_words::GraphWords;
@@ -150,8 +150,8 @@ fn seek<H: Host>(
 ) -> Result<Told, Obstacle>
     ensures seeks { SeeksAnswer (question_in form (graph_seen words.entry) (H.state host.old).files) result (H.state host.old) (H.state host.new) }
     ensures asks { AsksStart (start_asked (graph_seen words.entry)) result (H.state host.old) (H.state host.new) }
-    ensures usage { result ≡ Err (Obstacle.Refused Refusal.Usage) → start_arguments_in (start_asked (graph_seen words.entry)) ≡ Err Refusal.Usage }
-    ensures refused { start_arguments_in (start_asked (graph_seen words.entry)) ≡ Err Refusal.Usage → IsBadUsage result }
+    ensures usage { result ≡ Err (Obstacle.Refused Refusal.Usage) → arguments_in (start_asked (graph_seen words.entry)) ≡ Err Refusal.Usage }
+    ensures refused { arguments_in (start_asked (graph_seen words.entry)) ≡ Err Refusal.Usage → IsBadUsage result }
 {
     match start_inputs(alloc, files_of(&words), host) {
         Ok(inputs) => report_on(alloc, &inputs, words, form),
@@ -169,8 +169,8 @@ pub fn graph<H: Host>(
 ) -> Status
     ensures decides { DecidesOnHive (question_in form (graph_seen words.entry) (H.state host.old).files) result (H.state host.old) (H.state host.new) }
     ensures asked { AsksSoMany (asks_graph (graph_seen words.entry)) result (H.state host.old) (H.state host.new) }
-    ensures usage { result ≡ Status.Usage → arguments_in (graph_seen words.entry) ≡ Err Refusal.Usage }
-    ensures refused { arguments_in (graph_seen words.entry) ≡ Err Refusal.Usage → IsToldAs Status.Usage result }
+    ensures usage { result ≡ Status.Usage → graph_arguments_in (graph_seen words.entry) ≡ Err Refusal.Usage }
+    ensures refused { graph_arguments_in (graph_seen words.entry) ≡ Err Refusal.Usage → IsToldAs Status.Usage result }
 {
     let told = seek(alloc, words, form, host);
     answer(alloc, host, told)

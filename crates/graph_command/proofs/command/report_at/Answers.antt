@@ -2,7 +2,6 @@ use Rattle.std.proofs.Common.{◌≡◌, ap, ◌∙◌, List, ℕ}
 use Rattle.std.specs.Option.{option_copied}
 use Rattle.command_parts.specs.declared.status.Status.TheVariants as statuses
 use Rattle.command_parts.specs.Placed.{image_in}
-use Rattle.command_parts.specs.Refusals.{Answer}
 use Rattle.command_parts.proofs.SeekLemmas.{told_at}
 use Rattle.graph_command.specs.Answer.{answer_at, text_on}
 use Rattle.graph_command.proofs.command.report_at.Goals as goal

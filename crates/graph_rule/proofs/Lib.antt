@@ -1,0 +1,3 @@
+pub mod GatherLemmas
+pub mod EdgeLemmas
+pub mod ShownLemmas

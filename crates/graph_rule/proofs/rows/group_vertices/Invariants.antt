@@ -1,0 +1,7 @@
+use Rattle.std.proofs.Common.{◌≡◌, take}
+use Rattle.std.specs.List.{filter_map}
+use Rattle.graph_rule.specs.Rows.{group_vertex}
+use Rattle.graph_rule.proofs.rows.group_vertices.Given as goal
+
+abbrev pub invariant-loop-name : goal.invariant-loop-name
+invariant-loop-name l = l.out ≡ filter_map (group_vertex l.parts) (take l.name-index l.names)

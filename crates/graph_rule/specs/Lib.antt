@@ -1,0 +1,4 @@
+pub mod Entries
+pub mod Nodes
+pub mod Rows
+pub mod Shown
