@@ -9,7 +9,7 @@ use Rattle.command_words.specs.declared.asked.CommandName.TheVariants as names
 use Rattle.command_words.specs.declared.asked.Page.{Page}
 use Rattle.command_words.specs.declared.asked.Page.TheVariants as pages
 use Rattle.command_words.specs.Words.{Text, Asked, Reading, Reason, asks, help, version, refused}
-use Rattle.command_words.specs.Words.{run, show, make, safe, control, twin, export, import, key, replay, check, whatif, salvage, diff}
+use Rattle.command_words.specs.Words.{run, show, make, safe, control, twin, export, import, key, replay, check, whatif, salvage, diff, why, graph}
 use Rattle.command_words.specs.Table.{count_of, mode_of}
 use Rattle.command_words.specs.Walk.{Values, and_then, no_values, value_named, walked}
 use Rattle.command_words.specs.Commands.{CommandRow, Look, asks_of, counted as counted_in, row_named}
@@ -183,6 +183,22 @@ asks_counted names.Salvage look = by_one look (codes "--hive") (λ hive. salvage
 asks_counted names.Diff look = by_text look (codes "--hive")
     (λ hive. and_then (paired (look (codes "--with")) (look (codes "--with-log"))) (diff_with look hive))
     (λ hive. by_then IsCounted (diff_with look hive) (paired (look (codes "--with")) (look (codes "--with-log"))) (λ with. tt))
+asks_counted names.Why look = by_two look (codes "--hive") (codes "NAME") (λ hive name. why record {
+  hive = hive;
+  log = look (codes "--log");
+  boot_ini = look (codes "--boot-ini");
+  system = system_in look;
+  script = look (codes "--script");
+  name = name;
+}) (λ hive name. tt)
+asks_counted names.Graph look = by_one look (codes "--hive") (λ hive. graph record {
+  hive = hive;
+  log = look (codes "--log");
+  boot_ini = look (codes "--boot-ini");
+  system = system_in look;
+  script = look (codes "--script");
+  of = look (codes "--of");
+}) (λ hive. tt)
 
 -- ---- the reading
 

@@ -7,8 +7,9 @@ use Rattle.start_model.specs.Possible.{Woken}
 use Rattle.start_model.specs.Boot.{Choice}
 use Rattle.start_model.specs.Run.{run_of}
 use Rattle.start_model.specs.Fits.{ArePossible, KeepsGood, woke_in, outcomes_of}
-use Rattle.run_parts.specs.Parts.{Told}
-use Rattle.run_parts.specs.Reports.{Reports, ReportsFront}
+use Rattle.line_text.specs.declared.form.ReportForm.{ReportForm}
+use Rattle.printed_parts.specs.Parts.{Told}
+use Rattle.printed_parts.specs.Reports.{Reports, ReportsFront}
 use Rattle.start_laws.proofs.ReportLemmas.{report-possible, front-possible, front-shorter}
 use Rattle.good_laws.proofs.FitLemmas.{fits_whole, fits_front}
 use Rattle.good_laws.proofs.RunLemmas.{run_of-keeps_good}
@@ -23,10 +24,10 @@ whole_good choice script placed told told' before after r =
     (fits_whole r.report.woken (woke_in (run_of choice script placed r.report.woken (outcomes_of r.text)).notes)
     (report-possible choice script placed images left r.text r.report))
 
-pub front_good : (choice : Option ℕ → Choice) (script : List Event) (placed : Woken) (old new : List ℕ)
-    (before after : DiskState) (r : ReportsFront (run_of choice script placed) old new before after)
+pub front_good : (form : ReportForm) (choice : Option ℕ → Choice) (script : List Event) (placed : Woken) (old new : List ℕ)
+    (before after : DiskState) (r : ReportsFront form (run_of choice script placed) old new before after)
     → let run = run_of choice script placed r.report.woken (outcomes_of r.text) in KeepsGood run.notes run.disk
-front_good choice script placed old new before after r =
+front_good form choice script placed old new before after r =
     let left = IsCrashImage after.held after.flight in
     let images = map (λ w. w.image) r.added in
     let more = front-shorter choice script placed images left r.text r.report in

@@ -11,9 +11,11 @@ use Rattle.start_model.specs.Orders.{ordered_in}
 use Rattle.start_model.specs.Possible.{Outcome}
 use Rattle.start_model.specs.Act.{Note}
 use Rattle.start_model.specs.Boot.{Choice}
+use Rattle.start_model.specs.Report.{Going}
 use Rattle.start_model.specs.Summary.{Summary, no_summary, summary_of}
-use Rattle.run_parts.specs.Parts.{Grew, cuts_behind}
+use Rattle.run_parts.specs.Parts.{Grew, cuts_behind, Told as TextTold}
 use Rattle.run_parts.specs.Reports.{Reports, ReportsFront}
+use Rattle.printed_parts.proofs.ReportLemmas.{text_report, text_front}
 use Rattle.boot_run.specs.declared.summary.Summary.{Summary as RunSummary}
 use Rattle.boot_run.specs.Choices.{choices}
 use Rattle.boot_run.specs.Views.{summary_in}
@@ -29,6 +31,7 @@ use Rattle.ntboot_cli.specs.Answer.{EndsMade, MakesAlone}
 use Rattle.command_parts.specs.Leaves.{more, named}
 use Rattle.ntboot_cli.specs.Made.{PlaysMade, make_script, made_state, made_going, made_run, made_text, summary_line, told, IsMade, IsPartMade}
 use Rattle.line_text.specs.declared.form.ReportForm.{ReportForm}
+use Rattle.line_text.specs.declared.form.ReportForm.TheVariants.{Text}
 use Rattle.command_parts.specs.Placed.{placed_disk, IsUntouchedBy}
 use Rattle.command_parts.specs.Refusals.{Answer, Ends, IsToldAs}
 use Rattle.command_parts.specs.Saves.{Saves, saved_count, Settles, FinishesAs}
@@ -164,6 +167,10 @@ module _ (form : ReportForm) (usual : Usual) (words : MakeAsked) where
 
 -- ---- the run of the generated hive
 
+-- this was printed as text, and its lines amount to the summary
+abbrev text_told : List ℕ → Summary → TextTold
+text_told said summary = record { said = said; summary = summary }
+
 unordered : AreUnordered make_script
 unordered = (tt, (tt, (tt, (tt, tt))))
 
@@ -191,23 +198,23 @@ module _ (usual : Usual) (count : ℕ) (files : HiveFiles) (alone : files.log �
   grew_uncut notes added none g = g.cut_calls ∙ ap (cuts_behind notes) no_calls ∙ no_cuts notes 0 none
 
   pub run_summary : (said : List ℕ) (summary : Summary)
-      → Reports (made_going usual (made_state count)) (told [] no_summary) (told said summary) before after
+      → Reports (made_going usual (made_state count)) (text_told [] no_summary) (text_told said summary) before after
       → summary ≡ summary_of (made_run usual count).lines
   run_summary said summary r =
-      let u = reports-uncounted choice make_script (made_state count) (told [] no_summary) (told said summary)
+      let u = reports-uncounted choice make_script (made_state count) (text_told [] no_summary) (text_told said summary)
       before after unordered r no_armings no_calls keeps in
-      reports-summary choice make_script (made_state count) (told [] no_summary) (told said summary)
+      reports-summary choice make_script (made_state count) (text_told [] no_summary) (text_told said summary)
       before after r u.cuts u.faults
 
   pub run_made : (said : List ℕ) (summary : Summary)
-      → Reports (made_going usual (made_state count)) (told [] no_summary) (told said summary) before after
+      → Reports (made_going usual (made_state count)) (text_told [] no_summary) (text_told said summary) before after
       → IsMade usual count 0 after
   run_made said summary r =
-      let u = reports-uncounted choice make_script (made_state count) (told [] no_summary) (told said summary)
+      let u = reports-uncounted choice make_script (made_state count) (text_told [] no_summary) (text_told said summary)
       before after unordered r no_armings no_calls keeps in
       let none = run_of-notes choice make_script (made_state count) r.report.woken (outcomes_of r.text) unordered in
       record {
-        loads = reports-loads choice make_script (made_state count) (told [] no_summary) (told said summary)
+        loads = reports-loads choice make_script (made_state count) (text_told [] no_summary) (text_told said summary)
             before after r u.cuts u.faults;
         placed = r.grew.placings ∙ one_placed;
         taken = r.grew.takings ∙ ap (λ (d : DiskState). d.history.takings) is;
@@ -233,21 +240,28 @@ module _ (usual : Usual) (count : ℕ) (files : HiveFiles) (alone : files.log �
 -- by what the run answered
 module _ (usual : Usual) (count : ℕ) (primary : List ℕ) (before after : DiskState)
     (is : before ≡ placed_disk (record { primary = primary; log = None })) (keeps : KeepsOrders after) where
+  abbrev placed_files : HiveFiles
+  placed_files = record { primary = primary; log = None }
+
+  abbrev going : Going
+  going = made_going usual (made_state count)
+
   pub played_summary : {E : Type 0} (r : Result RunSummary E) → PlaysMade usual (made_state count) before after r
       → IfOk r (λ s. summary_in s ≡ summary_of (made_run usual count).lines)
   played_summary (Ok s) p =
-      run_summary usual count (record { primary = primary; log = None }) refl before after is keeps p.0 (summary_in s)
-      p.1
+      run_summary usual count placed_files refl before after is keeps p.1.text (summary_in s)
+      (text_report going (told Text [] no_summary) (told Text p.0 (summary_in s)) before after p.1)
   played_summary (Err e) p = tt
 
   pub played_made : {E : Type 0} (r : Result RunSummary E) → PlaysMade usual (made_state count) before after r
       → IfOk r (λ s. IsMade usual count 0 after)
-  played_made (Ok s) p = run_made usual count (record { primary = primary; log = None }) refl before after is keeps p.0
-      (summary_in s) p.1
+  played_made (Ok s) p =
+      run_made usual count placed_files refl before after is keeps p.1.text (summary_in s)
+      (text_report going (told Text [] no_summary) (told Text p.0 (summary_in s)) before after p.1)
   played_made (Err e) p = tt
 
   pub played_part : {E : Type 0} (r : Result RunSummary E) → PlaysMade usual (made_state count) before after r
       → OnErr r (IsPartMade 0 after)
   played_part (Ok s) p = tt
-  played_part (Err e) p = run_part usual count (record { primary = primary; log = None })
-      refl before after is keeps p.0 p.1
+  played_part (Err e) p = run_part usual count placed_files refl before after is keeps p.1.text
+      (text_front Text going [] p.0 before after p.1)

@@ -1,5 +1,5 @@
 -- What was saved loads as the disk may load.
-use Rattle.std.proofs.Common.{◌≡◌, ◌⊎◌, inl, inr, ⊎_elim, ℕ, false, List, map, refl, sym, subst, ◌∙◌}
+use Rattle.std.proofs.Common.{◌≡◌, ◌⊎◌, inl, inr, ⊎_elim, ℕ, false, List, [], map, refl, sym, subst, ◌∙◌}
 use Rattle.hive_model.specs.Image.{Image, Primary, Log, IsFileOf, image_of}
 use Rattle.hive_model.specs.Load.{Loads}
 use Rattle.boot_machine.specs.Views.{event_in}
@@ -12,6 +12,8 @@ use Rattle.rest_laws.proofs.RestLemmas.{run_of-rests, settled_loads}
 use Rattle.start_laws.proofs.ReportLemmas.{report-ended, report-quiet}
 use Rattle.order_laws.proofs.QuietLemmas.{reports-finished}
 use Rattle.saved_laws.proofs.SavedLemmas.{primary_loads}
+use Rattle.line_text.specs.declared.form.ReportForm.{ReportForm}
+use Rattle.printed_parts.proofs.ReportLemmas.{as_text, text_report}
 use Rattle.ntboot_cli.specs.Made.{told}
 use Rattle.nt_edge.specs.Disk.{DiskState}
 use Rattle.start_model.specs.Fits.{MayLoad, outcomes_of}
@@ -21,7 +23,7 @@ use Rattle.saved_laws.specs.Saved.{HasUntornBlock}
 use Rattle.saved_laws.proofs.SavedLemmas.{files_load}
 use Rattle.ntboot_cli.specs.declared.inputs.Inputs.{Inputs}
 use Rattle.ntboot_cli.specs.declared.making.Usual.{Usual}
-use Rattle.ntboot_cli.specs.Answer.{RunsWhole, quiet_in}
+use Rattle.ntboot_cli.specs.Answer.{RunsWhole, quiet_in, run_in}
 use Rattle.ntboot_cli.specs.Made.{made_run, IsMade}
 
 files_may : (p : Possible) (image : Image) (hive log : List ℕ) → MayLoad p image → IsFileOf image Primary hive
@@ -37,11 +39,11 @@ files_may p image hive log may primary_is log_is untorn = record {
 held_left : (disk : DiskState) → LeftOf disk disk.held
 held_left disk = λ a. inl refl
 
-pub run_saved : (inputs : Inputs) (placed : Woken) (count : ℕ) (before after : DiskState) (old new hive log : List ℕ)
-    (r : RunsWhole inputs placed count before after old new)
+pub run_saved : (form : ReportForm) (inputs : Inputs) (placed : Woken) (count : ℕ) (before after : DiskState) (old new hive log : List ℕ)
+    (r : RunsWhole form inputs placed count before after old new)
     → IsFileOf after.held Primary hive → IsFileOf after.held Log log → HasUntornBlock after.held
     → MayLoad r.reports.report.last.disk (image_of hive log)
-run_saved inputs placed count before after old new hive log r =
+run_saved form inputs placed count before after old new hive log r =
     files_may r.reports.report.last.disk after.held hive log
     (r.reports.report.loads after.held (r.settles.left after.held (held_left after)))
 
@@ -53,19 +55,20 @@ made_saved usual count saved disk hive log m =
     files_may (made_run usual count).state.disk disk.held hive log (m.loads disk.held (held_left disk))
 
 -- of a run whose disk counts no stop: the primary alone loads as the last settled state, or no start woke the disk
-pub quiet_saved : (inputs : Inputs) (placed : Woken) (count : ℕ) (before after : DiskState) (old new hive log : List ℕ)
-    → RunsWhole inputs placed count before after old new
+pub quiet_saved : (form : ReportForm) (inputs : Inputs) (placed : Woken) (count : ℕ) (before after : DiskState)
+    (old new hive log : List ℕ) → RunsWhole form inputs placed count before after old new
     → after.cuts ≡ 0 → after.faults ≡ 0 → IsFileOf after.held Primary hive
     → Loads (image_of hive log) (quiet_in inputs placed).state.disk.settled false
     ⊎ ((quiet_in inputs placed).state.disk ≡ loads_as placed)
-quiet_saved inputs placed count before after old new hive log r cuts faults primary_is =
+quiet_saved form inputs placed count before after old new hive log r cuts faults primary_is =
     let choice = choices inputs.ini inputs.system in
     let script = map event_in inputs.script in
     let report = r.reports.report in
     let text : List ℕ = r.reports.text in
     let images = map (λ w. w.image) r.reports.added in
     let all : AllFinished (outcomes_of text) =
-    reports-finished choice script placed (told old no_summary) (told new r.summary) before r.left r.reports
+    reports-finished choice script placed (as_text [] (told form old no_summary)) (as_text text (told form new r.summary))
+    before r.left (text_report (run_in inputs placed) (told form old no_summary) (told form new r.summary) before r.left r.reports)
     (sym r.settles.cuts ∙ cuts) (sym r.settles.faults ∙ faults) in
     let ended = report-ended choice script placed images (LeftOf r.left) text report in
     let state : report.last ≡ (quiet_in inputs placed).state =

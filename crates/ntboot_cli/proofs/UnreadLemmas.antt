@@ -3,7 +3,7 @@ use Rattle.std.proofs.Common.{◌≡◌, inl, inr, ℕ, Bool, true, false, List,
 use Rattle.std.specs.Prelude.{Result, Ok, Err}
 use Rattle.nt_edge.specs.Disk.{DiskState, new_state}
 use Rattle.nt_edge.specs.Host.{Files, HostState}
-use Rattle.command_words.specs.Words.{Reading, asks, help, refused, version, diff, salvage, whatif, check, key, replay, export, import, twin, control, safe, run, show, make}
+use Rattle.command_words.specs.Words.{Reading, asks, help, refused, version, graph, why, diff, salvage, whatif, check, key, replay, export, import, twin, control, safe, run, show, make}
 use Rattle.command_words.specs.Words.{MakeAsked}
 use Rattle.command_parts.specs.declared.inputs.HiveFiles.{HiveFiles}
 use Rattle.command_parts.specs.declared.refusal.Refusal.{Refusal}
@@ -24,6 +24,8 @@ use Rattle.key_command.specs.Answer.{question_in as key_question_in}
 use Rattle.replay_command.specs.Answer.{report_in}
 use Rattle.check_command.specs.Answer.{question_in as check_question_in}
 use Rattle.whatif_command.specs.Answer.{question_in as whatif_question_in}
+use Rattle.why_command.specs.Answer.{question_in as why_question_in}
+use Rattle.graph_command.specs.Answer.{question_in as graph_question_in}
 use Rattle.salvage_command.specs.Answer.{report_in as salvage_report_in}
 use Rattle.safe_command.specs.Answer.{question_in as safe_question_in}
 use Rattle.control_command.specs.Answer.{question_in as control_question_in}
@@ -38,10 +40,10 @@ use Rattle.ntboot_cli.specs.Inputs.{inputs_in}
 use Rattle.ntboot_cli.specs.Made.{usual_in}
 use Rattle.ntboot_cli.proofs.MakeLemmas.{new_part, part_more}
 
-unread_inputs : (wanted : Result Inputs Refusal) (saves : Saves) (disk : DiskState) (said : List ℕ)
-    → disk ≡ new_state → EndsInputs wanted saves disk statuses.Memory said said
-unread_inputs (Err r) saves disk said fresh = (inr (no_front (refusal_text r) said said refl), fresh)
-unread_inputs (Ok inputs) saves disk said fresh = inl (inr (inr (refl, refl, unrun disk fresh)))
+unread_inputs : (form : ReportForm) (wanted : Result Inputs Refusal) (saves : Saves) (disk : DiskState) (said : List ℕ)
+    → disk ≡ new_state → EndsInputs form wanted saves disk statuses.Memory said said
+unread_inputs form (Err r) saves disk said fresh = (inr (no_front (refusal_text r) said said refl), fresh)
+unread_inputs form (Ok inputs) saves disk said fresh = inl (inr (inr (refl, refl, unrun disk fresh)))
 
 unread_hive : (wanted : Result Question Refusal) (said : List ℕ) → EndsOnHive wanted statuses.Memory said said
 unread_hive (Err r) said = inr (no_front (refusal_text r) said said refl)
@@ -94,7 +96,7 @@ unread_words (refused why) host disk fresh = (inr (no_front _ host.said host.sai
 unread_words (help page) host disk fresh = (inr (no_front _ host.said host.said refl), fresh)
 unread_words version host disk fresh = (inr (no_front _ host.said host.said refl), fresh)
 unread_words (asks (run words) json) host disk fresh =
-    unread_inputs (inputs_in words host.files) (saves_of (asks (run words) json)) disk host.said fresh
+    unread_inputs (form_of json) (inputs_in words host.files) (saves_of (asks (run words) json)) disk host.said fresh
 unread_words (asks (show words) json) host disk fresh =
     (unread_hive (show_question_in (form_of json) words host.files) host.said, fresh)
 unread_words (asks (make words) json) host disk fresh =
@@ -122,6 +124,10 @@ unread_words (asks (whatif words) json) host disk fresh =
 unread_words (asks (salvage words) json) host disk fresh =
     (unread_report (salvage_report_in (form_of json) words host.files) words.save_hive host.files host.said, fresh)
 unread_words (asks (diff words) json) host disk fresh = (inr (inl refl, refl), fresh)
+unread_words (asks (why words) json) host disk fresh =
+    (unread_hive (why_question_in (form_of json) words host.files) host.said, fresh)
+unread_words (asks (graph words) json) host disk fresh =
+    (unread_hive (graph_question_in (form_of json) words host.files) host.said, fresh)
 
 pub unread_leaves : (asked : Reading) (host : HostState) (disk : DiskState) → disk ≡ new_state
     → Leaves (EndsWords asked host.files host.files disk) statuses.Memory host host

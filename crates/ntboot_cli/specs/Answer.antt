@@ -13,19 +13,18 @@ use Rattle.hive_model.specs.Load.{Loads, LoadFault}
 use Rattle.hive_model.specs.Size.{bulk_of}
 use Rattle.boot_machine.specs.Views.{event_in}
 use Rattle.start_model.specs.Fits.{outcomes_of, KeepsGood}
-use Rattle.start_model.specs.Lines.{text_of}
 use Rattle.start_model.specs.Report.{Going}
 use Rattle.start_model.specs.Possible.{Woken}
 use Rattle.start_model.specs.Run.{run_of}
 use Rattle.start_model.specs.Quiet.{Quiet, quiet_run_of}
 use Rattle.start_model.specs.Summary.{Summary, no_summary}
 use Rattle.run_laws.specs.Quiet.{AllFinished}
-use Rattle.run_parts.specs.Reports.{Reports, ReportsFront}
+use Rattle.printed_parts.specs.Reports.{Reports, ReportsFront}
 use Rattle.boot_run.specs.Agrees.{LoadsAny}
 use Rattle.boot_run.specs.Choices.{choices}
 use Rattle.help_text.specs.Pages.{page_text}
 use Rattle.tree_text.specs.TreeObjects.{shown_in}
-use Rattle.command_words.specs.Words.{Reading, asks, help, refused, version, diff, salvage, whatif, check, key, replay, export, import, twin, control, safe, run, show, make, RunAsked, ShowAsked, MakeAsked}
+use Rattle.command_words.specs.Words.{Reading, asks, help, refused, version, graph, why, diff, salvage, whatif, check, key, replay, export, import, twin, control, safe, run, show, make, RunAsked, ShowAsked, MakeAsked}
 use Rattle.command_parts.specs.declared.status.Status.{Status}
 use Rattle.command_parts.specs.declared.status.Status.TheVariants as statuses
 use Rattle.command_parts.specs.declared.refusal.Refusal.{Refusal}
@@ -49,12 +48,15 @@ use Rattle.ntboot_cli.specs.Made.{told, usual_in, made_text, IsMade, IsPartMade}
 use Rattle.command_parts.specs.Leaves.{Leaves}
 use Rattle.command_parts.specs.OnHive.{EndsOnHive, Question}
 use Rattle.command_parts.specs.Reporting.{EndsReport}
+use Rattle.line_objects.specs.Objects.{printed_lines}
 use Rattle.line_text.specs.declared.form.ReportForm.{ReportForm}
 use Rattle.line_text.specs.declared.form.ReportForm.TheVariants.{Text, Json}
 use Rattle.key_command.specs.Answer.{question_in as key_question_in}
 use Rattle.replay_command.specs.Answer.{report_in}
 use Rattle.check_command.specs.Answer.{question_in as check_question_in}
 use Rattle.whatif_command.specs.Answer.{question_in as whatif_question_in}
+use Rattle.why_command.specs.Answer.{question_in as why_question_in}
+use Rattle.graph_command.specs.Answer.{question_in as graph_question_in}
 use Rattle.salvage_command.specs.Answer.{report_in as salvage_report_in}
 use Rattle.diff_command.specs.Answer.{EndsDiff}
 use Rattle.diff_command.specs.Asks.{AsksDiff}
@@ -78,51 +80,51 @@ run_in inputs placed = run_of (choices inputs.ini inputs.system) (map event_in i
 abbrev pub quiet_in : Inputs → Woken → Quiet
 quiet_in inputs placed = quiet_run_of (choices inputs.ini inputs.system) (map event_in inputs.script) placed
 
--- The whole report was printed. The disk as the run left it then settled, and that many files were taken from it. Where it had no
--- cut and no fault, the report is the text of the quiet run; and where the report says no stop, it counted none. LastKnownGood
+-- The whole report was printed in this form. The disk as the run left it then settled, and that many files were taken from it. Where it had
+-- no cut and no fault, the lines are those of the quiet run; and where the report says no stop, it counted none. LastKnownGood
 -- names a good set in each tree that was held, and in each that the disk may load as.
-pub record RunsWhole (inputs : Inputs) (placed : Woken) (taken : ℕ) (before after : DiskState) (old new : List ℕ) : Type 0 where
+pub record RunsWhole (form : ReportForm) (inputs : Inputs) (placed : Woken) (taken : ℕ) (before after : DiskState) (old new : List ℕ) : Type 0 where
   pub summary : Summary
   pub left : DiskState
-  pub reports : Reports (run_in inputs placed) (told old no_summary) (told new summary) before left
+  pub reports : Reports (run_in inputs placed) (told form old no_summary) (told form new summary) before left
   pub settles : Settles taken left after
-  pub quiet : after.cuts ≡ 0 → after.faults ≡ 0 → new ≡ old ++ text_of (quiet_in inputs placed).lines
+  pub quiet : after.cuts ≡ 0 → after.faults ≡ 0 → new ≡ old ++ printed_lines form (quiet_in inputs placed).lines
   pub counted : AllFinished (outcomes_of reports.text) → (after.cuts ≡ before.cuts) × (after.faults ≡ before.faults)
   pub good : let r = run_in inputs placed reports.report.woken (outcomes_of reports.text) in KeepsGood r.notes r.disk
 
 -- A prefix of the report was printed, and LastKnownGood names a good set up to where nothing more happened.
-pub record RunsFront (inputs : Inputs) (placed : Woken) (before after : DiskState) (old new : List ℕ) : Type 0 where
-  pub reports : ReportsFront (run_in inputs placed) old new before after
+pub record RunsFront (form : ReportForm) (inputs : Inputs) (placed : Woken) (before after : DiskState) (old new : List ℕ) : Type 0 where
+  pub reports : ReportsFront form (run_in inputs placed) old new before after
   pub good : let r = run_in inputs placed reports.report.woken (outcomes_of reports.text) in KeepsGood r.notes r.disk
 
 -- the run was given up, and a prefix of its report was printed; or the whole report was, and then the saving was given up
-abbrev pub RunsPart : Inputs → Woken → Saves → DiskState → DiskState → List ℕ → List ℕ → Type 0
-RunsPart inputs placed saves before after old new =
-    RunsFront inputs placed before after old new
-    ⊎ ((taken : ℕ) × (taken ≤ saved_count saves) × RunsWhole inputs placed taken before after old new)
+abbrev pub RunsPart : ReportForm → Inputs → Woken → Saves → DiskState → DiskState → List ℕ → List ℕ → Type 0
+RunsPart form inputs placed saves before after old new =
+    RunsFront form inputs placed before after old new
+    ⊎ ((taken : ℕ) × (taken ≤ saved_count saves) × RunsWhole form inputs placed taken before after old new)
 
 -- the run went from the disk as it was to the disk as it is
-abbrev pub EndsRun : Inputs → Woken → Saves → DiskState → DiskState → Status → List ℕ → List ℕ → Type 0
-EndsRun inputs placed saves before after statuses.Done old new = RunsWhole inputs placed (saved_count saves) before after old new
-EndsRun inputs placed saves before after statuses.WriteFault old new = RunsPart inputs placed saves before after old new
-EndsRun inputs placed saves before after statuses.Memory old new = RunsPart inputs placed saves before after old new
-EndsRun inputs placed saves before after other old new = ⊥
+abbrev pub EndsRun : ReportForm → Inputs → Woken → Saves → DiskState → DiskState → Status → List ℕ → List ℕ → Type 0
+EndsRun form inputs placed saves before after statuses.Done old new = RunsWhole form inputs placed (saved_count saves) before after old new
+EndsRun form inputs placed saves before after statuses.WriteFault old new = RunsPart form inputs placed saves before after old new
+EndsRun form inputs placed saves before after statuses.Memory old new = RunsPart form inputs placed saves before after old new
+EndsRun form inputs placed saves before after other old new = ⊥
 
 -- The hive has a first fault, and that is printed; or it loads as a state, and the script is run on the disk that holds it; or there
 -- was no memory before anything was printed. The disk is this afterwards.
-abbrev pub EndsHive : Inputs → Saves → DiskState → Status → List ℕ → List ℕ → Type 0
-EndsHive inputs saves disk status old new =
+abbrev pub EndsHive : ReportForm → Inputs → Saves → DiskState → Status → List ℕ → List ℕ → Type 0
+EndsHive form inputs saves disk status old new =
     ((fault : HiveFault) × (LoadFault (image_in inputs.hive) fault)
     × Ends (refusal (BadHive fault)) status old new × (disk ≡ new_state))
     ⊎ (((placed : Woken) × (Loads (image_in inputs.hive) placed.state placed.dirty)
-    × EndsRun inputs placed saves (placed_disk inputs.hive) disk status old new)
+    × EndsRun form inputs placed saves (placed_disk inputs.hive) disk status old new)
     ⊎ ((status ≡ statuses.Memory) × (new ≡ old) × IsUnrun disk))
 
 -- the first obstacle is printed, and nothing was done to the disk; or there is none, and the hive decides
-abbrev pub EndsInputs : Result Inputs Refusal → Saves → DiskState → Status → List ℕ → List ℕ → Type 0
-EndsInputs (Err r) saves disk status old new = Ends (refusal r) status old new × (disk ≡ new_state)
-EndsInputs (Ok inputs) saves disk status old new =
-    EndsHive inputs saves disk status old new ⊎ ((status ≡ statuses.ReadFault) × (new ≡ old) × (disk ≡ new_state))
+abbrev pub EndsInputs : ReportForm → Result Inputs Refusal → Saves → DiskState → Status → List ℕ → List ℕ → Type 0
+EndsInputs form (Err r) saves disk status old new = Ends (refusal r) status old new × (disk ≡ new_state)
+EndsInputs form (Ok inputs) saves disk status old new =
+    EndsHive form inputs saves disk status old new ⊎ ((status ≡ statuses.ReadFault) × (new ≡ old) × (disk ≡ new_state))
 
 -- ---- what a hive holds
 
@@ -185,6 +187,8 @@ saves_of (asks (check words) json) = no_saves
 saves_of (asks (whatif words) json) = no_saves
 saves_of (asks (salvage words) json) = no_saves
 saves_of (asks (diff words) json) = no_saves
+saves_of (asks (why words) json) = no_saves
+saves_of (asks (graph words) json) = no_saves
 
 -- the answer with a page of help, or the version
 abbrev pub about : List ℕ → Answer
@@ -200,7 +204,7 @@ EndsWords (refused why) files after disk status old new = Ends (refusal Usage) s
 EndsWords (help page) files after disk status old new = Ends (about (page_text page)) status old new × (disk ≡ new_state)
 EndsWords version files after disk status old new = Ends (about (codes "ntboot 1.0.0\n")) status old new × (disk ≡ new_state)
 EndsWords (asks (run words) json) files after disk status old new =
-    EndsInputs (inputs_in words files) (saves_of (asks (run words) json)) disk status old new
+    EndsInputs (form_of json) (inputs_in words files) (saves_of (asks (run words) json)) disk status old new
 EndsWords (asks (show words) json) files after disk status old new =
     EndsOnHive (show_question_in (form_of json) words files) status old new × (disk ≡ new_state)
 EndsWords (asks (make words) json) files after disk status old new =
@@ -226,6 +230,10 @@ EndsWords (asks (whatif words) json) files after disk status old new =
 EndsWords (asks (salvage words) json) files after disk status old new =
     EndsReport (salvage_report_in (form_of json) words files) words.save_hive files after status old new × (disk ≡ new_state)
 EndsWords (asks (diff words) json) files after disk status old new = EndsDiff (form_of json) words files status old new × (disk ≡ new_state)
+EndsWords (asks (why words) json) files after disk status old new =
+    EndsOnHive (why_question_in (form_of json) words files) status old new × (disk ≡ new_state)
+EndsWords (asks (graph words) json) files after disk status old new =
+    EndsOnHive (graph_question_in (form_of json) words files) status old new × (disk ≡ new_state)
 
 -- the same number of files are asked for as are in the written order, up to the first obstacle; for `import` and `diff` more, where the hive has no fault
 abbrev pub AsksAs : Reading → Status → HostState → HostState → Type 0
@@ -244,14 +252,14 @@ LeavesFiles asked status held old new = FilesAs (saves_of asked) status held old
 -- ---- what a part of the program leaves
 
 -- the same of a hive that a script is run on
-abbrev pub DecidesHive : Inputs → Saves → Status → HostState → HostState → DiskState → Type 0
-DecidesHive inputs saves status old new disk = DecidesAlone (EndsHive inputs saves disk) saves status old new disk
+abbrev pub DecidesHive : ReportForm → Inputs → Saves → Status → HostState → HostState → DiskState → Type 0
+DecidesHive form inputs saves status old new disk = DecidesAlone (EndsHive form inputs saves disk) saves status old new disk
 
 -- of all that a run reads
-abbrev pub DecidesRun : RunAsked → Status → HostState → HostState → DiskState → Type 0
-DecidesRun words status old new disk =
+abbrev pub DecidesRun : ReportForm → RunAsked → Status → HostState → HostState → DiskState → Type 0
+DecidesRun form words status old new disk =
     let saves : Saves = record { hive = words.save_hive; log = words.save_log } in
-    Decides (EndsInputs (inputs_in words old.files) saves disk) saves status old new disk
+    Decides (EndsInputs form (inputs_in words old.files) saves disk) saves status old new disk
 
 -- and of a hive that is made
 abbrev pub MakesAlone : ReportForm → Result Usual Refusal → MakeAsked → Status → HostState → HostState → DiskState → Type 0

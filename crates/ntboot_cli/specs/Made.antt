@@ -15,8 +15,9 @@ use Rattle.start_model.specs.Possible.{Woken}
 use Rattle.start_model.specs.Run.{run_of}
 use Rattle.start_model.specs.Quiet.{Quiet, quiet_run_of}
 use Rattle.start_model.specs.Summary.{Summary, summary_of, no_summary}
-use Rattle.run_parts.specs.Parts.{Told}
-use Rattle.run_parts.specs.Reports.{LeftOf, Reports, ReportsFront}
+use Rattle.run_parts.specs.Reports.{LeftOf}
+use Rattle.printed_parts.specs.Parts.{Told}
+use Rattle.printed_parts.specs.Reports.{Reports, ReportsFront}
 use Rattle.boot_run.specs.declared.summary.Summary.{Summary as RunSummary}
 use Rattle.boot_run.specs.Choices.{choices}
 use Rattle.boot_run.specs.Views.{summary_in}
@@ -95,12 +96,12 @@ pub record IsPartMade (most : ℕ) (disk : DiskState) : Type 0 where
   pub unordered : disk.history.armings ≡ []
   pub uncut : disk.history.cut_calls ≡ 0
 
--- this was printed, and its lines amount to the summary
-abbrev pub told : List ℕ → Summary → Told
-told said summary = record { said = said; summary = summary }
+-- this was printed in the form, and its lines amount to the summary
+abbrev pub told : ReportForm → List ℕ → Summary → Told
+told form said summary = record { said = said; form = form; summary = summary }
 
 -- a placed hive was run once: the whole report came to the summary, or the run was given up
 abbrev pub PlaysMade : {E : Type 0} → Usual → Woken → DiskState → DiskState → Result RunSummary E → Type 0
 PlaysMade usual placed before after (Ok summary) =
-    (said : List ℕ) × Reports (made_going usual placed) (told [] no_summary) (told said (summary_in summary)) before after
-PlaysMade usual placed before after (Err e) = (said : List ℕ) × ReportsFront (made_going usual placed) [] said before after
+    (said : List ℕ) × Reports (made_going usual placed) (told forms.Text [] no_summary) (told forms.Text said (summary_in summary)) before after
+PlaysMade usual placed before after (Err e) = (said : List ℕ) × ReportsFront forms.Text (made_going usual placed) [] said before after

@@ -12,7 +12,8 @@ ghost use Rattle.start_model.specs.Possible.{Woken, loads_as};
 ghost use Rattle.start_model.specs.Boot.{Choice};
 ghost use Rattle.start_model.specs.Run.{run_of};
 ghost use Rattle.start_model.specs.Summary.{Summary, no_summary};
-ghost use Rattle.run_parts.specs.Reports.{Reports, ReportsFront};
+ghost use Rattle.line_text.specs.declared.form.ReportForm.{ReportForm};
+ghost use Rattle.printed_parts.specs.Reports.{Reports, ReportsFront};
 ghost use Rattle.saved_laws.specs.Saved.{HasUntornBlock};
 ghost use Rattle.command_parts.specs.declared.inputs.HiveFiles.{HiveFiles};
 ghost use Rattle.ntboot_cli.specs.declared.inputs.Inputs.{Inputs};
@@ -27,40 +28,41 @@ ghost use Rattle.command_parts.specs.Saves.{Saves};
 /// Over every script and whatever came of its disk operations, LastKnownGood names a good set in each tree that was loaded or
 /// committed, and in each that the disk may load as afterwards: where the report was printed whole, and where the run was given up.
 pub fn a_run_keeps_last_known_good()
-    ensures whole { (choice : Option ℕ → Choice) (script : List BookEvent) (placed : Woken) (summary : Summary) (old new : List ℕ)
-        (before after : DiskState) (r : Reports (run_of choice script placed) (told old no_summary) (told new summary) before after)
+    ensures whole { (form : ReportForm) (choice : Option ℕ → Choice) (script : List BookEvent) (placed : Woken) (summary : Summary)
+        (old new : List ℕ) (before after : DiskState)
+        (r : Reports (run_of choice script placed) (told form old no_summary) (told form new summary) before after)
         → let run = run_of choice script placed r.report.woken (outcomes_of r.text) in KeepsGood run.notes run.disk }
-    ensures front { (choice : Option ℕ → Choice) (script : List BookEvent) (placed : Woken) (old new : List ℕ)
-        (before after : DiskState) (r : ReportsFront (run_of choice script placed) old new before after)
+    ensures front { (form : ReportForm) (choice : Option ℕ → Choice) (script : List BookEvent) (placed : Woken) (old new : List ℕ)
+        (before after : DiskState) (r : ReportsFront form (run_of choice script placed) old new before after)
         → let run = run_of choice script placed r.report.woken (outcomes_of r.text) in KeepsGood run.notes run.disk }
 {}
 
 /// Each file of the hive that the command line names was placed for a run, and each that they want saved was taken: where all was done. Where
 /// the run was given up, no file was taken.
 pub fn a_run_places_and_takes_the_named_files()
-    ensures placed { (inputs : Inputs) (woken : Woken) (taken : ℕ) (after : DiskState) (old new : List ℕ)
-        → RunsWhole inputs woken taken (placed_disk inputs.hive) after old new → after.history.placings ≡ 1 + named inputs.hive.log }
-    ensures taken { (inputs : Inputs) (woken : Woken) (taken : ℕ) (after : DiskState) (old new : List ℕ)
-        → RunsWhole inputs woken taken (placed_disk inputs.hive) after old new → after.history.takings ≡ more taken 0 }
-    ensures placed_front { (run : Going) (files : HiveFiles) (after : DiskState) (old new : List ℕ)
-        → ReportsFront run old new (placed_disk files) after → after.history.placings ≡ 1 + named files.log }
-    ensures untaken_front { (run : Going) (files : HiveFiles) (after : DiskState) (old new : List ℕ)
-        → ReportsFront run old new (placed_disk files) after → after.history.takings ≡ 0 }
+    ensures placed { (form : ReportForm) (inputs : Inputs) (woken : Woken) (taken : ℕ) (after : DiskState) (old new : List ℕ)
+        → RunsWhole form inputs woken taken (placed_disk inputs.hive) after old new → after.history.placings ≡ 1 + named inputs.hive.log }
+    ensures taken { (form : ReportForm) (inputs : Inputs) (woken : Woken) (taken : ℕ) (after : DiskState) (old new : List ℕ)
+        → RunsWhole form inputs woken taken (placed_disk inputs.hive) after old new → after.history.takings ≡ more taken 0 }
+    ensures placed_front { (form : ReportForm) (run : Going) (files : HiveFiles) (after : DiskState) (old new : List ℕ)
+        → ReportsFront form run old new (placed_disk files) after → after.history.placings ≡ 1 + named files.log }
+    ensures untaken_front { (form : ReportForm) (run : Going) (files : HiveFiles) (after : DiskState) (old new : List ℕ)
+        → ReportsFront form run old new (placed_disk files) after → after.history.takings ≡ 0 }
 {}
 
 /// Where options and files have no obstacle and the hive is well-formed, a run ends as done, unless the environment stopped it or there
 /// was no memory.
 pub fn a_well_formed_hive_is_run()
-    ensures { (inputs : Inputs) (saves : Saves) (placed : Woken) (disk : DiskState) (status : Status) (old new : List ℕ)
-        → Loads (image_in inputs.hive) placed.state placed.dirty → EndsInputs (Ok inputs) saves disk status old new
+    ensures { (form : ReportForm) (inputs : Inputs) (saves : Saves) (placed : Woken) (disk : DiskState) (status : Status) (old new : List ℕ)
+        → Loads (image_in inputs.hive) placed.state placed.dirty → EndsInputs form (Ok inputs) saves disk status old new
         → (status ≡ Status.Done) ⊎ IsSome (stop_in status) }
 {}
 
 /// The two files of the disk after a run, or after the run of a generated hive, load as its last state says: as the settled state,
 /// or as the other one of an open change. The hive's first sector has to be one that can be read.
 pub fn what_was_saved_loads_as_the_run_says()
-    ensures run { (inputs : Inputs) (placed : Woken) (count : ℕ) (before : DiskState) (after : DiskState) (old new hive log : List ℕ)
-        (r : RunsWhole inputs placed count before after old new)
+    ensures run { (form : ReportForm) (inputs : Inputs) (placed : Woken) (count : ℕ) (before : DiskState) (after : DiskState) (old new hive log : List ℕ)
+        (r : RunsWhole form inputs placed count before after old new)
         → IsFileOf after.held Primary hive → IsFileOf after.held Log log → HasUntornBlock after.held
         → MayLoad r.reports.report.last.disk (image_of hive log) }
     ensures made { (usual : Usual) (count saved : ℕ) (disk : DiskState) (hive log : List ℕ)
@@ -71,8 +73,8 @@ pub fn what_was_saved_loads_as_the_run_says()
 /// After a run whose disk counts no cut and no fault the hive's file alone, with its log's or any other, loads as the last state
 /// that was settled, without the log; unless no start woke the disk, which is as it was placed then.
 pub fn what_a_quiet_run_saved_loads_as_its_last_tree()
-    ensures { (inputs : Inputs) (placed : Woken) (count : ℕ) (before : DiskState) (after : DiskState) (old new hive log : List ℕ)
-        → RunsWhole inputs placed count before after old new → after.cuts ≡ 0 → after.faults ≡ 0 → IsFileOf after.held Primary hive
+    ensures { (form : ReportForm) (inputs : Inputs) (placed : Woken) (count : ℕ) (before : DiskState) (after : DiskState) (old new hive log : List ℕ)
+        → RunsWhole form inputs placed count before after old new → after.cuts ≡ 0 → after.faults ≡ 0 → IsFileOf after.held Primary hive
         → Loads (image_of hive log) (quiet_in inputs placed).state.disk.settled false
         ⊎ ((quiet_in inputs placed).state.disk ≡ loads_as placed) }
 {}

@@ -66,7 +66,15 @@ fn play<B: Bench>(alloc: Global, usual: &Usual, bench: &mut B) -> Result<Summary
         Event::Off,
     ];
     let mut host = QuietHost::new(alloc);
-    match boot_run::run(alloc, &script, &usual.ini, &usual.system, &mut host, bench) {
+    match boot_run::run(
+        alloc,
+        &script,
+        &usual.ini,
+        &usual.system,
+        ReportForm::Text,
+        &mut host,
+        bench,
+    ) {
         Ok(summary) => Ok(summary),
         Err(_) => Err(AllocError),
     }

@@ -20,6 +20,7 @@ use command_parts::{
     HiveFiles, Obstacle, Refusal, Saves, Status, judge, place, refuse, save, saved, stopped,
 };
 use command_words::RunWords;
+use line_text::ReportForm;
 use nt_bytes::ReadStop;
 use nt_edge::{Bench, Host};
 use std::alloc::Global;
@@ -37,16 +38,25 @@ fn play<H: Host, B: Bench>(
     alloc: Global,
     inputs: &Inputs,
     saves: Saves<'_>,
+    form: ReportForm,
     host: &mut H,
     bench: &mut B,
 ) -> Status
     requires counts { All HasCounts inputs.now.script }
     requires placed { B.state bench.old ≡ placed_disk inputs.now.hive }
     requires loads { LoadsAny (image_in inputs.now.hive) }
-    ensures { DecidesHive inputs.now (saves_seen saves.entry) result (H.state host.old) (H.state host.new) (B.state bench.new) }
+    ensures { DecidesHive form inputs.now (saves_seen saves.entry) result (H.state host.old) (H.state host.new) (B.state bench.new) }
 {
     let script = inputs.script.as_slice();
-    match boot_run::run(alloc, script, &inputs.ini, &inputs.system, host, bench) {
+    match boot_run::run(
+        alloc,
+        script,
+        &inputs.ini,
+        &inputs.system,
+        form,
+        host,
+        bench,
+    ) {
         Ok(_) => saved(save(saves, host, bench)),
         Err(RunStop::Write) => Status::WriteFault,
         Err(RunStop::Memory) => Status::Memory,
@@ -58,16 +68,17 @@ fn start<H: Host, B: Bench>(
     alloc: Global,
     inputs: &Inputs,
     saves: Saves<'_>,
+    form: ReportForm,
     host: &mut H,
     bench: &mut B,
 ) -> Status
     requires counts { All HasCounts inputs.now.script }
     requires fresh { B.state bench.old ≡ new_state }
     requires loads { LoadsAny (image_in inputs.now.hive) }
-    ensures { DecidesHive inputs.now (saves_seen saves.entry) result (H.state host.old) (H.state host.new) (B.state bench.new) }
+    ensures { DecidesHive form inputs.now (saves_seen saves.entry) result (H.state host.old) (H.state host.new) (B.state bench.new) }
 {
     match place(&inputs.hive, bench) {
-        Ok(()) => play(alloc, inputs, saves, host, bench),
+        Ok(()) => play(alloc, inputs, saves, form, host, bench),
         Err(_) => Status::Memory,
     }
 }
@@ -77,29 +88,31 @@ fn begin<H: Host, B: Bench>(
     alloc: Global,
     inputs: &Inputs,
     saves: Saves<'_>,
+    form: ReportForm,
     host: &mut H,
     bench: &mut B,
 ) -> Status
     requires counts { All HasCounts inputs.now.script }
     requires fresh { B.state bench.old ≡ new_state }
-    ensures { DecidesHive inputs.now (saves_seen saves.entry) result (H.state host.old) (H.state host.new) (B.state bench.new) }
+    ensures { DecidesHive form inputs.now (saves_seen saves.entry) result (H.state host.old) (H.state host.new) (B.state bench.new) }
 {
     match check(alloc, &inputs.hive) {
-        Ok(_) => start(alloc, inputs, saves, host, bench),
+        Ok(_) => start(alloc, inputs, saves, form, host, bench),
         Err(ReadStop::Fault(fault)) => refuse(alloc, host, &Refusal::HiveFault(fault)),
         Err(ReadStop::Memory) => Status::Memory,
     }
 }
 
-/// Gets what the command line names, runs, and saves; or says the first obstacle.
+/// Gets what the command line names, runs, with the report in one of the two forms, and saves; or says the first obstacle.
 pub(crate) fn run<H: Host, B: Bench>(
     alloc: Global,
     words: RunWords<'_>,
+    form: ReportForm,
     host: &mut H,
     bench: &mut B,
 ) -> Status
     requires fresh { B.state bench.old ≡ new_state }
-    ensures decides { DecidesRun (run_seen words.entry) result (H.state host.old) (H.state host.new) (B.state bench.new) }
+    ensures decides { DecidesRun form (run_seen words.entry) result (H.state host.old) (H.state host.new) (B.state bench.new) }
     ensures asked { AsksSoMany (asks_run (run_seen words.entry)) result (H.state host.old) (H.state host.new) }
     ensures usage { result ≡ Status.Usage → arguments_in (book.asks (book.run (run_seen words.entry)) false) ≡ Err Refusal.Usage }
     ensures refused { arguments_in (book.asks (book.run (run_seen words.entry)) false) ≡ Err Refusal.Usage → IsToldAs Status.Usage result }
@@ -109,7 +122,7 @@ pub(crate) fn run<H: Host, B: Bench>(
         log: words.save_log,
     };
     match inputs_in(alloc, words, host) {
-        Ok(inputs) => begin(alloc, &inputs, saves, host, bench),
+        Ok(inputs) => begin(alloc, &inputs, saves, form, host, bench),
         Err(Obstacle::Refused(why)) => refuse(alloc, host, &why),
         Err(Obstacle::Stopped(stop)) => stopped(stop),
     }

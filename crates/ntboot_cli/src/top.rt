@@ -17,6 +17,7 @@ use command_parts::{Refusal, Status, refuse, tell};
 use command_words::{Command, Reading, read_words, texts};
 use control_command::control;
 use diff_command::diff;
+use graph_command::graph;
 use help_text::{page_of, version_text};
 use key_command::key;
 use line_text::ReportForm;
@@ -28,6 +29,7 @@ use std::alloc::Global;
 use text_commands::{export, import};
 use twin_command::twin;
 use whatif_command::whatif;
+use why_command::why;
 
 /// The form of a report, by whether its lines are to be JSON.
 fn form(json: bool) -> ReportForm
@@ -48,7 +50,7 @@ fn obey<H: Host, B: Bench>(alloc: Global, words: &[&str], host: &mut H, bench: &
     match read_words(alloc, words) {
         Reading::Help(page) => tell(host, page_of(page), Status::Done),
         Reading::Version => tell(host, version_text(), Status::Done),
-        Reading::Command(Command::Run(words), _) => run(alloc, words, host, bench),
+        Reading::Command(Command::Run(words), json) => run(alloc, words, form(json), host, bench),
         Reading::Command(Command::Show(words), json) => show(alloc, words, form(json), host),
         Reading::Command(Command::Make(words), json) => make(alloc, words, form(json), host, bench),
         Reading::Command(Command::Safe(words), json) => safe(alloc, words, form(json), host),
@@ -66,6 +68,8 @@ fn obey<H: Host, B: Bench>(alloc: Global, words: &[&str], host: &mut H, bench: &
             salvage(alloc, words, form(json), host)
         }
         Reading::Command(Command::Diff(words), json) => diff(alloc, words, form(json), host),
+        Reading::Command(Command::Why(words), json) => why(alloc, words, form(json), host),
+        Reading::Command(Command::Graph(words), json) => graph(alloc, words, form(json), host),
         Reading::Refused(_) => refuse(alloc, host, &Refusal::Usage),
     }
 }

@@ -6,7 +6,7 @@ use Rattle.ntboot_cli.proofs.running.play.Goals as goal
 
 pub returns-in-Ok : goal.returns-in-Ok
 returns-in-Ok g c =
-    saved_decides c.args.inputs.now (saves_seen c.args.saves)
+    saved_decides c.args.form c.args.inputs.now (saves_seen c.args.saves)
     c.as_slice-script.result.now c.in-Ok.field-0 c.save.result c.saved.result
     (g.H.Host.state c.args.host.now) (g.H.Host.state c.run.new.host) (g.H.Host.state c.save.new.host)
     (g.B.Disk.state c.args.bench.now) (g.B.Disk.state c.run.new.bench) (g.B.Disk.state c.save.new.bench)
@@ -15,7 +15,7 @@ returns-in-Ok g c =
 
 pub returns-in-Err-Write : goal.returns-in-Err-Write
 returns-in-Err-Write g c =
-    stopped_run c.args.inputs.now (saves_seen c.args.saves) c.as_slice-script.result.now
+    stopped_run c.args.form c.args.inputs.now (saves_seen c.args.saves) c.as_slice-script.result.now
     (g.H.Host.state c.args.host.now) (g.H.Host.state c.run.new.host)
     (g.B.Disk.state c.args.bench.now) (g.B.Disk.state c.run.new.bench)
     c.requires.loads c.as_slice-script.ensures c.requires.placed
@@ -24,7 +24,7 @@ returns-in-Err-Write g c =
 
 pub returns-in-Err-Memory : goal.returns-in-Err-Memory
 returns-in-Err-Memory g c =
-    stopped_run c.args.inputs.now (saves_seen c.args.saves) c.as_slice-script.result.now
+    stopped_run c.args.form c.args.inputs.now (saves_seen c.args.saves) c.as_slice-script.result.now
     (g.H.Host.state c.args.host.now) (g.H.Host.state c.run.new.host)
     (g.B.Disk.state c.args.bench.now) (g.B.Disk.state c.run.new.bench)
     c.requires.loads c.as_slice-script.ensures c.requires.placed

@@ -14,5 +14,5 @@ returns-in-Err-Stopped-clause-decides g c =
     let words = run_seen c.args.words in
     let looks = subst (λ (o : Obstacle). Looks (inputs_in words old.files) (Err o) old new)
     c.in-Err-Stopped.field-0-is c.in-Err-Stopped.ensures.looks in
-    unread_run words c.in-Err-Stopped.stop c.stopped.result old new (g.B.Disk.state c.args.bench.now)
+    unread_run c.args.form words c.in-Err-Stopped.stop c.stopped.result old new (g.B.Disk.state c.args.bench.now)
     (c.stopped.ensures ∙ ap stopped_as c.in-Err-Stopped.stop-is) c.requires.fresh looks
