@@ -1,27 +1,26 @@
 -- With two sets exchanged the exit is the same.
-use Rattle.std.proofs.Common.{◌≡◌, ◌↔◌, ℕ, zero, suc, Bool, true, false, not, ◌&&◌, cond, nat_eq, List, [], ◌∷◌, ◌++◌, map, refl, sym, ap, subst, ◌∙◌}
-use Rattle.std.specs.Prelude.{Option, Some, None, position, slice_get, option_and_then}
+use Rattle.std.proofs.Common.{◌≡◌, ℕ, zero, suc, Bool, true, false, not, ◌&&◌, cond, nat_eq, List, [], ◌∷◌, ◌++◌, map, refl, sym, ap, ◌∙◌, arith}
+use Rattle.std.specs.Prelude.{◌==◌, Option, Some, None, position, slice_get, option_and_then}
 use Rattle.std.specs.List.{list_all}
 use Rattle.std.specs.Option.{option_map_or}
 use Rattle.std.proofs.Math.Dec.{eqb-suc-zero}
 use Rattle.std.proofs.lemmas.Bool.{and_parts}
 use Rattle.std.proofs.lemmas.List.{append-nil}
 use Rattle.nt_bytes.specs.Folding.{folds_same}
-use Rattle.hive_model.specs.Tree.{Tree, key, head}
+use Rattle.hive_model.specs.Tree.{Tree, key}
 use Rattle.hive_model.specs.Edit.{renamed}
 use Rattle.hive_model.specs.Valid.{HoldsKeys}
 use Rattle.start_model.specs.Order.{GroupOrder}
 use Rattle.select_keys.specs.Sets.{usable_set}
-use Rattle.reg_tree.proofs.Unlike.{Each, Unlike, folds_swap, same_swap}
+use Rattle.reg_tree.proofs.Unlike.{Each, Unlike, folds_swap}
 use Rattle.command_parts.specs.declared.status.Status.TheVariants as statuses
 use Rattle.diff_lines.specs.declared.lines.DiffField.{DiffField}
 use Rattle.diff_lines.specs.declared.lines.DiffField.TheVariants as fields
-use Rattle.diff_lines.specs.declared.lines.DiffLine.{DiffLine}
 use Rattle.diff_lines.specs.declared.lines.DiffLine.TheVariants.{Sets}
 use Rattle.set_diff.specs.declared.service.Service.{Service}
 use Rattle.set_diff.specs.Boots.{boots_lines, or_same}
 use Rattle.set_diff.specs.Services.{all_fields, service_named, service_names, services_in, services_lines}
-use Rattle.set_diff.specs.Sets.{Compared, compared_of, group_names, group_named, groups_lines, both_lines, sets_lines, is_difference, difference_count}
+use Rattle.set_diff.specs.Sets.{Compared, compared_of, group_names, group_named, groups_lines, both_lines, is_difference, difference_count}
 use Rattle.set_diff.specs.Shown.{names_same, numbers_same, shown_same, number_shown, text_shown}
 use Rattle.diff_command.specs.Compared.{both_found, found_lines}
 use Rattle.diff_laws.specs.Laws.{same_names, has_all, field_agrees, service_agrees, service_agrees_in, services_agree, group_agrees_in, groups_agree, boots_agree, sets_agree}
@@ -71,6 +70,9 @@ agree_turn {X} name r flip xs ys own all =
         ∙ found.0
 
 -- ---- what two sets have, from either
+
+same_swap : (a b : ℕ) → (a == b) ≡ (b == a)
+same_swap a b = grind arith
 
 names_flip : (ns ms : List (List ℕ)) → names_same ns ms ≡ names_same ms ns
 names_flip [] [] = refl
@@ -206,13 +208,17 @@ equal_turn None (Some b) e = e
 equal_turn (Some a) None e = e
 equal_turn (Some a) (Some b) e = renamed_turn a b e
 
-same_turn : (all : Bool) (a : Tree) (n : ℕ) (b : Tree) (m : ℕ) → HoldsKeys a → HoldsKeys b → AreTheSame all a n b m → AreTheSame all b m a n
-same_turn false a n b m holds held e =
+same_without : (a : Tree) (n : ℕ) (b : Tree) (m : ℕ) → HoldsKeys a → HoldsKeys b → AreTheSame false a n b m → AreTheSame false b m a n
+same_without a n b m holds held e =
     none_turn n m (usable_set a n) (usable_set b m) (held_set a n holds) (held_set b m held) e
+
+same_turn : (all : Bool) (a : Tree) (n : ℕ) (b : Tree) (m : ℕ) → HoldsKeys a → HoldsKeys b → AreTheSame all a n b m
+    → AreTheSame all b m a n
+same_turn false a n b m holds held e = same_without a n b m holds held e
 same_turn true a n b m holds held e =
     let both = (same_with_all a n b m holds).0 e in
     (same_with_all b m a n held).1
-    (same_turn false a n b m holds held both.0, equal_turn (usable_set a n) (usable_set b m) both.1)
+    (same_without a n b m holds held both.0, equal_turn (usable_set a n) (usable_set b m) both.1)
 
 -- ---- the exit
 

@@ -5,10 +5,9 @@ use Rattle.std.proofs.Math.Dec.{eqb-suc-zero}
 use Rattle.std.proofs.lemmas.List.{append-nil, map-append}
 use Rattle.nt_bytes.specs.Folding.{folds_same}
 use Rattle.hive_model.specs.Tree.{Tree}
-use Rattle.start_model.specs.Order.{GroupOrder}
 use Rattle.select_keys.specs.Sets.{usable_set}
 use Rattle.diff_lines.specs.declared.lines.DiffLine.{DiffLine}
-use Rattle.diff_lines.specs.declared.lines.DiffLine.TheVariants.{Differs, End, Lone, NoSet, Parts, Same, Sets, StartPhase, StartsSame, Tags, Differ}
+use Rattle.diff_lines.specs.declared.lines.DiffLine.TheVariants.{Differs, End, Lone, Parts, Same, Sets, StartPhase, StartsSame, Tags, Differ}
 use Rattle.diff_lines.specs.declared.lines.Part.{Part}
 use Rattle.diff_lines.specs.declared.lines.Part.TheVariants.{Group, Start, Unmet}
 use Rattle.diff_lines.specs.declared.lines.Sequence.{Sequence}
@@ -20,12 +19,11 @@ use Rattle.set_diff.specs.declared.boot.Attempt.{Attempt}
 use Rattle.set_diff.specs.declared.boot.QuietBoot.{QuietBoot}
 use Rattle.set_diff.specs.declared.service.Service.{Service}
 use Rattle.set_diff.specs.Boots.{attempt_names, attempt_named, phase_rank, phase_lines, paired_phases, phases_lines, lone_names, common_attempts, boots_lines, or_same}
-use Rattle.set_diff.specs.Listed.{lacks, lone_lines, both_lone, shared, parts_from, parts_lines, shared_parts}
-use Rattle.set_diff.specs.Services.{all_fields, field_shown, field_lines, pair_lines, paired_lines, differs_lines, only_line, is_only, only_lines, apart_lines, common_lines, service_named, service_names, services_lines}
-use Rattle.set_diff.specs.Sets.{Compared, compared_of, compared_lines, group_names, group_named, groups_lines, orders_lines, tag_lines, paired_tags, tags_lines, both_lines, absent_lines, sets_lines, verdict, difference_count, closed}
+use Rattle.set_diff.specs.Listed.{lacks, both_lone, shared, parts_from, parts_lines, shared_parts}
+use Rattle.set_diff.specs.Services.{all_fields, field_shown, field_lines, pair_lines, paired_lines, differs_lines, only_line, is_only, apart_lines, common_lines, service_named, service_names, services_lines}
+use Rattle.set_diff.specs.Sets.{Compared, compared_of, compared_lines, group_names, group_named, groups_lines, orders_lines, tag_lines, paired_tags, tags_lines, both_lines, sets_lines, verdict, difference_count, closed}
 use Rattle.set_diff.specs.Shown.{shown_same}
-use Rattle.diff_command.specs.Compared.{both_found, found_lines}
-use Rattle.turned_laws.specs.Turned.{side_of, is_same, is_side, is_data, data_lines, lines_about, other, turned, all_lines, SidesTurn}
+use Rattle.turned_laws.specs.Turned.{side_of, is_side, is_data, data_lines, lines_about, other, turned, SidesTurn}
 use Rattle.turned_laws.proofs.AboutLemmas.{About, Silent, about_append, next_both, silent_both, silent_none, silent_each, silent_pair, silent_when}
 
 -- the lines about one set among the first are those about the other one among the second

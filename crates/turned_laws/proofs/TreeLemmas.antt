@@ -14,7 +14,7 @@ use Rattle.start_model.specs.Sets.{set_name, set_of, is_usable}
 use Rattle.select_keys.specs.Sets.{usable_set}
 use Rattle.reg_tree.proofs.Unlike.{Each, Unlike, unlike_from}
 use Rattle.diff_lines.specs.declared.lines.DiffLine.{DiffLine}
-use Rattle.diff_lines.specs.declared.lines.DiffLine.TheVariants.{Data, KeyDiffers, KeyOnly, ValueDiffers, ValueOnly, Stamps, Flags}
+use Rattle.diff_lines.specs.declared.lines.DiffLine.TheVariants.{KeyDiffers, KeyOnly, ValueDiffers, ValueOnly, Stamps, Flags}
 use Rattle.diff_lines.specs.declared.lines.KeyField.{KeyField}
 use Rattle.diff_lines.specs.declared.lines.KeyField.TheVariants.{Name, Class, Security, Values, Keys}
 use Rattle.diff_lines.specs.declared.lines.Side.{Side}
@@ -28,7 +28,7 @@ use Rattle.tree_diff.specs.Trees.{key_lines, keys_lines, key_marks, stamps_lines
 use Rattle.diff_command.specs.Compared.{both_trees, found_lines}
 use Rattle.boot_laws.proofs.FoldLemmas.{one_folded}
 use Rattle.turned_laws.specs.Turned.{data_lines, lines_about, other, turned, above_folded, plain, AllSidesTurn}
-use Rattle.turned_laws.proofs.AboutLemmas.{About, Silent, about_append, next_both, silent_both, silent_none, silent_each, silent_pair, silent_when}
+use Rattle.turned_laws.proofs.AboutLemmas.{Silent, about_append, next_both, silent_both, silent_none, silent_each, silent_pair}
 use Rattle.turned_laws.proofs.SetLemmas.{sets_turn, closed_about}
 use Rattle.turned_laws.proofs.PairLemmas.{found_by, named_find, OnFound, found_is, pairs_in, pairs_none, pairs_more}
 
