@@ -64,15 +64,15 @@ turned (Data side kind bytes) = Data (other side) kind bytes
 turned (KeyOnly side keys path) = KeyOnly (other side) keys path
 turned line = line
 
--- the lines with all keys and values compared, or without, of the sets of two numbers
-abbrev pub all_lines : Bool → Tree → ℕ → Tree → ℕ → List DiffLine
-all_lines all a n b m = closed (found_lines all a n b m)
+-- what is said of the sets of two numbers, with all keys and values compared or without
+abbrev pub said_lines : Bool → Tree → ℕ → Tree → ℕ → List DiffLine
+said_lines all a n b m = closed (found_lines all a n b m)
 
 -- the lines about one set are those about it where it is the other one
 abbrev pub SidesTurn : Type 0
 SidesTurn =
     (a : Tree) (n : ℕ) (b : Tree) (m : ℕ) (side : Side)
-    → lines_about side (all_lines false a n b m) ≡ map (map turned) (lines_about (other side) (all_lines false b m a n))
+    → lines_about side (said_lines false a n b m) ≡ map (map turned) (lines_about (other side) (said_lines false b m a n))
 
 -- ---- with all keys and values
 
@@ -92,8 +92,8 @@ plain line = line
 abbrev pub AllSidesTurn : Type 0
 AllSidesTurn =
     (a : Tree) (n : ℕ) (b : Tree) (m : ℕ) → HoldsKeys a → HoldsKeys b → (side : Side)
-    → IsPermutation (map (map plain) (lines_about side (all_lines true a n b m)))
-    (map (map (λ line. plain (turned line))) (lines_about (other side) (all_lines true b m a n)))
+    → IsPermutation (map (map plain) (lines_about side (said_lines true a n b m)))
+    (map (map (λ line. plain (turned line))) (lines_about (other side) (said_lines true b m a n)))
 
 -- ---- the exit
 
