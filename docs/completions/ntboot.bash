@@ -4,13 +4,13 @@ _ntboot() {
     local current=${COMP_WORDS[COMP_CWORD]} before=${COMP_WORDS[COMP_CWORD-1]} command=${COMP_WORDS[1]} options= word i
     COMPREPLY=()
     if [ "$COMP_CWORD" -eq 1 ]; then
-        COMPREPLY=($(compgen -W "run show make safe control twin export import key replay check whatif salvage diff" -- "$current"))
+        COMPREPLY=($(compgen -W "run show make safe control twin export import key replay check whatif salvage diff why graph sweep" -- "$current"))
         return
     fi
     # --name=value comes as three words
     if [ "$before" = = ]; then before=${COMP_WORDS[COMP_CWORD-2]}; elif [ "$current" = = ]; then before=${COMP_WORDS[COMP_CWORD-1]} current=; fi
     case $command in
-        run) options="--hive --script --log --boot-ini --system --save-hive --save-log --verbose" ;;
+        run) options="--hive --script --log --boot-ini --system --save-hive --save-log --json --verbose" ;;
         show) options="--hive --log --json --verbose" ;;
         make) options="--save-hive --json --verbose" ;;
         safe) options="--hive --log --boot-ini --system --mode --images --json --verbose" ;;
@@ -24,6 +24,9 @@ _ntboot() {
         whatif) options="--hive --log --boot-ini --system --of --json --verbose" ;;
         salvage) options="--hive --log --save-hive --by-parent --json --verbose" ;;
         diff) options="--hive --log --set --with --with-log --with-set --all --json --verbose" ;;
+        why) options="--hive --log --boot-ini --system --script --json --verbose" ;;
+        graph) options="--hive --log --boot-ini --system --script --of --json --verbose" ;;
+        sweep) options="--hive --script --log --boot-ini --system --json --verbose" ;;
         *) return ;;
     esac
     case $before in

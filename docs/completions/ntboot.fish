@@ -7,7 +7,7 @@ function __ntboot_can
     not contains -- --$argv[2] $words[3..-2]
 end
 complete -c ntboot -f
-complete -c ntboot -n 'test (count (commandline -opc)) -eq 1' -a 'run show make safe control twin export import key replay check whatif salvage diff'
+complete -c ntboot -n 'test (count (commandline -opc)) -eq 1' -a 'run show make safe control twin export import key replay check whatif salvage diff why graph sweep'
 complete -c ntboot -n '__ntboot_can run hive' -l hive -r -F
 complete -c ntboot -n '__ntboot_can run script' -l script -r -F
 complete -c ntboot -n '__ntboot_can run log' -l log -r -F
@@ -15,6 +15,7 @@ complete -c ntboot -n '__ntboot_can run boot-ini' -l boot-ini -r -F
 complete -c ntboot -n '__ntboot_can run system' -l system -x
 complete -c ntboot -n '__ntboot_can run save-hive' -l save-hive -r -F
 complete -c ntboot -n '__ntboot_can run save-log' -l save-log -r -F
+complete -c ntboot -n '__ntboot_can run json' -l json
 complete -c ntboot -n '__ntboot_can run verbose' -l verbose
 complete -c ntboot -n '__ntboot_can show hive' -l hive -r -F
 complete -c ntboot -n '__ntboot_can show log' -l log -r -F
@@ -102,3 +103,25 @@ complete -c ntboot -n '__ntboot_can diff with-set' -l with-set -x
 complete -c ntboot -n '__ntboot_can diff all' -l all
 complete -c ntboot -n '__ntboot_can diff json' -l json
 complete -c ntboot -n '__ntboot_can diff verbose' -l verbose
+complete -c ntboot -n '__ntboot_can why hive' -l hive -r -F
+complete -c ntboot -n '__ntboot_can why log' -l log -r -F
+complete -c ntboot -n '__ntboot_can why boot-ini' -l boot-ini -r -F
+complete -c ntboot -n '__ntboot_can why system' -l system -x
+complete -c ntboot -n '__ntboot_can why script' -l script -r -F
+complete -c ntboot -n '__ntboot_can why json' -l json
+complete -c ntboot -n '__ntboot_can why verbose' -l verbose
+complete -c ntboot -n '__ntboot_can graph hive' -l hive -r -F
+complete -c ntboot -n '__ntboot_can graph log' -l log -r -F
+complete -c ntboot -n '__ntboot_can graph boot-ini' -l boot-ini -r -F
+complete -c ntboot -n '__ntboot_can graph system' -l system -x
+complete -c ntboot -n '__ntboot_can graph script' -l script -r -F
+complete -c ntboot -n '__ntboot_can graph of' -l of -x
+complete -c ntboot -n '__ntboot_can graph json' -l json
+complete -c ntboot -n '__ntboot_can graph verbose' -l verbose
+complete -c ntboot -n '__ntboot_can sweep hive' -l hive -r -F
+complete -c ntboot -n '__ntboot_can sweep script' -l script -r -F
+complete -c ntboot -n '__ntboot_can sweep log' -l log -r -F
+complete -c ntboot -n '__ntboot_can sweep boot-ini' -l boot-ini -r -F
+complete -c ntboot -n '__ntboot_can sweep system' -l system -x
+complete -c ntboot -n '__ntboot_can sweep json' -l json
+complete -c ntboot -n '__ntboot_can sweep verbose' -l verbose
