@@ -5,19 +5,19 @@ use Rattle.std.specs.Option.{option_map_or, option_to_list}
 use Rattle.std.specs.List.{filter_map}
 use Rattle.std.proofs.lemmas.List.{append-nil}
 use Rattle.why_needs.proofs.TakeLemmas.{taken_at}
-use Rattle.why_pulled.specs.Layers.{Found, widened, behind, layered}
+use Rattle.why_pulled.specs.Layers.{Found, widened, next_layer, layered}
 use Rattle.why_pulled.specs.Pulled.{pullers}
 
 stepped : (next : ℕ → List ℕ) (n k at : ℕ) (f : Found) (o : Option ℕ) → n ≡ suc k → slice_get f.places at ≡ o
-    → layered next n at f ≡ option_map_or (λ p. layered next k (at + 1) (widened (next p) (behind f at) f)) o f
+    → layered next n at f ≡ option_map_or (λ p. layered next k (at + 1) (widened (next p) (next_layer f at) f)) o f
 unfolding layered
 stepped next n k at f o count is =
     ap (λ (x : ℕ). layered next x at f) count
-    ∙ ap (λ (x : Option ℕ). option_map_or (λ p. layered next k (at + 1) (widened (next p) (behind f at) f)) x f) is
+    ∙ ap (λ (x : Option ℕ). option_map_or (λ p. layered next k (at + 1) (widened (next p) (next_layer f at) f)) x f) is
 
 -- one was looked at
 pub layered_more : (next : ℕ → List ℕ) (n k at p : ℕ) (f new : Found) → n ≡ suc k → Some p ≡ slice_get f.places at
-    → new ≡ widened (next p) (behind f at) f → layered next k (at + 1) new ≡ layered next n at f
+    → new ≡ widened (next p) (next_layer f at) f → layered next k (at + 1) new ≡ layered next n at f
 layered_more next n k at p f new count is put =
     ap (λ (x : Found). layered next k (at + 1) x) put ∙ sym (stepped next n k at f (Some p) count (sym is))
 
@@ -54,7 +54,7 @@ pulled_none pull q out total so_far = sym (append-nil out) ∙ so_far
 
 -- ---- lines
 
--- one more item behind what was there before
+-- one more item after what was there before
 pub pushed_more : {A X : Type 0} (h : A → Option X) (items : List A) (i : ℕ) (d : A) (before out new : List X) → i < length items
     → out ≡ before ++ filter_map h (take i items) → new ≡ out ++ option_to_list (h (get_or items i d))
     → new ≡ before ++ filter_map h (take (i + 1) items)

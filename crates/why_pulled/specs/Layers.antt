@@ -1,7 +1,7 @@
 -- In which layer is an entry of a plan? (this project's own)
 --
 -- Layer 0 has the entries of Start 2. Layer i + 1 has those of Start 3 that one of layer i names, and that are in no earlier layer. They
--- are found breadth first: what an entry names and was not found before is one layer behind it.
+-- are found breadth first: what an entry names and was not found before is in the layer after its own.
 use Rattle.std.specs.Prelude.{ℕ, zero, suc, ◌+◌, ◌-◌, ◌==◌, nat_eq, List, [], ◌++◌, length, slice_get, replicate, position, Option, None, Some, if◌then◌else◌}
 use Rattle.std.specs.Option.{option_map_or, option_and_then}
 use Rattle.std.specs.List.{filter_map, range_with_len}
@@ -43,14 +43,14 @@ widened next layer f = record {
 abbrev pub layer_at : Found → ℕ → ℕ
 layer_at f at = option_map_or (λ k. k) (slice_get f.layers at) 0
 
--- the one behind it
-abbrev pub behind : Found → ℕ → ℕ
-behind f at = layer_at f at + 1
+-- the one after it
+abbrev pub next_layer : Found → ℕ → ℕ
+next_layer f at = layer_at f at + 1
 
 -- that many places more are looked at, from the one at a place of the found on
 unfoldable pub layered : (ℕ → List ℕ) → ℕ → ℕ → Found → Found
 layered next zero at f = f
-layered next (suc n) at f = option_map_or (λ p. layered next n (at + 1) (widened (next p) (behind f at) f)) (slice_get f.places at) f
+layered next (suc n) at f = option_map_or (λ p. layered next n (at + 1) (widened (next p) (next_layer f at) f)) (slice_get f.places at) f
 
 -- the entries that are found, with their layers
 abbrev pub layers_of : PhaseView → Found

@@ -4,7 +4,7 @@ ghost use Rattle.std.specs.Prelude.{◌≡◌, ◌+◌, ◌++◌, [], nat_eq, sl
 ghost use Rattle.std.specs.Option.{option_to_list};
 ghost use Rattle.std.specs.List.{filter_map};
 ghost use Rattle.indexmap.specs.IndexSet.{insert_all};
-ghost use Rattle.why_pulled.specs.Layers.{start_at, demand_place, next_of, first_layer, widened, layer_at, behind, layered, layers_of, layer_of};
+ghost use Rattle.why_pulled.specs.Layers.{start_at, demand_place, next_of, first_layer, widened, layer_at, next_layer, layered, layers_of, layer_of};
 
 use crate::namers::{push_many, services_at};
 use indexmap::IndexSet;
@@ -104,7 +104,7 @@ fn first_layer(alloc: Global, view: &PhaseView) -> Result<Row<usize>, AllocError
     Ok(out)
 }
 
-// ---- one layer behind the other
+// ---- one layer after the other
 
 /// Puts those after the others that are not there.
 fn put_all(numbers: &[usize], found: &mut IndexSet<usize>) -> Result<(), AllocError>
@@ -150,9 +150,9 @@ fn layer_at(found: &Layers, at: usize) -> usize
     }
 }
 
-/// The layer behind it.
-fn behind(found: &Layers, at: usize) -> Result<usize, AllocError>
-    ensures { IfOk result (λ n. n ≡ behind found.now at) }
+/// The number of the next layer.
+fn next_layer(found: &Layers, at: usize) -> Result<usize, AllocError>
+    ensures { IfOk result (λ n. n ≡ next_layer found.now at) }
 {
     after(layer_at(found, at))
 }
@@ -165,9 +165,9 @@ fn look_at(
     at: usize,
     found: &mut Layers,
 ) -> Result<(), AllocError>
-    ensures { OnOk result (found.new ≡ widened (next_of view.now place) (behind found.old at) found.old) }
+    ensures { OnOk result (found.new ≡ widened (next_of view.now place) (next_layer found.old at) found.old) }
 {
-    let layer = behind(found, at)?;
+    let layer = next_layer(found, at)?;
     let next = next_of(alloc, view, place)?;
     widen(next.as_slice(), layer, found)
 }

@@ -95,7 +95,7 @@ fn push_owners(plan: &[Entry], place: usize, out: &mut Row<usize>) -> Result<(),
     push_many(services_at(plan, place).len(), place, out)
 }
 
-/// The names that these entries name, one after the other.
+/// All names that these entries name, in their order.
 fn all_names(alloc: Global, plan: &[Entry], places: &[usize]) -> Result<Names, AllocError>
     ensures { IfOk result (λ names. names ≡ flat_map (services_at plan.now) places.now) }
 {
