@@ -1,4 +1,4 @@
--- What boot.ini has for a start, in the command line of the book of startup. (this project's own)
+-- What boot.ini has for a start, in the terms of the book of startup. (this project's own)
 use Rattle.std.specs.Prelude.{ℕ, Bool, false, Option}
 use Rattle.std.specs.Option.{option_map_or}
 use Rattle.arc_path.specs.declared.arc.Arc.{Arc}

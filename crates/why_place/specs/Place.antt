@@ -1,4 +1,4 @@
--- Where does an entry are in the plan of its phase, and by what? (this project's own)
+-- Where is an entry in the plan of its phase, and by what? (this project's own)
 --
 -- Places of groups and tags are those of the book of startup.
 use Rattle.std.specs.Prelude.{ℕ, ◌+◌, ◌-◌, ◌==◌, nat_eq, List, [], ◌∷◌, ◌++◌, length, slice_get, position, Option, None, Some, if◌then◌else◌}

@@ -1,4 +1,4 @@
--- Where does a name are in a start, and how did a need are at the end of a phase? (this project's own)
+-- Where is a name in a start, and how was a need met at the end of a phase? (this project's own)
 use Rattle.std.specs.Prelude.{ℕ, zero, suc, ◌+◌, nat_lt, not, ◌&&◌, ◌||◌, ◌==◌, List, length, slice_get, find, position, codes, Option, None, Some, if◌then◌else◌}
 use Rattle.std.specs.Option.{option_map, option_map_or, option_and_then, option_or, is_some}
 use Rattle.nt_bytes.specs.Folding.{folds_same}
