@@ -1,7 +1,6 @@
 -- What is watched of a run is what its lines say.
-use Rattle.std.proofs.Common.{◌≡◌, ℕ, zero, suc, Bool, true, false, not, ◌&&◌, ◌==◌, cond, List, [], ◌∷◌, ◌++◌, length, map, Option, Some, None, Result, Ok, Err, refl, sym, ap, ◌∙◌}
+use Rattle.std.proofs.Common.{◌≡◌, ℕ, zero, suc, Bool, true, false, cond, List, [], ◌∷◌, map, Option, Some, None, Result, Ok, Err, refl, sym, ap, subst, ◌∙◌}
 use Rattle.std.specs.Option.{option_map_or}
-use Rattle.nt_bytes.specs.declared.version.HiveVersion.{HiveVersion}
 use Rattle.hive_model.specs.Tree.{Tree}
 use Rattle.start_model.specs.Act.{RunState, Act, done, say, ask, wake, mark, say_all, end_with, with_machine}
 use Rattle.start_model.specs.Boot.{Choice}
@@ -13,16 +12,17 @@ use Rattle.start_model.specs.Judge.{Judgement, Ignore, Log, FallBack, Stop}
 use Rattle.start_model.specs.Lines as lines
 use Rattle.start_model.specs.Lines.{Line, RefusedWord, OffReason, UnmetLine, VitalLine}
 use Rattle.start_model.specs.Machine.{Start, MachineState, Tried, attempt_of, after_phase, is_done, missing_in, save_due, unmet_in, with_start, refusal_in, refusal_of}
-use Rattle.start_model.specs.Possible.{Woken, Finished}
+use Rattle.start_model.specs.Possible.{Finished}
 use Rattle.start_model.specs.Quiet as book
 use Rattle.start_model.specs.Quiet.{Quiet, quiet_behind, quiet_wake, quiet_play, quiet_from}
 use Rattle.start_model.specs.Run.{closing_act, first_state}
 use Rattle.start_model.specs.Sets as sets
 use Rattle.start_model.specs.Sets.{SetChange, ChangeStop, NoPlan, save_of}
-use Rattle.start_model.specs.Starter.{live_set, good_is_usable, phase_line, try_line, judged, phase_begun, phase_passed, phase_step, starter_step, stepping, go_steps, go_act, enough_steps}
+use Rattle.start_model.specs.Starter.{live_set, good_is_usable, phase_line, try_line, judged, phase_passed, starter_step, stepping, go_steps, go_act, enough_steps}
 use Rattle.quiet_run.specs.declared.last.LastStart.{LastStart}
-use Rattle.quiet_run.specs.Watch.{Watched, fresh_start, seen, watch, is_new, with_phase, phase_noted, noted, stepped, steps_of, gone, gone_unless, turned, watched_from, placed_as, unplayed, quiet_run_of}
+use Rattle.quiet_run.specs.Watch.{Watched, fresh_start, seen, watch, is_new, with_phase, phase_noted, noted, stepped, steps_of, gone, gone_unless, turned, watched_from, quiet_run_of}
 use Rattle.why_laws.specs.Reports.{last_start_in, IsReported, LastStartIsReported}
+use Rattle.why_laws.proofs.AlikeLemmas.{same_last}
 use Rattle.why_laws.proofs.SeenLemmas.{heard, heard_more, told, heard_alike, heard_reported}
 
 -- ---- an act
@@ -238,10 +238,16 @@ reported_told l k (Some last) is r = record {
   verdict = ap (λ (x : LastStart). x.verdict) is ∙ r.verdict;
 }
 
+from_reported : (choice : Option ℕ → Choice) (script : List Event) (m : RunState)
+    → IsReported (watched_from choice script (record { state = m; last = fresh_start 0 })).last (last_start_in (quiet_from choice script m).lines)
+from_reported choice script m =
+    let from : Watched = record { state = m; last = fresh_start 0 } in
+    let q : Quiet = quiet_from choice script m in
+    reported_told (watched_from choice script from).last (heard (fresh_start 0) q.lines) (last_start_in q.lines)
+    (script_played choice script from).last (heard_reported q.lines)
+
 pub last_start_reported : LastStartIsReported
 unfolding quiet_run_of book.quiet_run_of
-last_start_reported choice script version tree =
-    let w : Watched = watched_from choice script (unplayed version tree) in
-    let q : Quiet = quiet_from choice script (first_state (placed_as version tree)) in
-    reported_told w.last (heard (fresh_start 0) q.lines) (last_start_in q.lines) (script_played choice script (unplayed version tree)).last
-    (heard_reported q.lines)
+last_start_reported choice script placed =
+    let P : LastStart → Type 0 = λ (l : LastStart). IsReported l (last_start_in (quiet_from choice script (first_state placed)).lines) in
+    subst P (sym (same_last choice script placed)) (from_reported choice script (first_state placed))

@@ -4,17 +4,16 @@
 use Rattle.std.specs.Prelude.{◌≡◌, ℕ, Bool, List, [], ◌∷◌, Option, None, Some}
 use Rattle.std.specs.Option.{option_map, option_or}
 use Rattle.std.specs.List.{filter_map}
-use Rattle.nt_bytes.specs.declared.version.HiveVersion.{HiveVersion}
-use Rattle.hive_model.specs.Tree.{Tree}
 use Rattle.boot_report.specs.declared.words.Verdict.{Verdict}
 use Rattle.start_model.specs.Lines.{Line, StartLine, SetLine, TryLine, VitalLine, VerdictLine}
 use Rattle.start_model.specs.Events.{Event}
 use Rattle.start_model.specs.Boot.{Choice}
+use Rattle.start_model.specs.Possible.{Woken}
 use Rattle.start_model.specs.Quiet as book
 use Rattle.quiet_run.specs.declared.last.Attempt.{Attempt}
 use Rattle.quiet_run.specs.declared.last.LastStart.{LastStart}
 use Rattle.quiet_run.specs.Words.{try_as, verdict_as}
-use Rattle.quiet_run.specs.Watch.{placed_as, quiet_run_of}
+use Rattle.quiet_run.specs.Watch.{quiet_run_of}
 
 -- ---- lines
 
@@ -68,7 +67,9 @@ abbrev pub IsReported : LastStart → Option (ℕ × List Line) → Type 0
 IsReported l None = l.number ≡ 0
 IsReported l (Some last) = Reported l last.0 last.1
 
+-- whatever the sequence number of the hive and whether its log is taken
 abbrev pub LastStartIsReported : Type 0
 LastStartIsReported =
-    (choice : Option ℕ → Choice) (script : List Event) (version : HiveVersion) (tree : Tree)
-    → IsReported (quiet_run_of choice script version tree).start (last_start_in (book.quiet_run_of choice script (placed_as version tree)).lines)
+    (choice : Option ℕ → Choice) (script : List Event) (placed : Woken)
+    → IsReported (quiet_run_of choice script placed.state.version placed.state.tree).start
+    (last_start_in (book.quiet_run_of choice script placed).lines)
