@@ -1,6 +1,5 @@
 pub mod SeenLemmas
-pub mod WatchLemmas
-pub mod AlikeLemmas
+pub mod RunLemmas
 pub mod StateLemmas
 pub mod LackLemmas
 pub mod PlaceLemmas

@@ -173,3 +173,14 @@ heard_reported xs = by (last_start_in xs) (heard_last xs (fresh_start 0))
     by : (o : Option (ℕ × List Line)) → Heard (fresh_start 0) (heard (fresh_start 0) xs) o → IsReported (heard (fresh_start 0) xs) o
     by None at = at
     by (Some last) at = at
+
+-- what lines say of a start doesn't look at its phases
+pub reported_told : (l k : LastStart) (o : Option (ℕ × List Line)) → told l ≡ told k → IsReported k o → IsReported l o
+reported_told l k None is r = ap (λ (x : LastStart). x.number) is ∙ r
+reported_told l k (Some last) is r = record {
+  number = ap (λ (x : LastStart). x.number) is ∙ r.number;
+  set = ap (λ (x : LastStart). x.set) is ∙ r.set;
+  attempts = ap (λ (x : LastStart). x.attempts) is ∙ r.attempts;
+  missing = ap (λ (x : LastStart). x.missing) is ∙ r.missing;
+  verdict = ap (λ (x : LastStart). x.verdict) is ∙ r.verdict;
+}

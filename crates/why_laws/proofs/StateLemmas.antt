@@ -23,7 +23,7 @@ use Rattle.why_state.specs.Views.{names_tried, viewed_of}
 use Rattle.why_state.specs.States.{place_in, reason_of, first_coming, outcome_at, tried_as, waited, placed_state, coming_state, unplaced_state, state_by, placed_of, state_of}
 use Rattle.why_laws.specs.Reports.{last_start_in, Reported, IsReported}
 use Rattle.why_laws.specs.States.{attempt_in, tries_in, view_from, AttemptIsReported, ReportedIsSaid}
-use Rattle.why_laws.proofs.WatchLemmas.{last_start_reported}
+use Rattle.why_laws.proofs.RunLemmas.{last_start_reported}
 
 as_tried : (n : ℕ) (w : TryWord) → attempt_in (tried_as n w) ≡ Some (n, w)
 as_tried n tries.Ok = refl
