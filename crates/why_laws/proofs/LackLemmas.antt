@@ -12,12 +12,19 @@ use Rattle.std.proofs.lemmas.List.Kept.{AllPairs-cons}
 use Rattle.std.proofs.lemmas.List.Quantifiers.{position-Some}
 use Rattle.nt_bytes.specs.Folding.{folded, folded_unit, folds_same}
 use Rattle.dependencies.proofs.MeetLemmas.{folded_first}
-use Rattle.wait_cycles.proofs.MetLemmas.{first_in, later_in}
 use Rattle.quiet_run.specs.declared.last.Attempt.{Attempt}
 use Rattle.why_state.specs.States.{place_in}
 use Rattle.why_needs.specs.Lacking.{is_first, lacking_at, lacking}
 use Rattle.why_needs.specs.Met.{is_ok, service_met, group_met, is_met}
 use Rattle.why_laws.specs.Lacks.{AreLacks, LacksAreUnmetNeeds}
+
+-- ---- members
+
+first_in : (m : List ℕ) (ms : List (List ℕ)) → Contains (m ∷ ms) m
+first_in m ms = (zero, omega arith, refl)
+
+later_in : (x : List ℕ) (xs : List (List ℕ)) (m : List ℕ) → Contains xs m → Contains (x ∷ xs) m
+later_in x xs m (k, lt, e) = (suc k, omega (arith, lt), e)
 
 -- ---- names that fold to one
 

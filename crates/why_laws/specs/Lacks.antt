@@ -13,11 +13,11 @@ pub record AreLacks (met : List ℕ → Bool) (needs lacks : List (List ℕ)) : 
   pub all : (name : List ℕ) → Contains needs name → met name ≡ false → (lack : List ℕ) × Contains lacks lack × (folds_same name lack ≡ true)
   pub once : AllPairs (λ (a b : List ℕ). folds_same a b ≡ false) lacks
 
--- it was started by an attempt that was made by the end of the phase
+-- its first attempt went well, and was made by the end of the phase
 abbrev pub is_service_met : NeedsRun → PhaseView → List ℕ → Bool
 is_service_met n v name = is_met v.end (service_met n.run name)
 
--- a member of it was
+-- the first attempt that started a member of it was made by then
 abbrev pub is_group_met : NeedsRun → PhaseView → List ℕ → Bool
 is_group_met n v group = is_met v.end (group_met n.starts group)
 
