@@ -111,6 +111,42 @@ behind_asks A {B} n p k e (Err x) g m h whole before asks is =
     by_kind (Stopped Write) asks = more_behind n p k g m h whole before asks
     by_kind (Stopped Memory) asks = some_behind 0 n p k g m h whole before asks
 
+wider : (least n m g h : ℕ) → n ≤ m → AsksSome least n g h → AsksSome least m g h
+wider least n m g h le some =
+    record {
+      asked = some.asked;
+      not_less = some.not_less;
+      not_more = omega (arith, some.not_more, le);
+      gets = some.gets;
+    }
+
+-- a first step that ends the search, which asked for p files
+pub first_asks : (A B : Type 0) (n p : ℕ) (s : Result A Refusal) (k : A → ℕ) (e : Obstacle) (q : Result B Obstacle)
+    (g h : ℕ)
+    → n ≡ p + behind_step s k → Gives s (Err e) → (e ≡ Stopped Write → ⊥) → AsksUntil {A = A} p (Err e) g h
+    → IsErrAnd q (λ x. x ≡ e) → AsksUntil n q g h
+first_asks A B n p s k e (Ok x) g h whole gives unwritten asks is = absurd is
+first_asks A B n p s k e (Err x) g h whole gives unwritten asks is =
+    subst (λ (y : Obstacle). AsksUntil {A = B} n (Err y) g h) (sym is) (by_kind e gives unwritten asks)
+  where
+    by_kind : (y : Obstacle) → Gives s (Err y) → (y ≡ Stopped Write → ⊥) → AsksUntil {A = A} p (Err y) g h
+        → AsksUntil {A = B} n (Err y) g h
+    by_kind (Refused r) gives unwritten asks =
+        let all : n ≡ p = whole ∙ ap (λ (t : Result A Refusal). p + behind_step t k) gives ∙ none_more p in
+        asks ∙ ap (λ (m : ℕ). more m g) (sym all)
+    by_kind (Stopped Read) gives unwritten asks = wider 1 p n g h (omega (arith, whole)) asks
+    by_kind (Stopped Write) gives unwritten asks = absurd (unwritten refl)
+    by_kind (Stopped Memory) gives unwritten asks = wider 0 p n g h (omega (arith, whole)) asks
+
+-- the same after p files, where the step asked for m of them itself
+pub next_asks : (A B : Type 0) (n p m : ℕ) (s : Result A Refusal) (k : A → ℕ) (e : Obstacle) (q : Result B Obstacle)
+    (g mid h : ℕ)
+    → n ≡ p + (m + behind_step s k) → mid ≡ more p g → Gives s (Err e) → (e ≡ Stopped Write → ⊥)
+    → AsksUntil {A = A} m (Err e) mid h → IsErrAnd q (λ x. x ≡ e) → AsksUntil n q g h
+next_asks A B n p m s k e q g mid h whole before gives unwritten asks is =
+    behind_asks A n p (m + behind_step s k) e q g mid h whole before
+    (first_asks A A (m + behind_step s k) m s k e (Err e) mid h refl gives unwritten asks refl) is
+
 -- ---- the files that are asked for, step by step
 
 pub log_asked : (files : Files) (hive : List ℕ) (log : Option (List ℕ)) (primary : List ℕ)

@@ -61,6 +61,7 @@ pub refused_open : (r : Refusal) → refusal_status r ≡ statuses.Done → ⊥
 refused_open refusals.Usage e = absurd cc
 refused_open (refusals.NoFile name) e = absurd cc
 refused_open (refusals.ScriptFault fault) e = absurd cc
+refused_open refusals.NoSweep e = absurd cc
 refused_open refusals.IniTooLong e = absurd cc
 refused_open refusals.IniTooManyEntries e = absurd cc
 refused_open (refusals.HiveFault fault) e = absurd cc
@@ -69,6 +70,7 @@ refused_read : (r : Refusal) → refusal_status r ≡ statuses.ReadFault → ⊥
 refused_read refusals.Usage e = absurd cc
 refused_read (refusals.NoFile name) e = absurd cc
 refused_read (refusals.ScriptFault fault) e = absurd cc
+refused_read refusals.NoSweep e = absurd cc
 refused_read refusals.IniTooLong e = absurd cc
 refused_read refusals.IniTooManyEntries e = absurd cc
 refused_read (refusals.HiveFault fault) e = absurd cc

@@ -8,3 +8,4 @@ pub mod Placed
 pub mod Saves
 pub mod Decides
 pub mod OnHive
+pub mod Reporting

@@ -7,7 +7,7 @@ use Rattle.nt_edge.specs.declared.host.HostStop.TheVariants.{Read, Write, Memory
 use Rattle.command_parts.specs.declared.status.Status.{Status}
 use Rattle.command_parts.specs.declared.status.Status.TheVariants as statuses
 use Rattle.command_parts.specs.declared.refusal.Refusal.{Refusal}
-use Rattle.command_parts.specs.declared.refusal.Refusal.TheVariants.{Usage, NoFile, ScriptFault, IniTooLong, IniTooManyEntries, HiveFault as BadHive}
+use Rattle.command_parts.specs.declared.refusal.Refusal.TheVariants.{Usage, NoFile, ScriptFault, NoSweep, IniTooLong, IniTooManyEntries, HiveFault as BadHive}
 use Rattle.command_parts.specs.Kinds.{script_kind_word, hive_kind_word}
 use Rattle.command_parts.specs.Leaves.{stop_in}
 
@@ -22,6 +22,7 @@ abbrev pub refusal_text : Refusal → List ℕ
 refusal_text Usage = codes "bad usage\n"
 refusal_text (NoFile name) = codes "no file " ++ name ++ codes "\n"
 refusal_text (ScriptFault fault) = codes "script fault " ++ decimal fault.line ++ codes " " ++ script_kind_word fault.kind ++ codes "\n"
+refusal_text NoSweep = codes "script fault 0 sweep\n"
 refusal_text IniTooLong = codes "boot.ini fault too-long\n"
 refusal_text IniTooManyEntries = codes "boot.ini fault too-many-entries\n"
 refusal_text (BadHive fault) = codes "hive fault " ++ hive_kind_word fault.kind ++ codes " at " ++ decimal fault.at ++ codes "\n"
@@ -30,6 +31,7 @@ abbrev pub refusal_status : Refusal → Status
 refusal_status Usage = statuses.Usage
 refusal_status (NoFile name) = statuses.NoFile
 refusal_status (ScriptFault fault) = statuses.ScriptFault
+refusal_status NoSweep = statuses.ScriptFault
 refusal_status IniTooLong = statuses.BootIniFault
 refusal_status IniTooManyEntries = statuses.BootIniFault
 refusal_status (BadHive fault) = statuses.HiveFault

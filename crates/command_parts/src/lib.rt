@@ -4,6 +4,7 @@
 //! - `refusal`, `kinds`, `status`: how the first obstacle is printed, and which status the program then has.
 //! - `answering`: how a command ends that answers by what a hive loads as.
 //! - `placing`: a hive with its log, read whole or judged, and placed on a disk.
+//! - `reporting`: how a command ends that prints a report and then puts a file.
 //! - `lines`: a line that counts something.
 //! - `saving`: the two files of a disk, saved under the names that the command line has for them.
 #![tactic(auto)]
@@ -14,6 +15,7 @@ mod kinds;
 mod lines;
 mod placing;
 mod refusal;
+mod reporting;
 mod saving;
 mod status;
 
@@ -23,5 +25,6 @@ pub use kinds::hive_kind;
 pub use lines::push_count;
 pub use placing::{judge, place, read};
 pub use refusal::{Obstacle, Refusal, refuse, stopped, tell};
+pub use reporting::{FileReport, report};
 pub use saving::{Saves, finish, save, saved};
 pub use status::Status;

@@ -22,6 +22,8 @@ pub enum Refusal {
     NoFile(Bytes),
     /// The script cannot be parsed.
     ScriptFault(ScriptFault),
+    /// The script of `sweep` has no line `sweep` with an event after it.
+    NoSweep,
     /// boot.ini is over 65,536 bytes.
     IniTooLong,
     /// boot.ini has over 64 entries.
@@ -79,6 +81,7 @@ fn refusal_line(alloc: Global, refusal: &Refusal) -> Result<Vec<u8>, AllocError>
         Refusal::ScriptFault(fault) => {
             script_fault_line(alloc, fault.line, script_kind(fault.kind))
         }
+        Refusal::NoSweep => Vec::from_slice(alloc, b"script fault 0 sweep\n"),
         Refusal::IniTooLong => Vec::from_slice(alloc, b"boot.ini fault too-long\n"),
         Refusal::IniTooManyEntries => Vec::from_slice(alloc, b"boot.ini fault too-many-entries\n"),
         Refusal::HiveFault(fault) => hive_fault_line(alloc, hive_kind(fault.kind), fault.at),
@@ -92,7 +95,7 @@ fn refusal_status(refusal: &Refusal) -> Status
     match refusal {
         Refusal::Usage => Status::Usage,
         Refusal::NoFile(_) => Status::NoFile,
-        Refusal::ScriptFault(_) => Status::ScriptFault,
+        Refusal::ScriptFault(_) | Refusal::NoSweep => Status::ScriptFault,
         Refusal::IniTooLong | Refusal::IniTooManyEntries => Status::BootIniFault,
         Refusal::HiveFault(_) => Status::HiveFault,
     }

@@ -385,6 +385,9 @@ unasked names.Check look = refl
 unasked names.Whatif look = refl
 unasked names.Salvage look = refl
 unasked names.Diff look = refl
+unasked names.Why look = refl
+unasked names.Graph look = refl
+unasked names.Sweep look = refl
 
 named_alike : (rows : List OptionRow) (place : ℕ) (value : Text) (values : Values) (name : Text) → HasFlagAt place rows
     → bytes_eq (codes "--verbose") name ≡ false
@@ -454,7 +457,7 @@ has_flag passes (r ∷ rows) row all is = go (passes r) (λ more. has_flag passe
 
 all_have : AllHave commands
 all_have = (
-  (7, refl),
+  (8, refl),
   (
     (3, refl),
     (
@@ -467,7 +470,7 @@ all_have = (
             (7, refl),
             (
               (5, refl),
-              ((9, refl), ((6, refl), ((6, refl), ((5, refl), ((6, refl), ((5, refl), ((8, refl), tt))))))),
+              ((9, refl), ((6, refl), ((6, refl), ((5, refl), ((6, refl), ((5, refl), ((8, refl), ((7, refl), ((7, refl), ((6, refl), tt)))))))))),
             ),
           ),
         ),

@@ -3,10 +3,11 @@ use Rattle.std.specs.Borrow.{Bor}
 use Rattle.std.specs.Prelude.{◌≡◌, ℕ, List, Bool, Option, Result, Ok, Err, map, option_map}
 use Rattle.command_words.specs.Words.{Asked, Reason, RunAsked, ShowAsked, MakeAsked, SafeAsked, ControlAsked, TwinAsked, ExportAsked, ImportAsked}
 use Rattle.command_words.specs.Words.{KeyAsked, ReplayAsked, CheckAsked, WhatifAsked, SalvageAsked, DiffAsked}
+use Rattle.command_words.specs.Words.{WhyAsked, GraphAsked, SweepAsked}
 use Rattle.command_words.specs.Words.{Reading, help, version, asks, refused}
 use Rattle.command_words.specs.Words.{unknown_command, left_over, bad_value, unknown_option, twice, no_value, missing}
 use Rattle.command_words.specs.Words.{run, show, make, safe, control, twin, export, import}
-use Rattle.command_words.specs.Words.{key, replay, check, whatif, salvage, diff}
+use Rattle.command_words.specs.Words.{key, replay, check, whatif, salvage, diff, why, graph, sweep}
 use Rattle.command_words.specs.declared.asked.Command.{Command}
 use Rattle.command_words.specs.declared.asked.Command.TheVariants as commands
 use Rattle.command_words.specs.declared.asked.Command.TheVariants.{Run, Show, Make, Safe, Control, Twin, Export, Import}
@@ -24,6 +25,9 @@ use Rattle.command_words.specs.declared.asked.CheckWords.{CheckWords}
 use Rattle.command_words.specs.declared.asked.WhatifWords.{WhatifWords}
 use Rattle.command_words.specs.declared.asked.SalvageWords.{SalvageWords}
 use Rattle.command_words.specs.declared.asked.DiffWords.{DiffWords}
+use Rattle.command_words.specs.declared.asked.WhyWords.{WhyWords}
+use Rattle.command_words.specs.declared.asked.GraphWords.{GraphWords}
+use Rattle.command_words.specs.declared.asked.SweepWords.{SweepWords}
 use Rattle.command_words.specs.declared.reason.Reason.{Reason as CodeReason}
 use Rattle.command_words.specs.declared.reason.Reason.TheVariants as reasons
 use Rattle.command_words.specs.declared.asked.Reading.{Reading as CodeReading}
@@ -160,6 +164,38 @@ diff_seen w = record {
   all = w.all;
 }
 
+-- what `why` is asked for, seen so
+abbrev pub why_seen : WhyWords → WhyAsked
+why_seen w = record {
+  hive = w.hive.now;
+  log = option_map (λ t. t.now) w.log;
+  boot_ini = option_map (λ t. t.now) w.boot_ini;
+  system = w.system.now;
+  script = option_map (λ t. t.now) w.script;
+  name = w.name.now;
+}
+
+-- what `graph` is asked for, seen so
+abbrev pub graph_seen : GraphWords → GraphAsked
+graph_seen w = record {
+  hive = w.hive.now;
+  log = option_map (λ t. t.now) w.log;
+  boot_ini = option_map (λ t. t.now) w.boot_ini;
+  system = w.system.now;
+  script = option_map (λ t. t.now) w.script;
+  of = option_map (λ t. t.now) w.of;
+}
+
+-- what `sweep` is asked for, seen so
+abbrev pub sweep_seen : SweepWords → SweepAsked
+sweep_seen w = record {
+  hive = w.hive.now;
+  log = option_map (λ t. t.now) w.log;
+  script = w.script.now;
+  boot_ini = option_map (λ t. t.now) w.boot_ini;
+  system = w.system.now;
+}
+
 -- the command seen so
 abbrev pub command_seen : Command → Asked
 command_seen (Run r) = run (run_seen r)
@@ -176,6 +212,9 @@ command_seen (commands.Check w) = check (check_seen w)
 command_seen (commands.Whatif w) = whatif (whatif_seen w)
 command_seen (commands.Salvage w) = salvage (salvage_seen w)
 command_seen (commands.Diff w) = diff (diff_seen w)
+command_seen (commands.Why w) = why (why_seen w)
+command_seen (commands.Graph w) = graph (graph_seen w)
+command_seen (commands.Sweep w) = sweep (sweep_seen w)
 
 -- a reason, as the texts after the references
 abbrev pub reason_seen : CodeReason → Reason

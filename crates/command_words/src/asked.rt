@@ -183,6 +183,44 @@ pub struct DiffWords<'a> {
     pub all: bool,
 }
 
+/// What `why` is asked for: the names of the files that it reads, the ARC path of the system, and the name of an entry as it was given.
+///
+/// That the path is one is for the caller to judge.
+#[derive(Clone, Copy, Debug, PartialEq, Eq)]
+pub struct WhyWords<'a> {
+    pub hive: &'a str,
+    pub log: Option<&'a str>,
+    pub boot_ini: Option<&'a str>,
+    pub system: &'a str,
+    pub script: Option<&'a str>,
+    pub name: &'a str,
+}
+
+/// What `graph` is asked for: as `why`, and a name only where one was given.
+///
+/// That the path is one is for the caller to judge.
+#[derive(Clone, Copy, Debug, PartialEq, Eq)]
+pub struct GraphWords<'a> {
+    pub hive: &'a str,
+    pub log: Option<&'a str>,
+    pub boot_ini: Option<&'a str>,
+    pub system: &'a str,
+    pub script: Option<&'a str>,
+    pub of: Option<&'a str>,
+}
+
+/// What `sweep` is asked for: the names of the files that it reads, and the ARC path of the system.
+///
+/// That the path is one is for the caller to judge.
+#[derive(Clone, Copy, Debug, PartialEq, Eq)]
+pub struct SweepWords<'a> {
+    pub hive: &'a str,
+    pub log: Option<&'a str>,
+    pub script: &'a str,
+    pub boot_ini: Option<&'a str>,
+    pub system: &'a str,
+}
+
 /// A command by its name.
 #[derive(Clone, Copy, Debug, PartialEq, Eq)]
 pub enum CommandName {
@@ -200,6 +238,9 @@ pub enum CommandName {
     Whatif,
     Salvage,
     Diff,
+    Why,
+    Graph,
+    Sweep,
 }
 
 /// A page of help: of all commands, of one, of `help`, of `version`, or of a topic.
@@ -231,6 +272,9 @@ pub enum Command<'a> {
     Whatif(WhatifWords<'a>),
     Salvage(SalvageWords<'a>),
     Diff(DiffWords<'a>),
+    Why(WhyWords<'a>),
+    Graph(GraphWords<'a>),
+    Sweep(SweepWords<'a>),
 }
 
 /// What words are read as.

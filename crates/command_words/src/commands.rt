@@ -6,12 +6,14 @@ ghost use Rattle.command_words.specs.Commands.{needed_in, system_in, set_in, sch
 ghost use Rattle.command_words.specs.Commands.{run_by, show_by, make_by, safe_by, control_by, twin_by, export_by, import_by};
 ghost use Rattle.command_words.specs.Commands.{flag_in, levels_in, encoding_in, current_in, paired};
 ghost use Rattle.command_words.specs.Commands.{key_by, replay_by, check_by, whatif_by, salvage_by, diff_by};
+ghost use Rattle.command_words.specs.Commands.{why_by, graph_by, sweep_by};
 ghost use Rattle.command_words.specs.Views.{Sees, command_seen, look_of};
 
 use crate::asked::{
     AskedEncoding, AskedMode, AskedScheme, AskedSet, CheckWords, Command, CommandName,
-    ControlWords, DiffWords, ExportWords, ImportWords, KeyWords, MakeWords, ReplayWords, RunWords,
-    SafeWords, SalvageWords, ShowWords, TwinWords, USUAL_SYSTEM, WhatifWords,
+    ControlWords, DiffWords, ExportWords, GraphWords, ImportWords, KeyWords, MakeWords,
+    ReplayWords, RunWords, SafeWords, SalvageWords, ShowWords, SweepWords, TwinWords, USUAL_SYSTEM,
+    WhatifWords, WhyWords,
 };
 use crate::count::{count_in, depth_in, encoding_named, mode_named, set_named, set_number_in};
 use crate::reason::Reason;
@@ -356,6 +358,49 @@ fn diff_words<'a>(given: &Given<'a>) -> Result<Command<'a>, Reason<'a>>
     }))
 }
 
+fn why_words<'a>(given: &Given<'a>) -> Result<Command<'a>, Reason<'a>>
+    ensures { Sees command_seen result (why_by (look_of given.now)) }
+{
+    let hive = needed(given, "--hive")?;
+    let name = needed(given, "NAME")?;
+    Ok(Command::Why(WhyWords {
+        hive,
+        log: value(given, "--log"),
+        boot_ini: value(given, "--boot-ini"),
+        system: system(given),
+        script: value(given, "--script"),
+        name,
+    }))
+}
+
+fn graph_words<'a>(given: &Given<'a>) -> Result<Command<'a>, Reason<'a>>
+    ensures { Sees command_seen result (graph_by (look_of given.now)) }
+{
+    let hive = needed(given, "--hive")?;
+    Ok(Command::Graph(GraphWords {
+        hive,
+        log: value(given, "--log"),
+        boot_ini: value(given, "--boot-ini"),
+        system: system(given),
+        script: value(given, "--script"),
+        of: value(given, "--of"),
+    }))
+}
+
+fn sweep_words<'a>(given: &Given<'a>) -> Result<Command<'a>, Reason<'a>>
+    ensures { Sees command_seen result (sweep_by (look_of given.now)) }
+{
+    let hive = needed(given, "--hive")?;
+    let script = needed(given, "--script")?;
+    Ok(Command::Sweep(SweepWords {
+        hive,
+        log: value(given, "--log"),
+        script,
+        boot_ini: value(given, "--boot-ini"),
+        system: system(given),
+    }))
+}
+
 /// What the values ask of the command, or the first that it needs and lacks.
 pub fn command_asked<'a>(name: CommandName, given: &Given<'a>) -> Result<Command<'a>, Reason<'a>>
     ensures { Sees command_seen result (asks_of name (look_of given.now)) }
@@ -375,5 +420,8 @@ pub fn command_asked<'a>(name: CommandName, given: &Given<'a>) -> Result<Command
         CommandName::Whatif => whatif_words(given),
         CommandName::Salvage => salvage_words(given),
         CommandName::Diff => diff_words(given),
+        CommandName::Why => why_words(given),
+        CommandName::Graph => graph_words(given),
+        CommandName::Sweep => sweep_words(given),
     }
 }

@@ -12,14 +12,17 @@
 //! `replay --hive F [--log F] [--log1 F] [--log2 F] [--save-hive F]`, `check --hive F [--log F] [--set N] [--order]`,
 //! `whatif --hive F [--log F] [--boot-ini F] [--system ARC] [--of NAME]`,
 //! `salvage --hive F [--log F] [--save-hive F] [--by-parent]`,
-//! `diff --hive F [--log F] [--set N] [--with F] [--with-log F] [--with-set N] [--all]`.
-//! Each also has the flag `--verbose`, which is written `-v` too, and all but `run` have `--json`. Options come in any order after
-//! the command, also around N, as `--name value` or as `--name=value`.
+//! `diff --hive F [--log F] [--set N] [--with F] [--with-log F] [--with-set N] [--all]`,
+//! `why --hive F [--log F] [--boot-ini F] [--system ARC] [--script F] NAME`,
+//! `graph --hive F [--log F] [--boot-ini F] [--system ARC] [--script F] [--of NAME]`,
+//! `sweep --hive F --script F [--log F] [--boot-ini F] [--system ARC]`.
+//! Each also has the flags `--json` and `--verbose`, which is written `-v` too. Options come in any order after
+//! the command, also around N or NAME, as `--name value` or as `--name=value`.
 //!
 //! The command line cannot be parsed exactly where one of these holds, and the reason is the first from the left: there is no command,
 //! or another one; an option is one that the command does not have, is given twice, has no value, or is missing though the
 //! command needs it, as `diff` needs `--with` where `--with-log` is given; a word is left over; a word is empty or is `--`; a value is empty; a value in a word of its own begins
-//! with `-`; the N of `make` is missing; an N is not one to five decimal digits with a value from 1 to 10000, or
+//! with `-`; the N of `make` or the NAME of `why` is missing; an N is not one to five decimal digits with a value from 1 to 10000, or
 //! elsewhere one to three with a value from 1 to 999, or from 0 for `--depth` (leading zeros are read); a scheme, a
 //! mode or an encoding is none of those named above; a set of `--current` is neither such a number nor `default`; a system is no ARC path.
 //! These rules are this project's own; `specs/Reading.antt` states them by the command line alone.
@@ -41,9 +44,9 @@ mod word_texts;
 
 pub use asked::{
     AskedEncoding, AskedMode, AskedScheme, AskedSet, CheckWords, Command, CommandName,
-    ControlWords, DiffWords, ExportWords, ImportWords, KeyWords, MakeWords, Page, Reading,
-    ReplayWords, RunWords, SafeWords, SalvageWords, ShowWords, TwinWords, USUAL_SYSTEM,
-    WhatifWords,
+    ControlWords, DiffWords, ExportWords, GraphWords, ImportWords, KeyWords, MakeWords, Page,
+    Reading, ReplayWords, RunWords, SafeWords, SalvageWords, ShowWords, SweepWords, TwinWords,
+    USUAL_SYSTEM, WhatifWords, WhyWords,
 };
 pub use laws::{
     each_option_has_a_place, the_first_fault_decides, unnamed_options_ask_nothing,

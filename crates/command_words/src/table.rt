@@ -16,6 +16,8 @@ pub enum Takes {
     Any,
     /// The number of services of `make`, in a word without an option.
     Count,
+    /// The name of an entry for `why`, in a word without an option.
+    Name,
     /// An ARC path.
     System,
     /// `alt` or `log`.
@@ -32,7 +34,7 @@ pub enum Takes {
     Set,
 }
 
-/// An option by its name with the hyphens, or a word without an option by `N`.
+/// An option by its name with the hyphens, or a word without an option by `N` or `NAME`.
 #[derive(Clone, Copy)]
 pub struct CommandOption {
     pub name: &'static str,
@@ -79,6 +81,8 @@ const SAVE_HIVE: CommandOption = option!("--save-hive", Any);
 const SAVE_LOG: CommandOption = option!("--save-log", Any);
 
 const COUNT: CommandOption = option!("N", Count);
+
+const NAME: CommandOption = option!("NAME", Name);
 
 const COMMANDS_FILE: CommandOption = option!("--commands", Any);
 
@@ -148,7 +152,9 @@ static COMMANDS: &[CommandEntry] = &[
     command!(
         "run",
         Run,
-        [HIVE, SCRIPT, LOG, BOOT_INI, SYSTEM, SAVE_HIVE, SAVE_LOG]
+        [
+            HIVE, SCRIPT, LOG, BOOT_INI, SYSTEM, SAVE_HIVE, SAVE_LOG, JSON
+        ]
     ),
     command!("show", Show, [HIVE, LOG, JSON]),
     command!("make", Make, [COUNT, SAVE_HIVE, JSON]),
@@ -181,6 +187,17 @@ static COMMANDS: &[CommandEntry] = &[
         Diff,
         [HIVE, LOG, SET, WITH, WITH_LOG, WITH_SET, ALL, JSON]
     ),
+    command!(
+        "why",
+        Why,
+        [HIVE, LOG, BOOT_INI, SYSTEM, SCRIPT, NAME, JSON]
+    ),
+    command!(
+        "graph",
+        Graph,
+        [HIVE, LOG, BOOT_INI, SYSTEM, SCRIPT, OF, JSON]
+    ),
+    command!("sweep", Sweep, [HIVE, SCRIPT, LOG, BOOT_INI, SYSTEM, JSON]),
 ];
 
 /// The table is the one of the definitions.
@@ -214,7 +231,7 @@ pub fn is_flag(takes: Takes) -> bool
 fn is_free(takes: Takes) -> bool
     ensures { result ≡ is_free takes }
 {
-    matches!(takes, Takes::Count)
+    matches!(takes, Takes::Count | Takes::Name)
 }
 
 /// The option of this name, with its place.

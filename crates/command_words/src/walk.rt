@@ -73,6 +73,7 @@ fn accepts(alloc: Global, takes: Takes, value: &str) -> bool
         Takes::Flag => true,
         Takes::Any => true,
         Takes::Count => count_in(value.as_bytes()).is_some(),
+        Takes::Name => true,
         Takes::System => is_arc_path(alloc, value.as_bytes()),
         Takes::Scheme => is_either(value, "alt", "log"),
         Takes::SetNumber => set_number_in(value.as_bytes()).is_some(),

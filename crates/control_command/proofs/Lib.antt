@@ -1,4 +1,3 @@
 pub mod LineLemmas
 pub mod ReportLemmas
 pub mod AskLemmas
-pub mod AnswerLemmas

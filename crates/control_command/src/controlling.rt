@@ -1,68 +1,67 @@
 //! `control`: services started and stopped after the boot.
 
-ghost use Rattle.std.specs.Prelude.{◌≡◌};
+ghost use Rattle.std.specs.Prelude.{◌≡◌, Err};
 ghost use Rattle.command_words.specs.Views.{control_seen};
 ghost use Rattle.command_parts.specs.Inputs.{AsksSoMany};
-ghost use Rattle.control_command.specs.Inputs.{asks_control};
-ghost use Rattle.control_command.specs.Answer.{ReportsAs, DecidesInputs, DecidesControl};
+ghost use Rattle.command_parts.specs.OnHive.{AnswersOnHive, DecidesOnHive, SeeksAnswer};
+ghost use Rattle.control_command.specs.Inputs.{AsksControl, asks_control};
+ghost use Rattle.control_command.specs.Answer.{question_in, question_on};
 
 use crate::answering::report;
 use crate::inputs::{ControlInputs, inputs_in};
-use command_parts::{Obstacle, Refusal, Status, read, refuse, stopped, tell};
+use command_parts::{Obstacle, Refusal, Status, Told, answer, no_memory, read};
 use command_words::ControlWords;
 use line_text::ReportForm;
-use nt_bytes::{Bytes, HiveVersion, ReadStop};
-use nt_edge::{Host, HostStop};
+use nt_bytes::{HiveVersion, ReadStop};
+use nt_edge::Host;
 use reg_tree::Key;
 use std::alloc::Global;
 
 /// The report on the hive's tree, or the hive's first fault.
-fn report_on(alloc: Global, inputs: &ControlInputs, form: ReportForm) -> Result<Bytes, Obstacle>
-    ensures { ReportsAs form inputs.now result }
+fn report_on(alloc: Global, inputs: &ControlInputs, form: ReportForm) -> Result<Told, Obstacle>
+    ensures { AnswersOnHive (question_on form inputs.now) result }
 {
     match read(alloc, &inputs.hive) {
         Ok((root, _sequence, _version)) => {
             match report(alloc, form, &root, inputs.commands.as_slice()) {
-                Ok(text) => Ok(text),
-                Err(_) => Err(Obstacle::Stopped(HostStop::Memory)),
+                Ok(text) => Ok(Told::done(text)),
+                Err(_) => Err(no_memory()),
             }
         }
         Err(ReadStop::Fault(fault)) => Err(Obstacle::Refused(Refusal::HiveFault(fault))),
-        Err(ReadStop::Memory) => Err(Obstacle::Stopped(HostStop::Memory)),
+        Err(ReadStop::Memory) => Err(no_memory()),
     }
 }
 
-/// Says the report on the hive's tree, or the hive's first fault.
-fn control_inputs<H: Host>(
+/// Gets what the command line names, and makes the report. Nothing is printed.
+fn seek<H: Host>(
     alloc: Global,
-    inputs: &ControlInputs,
+    words: ControlWords<'_>,
     form: ReportForm,
     host: &mut H,
-) -> Status
-    ensures { DecidesInputs form inputs.now result (H.state host.old) (H.state host.new) }
+) -> Result<Told, Obstacle>
+    ensures seeks { SeeksAnswer (question_in form (control_seen words.entry) (H.state host.old).files) result (H.state host.old) (H.state host.new) }
+    ensures asks { AsksControl (control_seen words.entry) result (H.state host.old) (H.state host.new) }
+    ensures kept { result ≡ Err (Obstacle.Refused Refusal.Usage) → ⊥ }
 {
-    match report_on(alloc, inputs, form) {
-        Ok(text) => tell(host, text.as_slice(), Status::Done),
-        Err(Obstacle::Refused(why)) => refuse(alloc, host, &why),
-        Err(Obstacle::Stopped(stop)) => stopped(stop),
+    match inputs_in(alloc, words, host) {
+        Ok(inputs) => report_on(alloc, &inputs, form),
+        Err(obstacle) => Err(obstacle),
     }
 }
 
-/// Gets the commands and the hive that the command line names, and says what comes of the commands in one of the two forms; or says
-/// the first obstacle. No call of a disk is made.
+/// Gets the commands and the hive that the command line names, and prints what comes of the commands in one of the two forms; or
+/// prints the first obstacle. No call of a disk is made.
 pub fn control<H: Host>(
     alloc: Global,
     words: ControlWords<'_>,
     form: ReportForm,
     host: &mut H,
 ) -> Status
-    ensures decides { DecidesControl form (control_seen words.entry) result (H.state host.old) (H.state host.new) }
+    ensures decides { DecidesOnHive (question_in form (control_seen words.entry) (H.state host.old).files) result (H.state host.old) (H.state host.new) }
     ensures asked { AsksSoMany (asks_control (control_seen words.entry)) result (H.state host.old) (H.state host.new) }
     ensures kept { result ≡ Status.Usage → ⊥ }
 {
-    match inputs_in(alloc, words, host) {
-        Ok(inputs) => control_inputs(alloc, &inputs, form, host),
-        Err(Obstacle::Refused(why)) => refuse(alloc, host, &why),
-        Err(Obstacle::Stopped(stop)) => stopped(stop),
-    }
+    let told = seek(alloc, words, form, host);
+    answer(alloc, host, told)
 }

@@ -22,6 +22,9 @@ command_text names.Check = texts.CHECK.now
 command_text names.Whatif = texts.WHATIF.now
 command_text names.Salvage = texts.SALVAGE.now
 command_text names.Diff = texts.DIFF.now
+command_text names.Why = texts.WHY.now
+command_text names.Graph = texts.GRAPH.now
+command_text names.Sweep = texts.SWEEP.now
 
 -- the text of a page
 abbrev pub page_text : Page → List ℕ

@@ -4,8 +4,8 @@ ghost use Rattle.std.specs.Prelude.{◌≡◌, codes};
 ghost use Rattle.help_text.specs.Pages.{command_text, page_text};
 
 use crate::texts::{
-    CHECK, CONTROL, DIFF, EXITS, EXPORT, HELP, IMPORT, KEY, MAKE, OVERVIEW, REPLAY, REPORT, RUN,
-    SAFE, SALVAGE, SCRIPT, SHOW, TWIN, VERSION, WHATIF,
+    CHECK, CONTROL, DIFF, EXITS, EXPORT, GRAPH, HELP, IMPORT, KEY, MAKE, OVERVIEW, REPLAY, REPORT,
+    RUN, SAFE, SALVAGE, SCRIPT, SHOW, SWEEP, TWIN, VERSION, WHATIF, WHY,
 };
 use command_words::{CommandName, Page};
 
@@ -28,6 +28,9 @@ fn command_page(command: CommandName) -> &'static [u8]
         CommandName::Whatif => WHATIF,
         CommandName::Salvage => SALVAGE,
         CommandName::Diff => DIFF,
+        CommandName::Why => WHY,
+        CommandName::Graph => GRAPH,
+        CommandName::Sweep => SWEEP,
     }
 }
 

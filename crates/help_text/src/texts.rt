@@ -10,7 +10,9 @@ Predict
   run      play a script of boots, failures, edits and power cuts, and report it
   safe     what a boot in safe mode would start
   control  start and stop services after a boot
+  why      why an entry was started or not, and where it stands
   whatif   what is lost when an entry fails or is disabled
+  graph    the needs and the order of a boot, for Graphviz
 Look
   show     print the hive as text
   key      print one key readably
@@ -24,10 +26,11 @@ Repair
   replay   apply the transaction logs that Windows itself writes
 Teach
   make     make a hive of N services and boot it
+  sweep    cut the power at each write and sync of one event
 
 Help: 'ntboot help NAME', NAME a command or exits, script or report. The
-version: 'ntboot version'. Any command: -v, --verbose (say on standard error why
-a command was refused), -h, --help. Any but run: --json (one JSON object a line).
+version: 'ntboot version'. Any command: --json (one JSON object a line), -v,
+--verbose (say on standard error why a command was refused), -h, --help.
 Options may come in any order, as --name VALUE or --name=VALUE. Files are
 changed only where an option says so.
 ";
@@ -294,4 +297,55 @@ pub const REPORT: &[u8] = b"The report of a run, a fact a line:
                             no-entry, other-loader, no-system, no-control-set,
                             no-last-known-good
   end                       the script is at its end
+";
+
+/// Of `why`.
+pub const WHY: &[u8] = b"Usage: ntboot why --hive F [OPTIONS] NAME
+
+Print where an entry stands in the last boot, what became of it, and what it
+lacked, down to the root.
+
+  --hive F       the SYSTEM hive
+  --script F     a script to play first, without ordered cuts and faults
+                 [default: boot, go]
+  --log F        the hive's log, which recovers a dirty hive
+  --boot-ini F   boot.ini
+  --system ARC   this system's ARC path
+                 [default: multi(0)disk(0)rdisk(0)partition(1)\\WINDOWS]
+
+NAME is a key below Services; \\u and four hexadecimal digits are one unit.
+";
+
+/// Of `graph`.
+pub const GRAPH: &[u8] = b"Usage: ntboot graph --hive F [OPTIONS]
+
+Print the entries of the last boot and their needs as a graph in the language of
+Graphviz: ntboot graph --hive SYSTEM | dot -Tsvg > boot.svg
+
+  --hive F       the SYSTEM hive
+  --of NAME      only what NAME needs and what needs NAME
+  --script F     a script to play first, without ordered cuts and faults
+                 [default: boot, go]
+  --log F        the hive's log, which recovers a dirty hive
+  --boot-ini F   boot.ini
+  --system ARC   this system's ARC path
+                 [default: multi(0)disk(0)rdisk(0)partition(1)\\WINDOWS]
+";
+
+/// Of `sweep`.
+pub const SWEEP: &[u8] = b"Usage: ntboot sweep --hive F --script F [OPTIONS]
+
+Cut the power at each write and sync that one event makes, and print whether
+the hive then loads as before the event or as after it.
+
+  --hive F        the SYSTEM hive
+  --script F      a script with a line sweep in front of the event, and no cut
+                  or fault; lines after the event are not played
+  --log F         the hive's log, which recovers a dirty hive
+  --boot-ini F    boot.ini
+  --system ARC    this system's ARC path
+                  [default: multi(0)disk(0)rdisk(0)partition(1)\\WINDOWS]
+
+Each line has a result for none, all, every other one (odd) of the sectors not
+yet synced kept, and for all of them unreadable (torn).
 ";

@@ -32,6 +32,7 @@ undone : (r : Refusal) → statuses.Done ≡ refusal_status r → ⊥
 undone refusals.Usage e = absurd cc
 undone (refusals.NoFile name) e = absurd cc
 undone (refusals.ScriptFault fault) e = absurd cc
+undone refusals.NoSweep e = absurd cc
 undone refusals.IniTooLong e = absurd cc
 undone refusals.IniTooManyEntries e = absurd cc
 undone (refusals.HiveFault fault) e = absurd cc

@@ -1,6 +1,5 @@
 pub mod AskLemmas
 pub mod RunLemmas
-pub mod ShowLemmas
 pub mod MakeLemmas
 pub mod UsualLemmas
 pub mod CountedLemmas

@@ -1,4 +1,4 @@
--- What `export` and `replay` leave, each of which puts a file of its own.
+-- What `export`, `replay` and `salvage` leave, each of which puts a file of its own.
 use Rattle.std.proofs.Common.{◌≡◌, ◌∙◌, inl, inr, ℕ, Bool, true, false, cond, List, Option, None, Some, sym, ap, subst}
 use Rattle.std.specs.Prelude.{Result, Ok, Err, bytes_eq}
 use Rattle.std.proofs.lemmas.Bool.{false_from_ne_true}
@@ -11,17 +11,16 @@ use Rattle.command_parts.specs.declared.refusal.Refusal.{Refusal}
 use Rattle.command_parts.specs.declared.status.Status.{Status}
 use Rattle.command_parts.specs.declared.status.Status.TheVariants as statuses
 use Rattle.command_parts.specs.Inputs.{hive_in, AsksSoMany}
+use Rattle.command_parts.specs.declared.reporting.FileReport.{FileReport}
 use Rattle.command_parts.specs.Refusals.{Answer}
+use Rattle.command_parts.specs.Reporting.{DecidesReport, EndsPut, EndsReport, EndsTold, report_answer}
 use Rattle.command_parts.specs.Saves.{KeepsUnsaved}
 use Rattle.command_parts.proofs.DecideLemmas.{untouched_by, new_off}
 use Rattle.key_text.specs.Words.{path_in}
 use Rattle.text_commands.specs.Exported.{DecidesExport, EndsExported, PutsAs, asks_export, export_of}
-use Rattle.replay_text.specs.declared.reporting.Report.{Report}
-use Rattle.replay_command.specs.Answer.{DecidesReplay, EndsPut, EndsReplay, EndsReport, report_answer, report_in}
+use Rattle.replay_command.specs.Answer.{report_in}
 use Rattle.replay_command.specs.Inputs.{asks_replay}
-use Rattle.salvage_text.specs.declared.reporting.Report.{Report as SalvageReport}
-use Rattle.salvage_command.specs.Answer as salvaging
-use Rattle.salvage_command.specs.Answer.{DecidesSalvage, EndsSalvage, asks_salvage}
+use Rattle.salvage_command.specs.Answer.{asks_salvage, report_in as salvage_report_in}
 use Rattle.line_text.specs.declared.form.ReportForm.{ReportForm}
 use Rattle.ntboot_cli.specs.Answer.{TopDecides, form_of}
 
@@ -60,7 +59,7 @@ others_kept form (Ok files) path name before after status old new (inr (inl (pla
 others_kept form (Ok files) path name before after status old new (inr (inr (stop, said, same))) =
     same_kept before after name same
 
--- ---- a replay changes no file but the one that it saves
+-- ---- a report changes no file but the one that it saves
 
 same_unsaved : (old new : Files) (name : Option (List ℕ)) → new ≡ old
     → KeepsUnsaved (record { hive = name; log = None }) old new
@@ -76,51 +75,24 @@ put_unsaved told name file old new status (inl (is, puts)) =
     others_unsaved old new name (put_kept old new name file puts)
 put_unsaved told name file old new status (inr (stop, kept)) = others_unsaved old new name kept
 
-report_unsaved : (saved : Bool) (name : Option (List ℕ)) (answer : Answer) (file : List ℕ) (before after : Files)
-    (status : Status) (old new : List ℕ) → EndsReport saved name answer file before after status old new
+told_unsaved : (saved : Bool) (name : Option (List ℕ)) (answer : Answer) (file : List ℕ) (before after : Files)
+    (status : Status) (old new : List ℕ) → EndsTold saved name answer file before after status old new
     → KeepsUnsaved (record { hive = name; log = None }) before after
-report_unsaved true (Some name) answer file before after status old new (inl (said, put)) =
+told_unsaved true (Some name) answer file before after status old new (inl (said, put)) =
     put_unsaved answer.status name file before after status put
-report_unsaved true (Some name) answer file before after status old new (inr (stop, same)) =
+told_unsaved true (Some name) answer file before after status old new (inr (stop, same)) =
     same_unsaved before after (Some name) same
-report_unsaved false (Some name) answer file before after status old new (ends, same) =
+told_unsaved false (Some name) answer file before after status old new (ends, same) =
     same_unsaved before after (Some name) same
-report_unsaved true None answer file before after status old new (ends, same) = same_unsaved before after None same
-report_unsaved false None answer file before after status old new (ends, same) = same_unsaved before after None same
+told_unsaved true None answer file before after status old new (ends, same) = same_unsaved before after None same
+told_unsaved false None answer file before after status old new (ends, same) = same_unsaved before after None same
 
-replay_unsaved : (wanted : Result Report Refusal) (name : Option (List ℕ)) (before after : Files) (status : Status)
-    (old new : List ℕ) → EndsReplay wanted name before after status old new
+report_unsaved : (wanted : Result FileReport Refusal) (name : Option (List ℕ)) (before after : Files) (status : Status)
+    (old new : List ℕ) → EndsReport wanted name before after status old new
     → KeepsUnsaved (record { hive = name; log = None }) before after
-replay_unsaved (Err r) name before after status old new (ends, same) = same_unsaved before after name same
-replay_unsaved (Ok report) name before after status old new ends =
-    report_unsaved report.saved name (report_answer report) report.file before after status old new ends
-
--- ---- nor does a salvage
-
-salvaged_put : (told : Status) (name file : List ℕ) (old new : Files) (status : Status)
-    → salvaging.EndsPut told name file old new status → KeepsUnsaved (record { hive = Some name; log = None }) old new
-salvaged_put told name file old new status (inl (is, puts)) =
-    others_unsaved old new name (put_kept old new name file puts)
-salvaged_put told name file old new status (inr (stop, kept)) = others_unsaved old new name kept
-
-salvaged_unsaved : (saved : Bool) (name : Option (List ℕ)) (answer : Answer) (file : List ℕ) (before after : Files)
-    (status : Status) (old new : List ℕ) → salvaging.EndsReport saved name answer file before after status old new
-    → KeepsUnsaved (record { hive = name; log = None }) before after
-salvaged_unsaved true (Some name) answer file before after status old new (inl (said, put)) =
-    salvaged_put answer.status name file before after status put
-salvaged_unsaved true (Some name) answer file before after status old new (inr (stop, same)) =
-    same_unsaved before after (Some name) same
-salvaged_unsaved false (Some name) answer file before after status old new (ends, same) =
-    same_unsaved before after (Some name) same
-salvaged_unsaved true None answer file before after status old new (ends, same) = same_unsaved before after None same
-salvaged_unsaved false None answer file before after status old new (ends, same) = same_unsaved before after None same
-
-salvage_unsaved : (wanted : Result SalvageReport Refusal) (name : Option (List ℕ)) (before after : Files) (status : Status)
-    (old new : List ℕ) → EndsSalvage wanted name before after status old new
-    → KeepsUnsaved (record { hive = name; log = None }) before after
-salvage_unsaved (Err r) name before after status old new (ends, same) = same_unsaved before after name same
-salvage_unsaved (Ok report) name before after status old new ends =
-    salvaged_unsaved report.saved name (salvaging.report_answer report) report.file before after status old new ends
+report_unsaved (Err r) name before after status old new (ends, same) = same_unsaved before after name same
+report_unsaved (Ok report) name before after status old new ends =
+    told_unsaved report.saved name (report_answer report) report.file before after status old new ends
 
 -- ---- the whole call
 
@@ -143,13 +115,13 @@ module _ (asked : Reading) (json : Bool) (status : Status) (old new : HostState)
       })
 
   pub by_replay : (words : ReplayAsked) → asked ≡ asks (replay words) json → disk ≡ new_state
-      → DecidesReplay (form_of json) words status old new
+      → DecidesReport (report_in (form_of json) words old.files) words.save_hive status old new
       → AsksSoMany (asks_replay words) status old new → (status ≡ statuses.Usage → ⊥)
       → TopDecides asked status old new disk
   by_replay words is fresh decides gets unused =
       subst (λ (a : Reading). TopDecides a status old new disk) (sym is) (record {
         leaves = record { keeps = decides.keeps; counts = decides.counts; said = λ tells. (decides.said tells, fresh) };
-        files = λ tells. replay_unsaved (report_in (form_of json) words old.files) words.save_hive
+        files = λ tells. report_unsaved (report_in (form_of json) words old.files) words.save_hive
             old.files new.files status old.said new.said (decides.said tells);
         off = new_off disk fresh;
         untouched = untouched_by status disk fresh;
@@ -159,13 +131,13 @@ module _ (asked : Reading) (json : Bool) (status : Status) (old new : HostState)
       })
 
   pub by_salvage : (words : SalvageAsked) → asked ≡ asks (salvage words) json → disk ≡ new_state
-      → DecidesSalvage (form_of json) words status old new
+      → DecidesReport (salvage_report_in (form_of json) words old.files) words.save_hive status old new
       → AsksSoMany (asks_salvage words) status old new → (status ≡ statuses.Usage → ⊥)
       → TopDecides asked status old new disk
   by_salvage words is fresh decides gets unused =
       subst (λ (a : Reading). TopDecides a status old new disk) (sym is) (record {
         leaves = record { keeps = decides.keeps; counts = decides.counts; said = λ tells. (decides.said tells, fresh) };
-        files = λ tells. salvage_unsaved (salvaging.report_in (form_of json) words old.files) words.save_hive
+        files = λ tells. report_unsaved (salvage_report_in (form_of json) words old.files) words.save_hive
             old.files new.files status old.said new.said (decides.said tells);
         off = new_off disk fresh;
         untouched = untouched_by status disk fresh;

@@ -11,7 +11,9 @@ use Rattle.command_parts.specs.declared.status.Status.TheVariants as statuses
 use Rattle.command_parts.specs.Inputs.{file_in, hive_in}
 use Rattle.command_parts.specs.Leaves.{Leaves, IsPartDone}
 use Rattle.command_parts.specs.OnHive.{EndsOnHive, Question}
+use Rattle.command_parts.specs.declared.reporting.FileReport.{FileReport}
 use Rattle.command_parts.specs.Refusals.{Answer, refusal_text}
+use Rattle.command_parts.specs.Reporting.{EndsReport, EndsTold, report_answer}
 use Rattle.command_parts.specs.Saves.{Saves, no_saves}
 use Rattle.command_parts.proofs.DecideLemmas.{memory_decides, new_off, unrun}
 use Rattle.command_parts.proofs.LeaveLemmas.{no_front}
@@ -19,25 +21,19 @@ use Rattle.hive_alt.specs.Schemes.{Standing}
 use Rattle.line_text.specs.declared.form.ReportForm.{ReportForm}
 use Rattle.key_text.specs.Words.{path_in}
 use Rattle.key_command.specs.Answer.{question_in as key_question_in}
-use Rattle.replay_command.specs.Answer.{EndsReplay, EndsReport, report_answer, report_in}
-use Rattle.replay_text.specs.declared.reporting.Report.{Report}
+use Rattle.replay_command.specs.Answer.{report_in}
 use Rattle.check_command.specs.Answer.{question_in as check_question_in}
 use Rattle.whatif_command.specs.Answer.{question_in as whatif_question_in}
-use Rattle.salvage_text.specs.declared.reporting.Report.{Report as SalvageReport}
-use Rattle.salvage_command.specs.Answer.{EndsSalvage, EndsReport as EndsSalvaged, report_answer as salvage_answer, report_in as salvage_report_in}
-use Rattle.safe_command.specs.declared.inputs.SafeInputs.{SafeInputs}
-use Rattle.safe_command.specs.Answer.{EndsSafe}
-use Rattle.safe_command.specs.Inputs.{inputs_in as safe_inputs_in}
-use Rattle.control_command.specs.declared.inputs.ControlInputs.{ControlInputs}
-use Rattle.control_command.specs.Answer.{EndsControl}
-use Rattle.control_command.specs.Inputs.{inputs_in as control_inputs_in}
+use Rattle.salvage_command.specs.Answer.{report_in as salvage_report_in}
+use Rattle.safe_command.specs.Answer.{question_in as safe_question_in}
+use Rattle.control_command.specs.Answer.{question_in as control_question_in}
 use Rattle.twin_command.specs.Twinned.{EndsTwin, stands_by, twin_saves}
 use Rattle.text_commands.specs.declared.said.How.{How}
 use Rattle.text_commands.specs.Imported.{EndsImport, import_how, import_saves}
 use Rattle.text_commands.specs.Exported.{EndsExported}
 use Rattle.ntboot_cli.specs.declared.inputs.Inputs.{Inputs}
 use Rattle.ntboot_cli.specs.declared.making.Usual.{Usual}
-use Rattle.ntboot_cli.specs.Answer.{EndsInputs, EndsMade, EndsShown, EndsWords, form_of, saves_of}
+use Rattle.ntboot_cli.specs.Answer.{EndsInputs, EndsMade, EndsWords, form_of, saves_of, show_question_in}
 use Rattle.ntboot_cli.specs.Inputs.{inputs_in}
 use Rattle.ntboot_cli.specs.Made.{usual_in}
 use Rattle.ntboot_cli.proofs.MakeLemmas.{new_part, part_more}
@@ -46,21 +42,6 @@ unread_inputs : (wanted : Result Inputs Refusal) (saves : Saves) (disk : DiskSta
     → disk ≡ new_state → EndsInputs wanted saves disk statuses.Memory said said
 unread_inputs (Err r) saves disk said fresh = (inr (no_front (refusal_text r) said said refl), fresh)
 unread_inputs (Ok inputs) saves disk said fresh = inl (inr (inr (refl, refl, unrun disk fresh)))
-
-unread_shown : (form : ReportForm) (wanted : Result HiveFiles Refusal) (said : List ℕ)
-    → EndsShown form wanted statuses.Memory said said
-unread_shown form (Err r) said = inr (no_front (refusal_text r) said said refl)
-unread_shown form (Ok files) said = inr (inr (inl refl, refl))
-
-unread_safe : (form : ReportForm) (wanted : Result SafeInputs Refusal) (said : List ℕ)
-    → EndsSafe form wanted statuses.Memory said said
-unread_safe form (Err r) said = inr (no_front (refusal_text r) said said refl)
-unread_safe form (Ok inputs) said = inr (inr (inl refl, refl))
-
-unread_control : (form : ReportForm) (wanted : Result ControlInputs Refusal) (said : List ℕ)
-    → EndsControl form wanted statuses.Memory said said
-unread_control form (Err r) said = inr (no_front (refusal_text r) said said refl)
-unread_control form (Ok inputs) said = inr (inr (inl refl, refl))
 
 unread_hive : (wanted : Result Question Refusal) (said : List ℕ) → EndsOnHive wanted statuses.Memory said said
 unread_hive (Err r) said = inr (no_front (refusal_text r) said said refl)
@@ -88,31 +69,18 @@ unread_export : (form : ReportForm) (wanted : Result HiveFiles Refusal) (path : 
 unread_export form (Err r) path name files said = (inr (no_front (refusal_text r) said said refl), refl)
 unread_export form (Ok found) path name files said = inr (inr (inl refl, refl, refl))
 
-unread_report : (saved : Bool) (name : Option (List ℕ)) (answer : Answer) (file : List ℕ) (files : Files) (said : List ℕ)
-    → EndsReport saved name answer file files files statuses.Memory said said
-unread_report true (Some name) answer file files said = inr (no_front answer.text said said refl, refl)
-unread_report false (Some name) answer file files said = (inr (no_front answer.text said said refl), refl)
-unread_report true None answer file files said = (inr (no_front answer.text said said refl), refl)
-unread_report false None answer file files said = (inr (no_front answer.text said said refl), refl)
+unread_told : (saved : Bool) (name : Option (List ℕ)) (answer : Answer) (file : List ℕ) (files : Files) (said : List ℕ)
+    → EndsTold saved name answer file files files statuses.Memory said said
+unread_told true (Some name) answer file files said = inr (no_front answer.text said said refl, refl)
+unread_told false (Some name) answer file files said = (inr (no_front answer.text said said refl), refl)
+unread_told true None answer file files said = (inr (no_front answer.text said said refl), refl)
+unread_told false None answer file files said = (inr (no_front answer.text said said refl), refl)
 
-unread_replay : (wanted : Result Report Refusal) (name : Option (List ℕ)) (files : Files) (said : List ℕ)
-    → EndsReplay wanted name files files statuses.Memory said said
-unread_replay (Err r) name files said = (inr (no_front (refusal_text r) said said refl), refl)
-unread_replay (Ok report) name files said =
-    unread_report report.saved name (report_answer report) report.file files said
-
-unread_salvaged : (saved : Bool) (name : Option (List ℕ)) (answer : Answer) (file : List ℕ) (files : Files) (said : List ℕ)
-    → EndsSalvaged saved name answer file files files statuses.Memory said said
-unread_salvaged true (Some name) answer file files said = inr (no_front answer.text said said refl, refl)
-unread_salvaged false (Some name) answer file files said = (inr (no_front answer.text said said refl), refl)
-unread_salvaged true None answer file files said = (inr (no_front answer.text said said refl), refl)
-unread_salvaged false None answer file files said = (inr (no_front answer.text said said refl), refl)
-
-unread_salvage : (wanted : Result SalvageReport Refusal) (name : Option (List ℕ)) (files : Files) (said : List ℕ)
-    → EndsSalvage wanted name files files statuses.Memory said said
-unread_salvage (Err r) name files said = (inr (no_front (refusal_text r) said said refl), refl)
-unread_salvage (Ok report) name files said =
-    unread_salvaged report.saved name (salvage_answer report) report.file files said
+unread_report : (wanted : Result FileReport Refusal) (name : Option (List ℕ)) (files : Files) (said : List ℕ)
+    → EndsReport wanted name files files statuses.Memory said said
+unread_report (Err r) name files said = (inr (no_front (refusal_text r) said said refl), refl)
+unread_report (Ok report) name files said =
+    unread_told report.saved name (report_answer report) report.file files said
 
 unread_made : (form : ReportForm) (wanted : Result Usual Refusal) (words : MakeAsked) (saves : Saves) (disk : DiskState) (said : List ℕ)
     → disk ≡ new_state → EndsMade form wanted words.count saves disk statuses.Memory said said
@@ -128,13 +96,13 @@ unread_words version host disk fresh = (inr (no_front _ host.said host.said refl
 unread_words (asks (run words) json) host disk fresh =
     unread_inputs (inputs_in words host.files) (saves_of (asks (run words) json)) disk host.said fresh
 unread_words (asks (show words) json) host disk fresh =
-    (unread_shown (form_of json) (hive_in host.files words.hive words.log) host.said, fresh)
+    (unread_hive (show_question_in (form_of json) words host.files) host.said, fresh)
 unread_words (asks (make words) json) host disk fresh =
     unread_made (form_of json) usual_in words (saves_of (asks (make words) json)) disk host.said fresh
 unread_words (asks (safe words) json) host disk fresh =
-    (unread_safe (form_of json) (safe_inputs_in words host.files) host.said, fresh)
+    (unread_hive (safe_question_in (form_of json) words host.files) host.said, fresh)
 unread_words (asks (control words) json) host disk fresh =
-    (unread_control (form_of json) (control_inputs_in words host.files) host.said, fresh)
+    (unread_hive (control_question_in (form_of json) words host.files) host.said, fresh)
 unread_words (asks (twin words) json) host disk fresh =
     unread_twin (form_of json) (hive_in host.files words.hive words.alt) (stands_by words.scheme) words.default (twin_saves words)
     disk host.said fresh
@@ -146,13 +114,13 @@ unread_words (asks (export words) json) host disk fresh =
 unread_words (asks (key words) json) host disk fresh =
     (unread_hive (key_question_in (form_of json) words host.files) host.said, fresh)
 unread_words (asks (replay words) json) host disk fresh =
-    (unread_replay (report_in (form_of json) words host.files) words.save_hive host.files host.said, fresh)
+    (unread_report (report_in (form_of json) words host.files) words.save_hive host.files host.said, fresh)
 unread_words (asks (check words) json) host disk fresh =
     (unread_hive (check_question_in (form_of json) words host.files) host.said, fresh)
 unread_words (asks (whatif words) json) host disk fresh =
     (unread_hive (whatif_question_in (form_of json) words host.files) host.said, fresh)
 unread_words (asks (salvage words) json) host disk fresh =
-    (unread_salvage (salvage_report_in (form_of json) words host.files) words.save_hive host.files host.said, fresh)
+    (unread_report (salvage_report_in (form_of json) words host.files) words.save_hive host.files host.said, fresh)
 unread_words (asks (diff words) json) host disk fresh = (inr (inl refl, refl), fresh)
 
 pub unread_leaves : (asked : Reading) (host : HostState) (disk : DiskState) → disk ≡ new_state

@@ -38,10 +38,8 @@ use Rattle.ntboot_cli.specs.declared.making.Usual.{Usual}
 use Rattle.command_parts.specs.Decides.{Decides, DecidesAlone}
 use Rattle.command_parts.specs.Inputs.{file_in, hive_in, AsksSoMany}
 use Rattle.ntboot_cli.specs.Inputs.{arguments_in, inputs_in, asks_in}
-use Rattle.safe_command.specs.Answer.{EndsSafe}
-use Rattle.safe_command.specs.Inputs.{inputs_in as safe_inputs_in}
-use Rattle.control_command.specs.Answer.{EndsControl}
-use Rattle.control_command.specs.Inputs.{inputs_in as control_inputs_in}
+use Rattle.safe_command.specs.Answer.{question_in as safe_question_in}
+use Rattle.control_command.specs.Answer.{question_in as control_question_in}
 use Rattle.twin_command.specs.Twinned.{EndsTwin, stands_by, twin_saves}
 use Rattle.text_commands.specs.Asks.{AsksImport}
 use Rattle.text_commands.specs.Imported.{EndsImport, import_how, import_saves}
@@ -49,14 +47,15 @@ use Rattle.key_text.specs.Words.{path_in}
 use Rattle.text_commands.specs.Exported.{EndsExported}
 use Rattle.ntboot_cli.specs.Made.{told, usual_in, made_text, IsMade, IsPartMade}
 use Rattle.command_parts.specs.Leaves.{Leaves}
-use Rattle.command_parts.specs.OnHive.{EndsOnHive}
+use Rattle.command_parts.specs.OnHive.{EndsOnHive, Question}
+use Rattle.command_parts.specs.Reporting.{EndsReport}
 use Rattle.line_text.specs.declared.form.ReportForm.{ReportForm}
 use Rattle.line_text.specs.declared.form.ReportForm.TheVariants.{Text, Json}
 use Rattle.key_command.specs.Answer.{question_in as key_question_in}
-use Rattle.replay_command.specs.Answer.{EndsReplay, report_in}
+use Rattle.replay_command.specs.Answer.{report_in}
 use Rattle.check_command.specs.Answer.{question_in as check_question_in}
 use Rattle.whatif_command.specs.Answer.{question_in as whatif_question_in}
-use Rattle.salvage_command.specs.Answer.{EndsSalvage, report_in as salvage_report_in}
+use Rattle.salvage_command.specs.Answer.{report_in as salvage_report_in}
 use Rattle.diff_command.specs.Answer.{EndsDiff}
 use Rattle.diff_command.specs.Asks.{AsksDiff}
 use Rattle.command_parts.specs.Placed.{image_in, placed_disk, IsUnrun, IsUntouchedBy}
@@ -127,21 +126,25 @@ EndsInputs (Ok inputs) saves disk status old new =
 
 -- ---- what a hive holds
 
--- the answer with a state's tree in one of the two forms
+-- the tree that was loaded, in one of the two forms
 abbrev pub shown : ReportForm → Woken → Answer
 shown form placed = record {
   status = statuses.Done;
   text = shown_in form placed.state.sequence (bulk_of placed.state.version placed.state.tree) placed.state.tree;
 }
 
--- The hive has a first fault, and that is printed; or it loads as a state, and its tree is printed; or there was no memory
--- or a read fault before anything was printed.
-abbrev pub EndsShown : ReportForm → Result HiveFiles Refusal → Status → List ℕ → List ℕ → Type 0
-EndsShown form (Err r) status old new = Ends (refusal r) status old new
-EndsShown form (Ok files) status old new =
-    ((fault : HiveFault) × (LoadFault (image_in files) fault) × Ends (refusal (BadHive fault)) status old new)
-    ⊎ (((placed : Woken) × (Loads (image_in files) placed.state placed.dirty) × Ends (shown form placed) status old new)
-    ⊎ (((status ≡ statuses.Memory) ⊎ (status ≡ statuses.ReadFault)) × (new ≡ old)))
+-- that question to the files of a hive
+abbrev pub shown_on : ReportForm → HiveFiles → Question
+shown_on form files = record { image = image_in files; answer = shown form }
+
+-- the question, or the first obstacle
+abbrev pub shown_by : ReportForm → Result HiveFiles Refusal → Result Question Refusal
+shown_by form (Ok files) = Ok (shown_on form files)
+shown_by form (Err why) = Err why
+
+-- the same by the options and the files that they name
+abbrev pub show_question_in : ReportForm → ShowAsked → Files → Result Question Refusal
+show_question_in form asked files = shown_by form (hive_in files asked.hive asked.log)
 
 -- ---- a generated hive
 
@@ -160,12 +163,6 @@ EndsMade form (Ok usual) count saves disk statuses.Done old new = (new ≡ old +
 EndsMade form (Ok usual) count saves disk statuses.WriteFault old new = EndsPart form usual count saves disk statuses.WriteFault old new
 EndsMade form (Ok usual) count saves disk statuses.Memory old new = EndsPart form usual count saves disk statuses.Memory old new
 EndsMade form (Ok usual) count saves disk other old new = ⊥
-
--- the hive's tree in one of the two forms, or its first fault, or there was no memory
-abbrev pub ShowsAs : ReportForm → Image → Result (List ℕ) Obstacle → Type 0
-ShowsAs form image (Ok text) = (placed : Woken) × (Loads image placed.state placed.dirty) × (text ≡ (shown form placed).text)
-ShowsAs form image (Err (Refused r)) = (fault : HiveFault) × (LoadFault image fault) × (r ≡ BadHive fault)
-ShowsAs form image (Err (Stopped stop)) = stop ≡ NoMemory
 
 -- ---- a command
 
@@ -205,13 +202,13 @@ EndsWords version files after disk status old new = Ends (about (codes "ntboot 1
 EndsWords (asks (run words) json) files after disk status old new =
     EndsInputs (inputs_in words files) (saves_of (asks (run words) json)) disk status old new
 EndsWords (asks (show words) json) files after disk status old new =
-    EndsShown (form_of json) (hive_in files words.hive words.log) status old new × (disk ≡ new_state)
+    EndsOnHive (show_question_in (form_of json) words files) status old new × (disk ≡ new_state)
 EndsWords (asks (make words) json) files after disk status old new =
     EndsMade (form_of json) usual_in words.count (saves_of (asks (make words) json)) disk status old new
 EndsWords (asks (safe words) json) files after disk status old new =
-    EndsSafe (form_of json) (safe_inputs_in words files) status old new × (disk ≡ new_state)
+    EndsOnHive (safe_question_in (form_of json) words files) status old new × (disk ≡ new_state)
 EndsWords (asks (control words) json) files after disk status old new =
-    EndsControl (form_of json) (control_inputs_in words files) status old new × (disk ≡ new_state)
+    EndsOnHive (control_question_in (form_of json) words files) status old new × (disk ≡ new_state)
 EndsWords (asks (twin words) json) files after disk status old new =
     EndsTwin (form_of json) (hive_in files words.hive words.alt) (stands_by words.scheme) words.default (twin_saves words) disk status old new
 EndsWords (asks (import words) json) files after disk status old new =
@@ -221,13 +218,13 @@ EndsWords (asks (export words) json) files after disk status old new =
 EndsWords (asks (key words) json) files after disk status old new =
     EndsOnHive (key_question_in (form_of json) words files) status old new × (disk ≡ new_state)
 EndsWords (asks (replay words) json) files after disk status old new =
-    EndsReplay (report_in (form_of json) words files) words.save_hive files after status old new × (disk ≡ new_state)
+    EndsReport (report_in (form_of json) words files) words.save_hive files after status old new × (disk ≡ new_state)
 EndsWords (asks (check words) json) files after disk status old new =
     EndsOnHive (check_question_in (form_of json) words files) status old new × (disk ≡ new_state)
 EndsWords (asks (whatif words) json) files after disk status old new =
     EndsOnHive (whatif_question_in (form_of json) words files) status old new × (disk ≡ new_state)
 EndsWords (asks (salvage words) json) files after disk status old new =
-    EndsSalvage (salvage_report_in (form_of json) words files) words.save_hive files after status old new × (disk ≡ new_state)
+    EndsReport (salvage_report_in (form_of json) words files) words.save_hive files after status old new × (disk ≡ new_state)
 EndsWords (asks (diff words) json) files after disk status old new = EndsDiff (form_of json) words files status old new × (disk ≡ new_state)
 
 -- the same number of files are asked for as are in the written order, up to the first obstacle; for `import` and `diff` more, where the hive has no fault
@@ -255,13 +252,6 @@ abbrev pub DecidesRun : RunAsked → Status → HostState → HostState → Disk
 DecidesRun words status old new disk =
     let saves : Saves = record { hive = words.save_hive; log = words.save_log } in
     Decides (EndsInputs (inputs_in words old.files) saves disk) saves status old new disk
-
--- of a hive that is shown, on which no disk depends
-abbrev pub DecidesTree : ReportForm → HiveFiles → Status → HostState → HostState → Type 0
-DecidesTree form files status old new = DecidesAlone (EndsShown form (Ok files)) no_saves status old new new_state
-
-abbrev pub DecidesShow : ReportForm → ShowAsked → Status → HostState → HostState → Type 0
-DecidesShow form words status old new = Decides (EndsShown form (hive_in old.files words.hive words.log)) no_saves status old new new_state
 
 -- and of a hive that is made
 abbrev pub MakesAlone : ReportForm → Result Usual Refusal → MakeAsked → Status → HostState → HostState → DiskState → Type 0

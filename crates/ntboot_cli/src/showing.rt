@@ -1,61 +1,64 @@
 //! `show`: the tree of a hive, in one of the two forms.
 
-ghost use Rattle.std.specs.Prelude.{◌≡◌};
+ghost use Rattle.std.specs.Prelude.{◌≡◌, Err};
 ghost use Rattle.command_words.specs.Views.{show_seen};
-ghost use Rattle.ntboot_cli.specs.Answer.{ShowsAs, DecidesTree, DecidesShow};
-ghost use Rattle.command_parts.specs.Inputs.{AsksSoMany};
+ghost use Rattle.command_parts.specs.Inputs.{AsksHive, AsksSoMany};
+ghost use Rattle.command_parts.specs.OnHive.{AnswersOnHive, DecidesOnHive, SeeksAnswer};
+ghost use Rattle.ntboot_cli.specs.Answer.{show_question_in, shown_on};
 ghost use Rattle.ntboot_cli.specs.Inputs.{asks_show};
-ghost use Rattle.command_parts.specs.Placed.{image_in};
 
-use command_parts::{HiveFiles, Obstacle, Refusal, Status, hive_in, read, refuse, stopped, tell};
+use command_parts::{HiveFiles, Obstacle, Refusal, Status, Told, answer, hive_in, no_memory, read};
 use command_words::ShowWords;
 use line_text::ReportForm;
-use nt_bytes::{Bytes, ReadStop};
-use nt_edge::{Host, HostStop};
+use nt_bytes::ReadStop;
+use nt_edge::Host;
 use std::alloc::Global;
 use tree_text::shown_in;
 
 /// The text of a hive's tree, or the hive's first fault.
-fn text_of(alloc: Global, files: &HiveFiles, form: ReportForm) -> Result<Bytes, Obstacle>
-    ensures { ShowsAs form (image_in files.now) result }
+fn text_of(alloc: Global, files: &HiveFiles, form: ReportForm) -> Result<Told, Obstacle>
+    ensures { AnswersOnHive (shown_on form files.now) result }
 {
     match read(alloc, files) {
         Ok((root, sequence, version)) => {
             match shown_in(alloc, form, sequence, root.bulk(version), &root) {
-                Ok(text) => Ok(text),
-                Err(_) => Err(Obstacle::Stopped(HostStop::Memory)),
+                Ok(text) => Ok(Told::done(text)),
+                Err(_) => Err(no_memory()),
             }
         }
         Err(ReadStop::Fault(fault)) => Err(Obstacle::Refused(Refusal::HiveFault(fault))),
-        Err(ReadStop::Memory) => Err(Obstacle::Stopped(HostStop::Memory)),
+        Err(ReadStop::Memory) => Err(no_memory()),
     }
 }
 
-/// Says a hive's tree, or the hive's first fault.
-fn show_tree<H: Host>(alloc: Global, files: &HiveFiles, form: ReportForm, host: &mut H) -> Status
-    ensures { DecidesTree form files.now result (H.state host.old) (H.state host.new) }
+/// Gets the hive that the command line names, and makes the text of its tree. Nothing is printed.
+fn seek<H: Host>(
+    alloc: Global,
+    words: ShowWords<'_>,
+    form: ReportForm,
+    host: &mut H,
+) -> Result<Told, Obstacle>
+    ensures seeks { SeeksAnswer (show_question_in form (show_seen words.entry) (H.state host.old).files) result (H.state host.old) (H.state host.new) }
+    ensures asks { AsksHive (show_seen words.entry).hive (show_seen words.entry).log result (H.state host.old) (H.state host.new) }
+    ensures kept { result ≡ Err (Obstacle.Refused Refusal.Usage) → ⊥ }
 {
-    match text_of(alloc, files, form) {
-        Ok(text) => tell(host, text.as_slice(), Status::Done),
-        Err(Obstacle::Refused(why)) => refuse(alloc, host, &why),
-        Err(Obstacle::Stopped(stop)) => stopped(stop),
+    match hive_in(alloc, host, words.hive, words.log) {
+        Ok(files) => text_of(alloc, &files, form),
+        Err(obstacle) => Err(obstacle),
     }
 }
 
-/// Gets the hive that the command line names, and says its tree in one of the two forms; or says the first obstacle.
+/// Gets the hive that the command line names, and prints its tree in one of the two forms; or prints the first obstacle.
 pub(crate) fn show<H: Host>(
     alloc: Global,
     words: ShowWords<'_>,
     form: ReportForm,
     host: &mut H,
 ) -> Status
-    ensures decides { DecidesShow form (show_seen words.entry) result (H.state host.old) (H.state host.new) }
+    ensures decides { DecidesOnHive (show_question_in form (show_seen words.entry) (H.state host.old).files) result (H.state host.old) (H.state host.new) }
     ensures asked { AsksSoMany (asks_show (show_seen words.entry)) result (H.state host.old) (H.state host.new) }
     ensures kept { result ≡ Status.Usage → ⊥ }
 {
-    match hive_in(alloc, host, words.hive, words.log) {
-        Ok(files) => show_tree(alloc, &files, form, host),
-        Err(Obstacle::Refused(why)) => refuse(alloc, host, &why),
-        Err(Obstacle::Stopped(stop)) => stopped(stop),
-    }
+    let told = seek(alloc, words, form, host);
+    answer(alloc, host, told)
 }

@@ -1,3 +1,1 @@
 pub mod AskLemmas
-pub mod AnswerLemmas
-pub mod FileLemmas

@@ -1,18 +1,15 @@
--- What does `replay` print, and which file does it save? This project's own.
+-- Which report does `replay` print, and which file comes with it? This project's own.
 --
 -- The report on what the logs make of the hive is printed, and then the result is saved, where the command line asks for that and it is clean.
-use Rattle.std.specs.Prelude.{◌≡◌, ◌⊎◌, ◌++◌, ℕ, Bool, true, false, List, Option, Some, None, Result, Ok, Err, if◌then◌else◌}
+use Rattle.std.specs.Prelude.{Bool, Result, Ok, Err}
 use Rattle.std.specs.Option.{is_some}
 use Rattle.nt_bytes.specs.declared.fault.HiveFault.{HiveFault}
-use Rattle.nt_edge.specs.Host.{Files, HostState, Puts, KeepsOthers, AsksNone}
+use Rattle.nt_edge.specs.Host.{Files}
 use Rattle.command_words.specs.Words.{ReplayAsked}
 use Rattle.command_parts.specs.declared.refusal.Refusal.{Refusal}
 use Rattle.command_parts.specs.declared.refusal.Refusal.TheVariants.{HiveFault as BadHive}
-use Rattle.command_parts.specs.declared.status.Status.{Status}
-use Rattle.command_parts.specs.declared.status.Status.TheVariants as statuses
+use Rattle.command_parts.specs.declared.reporting.FileReport.{FileReport}
 use Rattle.command_parts.specs.Inputs.{◌>>=◌}
-use Rattle.command_parts.specs.Leaves.{Leaves, stop_in}
-use Rattle.command_parts.specs.Refusals.{Answer, Ends, StopsBy, IsToldAs, refusal}
 use Rattle.line_text.specs.declared.form.ReportForm.{ReportForm}
 use Rattle.log_replay.specs.declared.replaying.Outcome.{Outcome}
 use Rattle.log_replay.specs.Replay.{replay_of}
@@ -20,65 +17,17 @@ use Rattle.replay_text.specs.declared.reporting.Report.{Report}
 use Rattle.replay_text.specs.Report.{report_of}
 use Rattle.replay_command.specs.Inputs.{inputs_in, logs_in}
 
--- ---- the report
+-- a report with its file
+abbrev pub file_report : Report → FileReport
+file_report report = record { text = report.text; found = report.found; saved = report.saved; file = report.file }
 
 -- the report on a replay, or the hive's fault
-abbrev pub report_by : ReportForm → Bool → Result Outcome HiveFault → Result Report Refusal
-report_by form asked (Ok outcome) = Ok (report_of form asked outcome)
+abbrev pub report_by : ReportForm → Bool → Result Outcome HiveFault → Result FileReport Refusal
+report_by form asked (Ok outcome) = Ok (file_report (report_of form asked outcome))
 report_by form asked (Err fault) = Err (BadHive fault)
 
 -- the report on what options and files have, or the first obstacle
-abbrev pub report_in : ReportForm → ReplayAsked → Files → Result Report Refusal
+abbrev pub report_in : ReportForm → ReplayAsked → Files → Result FileReport Refusal
 report_in form words files = do
   inputs ← inputs_in words files
   report_by form (is_some words.save_hive) (replay_of inputs.hive (logs_in inputs))
-
--- its text with its status: something was found, or all was done
-abbrev pub report_answer : Report → Answer
-report_answer report = record { status = if report.found then statuses.Found else statuses.Done; text = report.text }
-
--- ---- the end
-
--- the file was put under a name; or it was stopped, and no other file changed
-abbrev pub EndsPut : Status → List ℕ → List ℕ → Files → Files → Status → Type 0
-EndsPut told name file before after status =
-    ((status ≡ told) × Puts before after name file)
-    ⊎ (((status ≡ statuses.WriteFault) ⊎ (status ≡ statuses.Memory)) × KeepsOthers before after name)
-
--- The whole text was printed, and then the file put; or the environment stopped before, and no file changed.
-abbrev pub EndsSaved : Answer → List ℕ → List ℕ → Files → Files → Status → List ℕ → List ℕ → Type 0
-EndsSaved answer name file before after status old new =
-    ((new ≡ old ++ answer.text) × EndsPut answer.status name file before after status)
-    ⊎ (StopsBy (stop_in status) answer.text old new × (after ≡ before))
-
--- the same where the options may name no file, and the report may have none to save
-abbrev pub EndsReport : Bool → Option (List ℕ) → Answer → List ℕ → Files → Files → Status → List ℕ → List ℕ → Type 0
-EndsReport true (Some name) answer file before after status old new = EndsSaved answer name file before after status old new
-EndsReport false (Some name) answer file before after status old new = Ends answer status old new × (after ≡ before)
-EndsReport saved None answer file before after status old new = Ends answer status old new × (after ≡ before)
-
--- The first obstacle is printed, and no file changed; or the report is printed, and the result put under this name where it is saved.
-abbrev pub EndsReplay : Result Report Refusal → Option (List ℕ) → Files → Files → Status → List ℕ → List ℕ → Type 0
-EndsReplay (Err r) name before after status old new = Ends (refusal r) status old new × (after ≡ before)
-EndsReplay (Ok report) name before after status old new =
-    EndsReport report.saved name (report_answer report) report.file before after status old new
-
--- the host is left so by the whole command
-abbrev pub DecidesReplay : ReportForm → ReplayAsked → Status → HostState → HostState → Type 0
-DecidesReplay form words status old new =
-    Leaves (EndsReplay (report_in form words old.files) words.save_hive old.files new.files) status old new
-
--- ---- its steps
-
--- a file was put, or that was stopped: nothing was printed and no file asked for
-pub record PutsFile (wanted : Status) (name file : List ℕ) (status : Status) (old new : HostState) : Type 0 where
-  pub leaves : Leaves (λ s before after. (after ≡ before) × EndsPut wanted name file old.files new.files s) status old new
-  pub unasked : AsksNone old new
-  pub told : IsToldAs wanted status
-
--- the report was printed, and the file put where it is saved: no file was asked for
-pub record FinishesReport (saved : Bool) (name : Option (List ℕ)) (answer : Answer) (file : List ℕ) (status : Status) (old new : HostState)
-    : Type 0 where
-  pub leaves : Leaves (EndsReport saved name answer file old.files new.files) status old new
-  pub unasked : AsksNone old new
-  pub told : IsToldAs answer.status status

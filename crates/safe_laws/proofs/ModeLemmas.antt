@@ -22,7 +22,8 @@ use Rattle.command_parts.specs.declared.inputs.HiveFiles.{HiveFiles}
 use Rattle.command_parts.specs.Placed.{image_in}
 use Rattle.command_parts.specs.Refusals.{Answer, Ends}
 use Rattle.safe_command.specs.declared.inputs.SafeInputs.{SafeInputs}
-use Rattle.safe_command.specs.Answer.{reported, EndsSafe}
+use Rattle.command_parts.specs.OnHive.{EndsOnHive}
+use Rattle.safe_command.specs.Answer.{answer_at, question_on}
 use Rattle.safe_command.specs.Report.{mode_at, mode_text, verdict_lines, default_lines, report_by, report_of}
 use Rattle.safe_laws.specs.Modes.{switch_of, switches_for, entry_for, changed_at, ini_for, SwitchesAsk, NamedIsAsked, NamedEndsAsAsked}
 
@@ -111,8 +112,9 @@ named_is_asked form mode images ini system tree = named_asked form mode images i
 -- ---- the answer
 
 -- inputs with one hive and one report on it have one answer
-ends_over : (form : ReportForm) (a b : SafeInputs) → a.hive ≡ b.hive → ((placed : Woken) → reported form a placed ≡ reported form b placed)
-    → (status : Status) (old new : List ℕ) → EndsSafe form (Ok a) status old new → EndsSafe form (Ok b) status old new
+ends_over : (form : ReportForm) (a b : SafeInputs) → a.hive ≡ b.hive → ((placed : Woken) → answer_at form a placed ≡ answer_at form b placed)
+    → (status : Status) (old new : List ℕ) → EndsOnHive (Ok (question_on form a)) status old new
+    → EndsOnHive (Ok (question_on form b)) status old new
 ends_over form a b hive same status old new (inl f) =
     inl (f.0, subst (λ (h : HiveFiles). LoadFault (image_in h) f.0) hive f.1, f.2)
 ends_over form a b hive same status old new (inr (inl l)) =
@@ -125,8 +127,8 @@ ends_over form a b hive same status old new (inr (inr s)) = inr (inr s)
 
 pub named_ends_as_asked : NamedEndsAsAsked
 named_ends_as_asked form mode inputs status old new =
-    let same : (placed : Woken) → reported form (record inputs { mode = Some mode }) placed
-    ≡ reported form (record inputs { mode = None; ini = ini_for mode inputs.ini }) placed =
+    let same : (placed : Woken) → answer_at form (record inputs { mode = Some mode }) placed
+    ≡ answer_at form (record inputs { mode = None; ini = ini_for mode inputs.ini }) placed =
     λ placed. ap (λ (text : List ℕ). record { status = statuses.Done; text = text })
     (named_asked form mode inputs.images inputs.ini inputs.system placed.state.tree) in (
       ends_over form (record inputs { mode = Some mode }) (record inputs { mode = None; ini = ini_for mode inputs.ini }) refl same status old new,

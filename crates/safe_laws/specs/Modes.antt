@@ -12,7 +12,8 @@ use Rattle.safe_boot.specs.Modes.{mode_of, mode_asked}
 use Rattle.command_parts.specs.declared.status.Status.{Status}
 use Rattle.safe_command.specs.declared.inputs.SafeInputs.{SafeInputs}
 use Rattle.safe_command.specs.Report.{report_of}
-use Rattle.safe_command.specs.Answer.{EndsSafe}
+use Rattle.command_parts.specs.OnHive.{EndsOnHive}
+use Rattle.safe_command.specs.Answer.{question_on}
 
 -- a switch that asks for the mode
 abbrev pub switch_of : SafeMode → List ℕ
@@ -53,5 +54,5 @@ NamedIsAsked =
 abbrev pub NamedEndsAsAsked : Type 0
 NamedEndsAsAsked =
     (form : ReportForm) (mode : SafeMode) (inputs : SafeInputs) (status : Status) (old new : List ℕ)
-    → EndsSafe form (Ok (record inputs { mode = Some mode })) status old new
-    ↔ EndsSafe form (Ok (record inputs { mode = None; ini = ini_for mode inputs.ini })) status old new
+    → EndsOnHive (Ok (question_on form (record inputs { mode = Some mode }))) status old new
+    ↔ EndsOnHive (Ok (question_on form (record inputs { mode = None; ini = ini_for mode inputs.ini }))) status old new

@@ -1,14 +1,13 @@
 //! The command: a hive and its log in, a report and a sound hive or the first obstacle out.
 
-ghost use Rattle.std.specs.Prelude.{◌≡◌, true, if◌then◌else◌, Some, None, Ok, Err, option_map, IfOk};
+ghost use Rattle.std.specs.Prelude.{◌≡◌, Ok, Err, IfOk};
 ghost use Rattle.command_parts.specs.Inputs.{AsksHive, AsksSoMany};
-ghost use Rattle.command_parts.specs.Leaves.{Looks, Reads, stop_in};
+ghost use Rattle.command_parts.specs.Leaves.{Looks, Reads};
+ghost use Rattle.command_parts.specs.Reporting.{DecidesReport};
 ghost use Rattle.command_words.specs.Views.{salvage_seen};
-ghost use Rattle.salvage_command.specs.Answer.{asks_salvage, log_bytes, report_answer, report_in, report_on, DecidesSalvage, FinishesReport, PutsFile};
+ghost use Rattle.salvage_command.specs.Answer.{asks_salvage, file_report, log_bytes, report_in, report_on};
 
-use command_parts::{
-    HiveFiles, Obstacle, Refusal, Status, hive_in, no_memory, refuse, stopped, tell,
-};
+use command_parts::{FileReport, HiveFiles, Obstacle, Refusal, Status, hive_in, no_memory, report};
 use command_words::SalvageWords;
 use line_text::ReportForm;
 use nt_bytes::Bytes;
@@ -17,7 +16,23 @@ use salvage_file::salvage_file;
 use salvage_text::{Report, salvage_report};
 use std::alloc::{AllocError, Global};
 
-// ---- the report
+/// The same as a report with a file.
+fn file_report(report: Report) -> FileReport
+    ensures { result ≡ file_report report }
+{
+    let Report {
+        text,
+        found,
+        saved,
+        file,
+    } = report;
+    FileReport {
+        text,
+        found,
+        saved,
+        file,
+    }
+}
 
 fn log_bytes(alloc: Global, log: Option<Bytes>) -> Bytes
     ensures { result ≡ log_bytes log }
@@ -28,13 +43,13 @@ fn log_bytes(alloc: Global, log: Option<Bytes>) -> Bytes
     }
 }
 
-// The report on a hive and its log.
+/// The report on a hive and its log.
 fn report_of(
     alloc: Global,
     words: SalvageWords<'_>,
     form: ReportForm,
     files: HiveFiles,
-) -> Result<Report, AllocError>
+) -> Result<FileReport, AllocError>
     ensures { IfOk result (λ r. r ≡ report_on form (salvage_seen words.entry) files) }
 {
     let HiveFiles { primary, log } = files;
@@ -46,16 +61,16 @@ fn report_of(
         primary,
         log,
     )?;
-    salvage_report(alloc, form, hive)
+    Ok(file_report(salvage_report(alloc, form, hive)?))
 }
 
-// The same, as the answer of a search.
+/// The same, as the answer of a search.
 fn report_on(
     alloc: Global,
     words: SalvageWords<'_>,
     form: ReportForm,
     files: HiveFiles,
-) -> Result<Report, Obstacle>
+) -> Result<FileReport, Obstacle>
     ensures read { Reads (Ok (report_on form (salvage_seen words.entry) files)) result }
     ensures kept { result ≡ Err (Obstacle.Refused Refusal.Usage) → ⊥ }
 {
@@ -71,7 +86,7 @@ fn seek<H: Host>(
     words: SalvageWords<'_>,
     form: ReportForm,
     host: &mut H,
-) -> Result<Report, Obstacle>
+) -> Result<FileReport, Obstacle>
     ensures looks { Looks (report_in form (salvage_seen words.entry) (H.state host.old).files) result (H.state host.old) (H.state host.new) }
     ensures asks { AsksHive (salvage_seen words.entry).hive (salvage_seen words.entry).log result (H.state host.old) (H.state host.new) }
     ensures kept { result ≡ Err (Obstacle.Refused Refusal.Usage) → ⊥ }
@@ -79,58 +94,6 @@ fn seek<H: Host>(
     match hive_in(alloc, host, words.hive, words.log) {
         Ok(files) => report_on(alloc, words, form, files),
         Err(obstacle) => Err(obstacle),
-    }
-}
-
-// ---- the end
-
-fn status_of(found: bool) -> Status
-    ensures same { result ≡ if found then Status.Found else Status.Done }
-    ensures ends { stop_in result ≡ None }
-{
-    if found { Status::Found } else { Status::Done }
-}
-
-/// Puts the file, and answers this status; or that of the host's stop.
-fn put_file<H: Host>(name: &str, file: &[u8], status: Status, host: &mut H) -> Status
-    requires ends { stop_in status ≡ None }
-    ensures { PutsFile status name.now file.now result (H.state host.old) (H.state host.new) }
-{
-    match host.put(name, file) {
-        Ok(()) => status,
-        Err(stop) => stopped(stop),
-    }
-}
-
-/// Prints the report, and then puts the file.
-fn tell_and_put<H: Host>(
-    name: &str,
-    text: &[u8],
-    file: &[u8],
-    status: Status,
-    host: &mut H,
-) -> Status
-    requires ends { stop_in status ≡ None }
-    ensures { FinishesReport true (Some name.now) (record { status = status; text = text.now }) file.now result (H.state host.old) (H.state host.new) }
-{
-    match host.say(text) {
-        Ok(()) => put_file(name, file, status, host),
-        Err(stop) => stopped(stop),
-    }
-}
-
-/// Prints the report, and then puts the file where it is saved.
-fn finish<H: Host>(name: Option<&str>, report: &Report, host: &mut H) -> Status
-    ensures { FinishesReport report.now.saved (option_map (λ v. v.now) name.entry) (report_answer report.now) report.now.file result
-        (H.state host.old) (H.state host.new) }
-{
-    let text = report.text.as_slice();
-    let status = status_of(report.found);
-    match name {
-        Some(name) if report.saved => {
-            tell_and_put(name, text, report.file.as_slice(), status, host)
-        }
-        _ => tell(host, text, status),
     }
 }
 
@@ -142,13 +105,11 @@ pub fn salvage<H: Host>(
     form: ReportForm,
     host: &mut H,
 ) -> Status
-    ensures decides { DecidesSalvage form (salvage_seen words.entry) result (H.state host.old) (H.state host.new) }
+    ensures decides { DecidesReport (report_in form (salvage_seen words.entry) (H.state host.old).files) (salvage_seen words.entry).save_hive result
+        (H.state host.old) (H.state host.new) }
     ensures asked { AsksSoMany (asks_salvage (salvage_seen words.entry)) result (H.state host.old) (H.state host.new) }
     ensures kept { result ≡ Status.Usage → ⊥ }
 {
-    match seek(alloc, words, form, host) {
-        Ok(report) => finish(words.save_hive, &report, host),
-        Err(Obstacle::Refused(why)) => refuse(alloc, host, &why),
-        Err(Obstacle::Stopped(stop)) => stopped(stop),
-    }
+    let found = seek(alloc, words, form, host);
+    report(alloc, host, words.save_hive, found)
 }

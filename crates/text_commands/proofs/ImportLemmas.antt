@@ -173,6 +173,7 @@ usage_only : (why : Refusal) → (why ≡ refusals.Usage → ⊥) → refusal_st
 usage_only refusals.Usage never e = never refl
 usage_only (refusals.NoFile name) never e = absurd cc
 usage_only (refusals.ScriptFault fault) never e = absurd cc
+usage_only refusals.NoSweep never e = absurd cc
 usage_only refusals.IniTooLong never e = absurd cc
 usage_only refusals.IniTooManyEntries never e = absurd cc
 usage_only (refusals.HiveFault fault) never e = absurd cc

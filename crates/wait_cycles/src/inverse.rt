@@ -7,7 +7,7 @@ use nt_bytes::Row;
 use std::alloc::{AllocError, Global};
 
 /// The same edges, each the other way. Takes time linear in them.
-pub(crate) fn inverse(alloc: Global, rows: &[Row<usize>]) -> Result<Vec<Row<usize>>, AllocError>
+pub fn inverse(alloc: Global, rows: &[Row<usize>]) -> Result<Vec<Row<usize>>, AllocError>
     requires { AreEdges rows.now }
     ensures { IfOk result (λ back. IsInverse rows.now back.items) }
 {

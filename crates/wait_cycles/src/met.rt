@@ -11,7 +11,7 @@ use nt_bytes::Row;
 use std::alloc::{AllocError, Global};
 
 /// For each vertex, whether it is met: a place by all its needs, a need by one of its ways.
-pub(crate) fn met(
+pub fn met(
     alloc: Global,
     rows: &[Row<usize>],
     back: &[Row<usize>],

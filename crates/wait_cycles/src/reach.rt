@@ -9,7 +9,7 @@ use nt_bytes::Row;
 use std::alloc::{AllocError, Global};
 
 /// For each vertex, whether one or more edges lead to it from the start. Takes time linear in the edges.
-pub(crate) fn reach(
+pub fn reach(
     alloc: Global,
     rows: &[Row<usize>],
     start: usize,

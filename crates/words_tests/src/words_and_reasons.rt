@@ -2,8 +2,9 @@
 
 use crate::words::{Case, check};
 use command_words::{
-    AskedEncoding, AskedMode, AskedSet, CheckWords, Command, DiffWords, ImportWords, Reading,
-    Reason, SafeWords, SalvageWords, ShowWords, WhatifWords, reason_line, wants_reason,
+    AskedEncoding, AskedMode, AskedSet, CheckWords, Command, DiffWords, GraphWords, ImportWords,
+    Reading, Reason, SafeWords, SalvageWords, ShowWords, SweepWords, WhatifWords, WhyWords,
+    reason_line, wants_reason,
 };
 use std::alloc::Global;
 use std::process::Abort;
@@ -105,6 +106,79 @@ static STARTS: [Case; 3] = [
 #[test]
 fn whatif_takes_the_files_of_a_start(rt: HostRuntime) {
     check(&rt, rt.alloc(), STARTS.as_slice());
+}
+
+static LAST_STARTS: [Case; 8] = [
+    (
+        &["why", "--hive", "h", "Disk"],
+        asks!(Command::Why(WhyWords {
+            hive: "h",
+            log: None,
+            boot_ini: None,
+            system: USUAL,
+            script: None,
+            name: "Disk"
+        })),
+    ),
+    (
+        &[
+            "why",
+            "\\u002dx",
+            "--script=s",
+            "--boot-ini",
+            "b",
+            "--hive",
+            "h",
+            "--log",
+            "l",
+            "--system",
+            OTHER,
+        ],
+        asks!(Command::Why(WhyWords {
+            hive: "h",
+            log: Some("l"),
+            boot_ini: Some("b"),
+            system: OTHER,
+            script: Some("s"),
+            name: "\\u002dx"
+        })),
+    ),
+    (&["why", "--hive", "h"], no!(Reason::Missing("NAME"))),
+    (&["why", "Disk"], no!(Reason::Missing("--hive"))),
+    (
+        &["why", "--hive", "h", "Disk", "Fs"],
+        no!(Reason::LeftOver("Fs")),
+    ),
+    (
+        &["graph", "--script", "s", "--hive", "h", "--of", "Disk"],
+        asks!(Command::Graph(GraphWords {
+            hive: "h",
+            log: None,
+            boot_ini: None,
+            system: USUAL,
+            script: Some("s"),
+            of: Some("Disk")
+        })),
+    ),
+    (
+        &["sweep", "--script", "s", "--hive", "h"],
+        asks!(Command::Sweep(SweepWords {
+            hive: "h",
+            log: None,
+            script: "s",
+            boot_ini: None,
+            system: USUAL
+        })),
+    ),
+    (
+        &["sweep", "--hive", "h", "--script", "s", "--save-hive", "x"],
+        no!(Reason::UnknownOption("--save-hive")),
+    ),
+];
+
+#[test]
+fn why_graph_and_sweep_take_a_script(rt: HostRuntime) {
+    check(&rt, rt.alloc(), LAST_STARTS.as_slice());
 }
 
 static SALVAGE: [Case; 4] = [

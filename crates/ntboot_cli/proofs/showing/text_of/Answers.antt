@@ -1,9 +1,15 @@
+use Rattle.std.proofs.Common.{ap, ◌∙◌, List, ℕ}
+use Rattle.command_parts.specs.declared.status.Status.TheVariants as statuses
 use Rattle.command_parts.specs.Placed.{image_in}
-use Rattle.ntboot_cli.proofs.ShowLemmas.{shown_as}
+use Rattle.command_parts.specs.Refusals.{Answer}
+use Rattle.command_parts.proofs.SeekLemmas.{told_at}
+use Rattle.tree_text.specs.TreeObjects.{shown_in}
+use Rattle.ntboot_cli.specs.Answer.{shown}
 use Rattle.ntboot_cli.proofs.showing.text_of.Goals as goal
 
 pub returns-in-Ok-shown_in : goal.returns-in-Ok-shown_in
 returns-in-Ok-shown_in c =
-    shown_as c.args.form (image_in c.args.files.now)
-    c.in-Ok.root c.in-Ok.sequence c.in-Ok.version c.bulk.result c.in-Ok-shown_in.text c.in-Ok.ensures.checks
-    c.in-Ok-shown_in.ensures.exact c.bulk.ensures
+    let is = c.in-Ok-shown_in.ensures.exact
+    ∙ ap (λ (b : ℕ). shown_in c.args.form c.in-Ok.sequence b c.in-Ok.root) c.bulk.ensures in
+    told_at (image_in c.args.files.now) (shown c.args.form) c.in-Ok.root c.in-Ok.sequence c.in-Ok.version c.done.result
+    c.in-Ok.ensures.checks (λ dirty. c.done.ensures ∙ ap (λ (t : List ℕ). record { status = statuses.Done; text = t }) is)

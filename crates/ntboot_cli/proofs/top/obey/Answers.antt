@@ -4,8 +4,9 @@ use Rattle.command_words.specs.Words.{asks}
 use Rattle.command_words.specs.Reading.{reading_of}
 use Rattle.command_words.specs.declared.asked.Command.{Command}
 use Rattle.line_text.specs.declared.form.ReportForm.{ReportForm}
-use Rattle.replay_command.specs.Answer.{DecidesReplay}
-use Rattle.salvage_command.specs.Answer.{DecidesSalvage}
+use Rattle.command_parts.specs.Reporting.{DecidesReport}
+use Rattle.replay_command.specs.Answer.{report_in}
+use Rattle.salvage_command.specs.Answer.{report_in as salvage_report_in}
 use Rattle.text_commands.specs.Exported.{DecidesExport}
 use Rattle.ntboot_cli.proofs.CountedLemmas.{counted}
 use Rattle.ntboot_cli.proofs.TopLemmas.{by_export, by_replay, by_salvage}
@@ -44,7 +45,7 @@ returns-in-Command-Replay-default g c =
     let is = sym arm.ensures ∙ ap (λ (x : Command). asks (command_seen x) arm.json) arm.field-0-is in
     let old = g.H.Host.state c.args.host.now in
     let new = g.H.Host.state c.replay.new.host in
-    let decides = subst (λ (f : ReportForm). DecidesReplay f (replay_seen arm.words) c.replay.result old new)
+    let decides = subst (λ (f : ReportForm). DecidesReport (report_in f (replay_seen arm.words) old.files) (replay_seen arm.words).save_hive c.replay.result old new)
     c.form-in-Command-Replay-default.ensures c.replay.ensures.decides in
     by_replay (reading_of words) arm.json c.replay.result old new (g.B.Disk.state c.args.bench.now)
     (replay_seen arm.words) is c.requires.fresh decides c.replay.ensures.asked c.replay.ensures.kept
@@ -56,7 +57,7 @@ returns-in-Command-Salvage-default g c =
     let is = sym arm.ensures ∙ ap (λ (x : Command). asks (command_seen x) arm.json) arm.field-0-is in
     let old = g.H.Host.state c.args.host.now in
     let new = g.H.Host.state c.salvage.new.host in
-    let decides = subst (λ (f : ReportForm). DecidesSalvage f (salvage_seen arm.words) c.salvage.result old new)
+    let decides = subst (λ (f : ReportForm). DecidesReport (salvage_report_in f (salvage_seen arm.words) old.files) (salvage_seen arm.words).save_hive c.salvage.result old new)
     c.form-in-Command-Salvage-default.ensures c.salvage.ensures.decides in
     by_salvage (reading_of words) arm.json c.salvage.result old new (g.B.Disk.state c.args.bench.now)
     (salvage_seen arm.words) is c.requires.fresh decides c.salvage.ensures.asked c.salvage.ensures.kept

@@ -5,11 +5,11 @@ use Rattle.arc_path.specs.Reading.{arc_of}
 use Rattle.command_parts.specs.Inputs.{system_in, bytes_in, ini_in}
 use Rattle.command_parts.specs.Leaves.{AsksUntil, Reads, more, named}
 use Rattle.command_parts.specs.declared.inputs.HiveFiles.{HiveFiles}
-use Rattle.command_parts.proofs.AskLemmas.{reads_asks, behind_asks, more_behind}
+use Rattle.command_parts.proofs.AskLemmas.{first_asks, reads_asks, behind_asks, more_behind}
 use Rattle.command_words.specs.Views.{safe_seen}
 use Rattle.safe_command.specs.declared.inputs.SafeInputs.{SafeInputs}
 use Rattle.safe_command.specs.Inputs.{asks_safe}
-use Rattle.safe_command.proofs.AskLemmas.{by_hive, by_text, text_asked, ini_asked, hive_asked, first_asks}
+use Rattle.safe_command.proofs.AskLemmas.{by_hive, by_text, text_asked, ini_asked, hive_asked}
 use Rattle.safe_command.proofs.inputs.inputs_in.Goals as goal
 
 pub returns-in_err-text-clause-asks : goal.returns-in_err-text-clause-asks

@@ -1,9 +1,12 @@
-use Rattle.std.proofs.Common.{◌≡◌}
+use Rattle.std.proofs.Common.{◌≡◌, ap, ◌∙◌, List, ℕ}
 use Rattle.std.specs.Option.{option_copied}
+use Rattle.command_parts.specs.declared.status.Status.TheVariants as statuses
+use Rattle.command_parts.specs.Placed.{image_in}
+use Rattle.command_parts.specs.Refusals.{Answer}
+use Rattle.command_parts.proofs.SeekLemmas.{told_at}
 use Rattle.failure_effects.specs.Effects.{effects_of}
 use Rattle.whatif_text.specs.Lines.{printed_lines}
-use Rattle.whatif_command.specs.Answer.{choice_in}
-use Rattle.whatif_command.proofs.SeekLemmas.{told_at}
+use Rattle.whatif_command.specs.Answer.{answer_at, choice_in}
 use Rattle.whatif_command.proofs.command.report_at.Goals as goal
 
 pub returns-in-Ok-text_on : goal.returns-in-Ok-text_on
@@ -16,5 +19,5 @@ returns-in-Ok-text_on c =
     let version = c.in-Ok.version-is in
     let is : c.in-Ok-text_on.text ≡ printed_lines form (effects_of c.in-Ok.version c.in-Ok.root (choice_in inputs) of) =
     cc in
-    told_at form of inputs c.in-Ok.root c.in-Ok.field-0-1 c.in-Ok.version c.in-Ok-text_on.text c.done.result
-    c.in-Ok.ensures.checks is c.done.ensures
+    told_at (image_in inputs.hive) (answer_at form inputs of) c.in-Ok.root c.in-Ok.field-0-1 c.in-Ok.version c.done.result
+    c.in-Ok.ensures.checks (λ dirty. c.done.ensures ∙ ap (λ (t : List ℕ). record { status = statuses.Done; text = t }) is)

@@ -5,11 +5,11 @@ use Rattle.arc_path.specs.Reading.{arc_of}
 use Rattle.command_parts.specs.Inputs.{system_in, bytes_in, ini_in}
 use Rattle.command_parts.specs.Leaves.{AsksUntil, Reads, more, named}
 use Rattle.command_parts.specs.declared.inputs.HiveFiles.{HiveFiles}
-use Rattle.command_parts.proofs.AskLemmas.{reads_asks, behind_asks, more_behind}
+use Rattle.command_parts.proofs.AskLemmas.{first_asks, reads_asks, behind_asks, more_behind}
 use Rattle.command_words.specs.Views.{whatif_seen}
 use Rattle.whatif_command.specs.declared.inputs.WhatifInputs.{WhatifInputs}
 use Rattle.whatif_command.specs.Inputs.{asks_whatif}
-use Rattle.whatif_command.proofs.AskLemmas.{by_hive, by_text, text_asked, ini_asked, hive_asked, first_asks}
+use Rattle.whatif_command.proofs.AskLemmas.{by_hive, by_text, text_asked, ini_asked, hive_asked}
 use Rattle.whatif_command.proofs.inputs.inputs_in.Goals as goal
 
 pub returns-in_err-text-clause-asks : goal.returns-in_err-text-clause-asks

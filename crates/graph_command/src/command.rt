@@ -1,0 +1,177 @@
+//! The command: files in, the graph of a start or the first obstacle out.
+
+ghost use Rattle.std.specs.Prelude.{◌≡◌, Err, IfOk, option_map};
+ghost use Rattle.std.specs.Option.{option_copied};
+ghost use Rattle.hive_model.specs.Valid.{IsValid, HoldsKeys};
+ghost use Rattle.command_parts.specs.Inputs.{AsksSoMany};
+ghost use Rattle.command_parts.specs.Leaves.{IsBadUsage};
+ghost use Rattle.command_parts.specs.OnHive.{AnswersOnHive, SeeksAnswer, DecidesOnHive};
+ghost use Rattle.command_parts.specs.Refusals.{IsToldAs};
+ghost use Rattle.command_words.specs.Views.{graph_seen};
+ghost use Rattle.why_state.specs.Views.{viewed_of};
+ghost use Rattle.written_name.specs.Written.{written_of};
+ghost use Rattle.start_inputs.specs.Inputs.{AsksStart, arguments_in as start_arguments_in, files_seen};
+ghost use Rattle.graph_command.specs.Answer.{run_on, start_asked, text_by, text_on, question_at, question_on, question_in};
+ghost use Rattle.graph_command.specs.Inputs.{arguments_in, asks_graph};
+
+use command_parts::{Obstacle, Refusal, Status, Told, answer, no_memory, read};
+use command_words::GraphWords;
+use graph_rule::graph_in;
+use graph_text::print_graph;
+use line_text::ReportForm;
+use nt_bytes::{Bytes, HiveVersion, ReadStop, Units};
+use nt_edge::Host;
+use quiet_run::quiet_run;
+use reg_tree::Key;
+use start_inputs::{StartFiles, StartInputs, start_inputs};
+use std::alloc::{AllocError, Global};
+use why_lines::WhyLines;
+use why_state::{ViewedRun, push_head, viewed};
+use written_name::written_name;
+
+/// The files that the command line names.
+fn files_of<'a>(words: &GraphWords<'a>) -> StartFiles<'a>
+    ensures { files_seen result ≡ start_asked (graph_seen words.now) }
+{
+    StartFiles {
+        hive: words.hive,
+        log: words.log,
+        boot_ini: words.boot_ini,
+        system: words.system,
+        script: words.script,
+    }
+}
+
+/// What the script leaves of its last start on the tree of a hive.
+#[tactic(auto, unfolding(why_state::specs::Views::viewed_of))]
+fn run_on(
+    alloc: Global,
+    inputs: &StartInputs,
+    root: Key,
+    version: HiveVersion,
+) -> Result<ViewedRun, AllocError>
+    requires { IsValid root }
+    ensures exact { IfOk result (λ run. run ≡ viewed_of (run_on inputs.now version root)) }
+    ensures held { IfOk result (λ run. HoldsKeys run.run.set) }
+{
+    let run = quiet_run(
+        alloc,
+        &inputs.ini,
+        &inputs.system,
+        inputs.script.as_slice(),
+        root,
+        version,
+    )?;
+    viewed(alloc, run)
+}
+
+/// The graph of a start in a form.
+fn text_by(
+    alloc: Global,
+    form: ReportForm,
+    run: &ViewedRun,
+    of: Option<&Units>,
+) -> Result<Bytes, AllocError>
+    requires { HoldsKeys run.now.run.set }
+    ensures { IfOk result (λ text. text ≡ text_by form (option_copied of.entry) run.now) }
+{
+    let mut head = WhyLines::new(alloc);
+    push_head(alloc, &run.run.start, &mut head)?;
+    let graph = graph_in(alloc, run, of)?;
+    print_graph(alloc, form, head.as_slice(), &graph)
+}
+
+/// The graph on the tree of a hive, in a form.
+fn text_on(
+    alloc: Global,
+    inputs: &StartInputs,
+    form: ReportForm,
+    of: Option<&Units>,
+    root: Key,
+    version: HiveVersion,
+) -> Result<Bytes, AllocError>
+    requires { IsValid root }
+    ensures { IfOk result (λ text. text ≡ text_on form (option_copied of.entry) inputs.now version root) }
+{
+    let run = run_on(alloc, inputs, root, version)?;
+    text_by(alloc, form, &run, of)
+}
+
+/// The graph on the hive, or its first fault.
+fn report_at(
+    alloc: Global,
+    inputs: &StartInputs,
+    form: ReportForm,
+    of: Option<&Units>,
+) -> Result<Told, Obstacle>
+    ensures { AnswersOnHive (question_at form (option_copied of.entry) inputs.now) result }
+{
+    match read(alloc, &inputs.hive) {
+        Ok((root, _, version)) => match text_on(alloc, inputs, form, of, root, version) {
+            Ok(text) => Ok(Told::done(text)),
+            Err(_) => Err(no_memory()),
+        },
+        Err(ReadStop::Fault(fault)) => Err(Obstacle::Refused(Refusal::HiveFault(fault))),
+        Err(ReadStop::Memory) => Err(no_memory()),
+    }
+}
+
+/// The name that a word writes, where there is one.
+fn name_in(alloc: Global, word: Option<&str>) -> Result<Option<Units>, AllocError>
+    ensures { IfOk result (λ name. name ≡ option_map written_of (option_map (λ v. v.now) word.entry)) }
+{
+    match word {
+        Some(word) => Ok(Some(written_name(alloc, word)?)),
+        None => Ok(None),
+    }
+}
+
+/// The graph that the command line asks for, or the hive's first fault.
+fn report_on(
+    alloc: Global,
+    inputs: &StartInputs,
+    words: GraphWords<'_>,
+    form: ReportForm,
+) -> Result<Told, Obstacle>
+    ensures { AnswersOnHive (question_on form (graph_seen words.entry) inputs.now) result }
+{
+    match name_in(alloc, words.of) {
+        Ok(name) => report_at(alloc, inputs, form, name.as_ref()),
+        Err(_) => Err(no_memory()),
+    }
+}
+
+/// Gets what the command line names, and makes the graph. Nothing is printed.
+fn seek<H: Host>(
+    alloc: Global,
+    words: GraphWords<'_>,
+    form: ReportForm,
+    host: &mut H,
+) -> Result<Told, Obstacle>
+    ensures seeks { SeeksAnswer (question_in form (graph_seen words.entry) (H.state host.old).files) result (H.state host.old) (H.state host.new) }
+    ensures asks { AsksStart (start_asked (graph_seen words.entry)) result (H.state host.old) (H.state host.new) }
+    ensures usage { result ≡ Err (Obstacle.Refused Refusal.Usage) → start_arguments_in (start_asked (graph_seen words.entry)) ≡ Err Refusal.Usage }
+    ensures refused { start_arguments_in (start_asked (graph_seen words.entry)) ≡ Err Refusal.Usage → IsBadUsage result }
+{
+    match start_inputs(alloc, files_of(&words), host) {
+        Ok(inputs) => report_on(alloc, &inputs, words, form),
+        Err(obstacle) => Err(obstacle),
+    }
+}
+
+/// Gets what the command line names, and prints in one of the two forms the graph of the script's last start, or of `boot` and `go` without
+/// a script; or prints the first obstacle. Nothing is written.
+pub fn graph<H: Host>(
+    alloc: Global,
+    words: GraphWords<'_>,
+    form: ReportForm,
+    host: &mut H,
+) -> Status
+    ensures decides { DecidesOnHive (question_in form (graph_seen words.entry) (H.state host.old).files) result (H.state host.old) (H.state host.new) }
+    ensures asked { AsksSoMany (asks_graph (graph_seen words.entry)) result (H.state host.old) (H.state host.new) }
+    ensures usage { result ≡ Status.Usage → arguments_in (graph_seen words.entry) ≡ Err Refusal.Usage }
+    ensures refused { arguments_in (graph_seen words.entry) ≡ Err Refusal.Usage → IsToldAs Status.Usage result }
+{
+    let told = seek(alloc, words, form, host);
+    answer(alloc, host, told)
+}

@@ -1,0 +1,56 @@
+//! One step after the other, up to the first obstacle.
+
+ghost use Rattle.std.specs.Prelude.{◌≡◌, Err};
+ghost use Rattle.command_parts.specs.Leaves.{IsBadUsage, Looks};
+ghost use Rattle.start_inputs.specs.Inputs.{AsksStart, arguments_in, files_seen, inputs_in};
+
+use crate::script::script_in;
+use arc_path::Arc;
+use boot_ini::BootIni;
+use boot_script::Script;
+use command_parts::{HiveFiles, Obstacle, Refusal, bytes_in, hive_in, ini_in, system_in};
+use nt_edge::Host;
+use std::alloc::Global;
+
+/// The names of the files, and the ARC path of the system.
+#[derive(Clone, Copy)]
+pub struct StartFiles<'a> {
+    pub hive: &'a str,
+    pub log: Option<&'a str>,
+    pub boot_ini: Option<&'a str>,
+    pub system: &'a str,
+    pub script: Option<&'a str>,
+}
+
+/// All that is read.
+#[derive(Drop)]
+pub struct StartInputs {
+    pub system: Arc,
+    pub script: Script,
+    pub ini: BootIni,
+    pub hive: HiveFiles,
+}
+
+/// What the files have, or the first obstacle. Nothing is printed.
+pub fn start_inputs<H: Host>(
+    alloc: Global,
+    files: StartFiles<'_>,
+    host: &mut H,
+) -> Result<StartInputs, Obstacle>
+    ensures looks { Looks (inputs_in (files_seen files.entry) (H.state host.old).files) result (H.state host.old) (H.state host.new) }
+    ensures asks { AsksStart (files_seen files.entry) result (H.state host.old) (H.state host.new) }
+    ensures usage { result ≡ Err (Obstacle.Refused Refusal.Usage) → arguments_in (files_seen files.entry) ≡ Err Refusal.Usage }
+    ensures refused { arguments_in (files_seen files.entry) ≡ Err Refusal.Usage → IsBadUsage result }
+{
+    let system = system_in(alloc, files.system.as_bytes())?;
+    let script = script_in(alloc, host, files.script)?;
+    let text = bytes_in(alloc, host, files.boot_ini)?;
+    let ini = ini_in(alloc, text.as_slice(), files.system.as_bytes())?;
+    let hive = hive_in(alloc, host, files.hive, files.log)?;
+    Ok(StartInputs {
+        system,
+        script,
+        ini,
+        hive,
+    })
+}

@@ -1,0 +1,9 @@
+//! `why`: where an entry stands in a start, and why it was started or not.
+//!
+//! `why` reads a script, boot.ini and a hive, and prints of a name where its entry stands in the last start of the script, what became of it, and
+//! what it lacked; or the first obstacle. It writes nothing and has no disk.
+#![tactic(auto)]
+
+mod command;
+
+pub use command::why;

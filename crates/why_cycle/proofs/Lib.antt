@@ -1,0 +1,4 @@
+pub mod RowsLemmas
+pub mod FreedLemmas
+pub mod RoundLemmas
+pub mod WaitsLemmas

@@ -1,0 +1,14 @@
+//! The cycle of unmet entries that keeps an unmet entry from its attempt.
+//!
+//! `push_cycle` says which entries need one another, where nothing that could be mended alone is lacking.
+//! Definition: `specs/Cycle.antt`.
+#![tactic(auto)]
+
+mod freed;
+mod lines;
+mod needs;
+mod rows;
+mod waits;
+mod walk;
+
+pub use lines::push_cycle;
