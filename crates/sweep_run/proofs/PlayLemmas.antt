@@ -1,6 +1,6 @@
 -- A run on a disk that was ordered no stop is the quiet run.
 use Rattle.std.proofs.Common.{◌≡◌, ℕ, true, List, [], ◌∷◌, ◌++◌, map, Option, refl, sym, ap, subst, ◌∙◌}
-use Rattle.std.specs.Prelude.{Result, Ok, Err}
+use Rattle.std.specs.Prelude.{Result, Ok, Err, IfOk}
 use Rattle.hive_model.specs.Image.{Log, Image, IsFileOf}
 use Rattle.hive_model.specs.Load.{Loads}
 use Rattle.nt_edge.specs.Bench.{KeepsOrders}
@@ -10,11 +10,15 @@ use Rattle.nt_edge.specs.Crash.{EachCrash}
 use Rattle.boot_script.specs.declared.event.Event.{Event}
 use Rattle.boot_machine.specs.Views.{event_in}
 use Rattle.start_model.specs.Boot.{Choice}
-use Rattle.start_model.specs.Fits.{MayLoad}
-use Rattle.start_model.specs.Lines.{text_of}
+use Rattle.start_model.specs.Fits.{MayLoad, outcomes_of}
+use Rattle.start_model.specs.Lines.{Line, line_text, text_of}
 use Rattle.start_model.specs.Possible.{Woken}
 use Rattle.start_model.specs.Run.{run_of}
-use Rattle.run_parts.specs.Reports.{LeftOf, Reports, ReportsOr}
+use Rattle.run_parts.specs.Reports.{LeftOf}
+use Rattle.printed_parts.specs.Reports.{Reports, ReportsOr}
+use Rattle.printed_parts.proofs.ReportLemmas.{as_text, text_report}
+use Rattle.line_text.specs.declared.form.ReportForm.TheVariants.{Text}
+use Rattle.line_objects.specs.Objects.{printed_lines}
 use Rattle.boot_run.specs.declared.summary.Summary.{Summary}
 use Rattle.boot_run.specs.declared.stop.RunStop.{RunStop}
 use Rattle.boot_run.specs.Agrees.{LoadsAny, IsDown}
@@ -24,7 +28,7 @@ use Rattle.order_laws.specs.Unordered.{AreUnordered}
 use Rattle.order_laws.proofs.QuietLemmas.{reports-said, reports-loads, reports-uncounted}
 use Rattle.command_parts.specs.declared.inputs.HiveFiles.{HiveFiles}
 use Rattle.command_parts.specs.Placed.{image_in, placed_disk}
-use Rattle.sweep_run.specs.declared.play.Played.{Played}
+use Rattle.sweep_run.specs.declared.playing.Played.{Played}
 use Rattle.sweep_run.specs.Swept.{IsLogOf}
 use Rattle.sweep_run.specs.Played.{quiet_of, Plays, PlaysOn, IsPlayed, Taken}
 
@@ -47,11 +51,16 @@ placed_down files disk is any =
 
 -- ---- the run
 
+-- lines as text
+as_texts : (ls : List Line) → printed_lines Text ls ≡ text_of ls
+as_texts [] = refl
+as_texts (l ∷ ls) = ap (λ (t : List ℕ). line_text l ++ t) (as_texts ls)
+
 -- what a run says of a disk
 abbrev pub Says : (Option ℕ → Choice) → List Event → HostState → Result Summary RunStop → HostState → DiskState → DiskState → Type 0
 Says choice script old r new before after =
     (placed : Woken) → old.tells ≡ true → EachCrash before (λ (c : Image). Loads c placed.state placed.dirty)
-    → ReportsOr (run_of choice (map event_in script) placed) (untold old) (answered new r) before after r
+    → ReportsOr (run_of choice (map event_in script) placed) (untold Text old) (answered Text new r) before after r
 
 module _ (choice : Option ℕ → Choice) (script : List Event) (files : HiveFiles) (old new : HostState) (before after : DiskState)
     (placed : before ≡ placed_disk files) (none : AreUnordered (map event_in script)) (keeps : KeepsOrders after) where
@@ -62,15 +71,23 @@ module _ (choice : Option ℕ → Choice) (script : List Event) (files : HiveFil
   no_calls = ap (λ (d : DiskState). d.history.cut_calls) placed
 
   played : (w : Woken) (summary : Summary) → old.said ≡ []
-      → Reports (run_of choice (map event_in script) w) (untold old) (answered new (Ok summary)) before after
+      → Reports (run_of choice (map event_in script) w) (untold Text old) (answered Text new (Ok summary)) before after
       → Plays choice script w new.said after
   played w summary unsaid r =
-      let u = reports-uncounted choice (map event_in script) w (untold old) (answered new (Ok summary)) before after none r
+      let events = map event_in script in
+      let run = run_of choice events w in
+      let x = untold Text old in
+      let y = answered Text new (Ok summary) in
+      let t = text_report run x y before after r in
+      let u = reports-uncounted choice events w (as_text [] x) (as_text r.text y) before after none t
       no_armings no_calls keeps in
+      let ls = (run r.report.woken (outcomes_of r.text)).lines in
       record {
-        said = reports-said choice (map event_in script) w (untold old) (answered new (Ok summary)) before after r u.cuts u.faults
+        said = r.said_is
+            ∙ ap (λ (s : List ℕ). old.said ++ s) (as_texts ls ∙ sym r.report.lines
+            ∙ reports-said choice events w (as_text [] x) (as_text r.text y) before after t u.cuts u.faults)
             ∙ ap (λ (s : List ℕ). s ++ text_of (quiet_of choice script w).lines) unsaid;
-        left = reports-loads choice (map event_in script) w (untold old) (answered new (Ok summary)) before after r u.cuts u.faults;
+        left = reports-loads choice events w (as_text [] x) (as_text r.text y) before after t u.cuts u.faults;
       }
 
   pub plays_on : (summary : Summary) (text : List ℕ) → old.tells ≡ true → old.said ≡ [] → new.said ≡ text
@@ -80,10 +97,24 @@ module _ (choice : Option ℕ → Choice) (script : List Event) (files : HiveFil
       subst (λ (t : List ℕ). Plays choice script w t after) is
       (played w summary unsaid (says w tells (placed_loads files before w placed loads)))
 
--- the log's file of what was left
-pub log_taken : (choice : Option ℕ → Choice) (script : List Event) (w : Woken) (text : List ℕ) (disk : DiskState) (p : Played)
-    → Plays choice script w text disk → Taken {E = RunStop} text disk (Ok p) → IsPlayed choice script w p
-log_taken choice script w text disk p plays taken = record {
-  said = taken.0 ∙ plays.said;
-  log = (taken.1.0, plays.left taken.1.0 taken.1.1.0, taken.1.1.1);
-}
+-- what the call answers
+pub plays_result : {E : Type 0} (choice : Option ℕ → Choice) (script : List Event) (files : HiveFiles) (said : List ℕ) (after : DiskState)
+    (r : Result (List ℕ) E) → IfOk r (λ t. t ≡ said)
+    → ((w : Woken) → Loads (image_in files) w.state w.dirty → Plays choice script w said after)
+    → PlaysOn choice (image_in files) script r after
+plays_result choice script files said after (Ok text) is plays = λ w loads.
+    subst (λ (t : List ℕ). Plays choice script w t after) (sym is) (plays w loads)
+plays_result choice script files said after (Err e) is plays = tt
+
+-- what the call answers once the log was taken
+pub taken_result : {E : Type 0} (choice : Option ℕ → Choice) (script : List Event) (files : HiveFiles) (said : List ℕ)
+    (disk : DiskState) (r : Result Played E) → Taken said disk r
+    → ((w : Woken) → Loads (image_in files) w.state w.dirty → Plays choice script w said disk)
+    → IfOk r (λ (p : Played). (w : Woken) → Loads (image_in files) w.state w.dirty → IsPlayed choice script w p)
+taken_result choice script files said disk (Ok p) taken plays = λ w loads.
+    let here = plays w loads in
+    record {
+      said = taken.0 ∙ here.said;
+      log = (taken.1.0, here.left taken.1.0 taken.1.1.0, taken.1.1.1);
+    }
+taken_result choice script files said disk (Err e) taken plays = tt

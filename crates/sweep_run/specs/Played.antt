@@ -11,7 +11,7 @@ use Rattle.start_model.specs.Lines.{text_of}
 use Rattle.start_model.specs.Possible.{Woken}
 use Rattle.start_model.specs.Quiet.{Quiet, quiet_run_of}
 use Rattle.run_parts.specs.Reports.{LeftOf}
-use Rattle.sweep_run.specs.declared.play.Played.{Played}
+use Rattle.sweep_run.specs.declared.playing.Played.{Played}
 use Rattle.sweep_run.specs.Swept.{IsLogOf}
 
 -- the quiet run of a script's events

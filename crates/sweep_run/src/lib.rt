@@ -1,6 +1,6 @@
 //! An event played behind others, on a disk of its own: what it says, and the log that the disk then holds.
 #![tactic(auto)]
 
-mod play;
+mod playing;
 
-pub use play::{Played, play};
+pub use playing::{Played, play};

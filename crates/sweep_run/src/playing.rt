@@ -18,6 +18,7 @@ use boot_ini::BootIni;
 use boot_run::run;
 use boot_script::Event;
 use command_parts::{HiveFiles, place};
+use line_text::ReportForm;
 use mem_edge::QuietHost;
 use nt_bytes::Bytes;
 use nt_edge::{Bench, HiveFile};
@@ -47,7 +48,15 @@ fn play_on<B: Bench>(
     ensures plays { PlaysOn (choices ini.now system.now) (image_in hive.now) script.now result (B.state disk.new) }
 {
     let mut host = QuietHost::new(alloc);
-    match run(alloc, script, ini, system, &mut host, disk) {
+    match run(
+        alloc,
+        script,
+        ini,
+        system,
+        ReportForm::Text,
+        &mut host,
+        disk,
+    ) {
         Ok(_) => Bytes::from_slice(alloc, host.said()),
         Err(_) => Err(AllocError),
     }
