@@ -30,7 +30,7 @@ use Rattle.command_parts.specs.declared.refusal.Obstacle.{Obstacle}
 use Rattle.command_parts.specs.declared.refusal.Obstacle.TheVariants.{Refused, Stopped}
 use Rattle.command_parts.specs.Decides.{Decides, DecidesAlone}
 use Rattle.command_parts.specs.Placed.{image_in}
-use Rattle.command_parts.specs.Refusals.{Answer, Ends, refusal}
+use Rattle.command_parts.specs.Refusals.{Ends, refusal}
 use Rattle.command_parts.specs.Saves.{no_saves}
 use Rattle.line_text.specs.declared.form.ReportForm.{ReportForm}
 use Rattle.sweep_inputs.specs.declared.inputs.SweepInputs.{SweepInputs}
@@ -112,11 +112,14 @@ IsChecked image (Err read.Memory) = Unit {0}
 abbrev pub probe_event : Event
 probe_event = Make (codes "Select" ∷ [])
 
--- these events were played with the probe behind them, from whatever the hive loads as, and are given back
+-- these events were played, from whatever the hive loads as
+abbrev pub PlaysAll : (Option ℕ → Choice) → HiveFiles → List Event → Played → Type 0
+PlaysAll choice hive events played =
+    (placed : Woken) → Loads (image_in hive) placed.state placed.dirty → IsPlayed choice events placed played
+
+-- they were played with the probe behind them, and are given back
 abbrev pub PlaysProbed : (Option ℕ → Choice) → HiveFiles → List Event → Played × List Event → Type 0
-PlaysProbed choice hive events r =
-    (r.1 ≡ events)
-    × ((placed : Woken) → Loads (image_in hive) placed.state placed.dirty → IsPlayed choice (events ++ probe_event ∷ []) placed r.0)
+PlaysProbed choice hive events r = (r.1 ≡ events) × PlaysAll choice hive (events ++ probe_event ∷ []) r.0
 
 -- the events before were played so, and then these with the event
 abbrev pub ArePlayed : (Option ℕ → Choice) → HiveFiles → SweepScript → Played × Played → Type 0

@@ -42,7 +42,7 @@ fn play_probed(
     requires loads { LoadsAny (image_in hive.now) }
     requires counts { All HasCounts events.items }
     requires unordered { All IsUnordered events.items }
-    ensures { IfOk result (PlaysProbed (choices ini.now system.now) hive.now events.items) }
+    ensures { IfOk result (λ r. PlaysProbed (choices ini.now system.now) hive.now events.items (r.0, r.1.items)) }
 {
     let mut events = events;
     let count = events.len();

@@ -17,7 +17,7 @@ use line_text::ReportForm;
 use nt_bytes::Bytes;
 use std::alloc::{AllocError, Global};
 use sweep_inputs::SweepInputs;
-use sweep_lines::{lines_between, the_lines_of_an_event_are_found, the_probe_parts_the_lines};
+use sweep_lines::lines_between;
 use sweep_run::Played;
 use sweep_script::first_word;
 use sweep_text::{sectors_of, sweep_report};
@@ -69,7 +69,5 @@ pub(crate) fn swept_text(
     } = inputs;
     let event = first_word(&script.event);
     let (first, second) = play_both(alloc, &ini, &system, &hive, script)?;
-    the_lines_of_an_event_are_found();
-    the_probe_parts_the_lines();
     report_by(alloc, form, event, log_bytes(&hive.log), &first, &second)
 }
