@@ -1,0 +1,3 @@
+pub mod Probe
+pub mod Pieces
+pub mod Swept

@@ -1,0 +1,26 @@
+-- How is it known which lines of a report are an event's own? (this project's own)
+--
+-- A report ends with lines of no event: the verdict of a start that still runs, and the end. Behind the events stands one more, the probe,
+-- which is refused whether a start runs or not, and changes nothing: an edit of what no script may edit. The line of its refusal parts the
+-- lines of the events from those of the end.
+use Rattle.std.specs.Prelude.{List, [], ◌∷◌, Option, None, Some, codes}
+use Rattle.start_model.specs.Lines.{Line, RefusedWord, OffReason, ProtectedReason, MakeEvent, RefusedLine, VerdictLine, EndLine}
+use Rattle.start_model.specs.Events.{Event, Edits, Make}
+use Rattle.start_model.specs.Machine.{Start, ending_of}
+
+-- `make Select`
+abbrev pub probe : Event
+probe = Edits (Make (codes "Select" ∷ []))
+
+abbrev pub probe_reason : Option Start → RefusedWord
+probe_reason None = OffReason
+probe_reason (Some s) = ProtectedReason
+
+-- the end of a report, by the start that runs then
+abbrev pub closing_lines : Option Start → List Line
+closing_lines None = EndLine ∷ []
+closing_lines (Some s) = VerdictLine (ending_of s) ∷ EndLine ∷ []
+
+-- the probe's line, and the end
+abbrev pub tail_of : Option Start → List Line
+tail_of start = RefusedLine MakeEvent (probe_reason start) ∷ closing_lines start

@@ -1,0 +1,6 @@
+//! An event played behind others, on a disk of its own: what it says, and the log that the disk then holds.
+#![tactic(auto)]
+
+mod playing;
+
+pub use playing::{Played, play};

@@ -1,0 +1,4 @@
+pub mod ObjectLemmas
+pub mod LoggedLemmas
+pub mod WriteLemmas
+pub mod SaidLemmas
