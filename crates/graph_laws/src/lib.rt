@@ -1,0 +1,6 @@
+//! What holds of the graph of a start and of its text, by their definitions, apart from any code.
+#![tactic(auto)]
+
+mod texts;
+
+pub use texts::text_in_quotes_is_told;
