@@ -1,8 +1,15 @@
 -- What does the text of a graph have between quotes, and what is it made of? (this project's own; DOT is the language of Graphviz)
 use Rattle.std.specs.Prelude.{◌≡◌, ℕ, zero, suc, ◌-◌, ◌==◌, Bool, true, false, not, ◌&&◌, ◌||◌, List, [], ◌∷◌, length, codes, if◌then◌else◌}
-use Rattle.std.specs.List.{flat_map, list_all, starts_with}
+use Rattle.std.specs.List.{AllByRecursion, flat_map, list_all, starts_with}
 use Rattle.nt_bytes.specs.Text.{is_printable}
+use Rattle.json_laws.specs.Objects.{AreUnits}
+use Rattle.line_text.specs.declared.form.ReportForm.TheVariants as forms
+use Rattle.why_lines.specs.declared.lines.WhyLine.{WhyLine}
+use Rattle.why_lines.specs.declared.lines.WhyLine.TheVariants as lines
+use Rattle.graph_lines.specs.declared.graph.GraphNode.{GraphNode}
+use Rattle.graph_lines.specs.declared.graph.Graph.{Graph}
 use Rattle.graph_text.specs.Dot.{in_quotes}
+use Rattle.graph_text.specs.Objects.{printed_graph}
 
 -- ---- between quotes
 
@@ -52,3 +59,28 @@ QuotedIsUndone = (text : List ℕ) → out_of_quotes (in_quotes text) ≡ text
 -- so two texts are never the same between quotes
 abbrev pub QuotedIsOne : Type 0
 QuotedIsOne = (a b : List ℕ) → in_quotes a ≡ in_quotes b → a ≡ b
+
+-- ---- the whole
+
+-- printable ASCII, or the end of a line
+abbrev pub is_text_byte : ℕ → Bool
+is_text_byte c = is_printable c || (c == 10)
+
+-- a line about the start, whose name is of units
+abbrev pub IsHeadLine : WhyLine → Type 0
+IsHeadLine lines.NoBoot = Unit {0}
+IsHeadLine (lines.Start number) = Unit {0}
+IsHeadLine (lines.Set number on_good) = Unit {0}
+IsHeadLine (lines.Verdict verdict) = Unit {0}
+IsHeadLine (lines.EndedBy name) = AreUnits name
+IsHeadLine (lines.Vital name) = AreUnits name
+IsHeadLine line = ⊥
+
+abbrev pub IsNamed : GraphNode → Type 0
+IsNamed node = AreUnits node.name
+
+-- the text of a graph has nothing else, where names are of units
+abbrev pub DotIsText : Type 0
+DotIsText =
+    (head : List WhyLine) (graph : Graph) → AllByRecursion IsHeadLine head → AllByRecursion IsNamed graph.nodes
+    → list_all is_text_byte (printed_graph forms.Text head graph) ≡ true

@@ -3,4 +3,4 @@
 
 mod texts;
 
-pub use texts::text_in_quotes_is_told;
+pub use texts::{text_in_quotes_is_told, the_text_of_a_graph_is_ascii};
