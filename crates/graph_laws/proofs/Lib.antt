@@ -1,2 +1,3 @@
 pub mod QuoteLemmas
 pub mod TextLemmas
+pub mod NeedLemmas
