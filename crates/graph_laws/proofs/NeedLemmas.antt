@@ -41,7 +41,7 @@ at_right [] ys n k is = ap (slice_get ys) (omega (arith, is))
 at_right (x ∷ xs) ys zero k is = absurd (omega (arith, is))
 at_right (x ∷ xs) ys (suc n) k is = at_right xs ys n k (omega (arith, is))
 
-at_place : {X : Type 0} (xs : List X) (k : ℕ) (x : X) → slice_get xs k ≡ Some x → Contains xs x
+pub at_place : {X : Type 0} (xs : List X) (k : ℕ) (x : X) → slice_get xs k ≡ Some x → Contains xs x
 at_place [] k x is = absurd cc
 at_place {X} (z ∷ xs) zero x is = let P : X → Type 0 = Contains (z ∷ xs) in subst P (same_Some z x is) (first_in z xs)
 at_place (z ∷ xs) (suc k) x is = later_in z xs x (at_place xs k x is)

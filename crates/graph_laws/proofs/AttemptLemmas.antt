@@ -1,0 +1,171 @@
+-- The numbers of nodes are those of attempts.
+use Rattle.std.proofs.Common.{◌≡◌, ℕ, ◌+◌, ◌==◌, Bool, true, false, cond, List, [], ◌∷◌, ◌++◌, length, map, slice_get, Option, Some, None, refl, sym, ap, subst, ◌∙◌, inl, inr, arith}
+use Rattle.std.specs.Prelude.{Contains}
+use Rattle.std.specs.Option.{option_to_list}
+use Rattle.std.specs.List.{range_with_len}
+use Rattle.std.proofs.lemmas.Bool.{false≢true}
+use Rattle.std.proofs.lemmas.List.Elements.{Contains-append_cases}
+use Rattle.boot_report.specs.declared.words.TryWord.{TryWord}
+use Rattle.boot_report.specs.declared.words.TryWord.TheVariants as tries
+use Rattle.error_control.specs.declared.outcome.Judgement.{Judgement}
+use Rattle.error_control.specs.declared.outcome.Judgement.TheVariants as judgements
+use Rattle.start_model.specs.Lines.{Line}
+use Rattle.start_model.specs.Events.{Event}
+use Rattle.start_model.specs.Possible.{Woken}
+use Rattle.start_model.specs.Boot.{Choice}
+use Rattle.start_model.specs.Quiet as book
+use Rattle.wait_cycles.proofs.InverseLemmas.{none_in}
+use Rattle.wait_cycles.proofs.CycleLemmas.{in_cons}
+use Rattle.check_laws.proofs.ProperLaws.{flat_from}
+use Rattle.why_lines.specs.declared.lines.NameState.{NameState}
+use Rattle.why_lines.specs.declared.lines.NameState.TheVariants as names
+use Rattle.why_state.specs.declared.views.ViewedRun.{ViewedRun}
+use Rattle.why_state.specs.States.{state_of}
+use Rattle.why_laws.specs.Reports.{last_start_in}
+use Rattle.why_laws.specs.States.{failed_as, attempt_in, TriedAt, view_from}
+use Rattle.why_laws.proofs.StateLemmas.{attempt_reported}
+use Rattle.graph_lines.specs.declared.graph.NodeState.{NodeState}
+use Rattle.graph_lines.specs.declared.graph.NodeState.TheVariants as states
+use Rattle.graph_lines.specs.declared.graph.GraphNode.{GraphNode}
+use Rattle.graph_rule.specs.Entries.{entries_in}
+use Rattle.graph_rule.specs.Nodes.{node_state, node_number, entry_node, missing_node, group_node}
+use Rattle.graph_rule.specs.Rows.{parts_by, group_state, whole_of}
+use Rattle.graph_rule.specs.Shown.{is_entry, marks_of, numbers_from, number_at, node_at, drawn, graph_of}
+use Rattle.graph_laws.specs.Attempts.{state_after, IsAttempt, NumberIsAttempt, AttemptHasNumber}
+use Rattle.graph_laws.proofs.NeedLemmas.{at_place}
+
+-- ---- the nodes that are shown
+
+map_from : {X Y : Type 0} (f : X → Y) (xs : List X) (y : Y) → Contains (map f xs) y → (x : X) × (f x ≡ y)
+map_from f [] y c = absurd (none_in y c)
+map_from f (x ∷ xs) y c = elim (in_cons (f x) (map f xs) y c) [
+  | inl e ↦ (x, e)
+  | inr i ↦ map_from f xs y i
+]
+
+node_from : (ns : List GraphNode) (numbers : List ℕ) (v : ℕ) (node : GraphNode) → Contains (node_at ns numbers v) node → Contains ns node
+node_from ns numbers v node c = by (number_at numbers v == 0) (slice_get ns v) refl c
+  where
+    by : (b : Bool) (o : Option GraphNode) → slice_get ns v ≡ o → Contains (cond b [] (option_to_list o)) node → Contains ns node
+    by true o at c = absurd (none_in node c)
+    by false None at c = absurd (none_in node c)
+    by false (Some n) at c = elim (in_cons n [] node c) [
+      | inl e ↦ subst (λ (x : GraphNode). Contains ns x) e (at_place ns v n at)
+      | inr i ↦ absurd (none_in node i)
+    ]
+
+shown_from : (r : ViewedRun) (of : Option (List ℕ)) (node : GraphNode) → Contains (graph_of r of).nodes node → Contains (whole_of r of).nodes node
+unfolding graph_of
+shown_from r of node c = by (length r.views == 0) c
+  where
+    numbers : List ℕ
+    numbers = numbers_from 1 (marks_of (whole_of r of) (whole_of r of).start)
+
+    by : (b : Bool) → Contains (cond b (record { nodes = []; edges = [] }) (drawn (whole_of r of))).nodes node → Contains (whole_of r of).nodes node
+    by true c = absurd (none_in node c)
+    by false c =
+        let from = flat_from (node_at (whole_of r of).nodes numbers) (range_with_len 0 (length numbers)) node c in
+        node_from (whole_of r of).nodes numbers from.0 node from.2
+
+-- ---- each kind of node
+
+by_kind : (P : GraphNode → Type 0) (r : ViewedRun) (of : Option (List ℕ)) → ((name : List ℕ) (s : NameState) → state_of r name ≡ s
+    → (node : GraphNode) → is_entry node.kind ≡ true → node.name ≡ name → node.number ≡ node_number s → node.state ≡ node_state s → P node)
+    → ((node : GraphNode) → is_entry node.kind ≡ false → node.number ≡ 0 → P node)
+    → (node : GraphNode) → Contains (graph_of r of).nodes node → P node
+unfolding whole_of
+by_kind P r of entry other node c =
+    let p = parts_by r of (entries_in r) in
+    let a = map (entry_node r) (entries_in r) in
+    let b = map missing_node p.missing in
+    let g = map (λ (group : List ℕ). group_node (group_state p group) group) p.groups in
+    elim (Contains-append_cases (a ++ b) g node (shown_from r of node c)) [
+      | inl front ↦ elim (Contains-append_cases a b node front) [
+        | inl i ↦ (let e = map_from (entry_node r) (entries_in r) node i in
+            subst P e.1 (entry e.0.name (state_of r e.0.name) refl (entry_node r e.0) refl refl refl refl))
+        | inr i ↦ (let m = map_from missing_node p.missing node i in subst P m.1 (other (missing_node m.0) refl refl))
+      ]
+      | inr i ↦ (let m = map_from (λ (group : List ℕ). group_node (group_state p group) group) p.groups node i in
+          subst P m.1 (other (group_node (group_state p m.0) m.0) refl refl))
+    ]
+
+-- ---- attempts
+
+failed_after : (judgement : Judgement) → states.Failed ≡ state_after (failed_as judgement)
+failed_after judgements.Ignore = refl
+failed_after judgements.Log = refl
+failed_after judgements.FallBack = refl
+failed_after judgements.Stop = refl
+
+module _ (choice : Option ℕ → Choice) (script : List Event) (placed : Woken) (last : ℕ × List Line)
+    (is_last : last_start_in (book.quiet_run_of choice script placed).lines ≡ Some last) where
+  told : (name : List ℕ) (number : ℕ) (word : TryWord) (k : ℕ)
+      → attempt_in (state_of (view_from choice script placed) name) ≡ Some (number, word) → number ≡ k + 1 → TriedAt last.1 name k word
+  told name number word k is at =
+      let t = attempt_reported choice script placed last is_last name number word is in
+      let same : t.0 ≡ k = omega (arith, t.1, at) in
+      subst (λ (j : ℕ). TriedAt last.1 name j word) same t.2
+
+  number_told : (name : List ℕ) (s : NameState) → state_of (view_from choice script placed) name ≡ s → (k : ℕ) → node_number s ≡ k + 1
+      → (word : TryWord) × TriedAt last.1 name k word × (node_state s ≡ state_after word)
+  number_told name names.NoPhase is k at = absurd (omega (arith, at))
+  number_told name (names.Started number) is k at = (tries.Ok, told name number tries.Ok k (ap attempt_in is) at, refl)
+  number_told name (names.Failed number judgement) is k at =
+      (failed_as judgement, told name number (failed_as judgement) k (ap attempt_in is) at, failed_after judgement)
+  number_told name names.Unmet is k at = absurd (omega (arith, at))
+  number_told name (names.NotReached phase) is k at = absurd (omega (arith, at))
+  number_told name names.Late is k at = absurd (omega (arith, at))
+  number_told name (names.NotTaken reason) is k at = absurd (omega (arith, at))
+
+pub numbers_are : NumberIsAttempt
+numbers_are choice script placed last is_last of node c =
+    by_kind (λ (n : GraphNode). (k : ℕ) → n.number ≡ k + 1 → IsAttempt last.1 n k) (view_from choice script placed) of
+    (λ name s is n entry named number state k at.
+    (let t = number_told choice script placed last is_last name s is k (sym number ∙ at) in
+    record {
+      entry = entry;
+      word = t.0;
+      tried = subst (λ (x : List ℕ). TriedAt last.1 x k t.0) (sym named) t.1;
+      state = state ∙ t.2;
+    }))
+    (λ n other none k at. absurd (omega (arith, none, at))) node c
+
+-- ---- states of attempts
+
+abbrev was_attempted : NodeState → Bool
+was_attempted states.Started = true
+was_attempted states.Failed = true
+was_attempted states.Unmet = false
+was_attempted states.NotReached = false
+was_attempted states.Untaken = false
+was_attempted states.NoEntry = false
+
+attempted_after : (word : TryWord) → was_attempted (state_after word) ≡ true
+attempted_after tries.Ok = refl
+attempted_after tries.Ignored = refl
+attempted_after tries.Logged = refl
+attempted_after tries.FallBack = refl
+attempted_after tries.Stop = refl
+
+module _ (choice : Option ℕ → Choice) (script : List Event) (placed : Woken) (last : ℕ × List Line)
+    (is_last : last_start_in (book.quiet_run_of choice script placed).lines ≡ Some last) where
+  has_number : (name : List ℕ) (s : NameState) → state_of (view_from choice script placed) name ≡ s → was_attempted (node_state s) ≡ true
+      → (k : ℕ) × (node_number s ≡ k + 1)
+  has_number name names.NoPhase is on = absurd (false≢true on)
+  has_number name (names.Started number) is on =
+      let t = attempt_reported choice script placed last is_last name number tries.Ok (ap attempt_in is) in (t.0, t.1)
+  has_number name (names.Failed number judgement) is on =
+      let t = attempt_reported choice script placed last is_last name number (failed_as judgement) (ap attempt_in is) in (t.0, t.1)
+  has_number name names.Unmet is on = absurd (false≢true on)
+  has_number name (names.NotReached phase) is on = absurd (false≢true on)
+  has_number name names.Late is on = absurd (false≢true on)
+  has_number name (names.NotTaken reason) is on = absurd (false≢true on)
+
+pub attempts_are : AttemptHasNumber
+attempts_are choice script placed last is_last of node c =
+    by_kind (λ (n : GraphNode). is_entry n.kind ≡ true → (word : TryWord) → n.state ≡ state_after word → (k : ℕ) × (n.number ≡ k + 1))
+    (view_from choice script placed) of
+    (λ name s is n entry named number state _ word after.
+    (let k = has_number choice script placed last is_last name s is (ap was_attempted (sym state ∙ after) ∙ attempted_after word) in
+    (k.0, number ∙ k.1)))
+    (λ n other none entry word after. absurd (false≢true (sym other ∙ entry))) node c
