@@ -15,8 +15,9 @@ use Rattle.start_model.specs.Possible.{Woken}
 use Rattle.start_model.specs.Boot.{Choice}
 use Rattle.start_model.specs.Quiet as book
 use Rattle.wait_cycles.proofs.InverseLemmas.{none_in}
-use Rattle.wait_cycles.proofs.CycleLemmas.{in_cons}
-use Rattle.check_laws.proofs.ProperLaws.{flat_from}
+use Rattle.check_laws.proofs.ProperLaws.{only_in, flat_from}
+use Rattle.check_laws.proofs.TakenLemmas.{item_here}
+use Rattle.service_control.proofs.LeanLemmas.{mapped_from}
 use Rattle.why_lines.specs.declared.lines.NameState.{NameState}
 use Rattle.why_lines.specs.declared.lines.NameState.TheVariants as names
 use Rattle.why_state.specs.declared.views.ViewedRun.{ViewedRun}
@@ -32,16 +33,8 @@ use Rattle.graph_rule.specs.Nodes.{node_state, node_number, entry_node, missing_
 use Rattle.graph_rule.specs.Rows.{parts_by, group_state, whole_of}
 use Rattle.graph_rule.specs.Shown.{is_entry, marks_of, numbers_from, number_at, node_at, drawn, graph_of}
 use Rattle.graph_laws.specs.Attempts.{state_after, IsAttempt, NumberIsAttempt, AttemptHasNumber}
-use Rattle.graph_laws.proofs.NeedLemmas.{at_place}
 
 -- ---- the nodes that are shown
-
-map_from : {X Y : Type 0} (f : X → Y) (xs : List X) (y : Y) → Contains (map f xs) y → (x : X) × (f x ≡ y)
-map_from f [] y c = absurd (none_in y c)
-map_from f (x ∷ xs) y c = elim (in_cons (f x) (map f xs) y c) [
-  | inl e ↦ (x, e)
-  | inr i ↦ map_from f xs y i
-]
 
 node_from : (ns : List GraphNode) (numbers : List ℕ) (v : ℕ) (node : GraphNode) → Contains (node_at ns numbers v) node → Contains ns node
 node_from ns numbers v node c = by (number_at numbers v == 0) (slice_get ns v) refl c
@@ -49,10 +42,7 @@ node_from ns numbers v node c = by (number_at numbers v == 0) (slice_get ns v) r
     by : (b : Bool) (o : Option GraphNode) → slice_get ns v ≡ o → Contains (cond b [] (option_to_list o)) node → Contains ns node
     by true o at c = absurd (none_in node c)
     by false None at c = absurd (none_in node c)
-    by false (Some n) at c = elim (in_cons n [] node c) [
-      | inl e ↦ subst (λ (x : GraphNode). Contains ns x) e (at_place ns v n at)
-      | inr i ↦ absurd (none_in node i)
-    ]
+    by false (Some n) at c = subst (λ (x : GraphNode). Contains ns x) (only_in n node c) (item_here ns v n at)
 
 shown_from : (r : ViewedRun) (of : Option (List ℕ)) (node : GraphNode) → Contains (graph_of r of).nodes node → Contains (whole_of r of).nodes node
 unfolding graph_of
@@ -81,12 +71,12 @@ by_kind P r of entry other node c =
     let g = map (λ (group : List ℕ). group_node (group_state p group) group) p.groups in
     elim (Contains-append_cases (a ++ b) g node (shown_from r of node c)) [
       | inl front ↦ elim (Contains-append_cases a b node front) [
-        | inl i ↦ (let e = map_from (entry_node r) (entries_in r) node i in
-            subst P e.1 (entry e.0.name (state_of r e.0.name) refl (entry_node r e.0) refl refl refl refl))
-        | inr i ↦ (let m = map_from missing_node p.missing node i in subst P m.1 (other (missing_node m.0) refl refl))
+        | inl i ↦ (let e = mapped_from (entry_node r) (entries_in r) node i in
+            subst P e.is (entry e.item.name (state_of r e.item.name) refl (entry_node r e.item) refl refl refl refl))
+        | inr i ↦ (let m = mapped_from missing_node p.missing node i in subst P m.is (other (missing_node m.item) refl refl))
       ]
-      | inr i ↦ (let m = map_from (λ (group : List ℕ). group_node (group_state p group) group) p.groups node i in
-          subst P m.1 (other (group_node (group_state p m.0) m.0) refl refl))
+      | inr i ↦ (let m = mapped_from (λ (group : List ℕ). group_node (group_state p group) group) p.groups node i in
+          subst P m.is (other (group_node (group_state p m.item) m.item) refl refl))
     ]
 
 -- ---- attempts

@@ -1,5 +1,5 @@
 -- Edges are needs.
-use Rattle.std.proofs.Common.{◌≡◌, ℕ, zero, suc, ◌+◌, Bool, true, false, not, List, [], ◌∷◌, ◌++◌, length, map, slice_get, Option, Some, None, refl, sym, ap, subst, ◌∙◌, inl, inr, arith}
+use Rattle.std.proofs.Common.{◌≡◌, ℕ, zero, suc, ◌+◌, Bool, true, false, not, List, [], ◌∷◌, ◌++◌, length, map, slice_get, Option, Some, None, refl, sym, ap, subst, ◌∙◌, ◌⊎◌, inl, inr, arith}
 use Rattle.std.specs.Prelude.{Contains, filter}
 use Rattle.std.specs.Option.{is_some, option_map, option_or, option_to_list}
 use Rattle.std.specs.List.{filter_map, cons_option, flat_map}
@@ -14,12 +14,13 @@ use Rattle.start_model.specs.Entries.{Entry}
 use Rattle.start_model.specs.Order.{first_names}
 use Rattle.boot_phases.proofs.TriedLemmas.{some_place}
 use Rattle.dependencies.proofs.MeetLemmas.{names_flip}
-use Rattle.wait_cycles.specs.Graph.{row_at}
-use Rattle.wait_cycles.proofs.InverseLemmas.{none_in}
-use Rattle.wait_cycles.proofs.MetLemmas.{first_in, later_in, any_from}
-use Rattle.wait_cycles.proofs.CycleLemmas.{in_cons, filter_in}
+use Rattle.wait_cycles.specs.Graph.{row_at, HasEdge}
+use Rattle.wait_cycles.proofs.MetLemmas.{any_from}
+use Rattle.wait_cycles.proofs.CycleLemmas.{filter_in}
 use Rattle.check_laws.proofs.CycleLaws.{flat_in}
 use Rattle.check_laws.proofs.RowLemmas.{first_sub, first_for}
+use Rattle.check_laws.proofs.TakenLemmas.{item_here, mapped_on}
+use Rattle.service_control.proofs.LeastLemmas.{from}
 use Rattle.why_state.specs.declared.views.ViewedRun.{ViewedRun}
 use Rattle.why_state.specs.States.{place_in}
 use Rattle.graph_lines.specs.declared.graph.GraphNode.{GraphNode}
@@ -40,11 +41,6 @@ at_right : {X : Type 0} (xs ys : List X) (n k : ℕ) → n ≡ length xs + k →
 at_right [] ys n k is = ap (slice_get ys) (omega (arith, is))
 at_right (x ∷ xs) ys zero k is = absurd (omega (arith, is))
 at_right (x ∷ xs) ys (suc n) k is = at_right xs ys n k (omega (arith, is))
-
-pub at_place : {X : Type 0} (xs : List X) (k : ℕ) (x : X) → slice_get xs k ≡ Some x → Contains xs x
-at_place [] k x is = absurd cc
-at_place {X} (z ∷ xs) zero x is = let P : X → Type 0 = Contains (z ∷ xs) in subst P (same_Some z x is) (first_in z xs)
-at_place (z ∷ xs) (suc k) x is = later_in z xs x (at_place xs k x is)
 
 -- what a list that was mapped has at a place
 mapped : {X Y : Type 0} (f : X → Y) (xs : List X) (k : ℕ) (y : Y) → slice_get (map f xs) k ≡ Some y
@@ -78,61 +74,42 @@ placed names name other c same =
 first_placed : (names : List (List ℕ)) (name : List ℕ) → Contains names name → (k : ℕ) × (place_in (first_names names) name ≡ Some k)
 first_placed names name c = let first = first_for names name c in placed (first_names names) name first.0 first.1 first.2
 
--- ---- what is gathered
+-- ---- the needs of a kind
 
-gathered : {X Y : Type 0} (f : X → Option Y) (xs : List X) (x : X) (y : Y) → Contains xs x → f x ≡ Some y → Contains (filter_map f xs) y
-gathered f [] x y c is = absurd (none_in x c)
-gathered {X} {Y} f (z ∷ xs) x y c is = elim (in_cons z xs x c) [
-  | inl e ↦ subst (λ (o : Option Y). Contains (cons_option o (filter_map f xs)) y) (sym (ap f e ∙ is)) (first_in y (filter_map f xs))
-  | inr i ↦ more (f z) (filter_map f xs) (gathered f xs x y i is)
-]
-  where
-    more : (o : Option Y) (ys : List Y) → Contains ys y → Contains (cons_option o ys) y
-    more None ys c = c
-    more (Some w) ys c = later_in w ys y c
-
-gathers : {X Y : Type 0} (f : X → Option Y) (xs : List X) (y : Y) → Contains (filter_map f xs) y
-    → (x : X) × Contains xs x × (f x ≡ Some y)
-gathers f [] y c = absurd (none_in y c)
-gathers {X} {Y} f (x ∷ xs) y c = by (f x) refl c (gathers f xs y)
-  where
-    deeper : (z : X) × Contains xs z × (f z ≡ Some y) → (z : X) × Contains (x ∷ xs) z × (f z ≡ Some y)
-    deeper d = (d.0, later_in x xs d.0 d.1, d.2)
-
-    by : (o : Option Y) → f x ≡ o → Contains (cons_option o (filter_map f xs)) y
-        → (Contains (filter_map f xs) y → (z : X) × Contains xs z × (f z ≡ Some y)) → (z : X) × Contains (x ∷ xs) z × (f z ≡ Some y)
-    by None is c deep = deeper (deep c)
-    by (Some w) is c deep = elim (in_cons w (filter_map f xs) y c) [
-      | inl e ↦ (x, first_in x xs, is ∙ ap (λ (v : Y). Some v) e)
-      | inr i ↦ deeper (deep i)
-    ]
-
--- ---- the vertices of needs of a kind
-
-module _ (nodes : List GraphNode) (of_group : Bool) (vertex : List ℕ → Option ℕ) (needs : List (List ℕ))
+module _ (nodes : List GraphNode) (rows : List (List ℕ)) (u : ℕ) (of_group : Bool) (vertex : List ℕ → Option ℕ) (needs : List (List ℕ))
     (stands : (name : List ℕ) (v : ℕ) → vertex name ≡ Some v → StandsFor nodes v of_group name)
-    (found : (name : List ℕ) → Contains needs name → (v : ℕ) × (vertex name ≡ Some v)) where
-  each_need : (name : List ℕ) → Contains needs name
-      → (v : ℕ) × Contains (filter_map vertex (first_names needs)) v × StandsFor nodes v of_group name
+    (found : (name : List ℕ) → Contains needs name → (v : ℕ) × (vertex name ≡ Some v))
+    (leads : (v : ℕ) → Contains (filter_map vertex (first_names needs)) v → HasEdge rows u v)
+    (led : (v : ℕ) → HasEdge rows u v → Contains (filter_map vertex (first_names needs)) v ⊎ ((name : List ℕ) × StandsFor nodes v (not of_group) name)) where
+  each_need : (name : List ℕ) → Contains needs name → (v : ℕ) × HasEdge rows u v × StandsFor nodes v of_group name
   each_need name c =
       let first = first_for needs name c in
       let v = found first.0 (first_sub needs first.0 first.1) in
-      let s = stands first.0 v.0 v.1 in (
-        v.0,
-        gathered vertex (first_names needs) first.0 v.0 first.1 v.1,
-        record {
-          node = s.node;
-          at = s.at;
-          kind = s.kind;
-          same = sym (alike first.0 name first.2 s.node.name) ∙ s.same;
-        },
-      )
+      let s = stands first.0 v.0 v.1 in
+      (v.0, leads v.0 (mapped_on vertex (first_names needs) first.0 v.0 first.1 v.1), record {
+        node = s.node;
+        at = s.at;
+        kind = s.kind;
+        same = sym (alike first.0 name first.2 s.node.name) ∙ s.same;
+      })
 
-  only_needs : (v : ℕ) → Contains (filter_map vertex (first_names needs)) v
-      → (name : List ℕ) × Contains needs name × StandsFor nodes v of_group name
-  only_needs v c =
-      let from = gathers vertex (first_names needs) v c in
-      (from.0, first_sub needs from.0 from.1, stands from.0 v from.2)
+  only_need : (v : ℕ) (node : GraphNode) → HasEdge rows u v → slice_get nodes v ≡ Some node → is_group node.kind ≡ of_group
+      → (name : List ℕ) × Contains needs name × (folds_same name node.name ≡ true)
+  only_need v node edge at kind = elim (led v edge) [
+    | inl c ↦ (let f = from vertex (first_names needs) v c in
+        let s = stands f.item v f.is in
+        let same = same_Some s.node node (sym s.at ∙ at) in
+        (f.item, first_sub needs f.item f.there, ap (λ (n : GraphNode). folds_same f.item n.name) (sym same) ∙ s.same))
+    | inr o ↦ (let same = same_Some o.1.node node (sym o.1.at ∙ at) in
+        absurd (differ of_group (sym kind ∙ ap (λ (n : GraphNode). is_group n.kind) (sym same) ∙ o.1.kind)))
+  ]
+    where
+      differ : (b : Bool) → b ≡ not b → ⊥
+      differ true h = false≢true (sym h)
+      differ false h = false≢true h
+
+  needs_led : LeadsToNeeds nodes rows u of_group needs
+  needs_led = record { each = each_need; only = only_need }
 
 -- ---- the vertices of a graph
 
@@ -247,50 +224,27 @@ module _ (r : ViewedRun) (of : Option (List ℕ)) (es : List Entry) where
         sym (get_or_from_slice_get (a ++ b ++ g) u (entry_row (parts_by r of es) e) []
         (at_left (a ++ b) g u (entry_row (parts_by r of es) e) (at_left a b u (entry_row (parts_by r of es) e) (map_at (entry_row (parts_by r of es)) es u e is))))
 
-    in_row : (v : ℕ) → Contains (services ++ others) v → Contains (row_at rows u) v
+    in_row : (v : ℕ) → Contains (services ++ others) v → HasEdge rows u v
     in_row v c = subst (λ (vs : List ℕ). Contains vs v) row c
 
-    -- a vertex of the other kind is none of this
-    no_other : {X : Type 0} (v : ℕ) (node : GraphNode) (kind : Bool) (name : List ℕ) → slice_get nodes v ≡ Some node
-        → is_group node.kind ≡ not kind → StandsFor nodes v kind name → X
-    no_other v node kind name at is s = absurd (differ kind (sym s.kind ∙ ap (λ (n : GraphNode). is_group n.kind) (same_Some s.node node (sym s.at ∙ at)) ∙ is))
-      where
-        differ : (b : Bool) → b ≡ not b → ⊥
-        differ true h = false≢true (sym h)
-        differ false h = false≢true h
-
-    told : (v : ℕ) (node : GraphNode) (kind : Bool) (name : List ℕ) → slice_get nodes v ≡ Some node
-        → StandsFor nodes v kind name → folds_same name node.name ≡ true
-    told v node kind name at s =
-        ap (λ (n : GraphNode). folds_same name n.name) (same_Some node s.node (sym at ∙ s.at)) ∙ s.same
+    of_row : (v : ℕ) → HasEdge rows u v → Contains services v ⊎ Contains others v
+    of_row v edge = Contains-append_cases services others v (subst (λ (vs : List ℕ). Contains vs v) (sym row) edge)
 
     to_services : LeadsToNeeds nodes rows u false e.services
-    to_services = record {
-      each = λ name c.
-          let v = each_need (nodes_of (parts_by r of es)) false (name_vertex (parts_by r of es)) e.services name_stands (name_found e (at_place es u e is)) name c in
-          (v.0, in_row v.0 (Contains-append_left services others v.0 v.1), v.2);
-      only = λ v node edge at kind.
-          elim (Contains-append_cases services others v (subst (λ (vs : List ℕ). Contains vs v) (sym row) edge)) [
-            | inl c ↦ (let n = only_needs (nodes_of (parts_by r of es)) false (name_vertex (parts_by r of es)) e.services name_stands (name_found e (at_place es u e is)) v c in
-                (n.0, n.1, told v node false n.0 at n.2))
-            | inr c ↦ (let n = only_needs (nodes_of (parts_by r of es)) true (group_vertex (parts_by r of es)) e.groups group_stands (group_found e (at_place es u e is)) v c in
-                no_other v node true n.0 at kind n.2)
-          ];
-    }
+    to_services =
+        needs_led nodes rows u false (name_vertex (parts_by r of es)) e.services name_stands (name_found e (item_here es u e is))
+        (λ v c. in_row v (Contains-append_left services others v c)) (λ v edge. elim (of_row v edge) [
+          | inl c ↦ inl c
+          | inr c ↦ (let f = from (group_vertex (parts_by r of es)) (first_names e.groups) v c in inr (f.item, group_stands f.item v f.is))
+        ])
 
     to_groups : LeadsToNeeds nodes rows u true e.groups
-    to_groups = record {
-      each = λ name c.
-          let v = each_need (nodes_of (parts_by r of es)) true (group_vertex (parts_by r of es)) e.groups group_stands (group_found e (at_place es u e is)) name c in
-          (v.0, in_row v.0 (Contains-append_right services others v.0 v.1), v.2);
-      only = λ v node edge at kind.
-          elim (Contains-append_cases services others v (subst (λ (vs : List ℕ). Contains vs v) (sym row) edge)) [
-            | inl c ↦ (let n = only_needs (nodes_of (parts_by r of es)) false (name_vertex (parts_by r of es)) e.services name_stands (name_found e (at_place es u e is)) v c in
-                no_other v node false n.0 at kind n.2)
-            | inr c ↦ (let n = only_needs (nodes_of (parts_by r of es)) true (group_vertex (parts_by r of es)) e.groups group_stands (group_found e (at_place es u e is)) v c in
-                (n.0, n.1, told v node true n.0 at n.2))
-          ];
-    }
+    to_groups =
+        needs_led nodes rows u true (group_vertex (parts_by r of es)) e.groups group_stands (group_found e (item_here es u e is))
+        (λ v c. in_row v (Contains-append_right services others v c)) (λ v edge. elim (of_row v edge) [
+          | inr c ↦ inl c
+          | inl c ↦ (let f = from (name_vertex (parts_by r of es)) (first_names e.services) v c in inr (f.item, name_stands f.item v f.is))
+        ])
 
     entry_vertex : IsEntryVertex nodes rows u r e
     entry_vertex = record {
