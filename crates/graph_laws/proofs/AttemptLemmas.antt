@@ -1,5 +1,5 @@
 -- The numbers of nodes are those of attempts.
-use Rattle.std.proofs.Common.{◌≡◌, ℕ, ◌+◌, ◌==◌, Bool, true, false, cond, List, [], ◌∷◌, ◌++◌, length, map, slice_get, Option, Some, None, refl, sym, ap, subst, ◌∙◌, inl, inr, arith}
+use Rattle.std.proofs.Common.{◌≡◌, ℕ, ◌+◌, ◌==◌, Bool, true, false, cond, List, [], ◌++◌, length, map, slice_get, Option, Some, None, refl, sym, ap, subst, ◌∙◌, ◌⊎◌, inl, inr, arith}
 use Rattle.std.specs.Prelude.{Contains}
 use Rattle.std.specs.Option.{option_to_list}
 use Rattle.std.specs.List.{range_with_len}
@@ -87,41 +87,6 @@ failed_after judgements.Log = refl
 failed_after judgements.FallBack = refl
 failed_after judgements.Stop = refl
 
-module _ (choice : Option ℕ → Choice) (script : List Event) (placed : Woken) (last : ℕ × List Line)
-    (is_last : last_start_in (book.quiet_run_of choice script placed).lines ≡ Some last) where
-  told : (name : List ℕ) (number : ℕ) (word : TryWord) (k : ℕ)
-      → attempt_in (state_of (view_from choice script placed) name) ≡ Some (number, word) → number ≡ k + 1 → TriedAt last.1 name k word
-  told name number word k is at =
-      let t = attempt_reported choice script placed last is_last name number word is in
-      let same : t.0 ≡ k = omega (arith, t.1, at) in
-      subst (λ (j : ℕ). TriedAt last.1 name j word) same t.2
-
-  number_told : (name : List ℕ) (s : NameState) → state_of (view_from choice script placed) name ≡ s → (k : ℕ) → node_number s ≡ k + 1
-      → (word : TryWord) × TriedAt last.1 name k word × (node_state s ≡ state_after word)
-  number_told name names.NoPhase is k at = absurd (omega (arith, at))
-  number_told name (names.Started number) is k at = (tries.Ok, told name number tries.Ok k (ap attempt_in is) at, refl)
-  number_told name (names.Failed number judgement) is k at =
-      (failed_as judgement, told name number (failed_as judgement) k (ap attempt_in is) at, failed_after judgement)
-  number_told name names.Unmet is k at = absurd (omega (arith, at))
-  number_told name (names.NotReached phase) is k at = absurd (omega (arith, at))
-  number_told name names.Late is k at = absurd (omega (arith, at))
-  number_told name (names.NotTaken reason) is k at = absurd (omega (arith, at))
-
-pub numbers_are : NumberIsAttempt
-numbers_are choice script placed last is_last of node c =
-    by_kind (λ (n : GraphNode). (k : ℕ) → n.number ≡ k + 1 → IsAttempt last.1 n k) (view_from choice script placed) of
-    (λ name s is n entry named number state k at.
-    (let t = number_told choice script placed last is_last name s is k (sym number ∙ at) in
-    record {
-      entry = entry;
-      word = t.0;
-      tried = subst (λ (x : List ℕ). TriedAt last.1 x k t.0) (sym named) t.1;
-      state = state ∙ t.2;
-    }))
-    (λ n other none k at. absurd (omega (arith, none, at))) node c
-
--- ---- states of attempts
-
 abbrev was_attempted : NodeState → Bool
 was_attempted states.Started = true
 was_attempted states.Failed = true
@@ -139,23 +104,51 @@ attempted_after tries.Stop = refl
 
 module _ (choice : Option ℕ → Choice) (script : List Event) (placed : Woken) (last : ℕ × List Line)
     (is_last : last_start_in (book.quiet_run_of choice script placed).lines ≡ Some last) where
-  has_number : (name : List ℕ) (s : NameState) → state_of (view_from choice script placed) name ≡ s → was_attempted (node_state s) ≡ true
-      → (k : ℕ) × (node_number s ≡ k + 1)
-  has_number name names.NoPhase is on = absurd (false≢true on)
-  has_number name (names.Started number) is on =
-      let t = attempt_reported choice script placed last is_last name number tries.Ok (ap attempt_in is) in (t.0, t.1)
-  has_number name (names.Failed number judgement) is on =
-      let t = attempt_reported choice script placed last is_last name number (failed_as judgement) (ap attempt_in is) in (t.0, t.1)
-  has_number name names.Unmet is on = absurd (false≢true on)
-  has_number name (names.NotReached phase) is on = absurd (false≢true on)
-  has_number name names.Late is on = absurd (false≢true on)
-  has_number name (names.NotTaken reason) is on = absurd (false≢true on)
+  -- the state tells of the attempt at a place
+  record IsTold (name : List ℕ) (s : NameState) : Type 0 where
+    place : ℕ
+    number : node_number s ≡ place + 1
+    word : TryWord
+    tried : TriedAt last.1 name place word
+    state : node_state s ≡ state_after word
+
+  -- or of none
+  abbrev Untold : NameState → Type 0
+  Untold s = (node_number s ≡ 0) × (was_attempted (node_state s) ≡ false)
+
+  told_or_not : (name : List ℕ) (s : NameState) → state_of (view_from choice script placed) name ≡ s → IsTold name s ⊎ Untold s
+  told_or_not name names.NoPhase is = inr (refl, refl)
+  told_or_not name (names.Started number) is =
+      let t = attempt_reported choice script placed last is_last name number tries.Ok (ap attempt_in is) in
+      inl (record { place = t.0; number = t.1; word = tries.Ok; tried = t.2; state = refl })
+  told_or_not name (names.Failed number judgement) is =
+      let t = attempt_reported choice script placed last is_last name number (failed_as judgement) (ap attempt_in is) in
+      inl (record { place = t.0; number = t.1; word = failed_as judgement; tried = t.2; state = failed_after judgement })
+  told_or_not name names.Unmet is = inr (refl, refl)
+  told_or_not name (names.NotReached phase) is = inr (refl, refl)
+  told_or_not name names.Late is = inr (refl, refl)
+  told_or_not name (names.NotTaken reason) is = inr (refl, refl)
+
+pub numbers_are : NumberIsAttempt
+numbers_are choice script placed last is_last of node c =
+    by_kind (λ (n : GraphNode). (k : ℕ) → n.number ≡ k + 1 → IsAttempt last.1 n k) (view_from choice script placed) of
+    (λ name s is n entry named number state k at. elim (told_or_not choice script placed last is_last name s is) [
+      | inl t ↦ (let same : t.place ≡ k = omega (arith, t.number, number, at) in record {
+        entry = entry;
+        word = t.word;
+        tried = subst (λ (x : List ℕ). TriedAt last.1 x k t.word) (sym named) (subst (λ (j : ℕ). TriedAt last.1 name j t.word) same t.tried);
+        state = state ∙ t.state;
+      })
+      | inr none ↦ absurd (omega (arith, none.0, number, at))
+    ])
+    (λ n other none k at. absurd (omega (arith, none, at))) node c
 
 pub attempts_are : AttemptHasNumber
 attempts_are choice script placed last is_last of node c =
     by_kind (λ (n : GraphNode). is_entry n.kind ≡ true → (word : TryWord) → n.state ≡ state_after word → (k : ℕ) × (n.number ≡ k + 1))
     (view_from choice script placed) of
-    (λ name s is n entry named number state _ word after.
-    (let k = has_number choice script placed last is_last name s is (ap was_attempted (sym state ∙ after) ∙ attempted_after word) in
-    (k.0, number ∙ k.1)))
+    (λ name s is n entry named number state _ word after. elim (told_or_not choice script placed last is_last name s is) [
+      | inl t ↦ (t.place, number ∙ t.number)
+      | inr none ↦ absurd (false≢true (sym none.1 ∙ ap was_attempted (sym state ∙ after) ∙ attempted_after word))
+    ])
     (λ n other none entry word after. absurd (false≢true (sym other ∙ entry))) node c

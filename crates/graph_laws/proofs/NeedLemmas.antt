@@ -2,7 +2,7 @@
 use Rattle.std.proofs.Common.{◌≡◌, ℕ, zero, suc, ◌+◌, Bool, true, false, not, List, [], ◌∷◌, ◌++◌, length, map, slice_get, Option, Some, None, refl, sym, ap, subst, ◌∙◌, ◌⊎◌, inl, inr, arith}
 use Rattle.std.specs.Prelude.{Contains, filter}
 use Rattle.std.specs.Option.{is_some, option_map, option_or, option_to_list}
-use Rattle.std.specs.List.{filter_map, cons_option, flat_map}
+use Rattle.std.specs.List.{filter_map, flat_map}
 use Rattle.std.proofs.lemmas.Bool.{false≢true}
 use Rattle.std.proofs.lemmas.List.{length-append, length-map}
 use Rattle.std.proofs.lemmas.List.Elements.{Contains-append_left, Contains-append_right, Contains-append_cases}
@@ -85,13 +85,16 @@ module _ (nodes : List GraphNode) (rows : List (List ℕ)) (u : ℕ) (of_group :
   each_need name c =
       let first = first_for needs name c in
       let v = found first.0 (first_sub needs first.0 first.1) in
-      let s = stands first.0 v.0 v.1 in
-      (v.0, leads v.0 (mapped_on vertex (first_names needs) first.0 v.0 first.1 v.1), record {
-        node = s.node;
-        at = s.at;
-        kind = s.kind;
-        same = sym (alike first.0 name first.2 s.node.name) ∙ s.same;
-      })
+      let s = stands first.0 v.0 v.1 in (
+        v.0,
+        leads v.0 (mapped_on vertex (first_names needs) first.0 v.0 first.1 v.1),
+        record {
+          node = s.node;
+          at = s.at;
+          kind = s.kind;
+          same = sym (alike first.0 name first.2 s.node.name) ∙ s.same;
+        },
+      )
 
   only_need : (v : ℕ) (node : GraphNode) → HasEdge rows u v → slice_get nodes v ≡ Some node → is_group node.kind ≡ of_group
       → (name : List ℕ) × Contains needs name × (folds_same name node.name ≡ true)
