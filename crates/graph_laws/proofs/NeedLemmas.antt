@@ -253,6 +253,14 @@ module _ (r : ViewedRun) (of : Option (List ℕ)) (es : List Entry) where
     entry_vertex = record {
       node = at_left (entries ++ missing) groups u (entry_node r e)
           (at_left entries missing u (entry_node r e) (map_at (entry_node r) es u e is));
+      ends = λ v edge. elim (of_row v edge) [
+        | inl c ↦ (let f = from (name_vertex (parts_by r of es)) (first_names e.services) v c in
+            let s = name_stands f.item v f.is in
+            (s.node, s.at))
+        | inr c ↦ (let f = from (group_vertex (parts_by r of es)) (first_names e.groups) v c in
+            let s = group_stands f.item v f.is in
+            (s.node, s.at))
+      ];
       services = to_services;
       groups = to_groups;
     }

@@ -25,9 +25,10 @@ pub record LeadsToNeeds (nodes : List GraphNode) (rows : List (List ℕ)) (u : �
   pub only : (v : ℕ) (node : GraphNode) → HasEdge rows u v → slice_get nodes v ≡ Some node → is_group node.kind ≡ of_group
       → (name : List ℕ) × Contains needs name × (folds_same name node.name ≡ true)
 
--- the vertex of an entry, and where edges lead from it
+-- the vertex of an entry: edges lead from it to vertices, which are those of its needs
 pub record IsEntryVertex (nodes : List GraphNode) (rows : List (List ℕ)) (u : ℕ) (r : ViewedRun) (e : Entry) : Type 0 where
   pub node : slice_get nodes u ≡ Some (entry_node r e)
+  pub ends : (v : ℕ) → HasEdge rows u v → (node : GraphNode) × (slice_get nodes v ≡ Some node)
   pub services : LeadsToNeeds nodes rows u false e.services
   pub groups : LeadsToNeeds nodes rows u true e.groups
 
