@@ -1,0 +1,4 @@
+pub mod QuoteLemmas
+pub mod TextLemmas
+pub mod NeedLemmas
+pub mod AttemptLemmas
