@@ -9,7 +9,7 @@ use Rattle.command_words.specs.declared.asked.CommandName.TheVariants as names
 use Rattle.command_words.specs.declared.asked.Page.{Page}
 use Rattle.command_words.specs.declared.asked.Page.TheVariants as pages
 use Rattle.command_words.specs.Words.{Text, Asked, Reading, Reason, asks, help, version, refused}
-use Rattle.command_words.specs.Words.{run, show, make, safe, control, twin, export, import, key, replay, check, whatif, salvage, diff, why, graph}
+use Rattle.command_words.specs.Words.{run, show, make, safe, control, twin, export, import, key, replay, check, whatif, salvage, diff, why, graph, sweep}
 use Rattle.command_words.specs.Table.{count_of, mode_of}
 use Rattle.command_words.specs.Walk.{Values, and_then, no_values, value_named, walked}
 use Rattle.command_words.specs.Commands.{CommandRow, Look, asks_of, counted as counted_in, row_named}
@@ -199,6 +199,13 @@ asks_counted names.Graph look = by_one look (codes "--hive") (λ hive. graph rec
   script = look (codes "--script");
   of = look (codes "--of");
 }) (λ hive. tt)
+asks_counted names.Sweep look = by_two look (codes "--hive") (codes "--script") (λ hive script. sweep record {
+  hive = hive;
+  log = look (codes "--log");
+  script = script;
+  boot_ini = look (codes "--boot-ini");
+  system = system_in look;
+}) (λ hive script. tt)
 
 -- ---- the reading
 

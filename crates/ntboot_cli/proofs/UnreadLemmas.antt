@@ -3,7 +3,7 @@ use Rattle.std.proofs.Common.{◌≡◌, inl, inr, ℕ, Bool, true, false, List,
 use Rattle.std.specs.Prelude.{Result, Ok, Err}
 use Rattle.nt_edge.specs.Disk.{DiskState, new_state}
 use Rattle.nt_edge.specs.Host.{Files, HostState}
-use Rattle.command_words.specs.Words.{Reading, asks, help, refused, version, graph, why, diff, salvage, whatif, check, key, replay, export, import, twin, control, safe, run, show, make}
+use Rattle.command_words.specs.Words.{Reading, asks, help, refused, version, sweep, graph, why, diff, salvage, whatif, check, key, replay, export, import, twin, control, safe, run, show, make}
 use Rattle.command_words.specs.Words.{MakeAsked}
 use Rattle.command_parts.specs.declared.inputs.HiveFiles.{HiveFiles}
 use Rattle.command_parts.specs.declared.refusal.Refusal.{Refusal}
@@ -26,6 +26,9 @@ use Rattle.check_command.specs.Answer.{question_in as check_question_in}
 use Rattle.whatif_command.specs.Answer.{question_in as whatif_question_in}
 use Rattle.why_command.specs.Answer.{question_in as why_question_in}
 use Rattle.graph_command.specs.Answer.{question_in as graph_question_in}
+use Rattle.sweep_command.specs.Answer.{files_asked, EndsSweep}
+use Rattle.sweep_inputs.specs.declared.inputs.SweepInputs.{SweepInputs}
+use Rattle.sweep_inputs.specs.Inputs.{inputs_in as sweep_inputs_in}
 use Rattle.salvage_command.specs.Answer.{report_in as salvage_report_in}
 use Rattle.safe_command.specs.Answer.{question_in as safe_question_in}
 use Rattle.control_command.specs.Answer.{question_in as control_question_in}
@@ -90,6 +93,11 @@ unread_made form (Err r) words saves disk said fresh = (inr (no_front (refusal_t
 unread_made form (Ok usual) words saves disk said fresh =
     (inr (no_front _ said said refl), part_more _ disk (new_part form usual words disk fresh))
 
+unread_sweep : (form : ReportForm) (wanted : Result SweepInputs Refusal) (said : List ℕ)
+    → EndsSweep form wanted statuses.Memory said said
+unread_sweep form (Err r) said = inr (no_front (refusal_text r) said said refl)
+unread_sweep form (Ok inputs) said = inr (inr (inl refl, refl))
+
 unread_words : (asked : Reading) (host : HostState) (disk : DiskState) → disk ≡ new_state
     → EndsWords asked host.files host.files disk statuses.Memory host.said host.said
 unread_words (refused why) host disk fresh = (inr (no_front _ host.said host.said refl), fresh)
@@ -128,6 +136,8 @@ unread_words (asks (why words) json) host disk fresh =
     (unread_hive (why_question_in (form_of json) words host.files) host.said, fresh)
 unread_words (asks (graph words) json) host disk fresh =
     (unread_hive (graph_question_in (form_of json) words host.files) host.said, fresh)
+unread_words (asks (sweep words) json) host disk fresh =
+    (unread_sweep (form_of json) (sweep_inputs_in (files_asked words) host.files) host.said, fresh)
 
 pub unread_leaves : (asked : Reading) (host : HostState) (disk : DiskState) → disk ≡ new_state
     → Leaves (EndsWords asked host.files host.files disk) statuses.Memory host host

@@ -24,7 +24,7 @@ use Rattle.boot_run.specs.Agrees.{LoadsAny}
 use Rattle.boot_run.specs.Choices.{choices}
 use Rattle.help_text.specs.Pages.{page_text}
 use Rattle.tree_text.specs.TreeObjects.{shown_in}
-use Rattle.command_words.specs.Words.{Reading, asks, help, refused, version, graph, why, diff, salvage, whatif, check, key, replay, export, import, twin, control, safe, run, show, make, RunAsked, ShowAsked, MakeAsked}
+use Rattle.command_words.specs.Words.{Reading, asks, help, refused, version, sweep, graph, why, diff, salvage, whatif, check, key, replay, export, import, twin, control, safe, run, show, make, RunAsked, ShowAsked, MakeAsked}
 use Rattle.command_parts.specs.declared.status.Status.{Status}
 use Rattle.command_parts.specs.declared.status.Status.TheVariants as statuses
 use Rattle.command_parts.specs.declared.refusal.Refusal.{Refusal}
@@ -57,6 +57,8 @@ use Rattle.check_command.specs.Answer.{question_in as check_question_in}
 use Rattle.whatif_command.specs.Answer.{question_in as whatif_question_in}
 use Rattle.why_command.specs.Answer.{question_in as why_question_in}
 use Rattle.graph_command.specs.Answer.{question_in as graph_question_in}
+use Rattle.sweep_command.specs.Answer.{files_asked, EndsSweep}
+use Rattle.sweep_inputs.specs.Inputs.{inputs_in as sweep_inputs_in}
 use Rattle.salvage_command.specs.Answer.{report_in as salvage_report_in}
 use Rattle.diff_command.specs.Answer.{EndsDiff}
 use Rattle.diff_command.specs.Asks.{AsksDiff}
@@ -189,6 +191,7 @@ saves_of (asks (salvage words) json) = no_saves
 saves_of (asks (diff words) json) = no_saves
 saves_of (asks (why words) json) = no_saves
 saves_of (asks (graph words) json) = no_saves
+saves_of (asks (sweep words) json) = no_saves
 
 -- the answer with a page of help, or the version
 abbrev pub about : List ℕ → Answer
@@ -234,6 +237,8 @@ EndsWords (asks (why words) json) files after disk status old new =
     EndsOnHive (why_question_in (form_of json) words files) status old new × (disk ≡ new_state)
 EndsWords (asks (graph words) json) files after disk status old new =
     EndsOnHive (graph_question_in (form_of json) words files) status old new × (disk ≡ new_state)
+EndsWords (asks (sweep words) json) files after disk status old new =
+    EndsSweep (form_of json) (sweep_inputs_in (files_asked words) files) status old new × (disk ≡ new_state)
 
 -- the same number of files are asked for as are in the written order, up to the first obstacle; for `import` and `diff` more, where the hive has no fault
 abbrev pub AsksAs : Reading → Status → HostState → HostState → Type 0

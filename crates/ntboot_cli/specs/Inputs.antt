@@ -9,7 +9,7 @@ use Rattle.arc_path.specs.Reading.{arc_of}
 use Rattle.boot_script.specs.declared.event.Event.{Event}
 use Rattle.boot_script.specs.declared.stop.ScriptFault.{ScriptFault}
 use Rattle.boot_script.specs.Script.{script_of}
-use Rattle.command_words.specs.Words.{Reading, asks, help, refused, version, graph, why, diff, salvage, whatif, check, key, replay, export, import, twin, control, safe, run, show, make, RunAsked, ShowAsked}
+use Rattle.command_words.specs.Words.{Reading, asks, help, refused, version, sweep, graph, why, diff, salvage, whatif, check, key, replay, export, import, twin, control, safe, run, show, make, RunAsked, ShowAsked}
 use Rattle.command_parts.specs.declared.refusal.Refusal.{Refusal}
 use Rattle.command_parts.specs.declared.refusal.Refusal.TheVariants.{Usage, ScriptFault as BadScript}
 use Rattle.command_parts.specs.declared.refusal.Obstacle.{Obstacle}
@@ -25,6 +25,7 @@ use Rattle.check_command.specs.Answer.{asks_check}
 use Rattle.whatif_command.specs.Inputs.{asks_whatif, arguments_in as whatif_arguments_in}
 use Rattle.why_command.specs.Inputs.{asks_why, arguments_in as why_arguments_in}
 use Rattle.graph_command.specs.Inputs.{asks_graph, arguments_in as graph_arguments_in}
+use Rattle.sweep_command.specs.Inputs.{asks_sweep, arguments_in as sweep_arguments_in}
 use Rattle.salvage_command.specs.Answer.{asks_salvage}
 use Rattle.ntboot_cli.specs.declared.inputs.Inputs.{Inputs}
 
@@ -66,6 +67,7 @@ arguments_in (asks (salvage words) json) = Ok tt
 arguments_in (asks (diff words) json) = Ok tt
 arguments_in (asks (why words) json) = why_arguments_in words
 arguments_in (asks (graph words) json) = graph_arguments_in words
+arguments_in (asks (sweep words) json) = sweep_arguments_in words
 
 -- ---- how many files are asked for, up to the first obstacle
 
@@ -104,6 +106,7 @@ asks_in (asks (salvage words) json) files = asks_salvage words files
 asks_in (asks (diff words) json) files = asks_hive files words.hive words.log
 asks_in (asks (why words) json) files = asks_why words files
 asks_in (asks (graph words) json) files = asks_graph words files
+asks_in (asks (sweep words) json) files = asks_sweep words files
 
 -- a search for the inputs of a run asked for these files, each once and in their order, up to the first obstacle or stop
 abbrev pub AsksRun : {A : Type 0} → RunAsked → Result A Obstacle → HostState → HostState → Type 0

@@ -27,6 +27,7 @@ use safe_command::safe;
 use salvage_command::salvage;
 use std::alloc::Global;
 use text_commands::{export, import};
+use sweep_command::sweep;
 use twin_command::twin;
 use whatif_command::whatif;
 use why_command::why;
@@ -70,6 +71,7 @@ fn obey<H: Host, B: Bench>(alloc: Global, words: &[&str], host: &mut H, bench: &
         Reading::Command(Command::Diff(words), json) => diff(alloc, words, form(json), host),
         Reading::Command(Command::Why(words), json) => why(alloc, words, form(json), host),
         Reading::Command(Command::Graph(words), json) => graph(alloc, words, form(json), host),
+        Reading::Command(Command::Sweep(words), json) => sweep(alloc, words, form(json), host),
         Reading::Refused(_) => refuse(alloc, host, &Refusal::Usage),
     }
 }
