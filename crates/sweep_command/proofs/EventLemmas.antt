@@ -73,8 +73,9 @@ pub both : (choice : Option ℕ → Choice) (hive : HiveFiles) (script : SweepSc
     → before ≡ script.before → PlaysProbed choice hive before (first, back)
     → whole ≡ back ++ e ∷ [] → e ≡ script.event → PlaysProbed choice hive whole (second, rest)
     → ArePlayed choice hive script (first, second)
-both choice hive script before back whole rest e first second is one added named two = λ placed loads.
-    (subst (λ (es : List Event). PlaysAll choice hive (es ++ probe_event ∷ []) first) is one.1 placed loads,
-    subst (λ (es : List Event). PlaysAll choice hive (es ++ probe_event ∷ []) second)
-    (added ∙ ap (λ (es : List Event). es ++ e ∷ []) (one.0 ∙ is) ∙ ap (λ (x : Event). script.before ++ x ∷ []) named)
-    two.1 placed loads)
+both choice hive script before back whole rest e first second is one added named two = λ placed loads. (
+  subst (λ (es : List Event). PlaysAll choice hive (es ++ probe_event ∷ []) first) is one.1 placed loads,
+  subst (λ (es : List Event). PlaysAll choice hive (es ++ probe_event ∷ []) second)
+      (added ∙ ap (λ (es : List Event). es ++ e ∷ []) (one.0 ∙ is) ∙ ap (λ (x : Event). script.before ++ x ∷ []) named)
+      two.1 placed loads,
+)

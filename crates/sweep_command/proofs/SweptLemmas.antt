@@ -42,44 +42,44 @@ whole_in before event =
 module _ (inputs : SweepInputs) (first second : Played) (placed : Woken)
     (without : IsPlayed (choices inputs.ini inputs.system) (inputs.script.before ++ probe_event ∷ []) placed first)
     (with' : IsPlayed (choices inputs.ini inputs.system) ((inputs.script.before ++ inputs.script.event ∷ []) ++ probe_event ∷ []) placed second)
-    where
-  abbrev choice : Option ℕ → Choice
-  choice = choices inputs.ini inputs.system
+  where
+    abbrev choice : Option ℕ → Choice
+    choice = choices inputs.ini inputs.system
 
-  abbrev before : List Happening
-  before = map event_in inputs.script.before
+    abbrev before : List Happening
+    before = map event_in inputs.script.before
 
-  abbrev run : List Happening → Quiet
-  run events = quiet_run_of choice events placed
+    abbrev run : List Happening → Quiet
+    run events = quiet_run_of choice events placed
 
-  abbrev front : List Line
-  front = lines_after choice before (first_state placed)
+    abbrev front : List Line
+    front = lines_after choice before (first_state placed)
 
-  first_said : first.said ≡ text_of (front ++ tail_of (state_after choice before (first_state placed)).machine.start)
-  first_said =
-      without.said
-      ∙ ap (λ (events : List Happening). text_of (run events).lines) (before_in inputs.script.before)
-      ∙ ap text_of (before_said choice before placed)
+    first_said : first.said ≡ text_of (front ++ tail_of (state_after choice before (first_state placed)).machine.start)
+    first_said =
+        without.said
+        ∙ ap (λ (events : List Happening). text_of (run events).lines) (before_in inputs.script.before)
+        ∙ ap text_of (before_said choice before placed)
 
-  second_said : second.said ≡ text_of ((front ++ (swept inputs placed).lines) ++ tail_of (swept inputs placed).state.machine.start)
-  second_said =
-      with'.said
-      ∙ ap (λ (events : List Happening). text_of (run events).lines) (whole_in inputs.script.before inputs.script.event)
-      ∙ ap text_of (whole_said choice before (event_in inputs.script.event) placed)
+    second_said : second.said ≡ text_of ((front ++ (swept inputs placed).lines) ++ tail_of (swept inputs placed).state.machine.start)
+    second_said =
+        with'.said
+        ∙ ap (λ (events : List Happening). text_of (run events).lines) (whole_in inputs.script.before inputs.script.event)
+        ∙ ap text_of (whole_said choice before (event_in inputs.script.event) placed)
 
-  pub are_texts : AreTexts (lines_between (pieces_of first.said) (pieces_of second.said)) (swept inputs placed).lines
-  are_texts =
-      found front (swept inputs placed).lines
-      (state_after choice before (first_state placed)).machine.start (swept inputs placed).state.machine.start
-      first.said second.said first_said second_said
+    pub are_texts : AreTexts (lines_between (pieces_of first.said) (pieces_of second.said)) (swept inputs placed).lines
+    are_texts =
+        found front (swept inputs placed).lines
+        (state_after choice before (first_state placed)).machine.start (swept inputs placed).state.machine.start
+        first.said second.said first_said second_said
 
-  pub log_left : IsLogOf (swept inputs placed).state.disk second.log
-  log_left =
-      let P : Possible → Type 0 = λ disk. IsLogOf disk second.log in
-      subst P
-      (ap (λ (events : List Happening). (run events).state.disk) (whole_in inputs.script.before inputs.script.event)
-      ∙ ap (λ s. s.disk) (whole_state choice before (event_in inputs.script.event) placed))
-      with'.log
+    pub log_left : IsLogOf (swept inputs placed).state.disk second.log
+    log_left =
+        let P : Possible → Type 0 = λ disk. IsLogOf disk second.log in
+        subst P
+        (ap (λ (events : List Happening). (run events).state.disk) (whole_in inputs.script.before inputs.script.event)
+        ∙ ap (λ s. s.disk) (whole_state choice before (event_in inputs.script.event) placed))
+        with'.log
 
 -- the report is on them
 pub swept_as : {E : Type 0} (form : ReportForm) (inputs : SweepInputs) (event log : List ℕ) (first second : Played)
@@ -91,9 +91,11 @@ pub swept_as : {E : Type 0} (form : ReportForm) (inputs : SweepInputs) (event lo
     → IfOk r (IsSweptAs form inputs)
 swept_as form inputs event log first second (Ok text) named kept played reports = λ placed loads.
     let both = played placed loads in
-    let lines = (swept inputs placed).lines in
-    (second.log, log_left inputs first second placed both.0 both.1,
-    reports lines (are_texts inputs first second placed both.0 both.1)
-    ∙ ap (λ (e : List ℕ). sweep_report form e lines (logged_of log) (logged_of second.log)) named
-    ∙ ap (λ (l : List ℕ). sweep_report form (first_word inputs.script.event) lines (logged_of l) (logged_of second.log)) kept)
+    let lines = (swept inputs placed).lines in (
+      second.log,
+      log_left inputs first second placed both.0 both.1,
+      reports lines (are_texts inputs first second placed both.0 both.1)
+          ∙ ap (λ (e : List ℕ). sweep_report form e lines (logged_of log) (logged_of second.log)) named
+          ∙ ap (λ (l : List ℕ). sweep_report form (first_word inputs.script.event) lines (logged_of l) (logged_of second.log)) kept,
+    )
 swept_as form inputs event log first second (Err e) named kept played reports = tt

@@ -17,9 +17,10 @@ play-requires-clause-unordered c =
     (c.as_slice.ensures.value ∙ c.in_ok-push.ensures.items) c.in_ok-probe.ensures c.requires.unordered tt)
 
 pub returns : goal.returns
-returns c =
-    (given_back c.args.events.items c.push.new.self.items c.truncate.new.self.items c.len-count.result c.in_ok-probe.field-0
-    (c.len-count.ensures ∙ c.args.events.ok.0) c.in_ok-push.ensures.items c.truncate.ensures.items,
-    played_probed (choices c.args.ini.now c.args.system.now) c.args.hive.now c.args.events.items c.as_slice.result.now
-    c.in_ok-probe.field-0 c.in_ok-played.played
-    (c.as_slice.ensures.value ∙ c.in_ok-push.ensures.items) c.in_ok-probe.ensures c.in_ok-played.ensures)
+returns c = (
+  given_back c.args.events.items c.push.new.self.items c.truncate.new.self.items c.len-count.result c.in_ok-probe.field-0
+      (c.len-count.ensures ∙ c.args.events.ok.0) c.in_ok-push.ensures.items c.truncate.ensures.items,
+  played_probed (choices c.args.ini.now c.args.system.now) c.args.hive.now c.args.events.items c.as_slice.result.now
+      c.in_ok-probe.field-0 c.in_ok-played.played
+      (c.as_slice.ensures.value ∙ c.in_ok-push.ensures.items) c.in_ok-probe.ensures c.in_ok-played.ensures,
+)
