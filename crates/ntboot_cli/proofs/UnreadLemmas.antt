@@ -100,7 +100,7 @@ unread_sweep form (Ok inputs) said = inr (inr (inl refl, refl))
 
 unread_words : (asked : Reading) (host : HostState) (disk : DiskState) → disk ≡ new_state
     → EndsWords asked host.files host.files disk statuses.Memory host.said host.said
-unread_words (refused why) host disk fresh = (inr (no_front _ host.said host.said refl), fresh)
+unread_words (refused reason) host disk fresh = (inr (no_front _ host.said host.said refl), fresh)
 unread_words (help page) host disk fresh = (inr (no_front _ host.said host.said refl), fresh)
 unread_words version host disk fresh = (inr (no_front _ host.said host.said refl), fresh)
 unread_words (asks (run words) json) host disk fresh =

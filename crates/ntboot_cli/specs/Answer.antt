@@ -144,7 +144,7 @@ shown_on form files = record { image = image_in files; answer = shown form }
 -- the question, or the first obstacle
 abbrev pub shown_by : ReportForm → Result HiveFiles Refusal → Result Question Refusal
 shown_by form (Ok files) = Ok (shown_on form files)
-shown_by form (Err why) = Err why
+shown_by form (Err r) = Err r
 
 -- the same by the options and the files that they name
 abbrev pub show_question_in : ReportForm → ShowAsked → Files → Result Question Refusal
@@ -172,7 +172,7 @@ EndsMade form (Ok usual) count saves disk other old new = ⊥
 
 -- the files that the command line wants to be saved
 abbrev pub saves_of : Reading → Saves
-saves_of (refused why) = no_saves
+saves_of (refused reason) = no_saves
 saves_of (help page) = no_saves
 saves_of version = no_saves
 saves_of (asks (run words) json) = record { hive = words.save_hive; log = words.save_log }
@@ -203,7 +203,7 @@ form_of json = if json then Json else Text
 
 -- words without a reading are bad usage; else the command decides, by the files before and after
 abbrev pub EndsWords : Reading → Files → Files → DiskState → Status → List ℕ → List ℕ → Type 0
-EndsWords (refused why) files after disk status old new = Ends (refusal Usage) status old new × (disk ≡ new_state)
+EndsWords (refused reason) files after disk status old new = Ends (refusal Usage) status old new × (disk ≡ new_state)
 EndsWords (help page) files after disk status old new = Ends (about (page_text page)) status old new × (disk ≡ new_state)
 EndsWords version files after disk status old new = Ends (about (codes "ntboot 1.0.0\n")) status old new × (disk ≡ new_state)
 EndsWords (asks (run words) json) files after disk status old new =

@@ -46,7 +46,7 @@ inputs_in words files = do
 
 -- whether the command line has a reading, and the system's path, where they have one
 abbrev pub arguments_in : Reading → Result (Unit {0}) Refusal
-arguments_in (refused why) = Err Usage
+arguments_in (refused reason) = Err Usage
 arguments_in (help page) = Ok tt
 arguments_in version = Ok tt
 arguments_in (asks (run words) json) = do
@@ -87,7 +87,7 @@ asks_show words files = asks_hive files words.hive words.log
 
 -- for what the command line asks for; of `import` and `diff` the first hive alone, where more is asked for if that has no fault
 abbrev pub asks_in : Reading → Files → ℕ
-asks_in (refused why) files = 0
+asks_in (refused reason) files = 0
 asks_in (help page) files = 0
 asks_in version files = 0
 asks_in (asks (run words) json) files = asks_run words files
