@@ -40,7 +40,7 @@ QuotedIsPrintable = (text : List ℕ) → list_all is_printable text ≡ true �
 
 -- ---- undone
 
--- the text with the byte in place of the other text wherever that stands, from left to right; so many bytes at first belong to what was found
+-- the text with the byte in place of the other text wherever that stands, from left to right; that number of bytes at first belong to what was found
 abbrev pub put_back : ℕ → List ℕ → ℕ → List ℕ → List ℕ
 put_back byte other skipped [] = []
 put_back byte other (suc skipped) (c ∷ text) = put_back byte other skipped text

@@ -75,7 +75,7 @@ grouped_within es k = by (slice_get es k) refl
 
 -- ---- parts
 
--- as many names as entries, and the places of those with a group are among them
+-- the same number of names as entries, and the places of those with a group are among them
 record AreSound (p : GraphParts) : Type 0 where
   pub count : length p.entries ≡ length p.names
   pub members : Below (length p.names) p.members.at

@@ -1,4 +1,4 @@
--- Events without an order for the disk, and the probe behind them.
+-- Events without an order for the disk, and the probe after them.
 use Rattle.std.proofs.Common.{◌≡◌, ℕ, length, List, [], ◌∷◌, ◌++◌, map, sym, ap, subst, ◌∙◌}
 use Rattle.std.specs.Prelude.{Option, take}
 use Rattle.std.specs.List.{All}
@@ -35,7 +35,7 @@ pub order_none : (es : List Event) → All IsUnordered es → AreUnordered (map 
 order_none [] all = tt
 order_none (e ∷ es) all = (orders_none e (All-head IsUnordered e es all), order_none es (All-tail IsUnordered e es all))
 
--- what is true of the events and of the probe is true of these with the probe behind them
+-- what is true of the events and of the probe is true of these with the probe after them
 pub all_probed : (P : Event → Type 0) (events probed : List Event) (e : Event)
     → probed ≡ events ++ e ∷ [] → e ≡ probe_event → All P events → P probe_event → All P probed
 all_probed P events probed e is named all one =

@@ -56,7 +56,7 @@ files_asked asked = record {
 
 -- ---- the report
 
--- the event behind those before it, from what the hive loads as, with what boot.ini has for starts
+-- the event after those before it, from what the hive loads as, with what boot.ini has for starts
 abbrev pub swept : SweepInputs → Woken → Quiet
 swept inputs placed = swept_by (choices inputs.ini inputs.system) (map event_in inputs.script.before) (event_in inputs.script.event) placed
 
@@ -108,7 +108,7 @@ IsChecked image (Ok u) = LoadsAny image
 IsChecked image (Err (read.Fault f)) = LoadFault image f
 IsChecked image (Err read.Memory) = Unit {0}
 
--- the event that stands behind the others, so that their lines are told from the end of a report
+-- the event that is played after the others, so that their lines can be separated from the end of a report
 abbrev pub probe_event : Event
 probe_event = Make (codes "Select" ∷ [])
 
@@ -117,7 +117,7 @@ abbrev pub PlaysAll : (Option ℕ → Choice) → HiveFiles → List Event → P
 PlaysAll choice hive events played =
     (placed : Woken) → Loads (image_in hive) placed.state placed.dirty → IsPlayed choice events placed played
 
--- they were played with the probe behind them, and are given back
+-- they were played with the probe after them, and are given back
 abbrev pub PlaysProbed : (Option ℕ → Choice) → HiveFiles → List Event → Played × List Event → Type 0
 PlaysProbed choice hive events r = (r.1 ≡ events) × PlaysAll choice hive (events ++ probe_event ∷ []) r.0
 

@@ -1,4 +1,4 @@
-//! The events before, and then the event too, played each with the probe behind them.
+//! The events before, and then the event too, played each with the probe after them.
 
 ghost use Rattle.std.specs.Prelude.{◌≡◌, [], ◌∷◌, ◌++◌, IfOk};
 ghost use Rattle.std.specs.List.{All};
@@ -31,7 +31,7 @@ fn probe(alloc: Global) -> Result<Event, AllocError>
     Ok(Event::Make { path })
 }
 
-/// Plays the events with the probe behind them on a disk of their own, and gives them back.
+/// Plays the events with the probe after them on a disk of their own, and gives them back.
 fn play_probed(
     alloc: Global,
     ini: &BootIni,

@@ -1,4 +1,4 @@
--- The quiet run of events with the probe behind them.
+-- The quiet run of events with the probe after them.
 use Rattle.std.proofs.Common.{◌≡◌, ℕ, List, [], ◌∷◌, ◌++◌, Option, None, Some, refl, sym, ap, ◌∙◌, append_assoc}
 use Rattle.start_model.specs.Lines.{Line, MakeEvent, RefusedLine, EndLine}
 use Rattle.start_model.specs.Events.{Event}

@@ -1,6 +1,6 @@
 -- How is it known which lines of a report are an event's own? (this project's own)
 --
--- A report ends with lines of no event: the verdict of a start that still runs, and the end. Behind the events stands one more, the probe,
+-- A report ends with lines of no event: the verdict of a start that still runs, and the end. After the events comes one more, the probe,
 -- which is refused whether a start runs or not, and changes nothing: an edit of what no script may edit. The line of its refusal parts the
 -- lines of the events from those of the end.
 use Rattle.std.specs.Prelude.{List, [], ◌∷◌, Option, None, Some, codes}

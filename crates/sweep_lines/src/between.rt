@@ -27,7 +27,7 @@ fn is_verdict(pieces: &[&[u8]]) -> bool
     }
 }
 
-/// The pieces without so many at their front.
+/// The pieces without the first `count`.
 fn without<'a>(
     alloc: Global,
     pieces: &[&'a [u8]],

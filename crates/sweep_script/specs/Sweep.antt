@@ -1,6 +1,6 @@
 -- What is the script of a sweep, or which line is the first faulty one? (this project's own)
 --
--- The lines are those of the script of a run, but that `sweep` stands once, alone in its line, and that no line begins with `cut` or
+-- The lines are those of the script of a run, but that `sweep` occurs once, alone in its line, and that no line begins with `cut` or
 -- `fault`. What is asked for after the first event behind `sweep` has to have a reading too, and is dropped.
 use Rattle.std.specs.Prelude.{◌≡◌, ℕ, ◌+◌, true, false, ◌||◌, List, [], ◌∷◌, ◌++◌, length, Option, Some, None, Result, Ok, Err, nat_lt, if◌then◌else◌, codes}
 use Rattle.std.specs.Str.{bytes_eq}

@@ -1,7 +1,7 @@
 //! The script of a sweep: the events before the line `sweep`, and the one after it.
 //!
 //! `read_sweep` answers them, or the first faulty line. A line means what it means in the script of a run (`boot_script`), but that
-//! `sweep` stands once and alone in its line, and that no line orders a stop of the disk. Definition: `specs/Sweep.antt`.
+//! `sweep` occurs once and alone in its line, and that no line orders a stop of the disk. Definition: `specs/Sweep.antt`.
 #![tactic(auto)]
 
 mod line;

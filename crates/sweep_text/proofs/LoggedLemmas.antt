@@ -26,7 +26,7 @@ one_few : (b : Bool) (x : ℕ) → length (cond b (x ∷ []) []) ≤ 1
 one_few true x = omega arith
 one_few false x = omega arith
 
--- there are no more than bits
+-- there are at most the number of bits
 pub few_listed : (bits : ℕ → Bool) (i n : ℕ) → length (listed bits i n) ≤ n
 few_listed bits i zero = omega arith
 few_listed bits i (suc n) =

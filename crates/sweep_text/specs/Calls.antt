@@ -54,7 +54,7 @@ abbrev pub counts_fields : ℕ → ℕ → List (List ℕ × Value)
 counts_fields count after =
     (codes "count", Number count) ∷ (codes "before", Number (4 * count - after)) ∷ (codes "after", Number after) ∷ (codes "neither", Number 0) ∷ []
 
--- so many calls, with so many words `after`; every other word is `before`
+-- this number of calls, with that number of words `after`; every other word is `before`
 abbrev pub counts_line : ReportForm → ℕ → ℕ → List ℕ
 counts_line forms.Text count after =
     codes "calls " ++ decimal count ++ codes " before " ++ decimal (4 * count - after) ++ codes " after " ++ decimal after ++ codes " neither 0\n"

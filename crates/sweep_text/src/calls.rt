@@ -284,7 +284,7 @@ pub(crate) fn push_sync(
     }
 }
 
-/// Appends the counts: so many calls, and so many words `after`.
+/// Appends the numbers of calls and of words `after`.
 pub(crate) fn push_counts(
     out: &mut Vec<u8>,
     form: ReportForm,

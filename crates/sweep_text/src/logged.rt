@@ -46,7 +46,7 @@ fn put(sectors: &mut Row<u32>, bits: &[u8], i: u32) -> Result<(), AllocError>
     Ok(())
 }
 
-/// The sectors of so many bits.
+/// The number of sectors that this number of bits takes.
 fn listed(alloc: Global, bits: &[u8], count: u32) -> Result<Row<u32>, AllocError>
     requires { count ≤ 8388608 }
     ensures { IfOk result (λ sectors. sectors ≡ listed (bit bits.now) 0 count) }

@@ -93,7 +93,7 @@ fn seek<H: Host>(
     }
 }
 
-/// Gets what the command line names, and prints in one of the two forms where the entry stands in the last start of the script, what became of
+/// Gets what the command line names, and prints in one of the two forms the entry's place in the last start of the script, what became of
 /// it, and what it lacked; or prints the first obstacle. Nothing is written.
 pub fn why<H: Host>(alloc: Global, words: WhyWords<'_>, form: ReportForm, host: &mut H) -> Status
     ensures decides { DecidesOnHive (question_in form (why_seen words.entry) (H.state host.old).files) result (H.state host.old) (H.state host.new) }

@@ -1,6 +1,6 @@
 -- Which lines are printed of entries that need one another in a cycle? (this project's own)
 --
--- They keep the first of some items unmet, even if each lack were mended that isn't open. Each needs the next one, or a group of it, and the
+-- They keep the first of some items unmet, even if each lack were met that isn't open. Each needs the next one, or a group of it, and the
 -- last one the first so.
 use Rattle.std.specs.Prelude.{ℕ, nat_eq, List, [], ◌∷◌, slice_get}
 use Rattle.std.specs.Option.{option_map_or}

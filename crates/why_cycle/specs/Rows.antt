@@ -3,7 +3,7 @@ use Rattle.std.specs.Prelude.{ℕ, ◌+◌, ◌<◌, List, [], ◌∷◌, ◌++�
 use Rattle.std.specs.List.{flat_map, range_with_len}
 use Rattle.wait_cycles.specs.Graph.{row_at}
 
--- the needs of all items, one after the other
+-- the needs of all items, in order
 abbrev pub all_needs : List (List (List ℕ)) → List (List ℕ)
 all_needs waits = flat_map (λ (needs : List (List ℕ)). needs) waits
 

@@ -1,6 +1,6 @@
 //! The cycle of unmet entries that keeps an unmet entry from its attempt.
 //!
-//! `push_cycle` says which entries need one another, where nothing that could be mended alone is lacking.
+//! `push_cycle` says which entries need one another, where nothing that could be repaired alone is lacking.
 //! Definition: `specs/Cycle.antt`.
 #![tactic(auto)]
 

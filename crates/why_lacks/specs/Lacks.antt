@@ -73,7 +73,7 @@ entry_lines n keys k at v e =
     ∷ map (service_line n at v) (lacks_services n v e)
     ++ groups_from n keys at v k (lacks_groups n v e)
 
--- the lines of entries, one after the other
+-- the lines of entries, in order
 abbrev pub entries_from : NeedsRun → List (List ℕ) → ℕ → List ℕ → List WhyLine
 entries_from n keys k [] = []
 entries_from n keys k (x ∷ xs) = of_entry n (entry_lines n keys k) x ++ entries_from n keys (k + length (keys_of n x)) xs
