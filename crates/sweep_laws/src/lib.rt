@@ -1,0 +1,11 @@
+//! Laws of the table of words that the command `sweep` prints.
+//!
+//! How many calls and words it has, and that each word is true of what a cut leaves. Definitions: `specs/`. This project's own.
+#![tactic(auto)]
+
+mod counts;
+
+pub use counts::{
+    each_call_has_four_words, the_calls_of_a_commit_are_counted,
+    the_calls_of_a_recovery_are_counted,
+};
