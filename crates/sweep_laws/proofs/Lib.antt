@@ -1,1 +1,4 @@
 pub mod CountLemmas
+pub mod WriteLemmas
+pub mod StageLemmas
+pub mod CutLemmas

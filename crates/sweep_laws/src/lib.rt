@@ -4,8 +4,13 @@
 #![tactic(auto)]
 
 mod counts;
+mod cuts;
 
 pub use counts::{
     each_call_has_four_words, the_calls_of_a_commit_are_counted,
     the_calls_of_a_recovery_are_counted,
+};
+pub use cuts::{
+    a_cut_leaves_what_the_table_says,
+    a_cut_while_the_base_block_is_opened_leaves_what_its_sector_says, the_stages_are_the_calls,
 };
