@@ -25,6 +25,14 @@ use Rattle.sweep_laws.specs.Leaving.{commit_writes, EachCallLeaves, IsRecoveredB
 use Rattle.sweep_laws.proofs.WriteLemmas.{left_outside, all_in_log, log_written, all_marked, marked_written}
 use Rattle.sweep_laws.proofs.StageLemmas.{always_leaves, either_leaves}
 
+-- one write that may be in flight
+pub block_flies : (w : Write) (k : ℕ) (a : Address) (x : Option Content) → IsInFlight (take k (w ∷ [])) a x → IsLeftBy w x
+block_flies w zero a x none = absurd none
+block_flies w (suc zero) a x (inl here) = here.1
+block_flies w (suc zero) a x (inr none) = absurd none
+block_flies w (suc (suc k)) a x (inl here) = here.1
+block_flies w (suc (suc k)) a x (inr none) = absurd none
+
 -- the base block can't be read, and all else is as it was
 torn_outside : (held : Image) → AgreeOutside is_base held (unreadable_at (primary_at 0) held)
 torn_outside held a out = ap (λ b. cond b (Some Unreadable) (held a)) (differ is_base (primary_at 0) a refl out)
@@ -134,13 +142,6 @@ module _ {base : Base} {old new : List ℕ} {root : ℕ} {bits : ℕ → Bool} {
   abbrev closing : Write
   closing = (primary_at 0, base_text closed)
 
-  close_flies : (k : ℕ) (a : Address) (x : Option Content) → IsInFlight (take k (closing ∷ [])) a x → IsLeftBy closing x
-  close_flies zero a x none = absurd none
-  close_flies (suc zero) a x (inl here) = here.1
-  close_flies (suc zero) a x (inr none) = absurd none
-  close_flies (suc (suc k)) a x (inl here) = here.1
-  close_flies (suc (suc k)) a x (inr none) = absurd none
-
   close_leaves : (k : ℕ) (keep : Keep) → P true (left keep moved_image (take k (closing ∷ [])))
   close_leaves k keep =
       let cut = left keep moved_image (take k (closing ∷ [])) in
@@ -149,7 +150,7 @@ module _ {base : Base} {old new : List ℕ} {root : ℕ} {bits : ℕ → Bool} {
       moved_image (now_outside (is_marked (length new) bits) opened_image (bins_writes bits new) (all_marked bits new))
       (marked_written bits new opened_image whole)
       cut (left_outside is_base moved_image (closing ∷ []) k keep (refl, tt))
-      (⊎_elim (λ same. inl same) (λ flying. inr (close_flies k (primary_at 0) (primary_in cut 0) flying))
+      (⊎_elim (λ same. inl same) (λ flying. inr (block_flies closing k (primary_at 0) (primary_in cut 0) flying))
       (left_crash moved_image (take k (closing ∷ [])) keep (primary_at 0)))
 
   pub commit_leaves : (bitmap : ℕ) (sectors : List ℕ)

@@ -2,3 +2,5 @@ pub mod CountLemmas
 pub mod WriteLemmas
 pub mod StageLemmas
 pub mod CutLemmas
+pub mod TreeLemmas
+pub mod RecoveryLemmas

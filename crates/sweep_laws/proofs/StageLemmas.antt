@@ -1,13 +1,13 @@
 -- What the cuts of one stage leave.
 use Rattle.std.proofs.Common.{◌≡◌, ◌≤◌, ℕ, zero, suc, Bool, true, false, cond, List, [], ◌∷◌, length, take, nat_lt, refl, sym, subst, arith, ap, ◌∙◌}
-use Rattle.hive_model.specs.Image.{Image, Write, put}
+use Rattle.hive_model.specs.Image.{Image, Write, put, overlaid}
 use Rattle.nt_edge.specs.Crash.{unreadable_at}
 use Rattle.nt_edge.specs.declared.disk.Keep.{Keep}
 use Rattle.nt_edge.specs.declared.disk.Keep.TheVariants.{Nothing, Everything, OddOnes, Torn}
 use Rattle.mem_edge.specs.Views.{left}
 use Rattle.sweep_text.specs.declared.stages.Leaves.{Leaves}
-use Rattle.sweep_text.specs.Stages.{leaves_either}
-use Rattle.sweep_laws.specs.Leaving.{sync_word, word_at, StageLeaves}
+use Rattle.sweep_text.specs.Stages.{Stage, leaves_either}
+use Rattle.sweep_laws.specs.Leaving.{sync_word, word_at, StageLeaves, EachCallLeaves}
 
 abbrev always : Bool → Leaves
 always b = record { written = b; none = b; others = b }
@@ -52,3 +52,17 @@ module _ (P : Bool → Image → Type 0) (held : Image) where
     either_leaves zero keep within = none_left false keep is
     either_leaves (suc zero) keep within = one_left keep
     either_leaves (suc (suc k)) keep within = absurd (omega (arith, within))
+
+-- what one thing says of each cut, another does that follows from it
+stage_along : (P Q : Bool → Image → Type 0) → ((after : Bool) (cut : Image) → P after cut → Q after cut) → (held : Image)
+    (leaves : Leaves) (writes : List Write) → StageLeaves P held leaves writes → StageLeaves Q held leaves writes
+stage_along P Q step held leaves writes each k keep within =
+    step (word_at leaves keep (length writes) k) (left keep held (take k writes)) (each k keep within)
+
+pub calls_along : (P Q : Bool → Image → Type 0) → ((after : Bool) (cut : Image) → P after cut → Q after cut) → (held : Image)
+    (stages : List Stage) (writes : List (List Write)) → EachCallLeaves P held stages writes → EachCallLeaves Q held stages writes
+calls_along P Q step held [] [] each = tt
+calls_along P Q step held [] (writes ∷ more) each = each
+calls_along P Q step held (s ∷ stages) [] each = each
+calls_along P Q step held (s ∷ stages) (writes ∷ more) each =
+    (stage_along P Q step held s.leaves writes each.0, calls_along P Q step (overlaid held writes) stages more each.1)

@@ -5,6 +5,8 @@ use Rattle.hive_model.specs.Image.{Image, Write, overlaid}
 use Rattle.hive_model.specs.Asked.{primary_at}
 use Rattle.hive_model.specs.Log.{log_of}
 use Rattle.hive_model.specs.Carries.{IsRecoveredAs}
+use Rattle.hive_model.specs.State.{HiveState}
+use Rattle.hive_model.specs.Load.{LoadsAs}
 use Rattle.nt_edge.specs.Calls.{Made, Synced, writes_of}
 use Rattle.nt_edge.specs.declared.disk.Keep.{Keep}
 use Rattle.nt_edge.specs.declared.disk.Keep.TheVariants.{Nothing, Everything, OddOnes, Torn}
@@ -72,3 +74,13 @@ IsRecoveredBy base old closed new after cut = IsRecoveredAs cut (if after then c
 -- as these data, and the word is `before`
 abbrev pub IsRecoveredBefore : Base → List ℕ → Bool → Image → Type 0
 IsRecoveredBefore base bins after cut = (after ≡ false) × IsRecoveredAs cut base bins
+
+-- ---- what it loads as
+
+-- as the old state, or where the word is `after` as the new one
+abbrev pub LoadsBy : HiveState → HiveState → Bool → Image → Type 0
+LoadsBy old new after cut = LoadsAs cut (if after then new else old)
+
+-- as this state, and the word is `before`
+abbrev pub LoadsBefore : HiveState → Bool → Image → Type 0
+LoadsBefore state after cut = (after ≡ false) × LoadsAs cut state

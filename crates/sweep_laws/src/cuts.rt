@@ -1,19 +1,20 @@
 //! What a cut at each call leaves.
 
-ghost use Rattle.std.specs.Prelude.{◌≡◌, ◌*◌, ◌/◌, ℕ, Bool, List, length};
-ghost use Rattle.hive_model.specs.Base.{Base};
+ghost use Rattle.std.specs.Prelude.{◌≡◌, ℕ, Bool, List};
+ghost use Rattle.hive_model.specs.Base.{Base, base_text};
 ghost use Rattle.hive_model.specs.Image.{Image, IsLeftBy};
 ghost use Rattle.hive_model.specs.Asked.{primary_at};
-ghost use Rattle.hive_model.specs.Base.{base_text};
 ghost use Rattle.hive_model.specs.Log.{dirty, log_of};
 ghost use Rattle.hive_model.specs.Recovery.{primary_in};
 ghost use Rattle.hive_model.specs.Carries.{IsRecoveredAs};
+ghost use Rattle.hive_model.specs.State.{HiveState};
 ghost use Rattle.nt_edge.specs.Crash.{AgreeOutside};
 ghost use Rattle.hive_commit.specs.Calls.{change_calls, closing_calls};
 ghost use Rattle.hive_commit.specs.Cuts.{IsChange, HasNewLog};
 ghost use Rattle.hive_commit.specs.Stages.{is_base, opened_of, closed_of};
+ghost use Rattle.hive_laws.specs.Cuts.{HoldsIn};
 ghost use Rattle.sweep_text.specs.Stages.{commit_stages};
-ghost use Rattle.sweep_laws.specs.Leaving.{recovery_writes, commit_writes, calls_of, EachCallLeaves, IsRecoveredBy};
+ghost use Rattle.sweep_laws.specs.Leaving.{recovery_writes, commit_writes, calls_of, EachCallLeaves, IsRecoveredBy, LoadsBy};
 
 /// The writes of these stages, with a sync after those of each, are the calls of a commit, and of a recovery.
 pub fn the_stages_are_the_calls()
@@ -41,4 +42,13 @@ pub fn a_cut_leaves_what_the_table_says()
         → IsChange before base old new root bits
         → EachCallLeaves (IsRecoveredBy base old (closed_of base new root) new) before
             (commit_stages bitmap sectors) (commit_writes base bits new root) }
+{}
+
+/// Where a tree stood in the data from before and one is in those from after, what a cut leaves loads as the state that the word names: as that
+/// from before where it is `before`, and as that from after where it is `after`.
+pub fn a_word_names_the_tree()
+    ensures { (before : Image) (base : Base) (old new : List ℕ) (root bitmap : ℕ) (bits : ℕ → Bool) (sectors : List ℕ) (first last : HiveState)
+        → IsChange before base old new root bits
+        → HoldsIn base old first → HoldsIn (closed_of base new root) new last
+        → EachCallLeaves (LoadsBy first last) before (commit_stages bitmap sectors) (commit_writes base bits new root) }
 {}

@@ -5,6 +5,7 @@
 
 mod counts;
 mod cuts;
+mod recoveries;
 
 pub use counts::{
     each_call_has_four_words, the_calls_of_a_commit_are_counted,
@@ -12,5 +13,10 @@ pub use counts::{
 };
 pub use cuts::{
     a_cut_leaves_what_the_table_says,
-    a_cut_while_the_base_block_is_opened_leaves_what_its_sector_says, the_stages_are_the_calls,
+    a_cut_while_the_base_block_is_opened_leaves_what_its_sector_says, a_word_names_the_tree,
+    the_stages_are_the_calls,
+};
+pub use recoveries::{
+    a_cut_in_a_recovery_and_a_commit_leaves_what_the_table_says,
+    a_cut_in_a_recovery_leaves_what_the_table_says,
 };
