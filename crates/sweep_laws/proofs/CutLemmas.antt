@@ -2,11 +2,11 @@
 use Rattle.std.proofs.Common.{◌≡◌, ◌⊎◌, ◌<◌, ◌+◌, ◌*◌, ◌/◌, ℕ, zero, suc, Bool, true, false, cond, List, [], ◌∷◌, length, take, Option, Some, refl, sym, ◌∙◌, ap, arith, inl, inr, ⊎_elim}
 use Rattle.std.proofs.lemmas.Bool.{eqb-true, cases_Bool}
 use Rattle.hive_model.specs.Asked.{bin_at, primary_at}
-use Rattle.hive_model.specs.Base.{Base, base_text}
+use Rattle.hive_model.specs.Base.{Base, IsBase, base_text}
 use Rattle.hive_model.specs.Carries.{IsRecoveredAs}
 use Rattle.hive_model.specs.Image.{Address, Image, Write, Content, Bytes, Unreadable, IsLeftBy, IsInFlight, put, overlaid}
 use Rattle.hive_model.specs.Log.{log_of}
-use Rattle.hive_model.specs.Recovery.{primary_in}
+use Rattle.hive_model.specs.Recovery.{primary_in, rank, first_dirty}
 use Rattle.hive_model.proofs.BaseLemmas.{text_long}
 use Rattle.nt_edge.specs.Crash.{AgreeOutside, unreadable_at}
 use Rattle.nt_edge.specs.declared.disk.Keep.{Keep}
@@ -51,7 +51,7 @@ module _ {base : Base} {old new : List ℕ} {root : ℕ} {bits : ℕ → Bool} {
   abbrev log : List ℕ
   log = log_of bits new closed
 
-  asked : IsAsked base old new root bits
+  pub asked : IsAsked base old new root bits
   asked = change_asked before base old new root bits is
 
   commit_of : IsCommitOf opened closed new
@@ -65,12 +65,20 @@ module _ {base : Base} {old new : List ℕ} {root : ℕ} {bits : ℕ → Bool} {
     pages = (sized (length new) is.sized).pages;
   }
 
-  whole : 512 * (length new / 512) ≡ length new
+  pub block_fits : IsBase (record closed { kind = 1 })
+  block_fits = logged_fits base old new root bits asked
+
+  pub pages : 4096 * (length new / 4096) ≡ length new
+  pages = (sized (length new) is.sized).pages
+
+  pub whole : 512 * (length new / 512) ≡ length new
   whole = omega (arith, (sized (length new) is.sized).pages)
 
+  pub log_size : length log ≡ 512 * (first_dirty (length new) + rank bits (length new / 512))
+  log_size = log_long bits new closed (text_long (record closed { kind = 1 }) block_fits) whole
+
   long : length log ≡ 512 * (length log / 512)
-  long = omega (arith, log_long bits new closed
-      (text_long (record closed { kind = 1 }) (logged_fits base old new root bits asked)) whole)
+  long = omega (arith, log_size)
 
   -- ---- the base block is opened
   module _ {logged : Image} (has : HasNewLog before logged log) {cut : Image} (agree : AgreeOutside is_base logged cut) where

@@ -4,3 +4,5 @@ pub mod StageLemmas
 pub mod CutLemmas
 pub mod TreeLemmas
 pub mod RecoveryLemmas
+pub mod ListingLemmas
+pub mod LogLemmas
