@@ -3,7 +3,7 @@ use Rattle.std.proofs.Common.{◌≡◌, ◌⊎◌, ◌<◌, ◌+◌, ◌*◌, �
 use Rattle.std.proofs.lemmas.Bool.{eqb-true, cases_Bool}
 use Rattle.hive_model.specs.Asked.{bin_at, primary_at}
 use Rattle.hive_model.specs.Base.{Base, IsBase, base_text}
-use Rattle.hive_model.specs.Carries.{IsRecoveredAs}
+use Rattle.hive_model.specs.Carries.{HasLog, IsRecoveredAs}
 use Rattle.hive_model.specs.Image.{Address, Image, Write, Content, Bytes, Unreadable, IsLeftBy, IsInFlight, put, overlaid}
 use Rattle.hive_model.specs.Log.{log_of}
 use Rattle.hive_model.specs.Recovery.{primary_in, rank, first_dirty}
@@ -18,10 +18,10 @@ use Rattle.hive_log.proofs.Opened.{IsOpened, IsCommitOf, opened_recovered}
 use Rattle.hive_commit.specs.Calls.{log_writes, bins_writes}
 use Rattle.hive_commit.specs.Cuts.{IsChange, HasNewLog, HasNewBlock, HasNewBins}
 use Rattle.hive_commit.specs.Stages.{in_log, is_base, is_marked, opened_of, closed_of}
-use Rattle.hive_commit.proofs.Four.{change_asked, logged_fits, in_log_stage, bins_stage, closed_stage, no_base, log_along, IsAsked}
+use Rattle.hive_commit.proofs.Four.{change_asked, closed_logged, logged_fits, in_log_stage, bins_stage, closed_stage, no_base, log_along, IsAsked}
 use Rattle.hive_commit.proofs.LogSectors.{log_long}
 use Rattle.sweep_text.specs.Stages.{commit_stages, leaves_before, leaves_either, leaves_after}
-use Rattle.sweep_laws.specs.Leaving.{commit_writes, EachCallLeaves, IsRecoveredBy}
+use Rattle.sweep_laws.specs.Leaving.{commit_writes, held_after, EachCallLeaves, IsRecoveredBy}
 use Rattle.sweep_laws.proofs.WriteLemmas.{left_outside, all_in_log, log_written, all_marked, marked_written}
 use Rattle.sweep_laws.proofs.StageLemmas.{always_leaves, either_leaves}
 
@@ -77,7 +77,7 @@ module _ {base : Base} {old new : List ℕ} {root : ℕ} {bits : ℕ → Bool} {
   pub log_size : length log ≡ 512 * (first_dirty (length new) + rank bits (length new / 512))
   log_size = log_long bits new closed (text_long (record closed { kind = 1 }) block_fits) whole
 
-  long : length log ≡ 512 * (length log / 512)
+  pub long : length log ≡ 512 * (length log / 512)
   long = omega (arith, log_size)
 
   -- ---- the base block is opened
@@ -160,6 +160,14 @@ module _ {base : Base} {old new : List ℕ} {root : ℕ} {bits : ℕ → Bool} {
       cut (left_outside is_base moved_image (closing ∷ []) k keep (refl, tt))
       (⊎_elim (λ same. inl same) (λ flying. inr (block_flies closing k (primary_at 0) (primary_in cut 0) flying))
       (left_crash moved_image (take k (closing ∷ [])) keep (primary_at 0)))
+
+  -- the log is there to the end
+  pub log_left : HasLog (held_after before (commit_writes base bits new root)) log
+  log_left = closed_logged base old new root bits asked before is.carries logged_image has_log.alone has_log.log_there
+      opened_image (block_outside logged_image (base_text opened)) (block_there logged_image (base_text opened))
+      moved_image (now_outside (is_marked (length new) bits) opened_image (bins_writes bits new) (all_marked bits new))
+      (marked_written bits new opened_image whole)
+      (put moved_image closing) (block_outside moved_image (base_text closed))
 
   pub commit_leaves : (bitmap : ℕ) (sectors : List ℕ)
       → EachCallLeaves P before (commit_stages bitmap sectors) (commit_writes base bits new root)

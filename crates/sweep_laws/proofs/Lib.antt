@@ -6,3 +6,4 @@ pub mod TreeLemmas
 pub mod RecoveryLemmas
 pub mod ListingLemmas
 pub mod LogLemmas
+pub mod FileLemmas

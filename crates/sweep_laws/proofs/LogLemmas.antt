@@ -23,19 +23,19 @@ no_fault : (fault : Option HiveFault) (read base : Base) → unless_fault fault 
 no_fault None read base is = cc
 no_fault (Some fault) read base is = absurd (cc)
 
-size_back : (block : List ℕ) (kind : ℕ) (base : Base) → base_of block kind ≡ Ok base → u32_in block 40 ≡ base.size
+pub size_back : (block : List ℕ) (kind : ℕ) (base : Base) → base_of block kind ≡ Ok base → u32_in block 40 ≡ base.size
 unfolding base_of fields_of
 size_back block kind base is =
     ap (λ (b : Base). b.size) (no_fault (first_failing (base_checks block kind)) (fields_of block) base is)
 
-size_front : (block rest : List ℕ) → length block ≡ 512 → u32_in (block ++ rest) 40 ≡ u32_in block 40
+pub size_front : (block rest : List ℕ) → length block ≡ 512 → u32_in (block ++ rest) 40 ≡ u32_in block 40
 size_front block rest long = ap (from_le_bytes w32)
     (ap (take 4) (drop-append-le 40 block rest (omega (arith, long)))
     ∙ take-append-le 4 (drop 40 block) rest (omega (arith, long, length-drop 40 block)))
 
 -- ---- the bits
 
-listed_same : (p q : ℕ → Bool) (a n : ℕ) → ((i : ℕ) → i < a + n → p i ≡ q i) → listed p a n ≡ listed q a n
+pub listed_same : (p q : ℕ → Bool) (a n : ℕ) → ((i : ℕ) → i < a + n → p i ≡ q i) → listed p a n ≡ listed q a n
 listed_same p q a zero each = refl
 listed_same p q a (suc n) each =
     ap (λ b. cond b ((8 + a) ∷ []) [] ++ listed p (a + 1) n) (each a (omega arith))

@@ -36,6 +36,11 @@ abbrev pub calls_of : List (List Write) → List Made
 calls_of [] = []
 calls_of (writes ∷ more) = writes_of writes ++ Synced ∷ calls_of more
 
+-- what is held once all these stages are done
+abbrev pub held_after : Image → List (List Write) → Image
+held_after held [] = held
+held_after held (writes ∷ more) = held_after (overlaid held writes) more
+
 -- ---- the word of a call: whether it is `after`
 
 -- of a sync

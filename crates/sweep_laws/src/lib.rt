@@ -17,7 +17,10 @@ pub use cuts::{
     a_cut_while_the_base_block_is_opened_leaves_what_its_sector_says, a_word_names_the_tree,
     the_stages_are_the_calls,
 };
-pub use lists::{a_log_tells_the_table, the_table_lists_what_is_written};
+pub use lists::{
+    a_log_tells_the_table, the_log_of_a_commit_tells_its_table,
+    the_log_of_a_recovery_tells_its_table, the_table_lists_what_is_written,
+};
 pub use recoveries::{
     a_cut_in_a_recovery_and_a_commit_leaves_what_the_table_says,
     a_cut_in_a_recovery_leaves_what_the_table_says,
