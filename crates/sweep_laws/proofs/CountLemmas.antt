@@ -1,6 +1,6 @@
 -- How many words are `after`, and how many `before`.
-use Rattle.std.proofs.Common.{◌≡◌, ℕ, ◌+◌, ◌-◌, ◌*◌, Bool, true, false, cond, not, List, [], ◌∷◌, ◌++◌, length, refl, ap, ◌∙◌, arith, length-append}
-use Rattle.std.specs.List.{sum_by, count_by}
+use Rattle.std.proofs.Common.{◌≡◌, ℕ, ◌+◌, ◌-◌, ◌*◌, Bool, true, false, cond, not, List, [], ◌∷◌, ◌++◌, length, refl, ◌∙◌, arith, length-append}
+use Rattle.std.specs.List.{count_by}
 use Rattle.std.proofs.lemmas.List.Sums.{sum_by-append, sum_by-cons}
 use Rattle.hive_model.specs.Recovery.{one_if}
 use Rattle.sweep_text.specs.Stages.{Stage, calls_in, afters_in}
@@ -17,8 +17,13 @@ four_words [] = omega arith
 four_words (s ∷ more) =
     let writes = words_of_writes s.leaves.written s.sectors in
     let sync = four s.leaves.none s.leaves.others in
-    omega (arith, length-append (writes ++ sync) (words_in more), length-append writes sync,
-    writes_long s.leaves.written s.sectors, four_words more)
+    omega (
+      arith,
+      length-append (writes ++ sync) (words_in more),
+      length-append writes sync,
+      writes_long s.leaves.written s.sectors,
+      four_words more,
+    )
 
 -- ---- those that pass a test
 
@@ -47,8 +52,14 @@ true_words [] = omega arith
 true_words (s ∷ more) =
     let writes = words_of_writes s.leaves.written s.sectors in
     let sync = four s.leaves.none s.leaves.others in
-    omega (arith, sum_by-append (tally (λ w. w)) (writes ++ sync) (words_in more), sum_by-append (tally (λ w. w)) writes sync,
-    writes_true s.leaves.written s.sectors, four_tallied (λ w. w) s.leaves.none s.leaves.others, true_words more)
+    omega (
+      arith,
+      sum_by-append (tally (λ w. w)) (writes ++ sync) (words_in more),
+      sum_by-append (tally (λ w. w)) writes sync,
+      writes_true s.leaves.written s.sectors,
+      four_tallied (λ w. w) s.leaves.none s.leaves.others,
+      true_words more,
+    )
 
 -- each word passes the test or does not
 one_of_two : (w : Bool) → tally (λ v. v) w + tally not w ≡ 1

@@ -1,6 +1,6 @@
 -- What the cuts of a commit leave.
-use Rattle.std.proofs.Common.{◌≡◌, ◌⊎◌, ◌<◌, ◌+◌, ◌*◌, ◌/◌, ℕ, zero, suc, Bool, true, false, cond, List, [], ◌∷◌, length, take, Option, Some, refl, sym, ◌∙◌, ap, arith, inl, inr, ⊎_elim}
-use Rattle.std.proofs.lemmas.Bool.{eqb-true, cases_Bool}
+use Rattle.std.proofs.Common.{◌≡◌, ◌+◌, ◌*◌, ◌/◌, ℕ, zero, suc, Bool, true, false, cond, List, [], ◌∷◌, length, take, Option, Some, refl, sym, ◌∙◌, ap, arith, inl, inr, ⊎_elim}
+use Rattle.std.proofs.lemmas.Bool.{cases_Bool}
 use Rattle.hive_model.specs.Asked.{bin_at, primary_at}
 use Rattle.hive_model.specs.Base.{Base, IsBase, base_text}
 use Rattle.hive_model.specs.Carries.{HasLog, IsRecoveredAs}
@@ -16,11 +16,11 @@ use Rattle.mem_edge.proofs.KeepLemmas.{left_crash}
 use Rattle.hive_log.proofs.Appending.{sized}
 use Rattle.hive_log.proofs.Opened.{IsOpened, IsCommitOf, opened_recovered}
 use Rattle.hive_commit.specs.Calls.{log_writes, bins_writes}
-use Rattle.hive_commit.specs.Cuts.{IsChange, HasNewLog, HasNewBlock, HasNewBins}
+use Rattle.hive_commit.specs.Cuts.{IsChange, HasNewLog}
 use Rattle.hive_commit.specs.Stages.{in_log, is_base, is_marked, opened_of, closed_of}
 use Rattle.hive_commit.proofs.Four.{change_asked, closed_logged, logged_fits, in_log_stage, bins_stage, closed_stage, no_base, log_along, IsAsked}
 use Rattle.hive_commit.proofs.LogSectors.{log_long}
-use Rattle.sweep_text.specs.Stages.{commit_stages, leaves_before, leaves_either, leaves_after}
+use Rattle.sweep_text.specs.Stages.{commit_stages}
 use Rattle.sweep_laws.specs.Leaving.{commit_writes, held_after, EachCallLeaves, IsRecoveredBy}
 use Rattle.sweep_laws.proofs.WriteLemmas.{left_outside, all_in_log, log_written, all_marked, marked_written}
 use Rattle.sweep_laws.proofs.StageLemmas.{always_leaves, either_leaves}
@@ -85,7 +85,7 @@ module _ {base : Base} {old new : List ℕ} {root : ℕ} {bits : ℕ → Bool} {
     same_as_logged : primary_in cut 0 ≡ primary_in logged 0 → (a : Address) → cut a ≡ logged a
     same_as_logged same a = ⊎_elim
         (λ on. let here : a ≡ primary_at 0 = same_address_true a (primary_at 0) on in
-            ap cut here ∙ same ∙ sym (ap logged here))
+        ap cut here ∙ same ∙ sym (ap logged here))
         (λ off. agree a off)
         (cases_Bool (is_base a))
 
@@ -171,12 +171,17 @@ module _ {base : Base} {old new : List ℕ} {root : ℕ} {bits : ℕ → Bool} {
 
   pub commit_leaves : (bitmap : ℕ) (sectors : List ℕ)
       → EachCallLeaves P before (commit_stages bitmap sectors) (commit_writes base bits new root)
-  commit_leaves bitmap sectors =
-      (always_leaves P before false (log_writes log) log_leaves,
-      (either_leaves P logged_image (primary_at 0, base_text opened)
-      (opening_before has_log (λ a out. refl) refl)
-      (opening_after has_log (block_outside logged_image (base_text opened))
-      (inl (block_there logged_image (base_text opened))))
-      (opening_after has_log (torn_outside logged_image) (inr (torn_there logged_image))),
-      (always_leaves P opened_image true (bins_writes bits new) bins_leaves,
-      (always_leaves P moved_image true (closing ∷ []) close_leaves, tt))))
+  commit_leaves bitmap sectors = (
+    always_leaves P before false (log_writes log) log_leaves,
+    (
+      either_leaves P logged_image (primary_at 0, base_text opened)
+          (opening_before has_log (λ a out. refl) refl)
+          (opening_after has_log (block_outside logged_image (base_text opened))
+          (inl (block_there logged_image (base_text opened))))
+          (opening_after has_log (torn_outside logged_image) (inr (torn_there logged_image))),
+      (
+        always_leaves P opened_image true (bins_writes bits new) bins_leaves,
+        (always_leaves P moved_image true (closing ∷ []) close_leaves, tt),
+      ),
+    ),
+  )

@@ -1,5 +1,5 @@
 -- What the log's file of an image tells.
-use Rattle.std.proofs.Common.{◌≡◌, ◌⊎◌, ◌<◌, ◌≤◌, ◌+◌, ◌-◌, ◌*◌, ◌/◌, ◌%◌, ◌^◌, ◌==◌, ℕ, zero, suc, Bool, true, false, cond, List, [], ◌∷◌, ◌++◌, length, get_or, take, drop, Option, Some, None, Result, Ok, Err, refl, sym, ◌∙◌, ap, arith, ⊎_elim, length-take, take-append-drop}
+use Rattle.std.proofs.Common.{◌≡◌, ◌<◌, ◌≤◌, ◌+◌, ◌-◌, ◌*◌, ◌/◌, ◌%◌, ◌^◌, ◌==◌, ℕ, zero, suc, Bool, true, false, cond, List, ◌++◌, length, get_or, take, drop, Option, Some, None, Result, Ok, Err, refl, sym, ◌∙◌, ap, arith, ⊎_elim, length-take, take-append-drop}
 use Rattle.std.proofs.Math.Seq.{take-add}
 use Rattle.std.proofs.lemmas.Bool.{le-ltb, cases_lt}
 use Rattle.std.proofs.lemmas.List.{take_all, drop-drop, get_or-take, get_or-drop}
@@ -12,7 +12,7 @@ use Rattle.hive_model.specs.Carries.{HasLog}
 use Rattle.hive_model.specs.Forms.{◌>>=◌}
 use Rattle.hive_model.specs.Image.{Image, Log, Content, Bytes, Unreadable, bytes_of, IsFileOf}
 use Rattle.hive_model.specs.Log.{log_of}
-use Rattle.hive_model.specs.Recovery.{log_in, sector, bytes_or, read_log, joined, gathered, bit, bitmap_sectors, front_in, bitmap_in, as_log_base, logged_in}
+use Rattle.hive_model.specs.Recovery.{log_in, sector, bytes_or, read_log, joined, gathered, bit, bitmap_sectors, front_in, as_log_base}
 use Rattle.hive_model.proofs.BaseLemmas.{log_base_back, logged_in_checked}
 use Rattle.hive_log.specs.Found.{Found}
 use Rattle.hive_log.proofs.Appending.{sized}

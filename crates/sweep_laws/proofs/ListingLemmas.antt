@@ -1,15 +1,15 @@
 -- The sectors that are listed are those that are written.
-use Rattle.std.proofs.Common.{◌≡◌, ◌+◌, ◌*◌, ◌/◌, ℕ, zero, suc, Bool, true, false, cond, List, [], ◌∷◌, ◌++◌, length, map, filter, refl, sym, ◌∙◌, ap, arith, add-one}
+use Rattle.std.proofs.Common.{◌≡◌, ◌+◌, ◌/◌, ℕ, zero, suc, Bool, true, false, cond, List, [], ◌∷◌, ◌++◌, length, map, filter, refl, ◌∙◌, ap, arith}
 use Rattle.std.specs.List.{range_with_len}
 use Rattle.hive_model.specs.Asked.{log_at, primary_at, bin_at}
-use Rattle.hive_model.specs.Base.{Base, base_text}
+use Rattle.hive_model.specs.Base.{Base}
 use Rattle.hive_model.specs.Image.{Address, Image, Write}
 use Rattle.hive_model.specs.Log.{log_of}
 use Rattle.hive_model.specs.Recovery.{sector, rank, bitmap_sectors}
 use Rattle.hive_log.proofs.Ranks.{rank_on, rank_off}
 use Rattle.hive_commit.specs.Calls.{log_writes, bins_writes}
 use Rattle.hive_commit.specs.Cuts.{IsChange}
-use Rattle.hive_commit.specs.Stages.{opened_of, closed_of}
+use Rattle.hive_commit.specs.Stages.{closed_of}
 use Rattle.sweep_text.specs.Logged.{listed}
 use Rattle.sweep_text.specs.Stages.{recovery_stages, commit_stages}
 use Rattle.sweep_laws.specs.Leaving.{recovery_writes, commit_writes}

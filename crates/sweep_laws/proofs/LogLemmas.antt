@@ -1,12 +1,12 @@
 -- What a log that a commit wrote tells.
-use Rattle.std.proofs.Common.{◌≡◌, ◌<◌, ◌≤◌, ◌+◌, ◌-◌, ◌*◌, ◌/◌, ℕ, zero, suc, Bool, true, false, cond, List, [], ◌∷◌, ◌++◌, length, take, drop, replicate, Option, Some, None, Result, Ok, refl, sym, ◌∙◌, ap, arith, append_assoc, length-append, length-drop}
+use Rattle.std.proofs.Common.{◌≡◌, ◌<◌, ◌+◌, ◌-◌, ◌*◌, ◌/◌, ℕ, zero, suc, Bool, cond, List, [], ◌∷◌, ◌++◌, length, take, drop, replicate, Option, Some, None, Ok, refl, ◌∙◌, ap, arith, append_assoc, length-append, length-drop}
 use Rattle.std.specs.Int.{w32, from_le_bytes}
 use Rattle.std.proofs.lemmas.Bool.{le-ltb}
 use Rattle.std.proofs.lemmas.List.{take-append-le, drop-append-le}
 use lib.Seq.{drop-append-add}
 use Rattle.nt_bytes.specs.Fields.{u32_in}
 use Rattle.nt_bytes.specs.declared.fault.HiveFault.{HiveFault}
-use Rattle.hive_model.specs.Base.{Base, IsBase, base_of, base_text, fields_of, base_checks, first_failing, unless_fault}
+use Rattle.hive_model.specs.Base.{Base, base_of, base_text, fields_of, base_checks, first_failing, unless_fault}
 use Rattle.hive_model.specs.Image.{Image}
 use Rattle.hive_model.specs.Log.{log_of, bitmap_text, bytes_of_bits, marked_sectors}
 use Rattle.hive_model.specs.Recovery.{bit, bitmap_sectors}

@@ -19,7 +19,7 @@ use Rattle.hive_commit.specs.Cuts.{IsChange}
 use Rattle.hive_commit.specs.Stages.{is_base, is_marked, closed_of}
 use Rattle.hive_commit.proofs.Restored.{kept_in_bins, kept_in_block, closed_again}
 use Rattle.sweep_text.specs.Stages.{recovery_stages, commit_stages}
-use Rattle.sweep_laws.specs.Leaving.{StageLeaves, EachCallLeaves, IsRecoveredBy, IsRecoveredBefore, recovery_writes, commit_writes}
+use Rattle.sweep_laws.specs.Leaving.{EachCallLeaves, IsRecoveredBy, IsRecoveredBefore, recovery_writes, commit_writes}
 use Rattle.sweep_laws.proofs.WriteLemmas.{left_outside, all_marked, marked_written}
 use Rattle.sweep_laws.proofs.StageLemmas.{always_leaves}
 use Rattle.sweep_laws.proofs.CutLemmas.{block_flies, commit_leaves}
@@ -63,9 +63,10 @@ module _ {held : Image} {base : Base} {bitmap bins : List ℕ} (found : Found he
 
   pub recovery_leaves : (sectors : List ℕ)
       → EachCallLeaves (IsRecoveredBefore base bins) held (recovery_stages sectors) (recovery_writes base bits bins)
-  recovery_leaves sectors =
-      (always_leaves (IsRecoveredBefore base bins) held false (bins_writes bits bins) (λ k keep. (refl, bins_left k keep)),
-      (always_leaves (IsRecoveredBefore base bins) moved_image false (closing ∷ []) (λ k keep. (refl, block_left k keep)), tt))
+  recovery_leaves sectors = (
+    always_leaves (IsRecoveredBefore base bins) held false (bins_writes bits bins) (λ k keep. (refl, bins_left k keep)),
+    (always_leaves (IsRecoveredBefore base bins) moved_image false (closing ∷ []) (λ k keep. (refl, block_left k keep)), tt),
+  )
 
   pub both_leave : (new : List ℕ) (root count : ℕ) (marks : ℕ → Bool) (sectors more : List ℕ)
       → is_bins_size (length new) ≡ true → root < 2 ^ 32
@@ -82,6 +83,7 @@ module _ {held : Image} {base : Base} {bitmap bins : List ℕ} (found : Found he
         sized = sized_new;
         root_fits = fits;
         stays = stays;
-      } in
-      (always_leaves P held false (bins_writes bits bins) bins_left,
-      (always_leaves P moved_image false (closing ∷ []) block_left, commit_leaves change count more))
+      } in (
+        always_leaves P held false (bins_writes bits bins) bins_left,
+        (always_leaves P moved_image false (closing ∷ []) block_left, commit_leaves change count more),
+      )

@@ -1,5 +1,5 @@
 -- What the cuts of one stage leave.
-use Rattle.std.proofs.Common.{◌≡◌, ◌≤◌, ℕ, zero, suc, Bool, true, false, cond, List, [], ◌∷◌, length, take, nat_lt, refl, sym, subst, arith, ap, ◌∙◌}
+use Rattle.std.proofs.Common.{◌≡◌, ℕ, zero, suc, Bool, true, false, cond, List, [], ◌∷◌, length, take, nat_lt, refl, sym, subst, arith, ap, ◌∙◌}
 use Rattle.hive_model.specs.Image.{Image, Write, put, overlaid}
 use Rattle.nt_edge.specs.Crash.{unreadable_at}
 use Rattle.nt_edge.specs.declared.disk.Keep.{Keep}

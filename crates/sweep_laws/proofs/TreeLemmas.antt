@@ -1,5 +1,5 @@
 -- What is recovered by a word loads by it.
-use Rattle.std.proofs.Common.{◌≡◌, ℕ, Bool, true, false, List, inl, ⊎_elim}
+use Rattle.std.proofs.Common.{ℕ, Bool, true, false, List, inl, ⊎_elim}
 use Rattle.hive_model.specs.Base.{Base}
 use Rattle.hive_model.specs.Carries.{IsRecoveredAs}
 use Rattle.hive_model.specs.Image.{Image}

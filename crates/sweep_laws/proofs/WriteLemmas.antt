@@ -5,7 +5,7 @@ use Rattle.std.proofs.lemmas.List.{append-nil, map-append}
 use Rattle.std.proofs.lemmas.List.Elements.{filter-append}
 use Rattle.hive_model.specs.Asked.{log_at, bin_at}
 use Rattle.hive_model.specs.Carries.{HasLog}
-use Rattle.hive_model.specs.Image.{Address, Image, Write, put, overlaid}
+use Rattle.hive_model.specs.Image.{Address, Image, Write, overlaid}
 use Rattle.hive_model.specs.Recovery.{sector}
 use Rattle.nt_edge.specs.Crash.{EachWrite, AgreeOutside}
 use Rattle.nt_edge.specs.declared.disk.Keep.{Keep}

@@ -41,7 +41,7 @@ pub fn a_cut_leaves_what_the_table_says()
     ensures { (before : Image) (base : Base) (old new : List ℕ) (root bitmap : ℕ) (bits : ℕ → Bool) (sectors : List ℕ)
         → IsChange before base old new root bits
         → EachCallLeaves (IsRecoveredBy base old (closed_of base new root) new) before
-            (commit_stages bitmap sectors) (commit_writes base bits new root) }
+        (commit_stages bitmap sectors) (commit_writes base bits new root) }
 {}
 
 /// Where a tree stood in the data from before and one is in those from after, what a cut leaves loads as the state that the word names: as that

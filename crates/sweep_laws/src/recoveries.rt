@@ -30,6 +30,6 @@ pub fn a_cut_in_a_recovery_and_a_commit_leaves_what_the_table_says()
         → is_bins_size (length new) ≡ true → root < 2 ^ 32
         → ((i : ℕ) → 512 * i < length new → bits i ≡ false → (512 * i < length old) × (sector new i ≡ sector old i))
         → EachCallLeaves (IsRecoveredBy base old (closed_of base new root) new) held
-            (recovery_stages sectors ++ commit_stages sectors_of_bits more)
-            (recovery_writes base (bit bitmap) old ++ commit_writes base bits new root) }
+        (recovery_stages sectors ++ commit_stages sectors_of_bits more)
+        (recovery_writes base (bit bitmap) old ++ commit_writes base bits new root) }
 {}

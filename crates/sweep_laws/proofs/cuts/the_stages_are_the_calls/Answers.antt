@@ -1,4 +1,4 @@
-use Rattle.std.proofs.Common.{refl, [], ◌∷◌, append_assoc}
+use Rattle.std.proofs.Common.{refl, ◌∷◌, append_assoc}
 use Rattle.hive_model.specs.Log.{dirty, log_of}
 use Rattle.nt_edge.specs.Calls.{Synced, writes_of}
 use Rattle.hive_commit.specs.Calls.{log_writes, block_calls, closing_calls}
