@@ -7,3 +7,4 @@ pub mod RecoveryLemmas
 pub mod ListingLemmas
 pub mod LogLemmas
 pub mod FileLemmas
+pub mod TruthLemmas

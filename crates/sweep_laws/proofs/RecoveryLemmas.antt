@@ -68,22 +68,25 @@ module _ {held : Image} {base : Base} {bitmap bins : List ℕ} (found : Found he
     (always_leaves (IsRecoveredBefore base bins) moved_image false (closing ∷ []) (λ k keep. (refl, block_left k keep)), tt),
   )
 
-  pub both_leave : (new : List ℕ) (root count : ℕ) (marks : ℕ → Bool) (sectors more : List ℕ)
-      → is_bins_size (length new) ≡ true → root < 2 ^ 32
-      → ((i : ℕ) → 512 * i < length new → marks i ≡ false → (512 * i < length bins) × (sector new i ≡ sector bins i))
-      → EachCallLeaves (IsRecoveredBy base bins (closed_of base new root) new) held
-      (recovery_stages sectors ++ commit_stages count more)
-      (recovery_writes base bits bins ++ commit_writes base marks new root)
-  both_leave new root count marks sectors more sized_new fits stays =
-      let P = IsRecoveredBy base bins (closed_of base new root) new in
-      let change : IsChange (put moved_image closing) base bins new root marks = record {
-        carries = carried;
-        numbers = numbers;
-        texts = texts;
-        sized = sized_new;
-        root_fits = fits;
-        stays = stays;
-      } in (
-        always_leaves P held false (bins_writes bits bins) bins_left,
-        (always_leaves P moved_image false (closing ∷ []) block_left, commit_leaves change count more),
-      )
+  module _ (new : List ℕ) (root : ℕ) (marks : ℕ → Bool) (sized_new : is_bins_size (length new) ≡ true) (fits : root < 2 ^ 32)
+      (stays : (i : ℕ) → 512 * i < length new → marks i ≡ false → (512 * i < length bins) × (sector new i ≡ sector bins i)) where
+    -- a commit after it
+    pub change_then : IsChange (put moved_image closing) base bins new root marks
+    change_then = record {
+      carries = carried;
+      numbers = numbers;
+      texts = texts;
+      sized = sized_new;
+      root_fits = fits;
+      stays = stays;
+    }
+
+    pub both_leave : (count : ℕ) (sectors more : List ℕ)
+        → EachCallLeaves (IsRecoveredBy base bins (closed_of base new root) new) held
+        (recovery_stages sectors ++ commit_stages count more)
+        (recovery_writes base bits bins ++ commit_writes base marks new root)
+    both_leave count sectors more =
+        let P = IsRecoveredBy base bins (closed_of base new root) new in (
+          always_leaves P held false (bins_writes bits bins) bins_left,
+          (always_leaves P moved_image false (closing ∷ []) block_left, commit_leaves change_then count more),
+        )

@@ -6,7 +6,7 @@ use Rattle.hive_model.specs.Asked.{primary_at}
 use Rattle.hive_model.specs.Log.{log_of}
 use Rattle.hive_model.specs.Carries.{IsRecoveredAs}
 use Rattle.hive_model.specs.State.{HiveState}
-use Rattle.hive_model.specs.Load.{LoadsAs}
+use Rattle.hive_model.specs.Load.{Loads, LoadsAs}
 use Rattle.nt_edge.specs.Calls.{Made, Synced, writes_of}
 use Rattle.nt_edge.specs.declared.disk.Keep.{Keep}
 use Rattle.nt_edge.specs.declared.disk.Keep.TheVariants.{Nothing, Everything, OddOnes, Torn}
@@ -85,6 +85,10 @@ IsRecoveredBefore base bins after cut = (after ≡ false) × IsRecoveredAs cut b
 -- as the old state, or where the word is `after` as the new one
 abbrev pub LoadsBy : HiveState → HiveState → Bool → Image → Type 0
 LoadsBy old new after cut = LoadsAs cut (if after then new else old)
+
+-- as no other
+abbrev pub LoadsNoOther : HiveState → HiveState → Bool → Image → Type 0
+LoadsNoOther old new after cut = (found : HiveState) (dirty : Bool) → Loads cut found dirty → found ≡ (if after then new else old)
 
 -- as this state, and the word is `before`
 abbrev pub LoadsBefore : HiveState → Bool → Image → Type 0

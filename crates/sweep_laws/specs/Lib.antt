@@ -1,3 +1,4 @@
 pub mod Counted
 pub mod Leaving
 pub mod Listing
+pub mod Truth

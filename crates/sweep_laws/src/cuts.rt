@@ -14,7 +14,7 @@ ghost use Rattle.hive_commit.specs.Cuts.{IsChange, HasNewLog};
 ghost use Rattle.hive_commit.specs.Stages.{is_base, opened_of, closed_of};
 ghost use Rattle.hive_laws.specs.Cuts.{HoldsIn};
 ghost use Rattle.sweep_text.specs.Stages.{commit_stages};
-ghost use Rattle.sweep_laws.specs.Leaving.{recovery_writes, commit_writes, calls_of, EachCallLeaves, IsRecoveredBy, LoadsBy};
+ghost use Rattle.sweep_laws.specs.Leaving.{recovery_writes, commit_writes, calls_of, EachCallLeaves, IsRecoveredBy, LoadsBy, LoadsNoOther};
 
 /// The writes of these stages, with a sync after those of each, are the calls of a commit, and of a recovery.
 pub fn the_stages_are_the_calls()
@@ -44,11 +44,15 @@ pub fn a_cut_leaves_what_the_table_says()
         (commit_stages bitmap sectors) (commit_writes base bits new root) }
 {}
 
-/// Where a tree stood in the data from before and one is in those from after, what a cut leaves loads as the state that the word names: as that
-/// from before where it is `before`, and as that from after where it is `after`.
+/// Where a tree stood in the data from before and one is in those from after, what a cut leaves loads as the state that the word names, and as no
+/// other: as that from before where it is `before`, and as that from after where it is `after`.
 pub fn a_word_names_the_tree()
-    ensures { (before : Image) (base : Base) (old new : List ℕ) (root bitmap : ℕ) (bits : ℕ → Bool) (sectors : List ℕ) (first last : HiveState)
+    ensures loads { (before : Image) (base : Base) (old new : List ℕ) (root bitmap : ℕ) (bits : ℕ → Bool) (sectors : List ℕ) (first last : HiveState)
         → IsChange before base old new root bits
         → HoldsIn base old first → HoldsIn (closed_of base new root) new last
         → EachCallLeaves (LoadsBy first last) before (commit_stages bitmap sectors) (commit_writes base bits new root) }
+    ensures no_other { (before : Image) (base : Base) (old new : List ℕ) (root bitmap : ℕ) (bits : ℕ → Bool) (sectors : List ℕ) (first last : HiveState)
+        → IsChange before base old new root bits
+        → HoldsIn base old first → HoldsIn (closed_of base new root) new last
+        → EachCallLeaves (LoadsNoOther first last) before (commit_stages bitmap sectors) (commit_writes base bits new root) }
 {}

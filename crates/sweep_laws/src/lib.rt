@@ -7,6 +7,7 @@ mod counts;
 mod cuts;
 mod lists;
 mod recoveries;
+mod tables;
 
 pub use counts::{
     each_call_has_four_words, the_calls_of_a_commit_are_counted,
@@ -25,3 +26,4 @@ pub use recoveries::{
     a_cut_in_a_recovery_and_a_commit_leaves_what_the_table_says,
     a_cut_in_a_recovery_leaves_what_the_table_says,
 };
+pub use tables::the_table_of_a_report_is_true;
