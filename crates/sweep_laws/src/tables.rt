@@ -21,7 +21,7 @@ pub fn the_table_of_a_report_is_true()
         → IsChange before base old new root bits
         → IsFileOf (held_after before (commit_writes base bits new root)) Log log
         → IsTrueOf (IsRecoveredBy base old (closed_of base new root) new) before
-            (stages_by false true given (logged_of log)) (commit_writes base bits new root) }
+        (stages_by false true given (logged_of log)) (commit_writes base bits new root) }
     ensures recovery { (held : Image) (base : Base) (bitmap bins log : List ℕ) (written : LoggedModel)
         → Found held base bitmap bins → NumbersFit base → TextsFit base
         → IsFileOf held Log log
@@ -33,5 +33,5 @@ pub fn the_table_of_a_report_is_true()
         → IsFileOf held Log log
         → IsFileOf (held_after held (recovery_writes base (bit bitmap) old ++ commit_writes base bits new root)) Log last
         → IsTrueOf (IsRecoveredBy base old (closed_of base new root) new) held
-            (stages_by true true (logged_of log) (logged_of last)) (recovery_writes base (bit bitmap) old ++ commit_writes base bits new root) }
+        (stages_by true true (logged_of log) (logged_of last)) (recovery_writes base (bit bitmap) old ++ commit_writes base bits new root) }
 {}
