@@ -8,3 +8,4 @@ pub mod ListingLemmas
 pub mod LogLemmas
 pub mod FileLemmas
 pub mod TruthLemmas
+pub mod ColumnLemmas

@@ -2,3 +2,4 @@ pub mod Counted
 pub mod Leaving
 pub mod Listing
 pub mod Truth
+pub mod Columns

@@ -3,12 +3,14 @@
 //! How many calls and words it has, and that each word is true of what a cut leaves. Definitions: `specs/`. This project's own.
 #![tactic(auto)]
 
+mod columns;
 mod counts;
 mod cuts;
 mod lists;
 mod recoveries;
 mod tables;
 
+pub use columns::the_nth_word_is_that_of_the_nth_call;
 pub use counts::{
     each_call_has_four_words, the_calls_of_a_commit_are_counted,
     the_calls_of_a_recovery_are_counted,
