@@ -9,3 +9,4 @@ pub mod LogLemmas
 pub mod FileLemmas
 pub mod TruthLemmas
 pub mod ColumnLemmas
+pub mod PrintLemmas

@@ -1,6 +1,6 @@
 //! The n-th word of a column is that of the n-th call.
 
-ghost use Rattle.std.specs.Prelude.{◌≡◌, ℕ, List, [], length, true, false};
+ghost use Rattle.std.specs.Prelude.{◌≡◌, ℕ, List, [], length, map, true, false};
 ghost use Rattle.hive_model.specs.Base.{Base};
 ghost use Rattle.hive_model.specs.Image.{Log, IsFileOf};
 ghost use Rattle.hive_model.specs.Log.{dirty};
@@ -13,11 +13,13 @@ ghost use Rattle.hive_commit.specs.Calls.{change_calls, closing_calls};
 ghost use Rattle.hive_commit.specs.Cuts.{IsChange};
 ghost use Rattle.hive_commit.specs.Stages.{closed_of};
 ghost use Rattle.sweep_text.specs.declared.logged.Logged.{Logged as LoggedModel};
+ghost use Rattle.sweep_text.specs.declared.stages.Leaves.{Leaves as LeavesModel};
+ghost use Rattle.sweep_text.specs.Calls.{four_text, four_fields};
 ghost use Rattle.sweep_text.specs.Logged.{logged_of};
 ghost use Rattle.sweep_text.specs.Report.{stages_by};
 ghost use Rattle.sweep_text.specs.Stages.{Stage, calls_in};
-ghost use Rattle.sweep_laws.specs.Columns.{column, after_calls, EachWordIsTrue};
-ghost use Rattle.sweep_laws.specs.Leaving.{IsRecoveredBy, IsRecoveredBefore};
+ghost use Rattle.sweep_laws.specs.Columns.{column, after_calls, EachWordIsTrue, ways, printed, field_of};
+ghost use Rattle.sweep_laws.specs.Leaving.{sync_word, IsRecoveredBy, IsRecoveredBefore};
 
 /// A column has a word for each call that the table counts (`counted`). Where a disk with nothing in flight does the calls of a commit (`commit`), or
 /// the writes and syncs of a recovery (`recovery`), one by one, and the power is cut in the n-th of them, what is left is what the n-th word of the
@@ -34,4 +36,13 @@ pub fn the_nth_word_is_that_of_the_nth_call()
         → IsFileOf disk.held Log log
         → EachWordIsTrue (IsRecoveredBefore base bins) disk
             (stages_by true false (logged_of log) written) (closing_calls base (bit bitmap) bins) }
+{}
+
+/// The lines of a write and of a sync print a word for each way, in the order of the columns: as text (`write`, `sync`) and as fields of an object
+/// (`write_fields`, `sync_fields`).
+pub fn a_line_prints_a_word_of_each_column()
+    ensures write { (leaves : LeavesModel) → four_text leaves.written leaves.written ≡ printed (λ keep. leaves.written) }
+    ensures sync { (leaves : LeavesModel) → four_text leaves.none leaves.others ≡ printed (sync_word leaves) }
+    ensures write_fields { (leaves : LeavesModel) → four_fields leaves.written leaves.written ≡ map (field_of (λ keep. leaves.written)) ways }
+    ensures sync_fields { (leaves : LeavesModel) → four_fields leaves.none leaves.others ≡ map (field_of (sync_word leaves)) ways }
 {}
