@@ -1,19 +1,19 @@
 -- The words of the columns, call by call.
-use Rattle.std.proofs.Common.{◌≡◌, ◌<◌, ◌≤◌, ◌+◌, ◌-◌, ℕ, zero, suc, Bool, true, false, cond, List, [], ◌∷◌, ◌++◌, length, map, take, replicate, get_or, refl, sym, ◌∙◌, ap, subst, arith, ⊎_elim, append_assoc, append-nil, length-append}
-use Rattle.std.specs.Prelude.{nat_lt}
+use Rattle.std.proofs.Common.{◌≡◌, ◌<◌, ◌≤◌, ◌+◌, ◌-◌, ◌*◌, ◌^◌, ℕ, zero, suc, Bool, true, false, cond, List, [], ◌∷◌, ◌++◌, length, take, replicate, get_or, refl, sym, ◌∙◌, ap, subst, arith, ⊎_elim, append_assoc, append-nil, length-append}
 use Rattle.std.proofs.Math.Seq.{take-append-add}
 use Rattle.std.proofs.lemmas.Bool.{lt-ltb, le-ltb, cases_lt}
 use Rattle.std.proofs.lemmas.List.{length-map, length-replicate, take-append-le, take-map, get_or-append-add}
-use Rattle.hive_model.specs.Base.{Base}
+use Rattle.hive_model.specs.Base.{Base, is_bins_size}
 use Rattle.hive_model.specs.Image.{Image, Log, Write, Address, IsFileOf, overlaid}
 use Rattle.hive_model.specs.Log.{dirty, log_of}
-use Rattle.hive_model.specs.Recovery.{bit}
+use Rattle.hive_model.specs.Recovery.{bit, sector}
 use Rattle.nt_edge.specs.Calls.{Made, Wrote, Synced, writes_of}
 use Rattle.nt_edge.specs.Disk.{DiskState}
 use Rattle.nt_edge.specs.declared.disk.Keep.{Keep}
 use Rattle.mem_edge.specs.Seen.{written, synced}
 use Rattle.mem_edge.specs.Views.{left}
 use Rattle.hive_log.specs.Found.{Found}
+use Rattle.hive_log.proofs.Same.{off_same}
 use Rattle.regf_base.specs.Fitting.{NumbersFit, TextsFit}
 use Rattle.hive_commit.specs.Calls.{change_calls, closing_calls, block_calls, log_writes}
 use Rattle.hive_commit.specs.Cuts.{IsChange}
@@ -26,7 +26,7 @@ use Rattle.sweep_laws.specs.Columns.{column, made, after_calls, left_of, EachWor
 use Rattle.sweep_laws.specs.Leaving.{sync_word, word_at, commit_writes, recovery_writes, calls_of, held_after, EachCallLeaves, IsRecoveredBy, IsRecoveredBefore}
 use Rattle.sweep_laws.specs.Listing.{listed_in, written_in}
 use Rattle.sweep_laws.specs.Truth.{IsTrueOf}
-use Rattle.sweep_laws.proofs.TruthLemmas.{commit_true, recovery_true}
+use Rattle.sweep_laws.proofs.TruthLemmas.{commit_true, recovery_true, both_true}
 
 -- ---- columns
 
@@ -51,8 +51,12 @@ pub column_long : (keep : Keep) (stages : List Stage) → length (column keep st
 column_long keep [] = refl
 column_long keep (s ∷ more) =
     let tail = sync_word s.leaves keep ∷ column keep more in
-    omega (arith, length-append (replicate (length s.sectors) s.leaves.written) tail,
-    length-replicate (length s.sectors) s.leaves.written, column_long keep more)
+    omega (
+      arith,
+      length-append (replicate (length s.sectors) s.leaves.written) tail,
+      length-replicate (length s.sectors) s.leaves.written,
+      column_long keep more,
+    )
 
 -- ---- the disk
 
@@ -114,9 +118,10 @@ tails x y xs ys e = cc
 as_many : (stages : List Stage) (writes : List (List Write)) → listed_in stages ≡ written_in writes → AsMany stages writes
 as_many [] writes same = tt
 as_many (s ∷ stages) [] same = tt
-as_many (s ∷ stages) (writes ∷ more) same =
-    (sym (length-map s.sectors _) ∙ ap length (heads _ _ (listed_in stages) (written_in more) same) ∙ length-map writes _,
-    as_many stages more (tails _ _ (listed_in stages) (written_in more) same))
+as_many (s ∷ stages) (writes ∷ more) same = (
+  sym (length-map s.sectors _) ∙ ap length (heads _ _ (listed_in stages) (written_in more) same) ∙ length-map writes _,
+  as_many stages more (tails _ _ (listed_in stages) (written_in more) same),
+)
 
 module _ (P : Bool → Image → Type 0) (keep : Keep) where
   -- a word of one stage
@@ -125,11 +130,11 @@ module _ (P : Bool → Image → Type 0) (keep : Keep) where
       ≡ get_or (replicate (length s.sectors) s.leaves.written ++ sync_word s.leaves keep ∷ rest) n false
   one_word s count n rest long within = ⊎_elim
       (λ less. ap (λ t. cond t s.leaves.written (sync_word s.leaves keep)) (lt-ltb n count less)
-          ∙ sym (below s.leaves.written (sync_word s.leaves keep) rest (length s.sectors) n (omega (arith, less, long))))
+      ∙ sym (below s.leaves.written (sync_word s.leaves keep) rest (length s.sectors) n (omega (arith, less, long))))
       (λ far. let same : length s.sectors ≡ n = omega (arith, far, within, long) in
-          ap (λ t. cond t s.leaves.written (sync_word s.leaves keep)) (le-ltb n count far)
-          ∙ sym (ap (λ k. get_or (replicate (length s.sectors) s.leaves.written ++ sync_word s.leaves keep ∷ rest) k false) (sym same)
-          ∙ at_end s.leaves.written (sync_word s.leaves keep) rest (length s.sectors)))
+      ap (λ t. cond t s.leaves.written (sync_word s.leaves keep)) (le-ltb n count far)
+      ∙ sym (ap (λ k. get_or (replicate (length s.sectors) s.leaves.written ++ sync_word s.leaves keep ∷ rest) k false) (sym same)
+      ∙ at_end s.leaves.written (sync_word s.leaves keep) rest (length s.sectors)))
       (cases_lt n count)
 
   words_true : (disk : DiskState) (held : Image) (stages : List Stage) (writes : List (List Write)) → disk.held ≡ held
@@ -146,22 +151,22 @@ module _ (P : Bool → Image → Type 0) (keep : Keep) where
       let long = length-append (writes_of writes) (Synced ∷ calls_of more) in
       let fewer : m < length (calls_of more) = omega (arith, later, small, long, length-map writes Wrote) in
       let next = words_true (done disk still writes) (overlaid held writes) stages more
-          (done_held disk still writes ∙ ap (λ (h : Image). overlaid h writes) is) refl many.1 each.1 m fewer in
+      (done_held disk still writes ∙ ap (λ (h : Image). overlaid h writes) is) refl many.1 each.1 m fewer in
       let word : get_or (column keep stages) m false ≡ get_or (column keep (s ∷ stages)) n false =
-          sym (ap (λ k. get_or (column keep (s ∷ stages)) k false) place
-          ∙ ap (λ k. get_or (column keep (s ∷ stages)) (k + suc m) false) (sym many.0)
-          ∙ past s.leaves.written (sync_word s.leaves keep) (column keep stages) (length s.sectors) m) in
+      sym (ap (λ k. get_or (column keep (s ∷ stages)) k false) place
+      ∙ ap (λ k. get_or (column keep (s ∷ stages)) (k + suc m) false) (sym many.0)
+      ∙ past s.leaves.written (sync_word s.leaves keep) (column keep stages) (length s.sectors) m) in
       let image : left_of keep (after_calls (done disk still writes) (take m (calls_of more)))
-          ≡ left_of keep (after_calls disk (take n (calls_of (writes ∷ more)))) =
-          sym (ap (λ k. left_of keep (after_calls disk (take k (calls_of (writes ∷ more))))) place
-          ∙ ap (left_of keep) (after_stage disk still writes m (calls_of more))) in
+      ≡ left_of keep (after_calls disk (take n (calls_of (writes ∷ more)))) =
+      sym (ap (λ k. left_of keep (after_calls disk (take k (calls_of (writes ∷ more))))) place
+      ∙ ap (left_of keep) (after_stage disk still writes m (calls_of more))) in
       subst (λ (b : Bool). P b (left_of keep (after_calls disk (take n (calls_of (writes ∷ more)))))) word
       (subst (P (get_or (column keep stages) m false)) image next))
       (λ within.
       let here = each.0 n keep within in
       let word = one_word s (length writes) n (column keep stages) many.0 within in
       let image : left keep held (take n writes) ≡ left_of keep (after_calls disk (take n (calls_of (writes ∷ more)))) =
-          sym (left_within disk still writes keep n (calls_of more) within ∙ ap (λ (h : Image). left keep h (take n writes)) is) in
+      sym (left_within disk still writes keep n (calls_of more) within ∙ ap (λ (h : Image). left keep h (take n writes)) is) in
       subst (λ (b : Bool). P b (left_of keep (after_calls disk (take n (calls_of (writes ∷ more)))))) word
       (subst (P (word_at s.leaves keep (length writes) n)) image here))
       (cases_lt (length writes) n)
@@ -198,11 +203,11 @@ commit_column disk base old new log root given still is file =
     let writes = commit_writes base (dirty old new) new root in
     let calls = commit_calls base old new root in
     let held : (after_calls disk (change_calls base old new root)).held ≡ held_after disk.held writes =
-        ap (λ l. (after_calls disk l).held) calls ∙ all_held disk disk.held writes refl still in
+    ap (λ l. (after_calls disk l).held) calls ∙ all_held disk disk.held writes refl still in
     let P = IsRecoveredBy base old (closed_of base new root) new in
     let stages = stages_by false true given (logged_of log) in
     let table : IsTrueOf P disk.held stages writes =
-        commit_true given is (subst (λ (h : Image). IsFileOf h Log log) held file) in
+    commit_true given is (subst (λ (h : Image). IsFileOf h Log log) held file) in
     subst (λ (l : List Made). EachWordIsTrue P disk stages l) (sym calls)
     (each_word P disk stages writes table.lists table.leaves still)
 
@@ -216,3 +221,32 @@ recovery_column disk base bitmap bins log written still found numbers texts file
     let writes = recovery_writes base (bit bitmap) bins in
     let table : IsTrueOf P disk.held stages writes = recovery_true found numbers texts file written in
     each_word P disk stages writes table.lists table.leaves still
+
+-- those of a recovery and a commit
+calls_append : (first then : List (List Write)) → calls_of first ++ calls_of then ≡ calls_of (first ++ then)
+calls_append [] then = refl
+calls_append (writes ∷ more) then = append_assoc (writes_of writes) (Synced ∷ calls_of more) (calls_of then)
+    ∙ ap (λ l. writes_of writes ++ Synced ∷ l) (calls_append more then)
+
+pub both_column : (disk : DiskState) (base : Base) (bitmap old new log last : List ℕ) (root : ℕ) → disk.flight ≡ []
+    → Found disk.held base bitmap old → NumbersFit base → TextsFit base → is_bins_size (length new) ≡ true → root < 2 ^ 32
+    → IsFileOf disk.held Log log
+    → IsFileOf (after_calls disk (closing_calls base (bit bitmap) old ++ change_calls base old new root)).held Log last
+    → EachWordIsTrue (IsRecoveredBy base old (closed_of base new root) new) disk
+    (stages_by true true (logged_of log) (logged_of last)) (closing_calls base (bit bitmap) old ++ change_calls base old new root)
+both_column disk base bitmap old new log last root still found numbers texts sized fits file left =
+    let writes = recovery_writes base (bit bitmap) old ++ commit_writes base (dirty old new) new root in
+    let calls : closing_calls base (bit bitmap) old ++ change_calls base old new root ≡ calls_of writes =
+    ap (λ l. closing_calls base (bit bitmap) old ++ l) (commit_calls base old new root)
+    ∙ calls_append (recovery_writes base (bit bitmap) old) (commit_writes base (dirty old new) new root) in
+    let held : (after_calls disk (closing_calls base (bit bitmap) old ++ change_calls base old new root)).held
+    ≡ held_after disk.held writes =
+    ap (λ l. (after_calls disk l).held) calls ∙ all_held disk disk.held writes refl still in
+    let P = IsRecoveredBy base old (closed_of base new root) new in
+    let stages = stages_by true true (logged_of log) (logged_of last) in
+    let stays : (i : ℕ) → 512 * i < length new → dirty old new i ≡ false → (512 * i < length old) × (sector new i ≡ sector old i) =
+    λ i small off. let same = off_same old new i off in (omega (arith, same.0), sym same.1) in
+    let table : IsTrueOf P disk.held stages writes =
+    both_true found numbers texts file sized fits stays (subst (λ (h : Image). IsFileOf h Log last) held left) in
+    subst (λ (l : List Made). EachWordIsTrue P disk stages l) (sym calls)
+    (each_word P disk stages writes table.lists table.leaves still)

@@ -1,7 +1,7 @@
 //! The n-th word of a column is that of the n-th call.
 
-ghost use Rattle.std.specs.Prelude.{◌≡◌, ℕ, List, [], length, map, true, false};
-ghost use Rattle.hive_model.specs.Base.{Base};
+ghost use Rattle.std.specs.Prelude.{◌≡◌, ◌<◌, ◌^◌, ◌++◌, ℕ, List, [], length, map, true, false};
+ghost use Rattle.hive_model.specs.Base.{Base, is_bins_size};
 ghost use Rattle.hive_model.specs.Image.{Log, IsFileOf};
 ghost use Rattle.hive_model.specs.Log.{dirty};
 ghost use Rattle.hive_model.specs.Recovery.{bit};
@@ -21,21 +21,27 @@ ghost use Rattle.sweep_text.specs.Stages.{Stage, calls_in};
 ghost use Rattle.sweep_laws.specs.Columns.{column, after_calls, EachWordIsTrue, ways, printed, field_of};
 ghost use Rattle.sweep_laws.specs.Leaving.{sync_word, IsRecoveredBy, IsRecoveredBefore};
 
-/// A column has a word for each call that the table counts (`counted`). Where a disk with nothing in flight does the calls of a commit (`commit`), or
-/// the writes and syncs of a recovery (`recovery`), one by one, and the power is cut in the n-th of them, what is left is what the n-th word of the
-/// column says.
+/// A column has a word for each call that the table counts (`counted`). Where a disk with nothing in flight does the calls of a commit (`commit`), the
+/// writes and syncs of a recovery (`recovery`), or these and a commit's (`both`), one by one, and the power is cut in the n-th of them, what is
+/// left is what the n-th word of the column says.
 pub fn the_nth_word_is_that_of_the_nth_call()
     ensures counted { (keep : KeepModel) (stages : List Stage) → length (column keep stages) ≡ calls_in stages }
     ensures commit { (disk : DiskState) (base : Base) (old new log : List ℕ) (root : ℕ) (given : LoggedModel) → disk.flight ≡ []
         → IsChange disk.held base old new root (dirty old new)
         → IsFileOf (after_calls disk (change_calls base old new root)).held Log log
         → EachWordIsTrue (IsRecoveredBy base old (closed_of base new root) new) disk
-            (stages_by false true given (logged_of log)) (change_calls base old new root) }
+        (stages_by false true given (logged_of log)) (change_calls base old new root) }
     ensures recovery { (disk : DiskState) (base : Base) (bitmap bins log : List ℕ) (written : LoggedModel) → disk.flight ≡ []
         → Found disk.held base bitmap bins → NumbersFit base → TextsFit base
         → IsFileOf disk.held Log log
         → EachWordIsTrue (IsRecoveredBefore base bins) disk
-            (stages_by true false (logged_of log) written) (closing_calls base (bit bitmap) bins) }
+        (stages_by true false (logged_of log) written) (closing_calls base (bit bitmap) bins) }
+    ensures both { (disk : DiskState) (base : Base) (bitmap old new log last : List ℕ) (root : ℕ) → disk.flight ≡ []
+        → Found disk.held base bitmap old → NumbersFit base → TextsFit base → is_bins_size (length new) ≡ true → root < 2 ^ 32
+        → IsFileOf disk.held Log log
+        → IsFileOf (after_calls disk (closing_calls base (bit bitmap) old ++ change_calls base old new root)).held Log last
+        → EachWordIsTrue (IsRecoveredBy base old (closed_of base new root) new) disk
+        (stages_by true true (logged_of log) (logged_of last)) (closing_calls base (bit bitmap) old ++ change_calls base old new root) }
 {}
 
 /// The lines of a write and of a sync print a word for each way, in the order of the columns: as text (`write`, `sync`) and as fields of an object
