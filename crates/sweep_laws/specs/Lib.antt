@@ -1,0 +1,5 @@
+pub mod Counted
+pub mod Leaving
+pub mod Listing
+pub mod Truth
+pub mod Columns
