@@ -1,4 +1,4 @@
--- The words of the columns, call by call.
+-- Each column's words, call by call.
 use Rattle.std.proofs.Common.{◌≡◌, ◌<◌, ◌≤◌, ◌+◌, ◌-◌, ◌*◌, ◌^◌, ℕ, zero, suc, Bool, true, false, cond, List, [], ◌∷◌, ◌++◌, length, take, replicate, get_or, refl, sym, ◌∙◌, ap, subst, arith, ⊎_elim, append_assoc, append-nil, length-append}
 use Rattle.std.proofs.Math.Seq.{take-append-add}
 use Rattle.std.proofs.lemmas.Bool.{lt-ltb, le-ltb, cases_lt}
@@ -30,7 +30,7 @@ use Rattle.sweep_laws.proofs.TruthLemmas.{commit_true, recovery_true, both_true}
 
 -- ---- columns
 
--- so many words, and one more
+-- that number of words, and one more
 module _ (word last : Bool) (rest : List Bool) where
   below : (count n : ℕ) → n < count → get_or (replicate count word ++ last ∷ rest) n false ≡ word
   below zero n small = absurd (omega (arith, small))
@@ -103,7 +103,7 @@ module _ (disk : DiskState) (still : disk.flight ≡ []) (writes : List Write) w
 
 -- ---- stages
 
--- the table has as many sectors as writes, in each stage
+-- the table has a sector for each write, in each stage
 abbrev AsMany : List Stage → List (List Write) → Type 0
 AsMany [] writes = Unit {0}
 AsMany (s ∷ stages) [] = Unit {0}

@@ -31,7 +31,7 @@ module _ (bits : ℕ → Bool) where
       let place : a + 1 + n ≡ a + suc n = omega arith in
       omega (arith, ap length (listed_one a n false is), more, rank_off bits a is, ap (rank bits) place)
 
-  -- as many as bits are on
+  -- one for each bit that is on
   listed_ranked : (a n : ℕ) → length (listed bits a n) + rank bits a ≡ rank bits (a + n)
   listed_ranked a zero = let same : a ≡ a + 0 = omega arith in omega (arith, ap (rank bits) same)
   listed_ranked a (suc n) = ranked_one a n (bits a) refl (listed_ranked (a + 1) n)

@@ -1,4 +1,4 @@
--- What a log that a commit wrote tells.
+-- What is read from a log that a commit wrote.
 use Rattle.std.proofs.Common.{◌≡◌, ◌<◌, ◌+◌, ◌-◌, ◌*◌, ◌/◌, ℕ, zero, suc, Bool, cond, List, [], ◌∷◌, ◌++◌, length, take, drop, replicate, Option, Some, None, Ok, refl, ◌∙◌, ap, arith, append_assoc, length-append, length-drop}
 use Rattle.std.specs.Int.{w32, from_le_bytes}
 use Rattle.std.proofs.lemmas.Bool.{le-ltb}

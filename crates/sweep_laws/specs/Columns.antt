@@ -28,12 +28,12 @@ abbrev pub after_calls : DiskState → List Made → DiskState
 after_calls disk [] = disk
 after_calls disk (call ∷ more) = after_calls (made call disk) more
 
--- what is left of a disk
+-- what a disk holds after the cut
 abbrev pub left_of : Keep → DiskState → Image
 left_of keep disk = left keep disk.held disk.flight
 
 -- For each of these calls, n from 0 on, and in each way: where the calls before it are done and the power is cut in it, P holds of
--- what is left, by the n-th word of the column.
+-- what it holds, by the n-th word of the column.
 abbrev pub EachWordIsTrue : (Bool → Image → Type 0) → DiskState → List Stage → List Made → Type 0
 EachWordIsTrue P disk stages calls = (keep : Keep) (n : ℕ) → n < length calls
     → P (get_or (column keep stages) n false) (left_of keep (after_calls disk (take n calls)))

@@ -50,7 +50,7 @@ sync_word leaves Everything = leaves.others
 sync_word leaves OddOnes = leaves.others
 sync_word leaves Torn = leaves.others
 
--- of the call after k writes of a stage that has so many: the next write, or the sync
+-- of the call after k writes of a stage that has that number: the next write, or the sync
 abbrev pub word_at : Leaves → Keep → ℕ → ℕ → Bool
 word_at leaves keep writes k = if nat_lt k writes then leaves.written else sync_word leaves keep
 
@@ -62,7 +62,7 @@ abbrev pub StageLeaves : (Bool → Image → Type 0) → Image → Leaves → Li
 StageLeaves P held leaves writes =
     (k : ℕ) (keep : Keep) → k ≤ length writes → P (word_at leaves keep (length writes) k) (left keep held (take k writes))
 
--- so at each call of each stage, one after the other, each of which the table has
+-- so at each call of each stage, in order, each of which the table has
 abbrev pub EachCallLeaves : (Bool → Image → Type 0) → Image → List Stage → List (List Write) → Type 0
 EachCallLeaves P held [] [] = Unit {0}
 EachCallLeaves P held [] (writes ∷ more) = ⊥

@@ -1,6 +1,6 @@
 //! Laws of the table of words that the command `sweep` prints.
 //!
-//! Each word is true of what a cut in its call leaves, and so many calls and words there are. Definitions: `specs/`. This project's own.
+//! Each word is true of what a cut in its call leaves, and the numbers of calls and words are proved. Definitions: `specs/`. This project's own.
 #![tactic(auto)]
 
 mod columns;

@@ -14,7 +14,7 @@ ghost use Rattle.sweep_text.specs.Stages.{recovery_stages, commit_stages};
 ghost use Rattle.sweep_laws.specs.Leaving.{recovery_writes, commit_writes, held_after};
 ghost use Rattle.sweep_laws.specs.Listing.{listed_in, written_in};
 
-/// Stage by stage, the sectors that the table lists are those that are written, in the same order: of a commit, with as many sectors of bits as its
+/// Stage by stage, the sectors that the table lists are those that are written, in the same order: of a commit, with the sectors of bits that its
 /// new bins data take and the sectors whose bit is on, and of a recovery, with the sectors whose bit is on.
 pub fn the_table_lists_what_is_written()
     ensures commit { (before : Image) (base : Base) (old new : List ℕ) (root : ℕ) (bits : ℕ → Bool)
@@ -24,7 +24,7 @@ pub fn the_table_lists_what_is_written()
         → listed_in (recovery_stages (listed bits 0 (length bins / 512))) ≡ written_in (recovery_writes closed bits bins) }
 {}
 
-/// A log that a commit wrote, whatever is in its file after it, tells this: how many sectors its bits take, and the sectors whose bit is on.
+/// This is read from a log that a commit wrote, with anything in its file after it: how many sectors its bits take, and the sectors whose bit is on.
 pub fn a_log_tells_the_table()
     ensures bitmap { (before : Image) (base : Base) (old new : List ℕ) (root : ℕ) (bits : ℕ → Bool) (rest : List ℕ)
         → IsChange before base old new root bits
@@ -34,7 +34,7 @@ pub fn a_log_tells_the_table()
         → (logged_of (log_of bits new (closed_of base new root) ++ rest)).sectors ≡ listed bits 0 (length new / 512) }
 {}
 
-/// The log's file of a disk that holds the log of a commit tells the table of its writes: so once the commit is done (`left`), and of every image
+/// The table of a commit's writes is read from the log's file of a disk that holds its log: once the commit is done (`left`), and of every image
 /// that has this log (`log`).
 pub fn the_log_of_a_commit_tells_its_table()
     ensures log { (before image : Image) (base : Base) (old new bytes : List ℕ) (root : ℕ) (bits : ℕ → Bool)
@@ -47,7 +47,7 @@ pub fn the_log_of_a_commit_tells_its_table()
         → listed_in (commit_stages (logged_of bytes).bitmap (logged_of bytes).sectors) ≡ written_in (commit_writes base bits new root) }
 {}
 
-/// The log's file that a recovery takes tells the table of its writes.
+/// The table of a recovery's writes is read from the log's file that it takes.
 pub fn the_log_of_a_recovery_tells_its_table()
     ensures { (held : Image) (closed : Base) (bitmap bins bytes : List ℕ)
         → Found held closed bitmap bins → IsFileOf held Log bytes
