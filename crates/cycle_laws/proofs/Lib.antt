@@ -1,0 +1,4 @@
+pub mod WalkLemmas
+pub mod StepLemmas
+pub mod CycleLemmas
+pub mod LackLemmas
