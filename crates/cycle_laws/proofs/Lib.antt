@@ -2,3 +2,6 @@ pub mod WalkLemmas
 pub mod StepLemmas
 pub mod CycleLemmas
 pub mod LackLemmas
+pub mod RoundLemmas
+pub mod GrownLemmas
+pub mod FreedLemmas

@@ -67,14 +67,14 @@ record IsNeed (n : NeedsRun) (items : List ℕ) (p : ℕ) (ways : List ℕ) : Ty
   here : slice_get items p ≡ Some number
   need : Contains (waits_at n items number) ways
 
-need_at : (n : NeedsRun) (items all : List ℕ) (p : ℕ) (ways : List ℕ) → Contains (get_or (map (waits_at n all) items) p []) ways
+pub need_at : (n : NeedsRun) (items all : List ℕ) (p : ℕ) (ways : List ℕ) → Contains (get_or (map (waits_at n all) items) p []) ways
     → (number : ℕ) × (slice_get items p ≡ Some number) × Contains (waits_at n all number) ways
 need_at n [] all p ways c = absurd (none_in ways c)
 need_at n (number ∷ items) all zero ways c = (number, refl, c)
 need_at n (number ∷ items) all (suc p) ways c = need_at n items all p ways c
 
 -- the item at the place that was found
-placed_number : (items : List ℕ) (to q : ℕ) → position (nat_eq to) items ≡ Some q → slice_get items q ≡ Some to
+pub placed_number : (items : List ℕ) (to q : ℕ) → position (nat_eq to) items ≡ Some q → slice_get items q ≡ Some to
 placed_number items to q is =
     let at = position-Some (nat_eq to) items q 0 is in
     slice_get-get_or items q 0 at.0 ∙ ap (λ (k : ℕ). Some k) (sym (eqb-true to (get_or items q 0) at.1))
@@ -83,12 +83,12 @@ placed_number items to q is =
 
 -- the entry of a number
 pub record IsOf (n : NeedsRun) (number : ℕ) (x : Item) : Type 0 where
-  place : ℕ
-  places : places_from 0 n.run.views number ≡ Some (x.at, place)
-  phase : slice_get n.run.views x.at ≡ Some x.view
-  plan : slice_get x.view.plan place ≡ Some x.entry
+  pub place : ℕ
+  pub places : places_from 0 n.run.views number ≡ Some (x.at, place)
+  pub phase : slice_get n.run.views x.at ≡ Some x.view
+  pub plan : slice_get x.view.plan place ≡ Some x.entry
 
-of_number : {X : Type 0} (n : NeedsRun) (f : ℕ → PhaseView → Entry → List X) (number : ℕ) (y : X) → Contains (of_entry n f number) y
+pub of_number : {X : Type 0} (n : NeedsRun) (f : ℕ → PhaseView → Entry → List X) (number : ℕ) (y : X) → Contains (of_entry n f number) y
     → (x : Item) × IsOf n number x × Contains (f x.at x.view x.entry) y
 of_number {X} n f number y c = by_places (places_from 0 n.run.views number) refl c
   where
@@ -111,6 +111,14 @@ of_number {X} n f number y c = by_places (places_from 0 n.run.views number) refl
         → (x : Item) × IsOf n number x × Contains (f x.at x.view x.entry) y
     by_places None ps c = absurd (none_in y c)
     by_places (Some place) ps c = by_view place (slice_get n.run.views place.0) ps refl c
+
+pub entry_of : {X : Type 0} (n : NeedsRun) (f : ℕ → PhaseView → Entry → List X) (number : ℕ) (x : Item) → IsOf n number x
+    → of_entry n f number ≡ f x.at x.view x.entry
+entry_of n f number x is =
+    ap (λ (o : Option (ℕ × ℕ)). option_map_or (λ (place : ℕ × ℕ).
+    option_map_or (λ (v : PhaseView). option_map_or (f place.0 v) (slice_get v.plan place.1) []) (slice_get n.run.views place.0) []) o []) is.places
+    ∙ ap (λ (o : Option PhaseView). option_map_or (λ (v : PhaseView). option_map_or (f x.at v) (slice_get v.plan is.place) []) o []) is.phase
+    ∙ ap (λ (o : Option Entry). option_map_or (f x.at x.view) o []) is.plan
 
 -- the number of an entry has its places
 numbered : (at : ℕ) (views : List PhaseView) (k p : ℕ) (v : PhaseView) (number to : ℕ) → slice_get views k ≡ Some v → p < length v.plan
@@ -156,11 +164,11 @@ abbrev pub AreNamed : NeedsRun → Type 0
 AreNamed n = (k : ℕ) (v : PhaseView) → slice_get n.run.views k ≡ Some v → v.names ≡ names_of v.plan
 
 -- a name that leads to a number is unmet, and folds to that of its entry
-record LedTo (n : NeedsRun) (at : ℕ) (v : PhaseView) (name : List ℕ) (to : ℕ) : Type 0 where
-  item : Item
-  of : IsOf n to item
-  same : folds_same name item.entry.name ≡ true
-  unmet : need_of n.run at v name ≡ needs.Unmet
+pub record LedTo (n : NeedsRun) (at : ℕ) (v : PhaseView) (name : List ℕ) (to : ℕ) : Type 0 where
+  pub item : Item
+  pub of : IsOf n to item
+  pub same : folds_same name item.entry.name ≡ true
+  pub unmet : need_of n.run at v name ≡ needs.Unmet
 
 entry_named : (es : List Entry) (k : ℕ) (found : List ℕ) → slice_get (names_of es) k ≡ Some found
     → (e : Entry) × (slice_get es k ≡ Some e) × (e.name ≡ found)
@@ -168,7 +176,7 @@ entry_named [] k found is = absurd cc
 entry_named (e ∷ es) zero found is = (e, refl, same_Some e.name found is)
 entry_named (e ∷ es) (suc k) found is = entry_named es k found is
 
-led : (n : NeedsRun) → AreNamed n → (at : ℕ) (v : PhaseView) (name : List ℕ) (to : ℕ) → leads n at v name ≡ Some to → LedTo n at v name to
+pub led : (n : NeedsRun) → AreNamed n → (at : ℕ) (v : PhaseView) (name : List ℕ) (to : ℕ) → leads n at v name ≡ Some to → LedTo n at v name to
 led n named at v name to is = by (need_of n.run at v name) (placed_below n.run.views (at + 1) name) refl refl is
   where
     here : (place : ℕ × ℕ) → need_of n.run at v name ≡ needs.Unmet → placed_below n.run.views (at + 1) name ≡ Some place
@@ -215,13 +223,13 @@ one_item n number x y a b =
 -- ---- the needs of an entry
 
 -- the name is a lack of the entry, or a member of one
-abbrev IsLack : NeedsRun → Item → List ℕ → Type 0
+abbrev pub IsLack : NeedsRun → Item → List ℕ → Type 0
 IsLack n x name =
     Contains (lacks_services n x.view x.entry) name
     ⊎ ((group : List ℕ) × Contains (lacks_groups n x.view x.entry) group × Contains (members_at n x.at group) name)
 
 -- a way of a need is what such a name leads to
-way_from : (n : NeedsRun) (x : Item) (tos : List ℕ) (to : ℕ) → Contains (needs_in n x.at x.view x.entry) tos → Contains tos to
+pub way_from : (n : NeedsRun) (x : Item) (tos : List ℕ) (to : ℕ) → Contains (needs_in n x.at x.view x.entry) tos → Contains tos to
     → (name : List ℕ) × IsLack n x name × (leads n x.at x.view name ≡ Some to)
 way_from n x tos to c there = elim (Contains-append_cases
     (map (λ to. to ∷ []) (leads_of n x.at x.view (lacks_services n x.view x.entry)))
@@ -263,12 +271,7 @@ is_taken n items p x a = record { phase = a.of.phase; plan = item_here x.view.pl
 pub line_is : (n : NeedsRun) (items : List ℕ) (p : ℕ) (x : Item) → IsAt n items p x → place_line n items p ≡ lines.Cycle x.entry.name ∷ []
 line_is n items p x a =
     ap (λ (o : Option ℕ). option_map_or (item_line n) o []) a.here
-    ∙ ap (λ (o : Option (ℕ × ℕ)). option_map_or (λ (place : ℕ × ℕ).
-    option_map_or (λ (v : PhaseView). option_map_or (λ (e : Entry). lines.Cycle e.name ∷ []) (slice_get v.plan place.1) []) (slice_get n.run.views place.0) [])
-    o []) a.of.places
-    ∙ ap (λ (o : Option PhaseView). option_map_or (λ (v : PhaseView). option_map_or (λ (e : Entry). lines.Cycle e.name ∷ []) (slice_get v.plan a.of.place) [])
-    o []) a.of.phase
-    ∙ ap (λ (o : Option Entry). option_map_or (λ (e : Entry). lines.Cycle e.name ∷ []) o []) a.of.plan
+    ∙ entry_of n (λ at v e. lines.Cycle e.name ∷ []) a.number x a.of
 
 -- a step is from an entry, to one that this needs
 pub record Step (n : NeedsRun) (items : List ℕ) (p q : ℕ) : Type 0 where
