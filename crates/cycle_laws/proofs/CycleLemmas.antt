@@ -1,5 +1,5 @@
 -- The entries of a cycle need one another all round.
-use Rattle.std.proofs.Common.{◌≡◌, ℕ, Bool, true, false, cond, List, [], ◌∷◌, ◌++◌, map, length, get_or, ◌+◌, Some, Option, refl, sym, ap, subst, ◌∙◌, nat_eq}
+use Rattle.std.proofs.Common.{◌≡◌, ℕ, Bool, true, false, cond, List, [], ◌∷◌, ◌++◌, map, length, get_or, ◌+◌, Option, refl, sym, subst, ◌∙◌, nat_eq}
 use Rattle.std.specs.List.{flat_map, AllByRecursion}
 use Rattle.indexmap.specs.IndexSet.{insert_all}
 use Rattle.why_lines.specs.declared.lines.WhyLine.{WhyLine}
@@ -9,11 +9,11 @@ use Rattle.why_items.specs.declared.needs.NeedsRun.{NeedsRun}
 use Rattle.why_items.specs.Items.{needs_run_of}
 use Rattle.why_cycle.specs.Needs.{waits_of}
 use Rattle.why_cycle.specs.Freed.{is_freed}
-use Rattle.why_cycle.specs.Walk.{step, gone_round, cycle_of}
-use Rattle.why_cycle.specs.Cycle.{place_line, cycle_places, lines_among, cycle_lines}
-use Rattle.cycle_laws.specs.Cycles.{Item, IsTaken, Needs, NeedUpTo, NeedRound, IsCycle, EachNeedsTheNext}
+use Rattle.why_cycle.specs.Walk.{step, gone_round}
+use Rattle.why_cycle.specs.Cycle.{place_line, cycle_lines}
+use Rattle.cycle_laws.specs.Cycles.{Item, IsTaken, Needs, NeedUpTo, IsCycle, EachNeedsTheNext}
 use Rattle.cycle_laws.proofs.WalkLemmas.{LeadUpTo, LeadRound, leads_round}
-use Rattle.cycle_laws.proofs.StepLemmas.{AreNamed, IsAt, one_entry, is_taken, line_is, Step, step_needs, are_named}
+use Rattle.cycle_laws.proofs.StepLemmas.{AreNamed, IsAt, one_entry, is_taken, line_is, step_needs, are_named}
 
 module _ (n : NeedsRun) (named : AreNamed n) (items : List ℕ) (freed : ℕ → Bool) where
   abbrev next : ℕ → Option ℕ

@@ -1,6 +1,6 @@
 -- There is no cycle exactly where the first item is freed.
-use Rattle.std.proofs.Common.{◌≡◌, ℕ, zero, suc, ◌+◌, ◌<◌, nat_eq, nat_lt, Bool, true, false, not, ◌&&◌, ◌||◌, ◌==◌, List, [], ◌∷◌, ◌++◌, length, map, get_or, slice_get, cond, Option, Some, None, refl, sym, ap, subst, ◌∙◌, inl, inr, arith}
-use Rattle.std.specs.Prelude.{◌↔◌, Contains, position, count_by, replicate, find}
+use Rattle.std.proofs.Common.{◌≡◌, ℕ, zero, suc, ◌+◌, ◌<◌, nat_eq, nat_lt, Bool, true, false, not, ◌&&◌, ◌||◌, ◌==◌, List, [], ◌∷◌, length, map, get_or, slice_get, cond, Option, Some, None, refl, sym, ap, subst, ◌∙◌, inl, inr, arith}
+use Rattle.std.specs.Prelude.{◌↔◌, Contains, position, replicate, find}
 use Rattle.std.specs.Option.{option_map_or, option_and_then}
 use Rattle.std.specs.List.{list_any, list_all, flat_map, filter_map, range_with_len}
 use Rattle.indexmap.specs.IndexSet.{insert_all}
@@ -17,7 +17,7 @@ use Rattle.dependencies.proofs.PulledLemmas.{then_true, then_gives, all_below, a
 use Rattle.wait_cycles.specs.Waits.{needs_at}
 use Rattle.wait_cycles.proofs.InverseLemmas.{none_in}
 use Rattle.wait_cycles.proofs.ReachLemmas.{member_none}
-use Rattle.wait_cycles.proofs.MetLemmas.{first_in, later_in, any_from, any_gives, all_from, all_gives, range_in}
+use Rattle.wait_cycles.proofs.MetLemmas.{first_in, any_from, any_gives, all_from, all_gives, range_in}
 use Rattle.service_control.proofs.LeanLemmas.{mapped_from, mapped_to}
 use Rattle.service_control.proofs.LeastLemmas.{from}
 use Rattle.check_laws.proofs.TakenLemmas.{item_here, mapped_on}
@@ -29,7 +29,7 @@ use Rattle.why_cycle.specs.Needs.{leads_of, if_open, group_ways, needs_in, needs
 use Rattle.why_cycle.specs.Freed.{frees, has_freed, is_freed}
 use Rattle.why_cycle.specs.Walk.{step, gone_round}
 use Rattle.why_cycle.specs.Cycle.{place_line, cycle_lines}
-use Rattle.cycle_laws.specs.Freed.{Frees, HasFreed, IsFreed, NoCycleWhereFreed}
+use Rattle.cycle_laws.specs.Freed.{Frees, IsFreed, NoCycleWhereFreed}
 use Rattle.cycle_laws.proofs.WalkLemmas.{LeadRound, leads_round}
 use Rattle.cycle_laws.proofs.StepLemmas.{AreNamed, need_at, placed_number, of_number, are_named}
 use Rattle.cycle_laws.proofs.CycleLemmas.{has_line}

@@ -1,6 +1,6 @@
 -- The items that are found have all that they lead to.
-use Rattle.std.proofs.Common.{◌≡◌, ◌⊎◌, ℕ, zero, suc, ◌+◌, ◌-◌, ◌<◌, ◌≤◌, nat_eq, nat_lt, Bool, true, false, not, cond, List, [], ◌∷◌, ◌++◌, length, set, slice_get, Option, Some, None, refl, sym, ap, subst, ◌∙◌, inl, inr, arith}
-use Rattle.std.specs.Prelude.{Contains, position, count_by, replicate}
+use Rattle.std.proofs.Common.{◌≡◌, ℕ, zero, suc, ◌+◌, ◌-◌, ◌<◌, ◌≤◌, nat_eq, nat_lt, Bool, true, false, not, cond, List, [], ◌∷◌, ◌++◌, length, set, slice_get, Option, Some, None, refl, sym, ap, subst, ◌∙◌, inl, inr, arith}
+use Rattle.std.specs.Prelude.{Contains, count_by, replicate}
 use Rattle.std.specs.Option.{option_map_or}
 use Rattle.std.specs.List.{list_any, filter_map, flat_map}
 use Rattle.indexmap.specs.IndexSet.{insert_all, insert_key}
@@ -16,14 +16,14 @@ use Rattle.wait_cycles.proofs.ReachLemmas.{member_none, one_fewer, set_mark}
 use Rattle.wait_cycles.proofs.MetLemmas.{first_in, later_in, any_from}
 use Rattle.service_control.proofs.LeastLemmas.{from}
 use Rattle.check_laws.proofs.CycleLaws.{flat_in}
-use Rattle.check_laws.proofs.TakenLemmas.{item_here, item_place, mapped_on}
+use Rattle.check_laws.proofs.TakenLemmas.{item_place, mapped_on}
 use Rattle.why_state.specs.declared.views.PhaseView.{PhaseView}
 use Rattle.why_items.specs.declared.needs.NeedsRun.{NeedsRun}
 use Rattle.why_items.specs.Items.{lacks_services, lacks_groups, members_at, wanted, leads, next_by, next_at, next_of, grown, items_of}
 use Rattle.why_items.specs.Vertices.{entry_count, places_from}
 use Rattle.why_lacks.specs.Lacks.{of_entry}
 use Rattle.why_cycle.specs.Needs.{needs_in, needs_of}
-use Rattle.cycle_laws.proofs.StepLemmas.{AreNamed, IsOf, of_number, entry_of, IsLack, way_from, led}
+use Rattle.cycle_laws.proofs.StepLemmas.{AreNamed, of_number, entry_of, way_from, led}
 use Rattle.cycle_laws.proofs.RoundLemmas.{put_keeps, put_in, put_first}
 
 -- ---- what an entry leads to

@@ -1,14 +1,14 @@
 -- A step leads from an entry to one that it needs.
-use Rattle.std.proofs.Common.{◌≡◌, ◌⊎◌, ℕ, zero, suc, ◌+◌, ◌-◌, ◌<◌, nat_eq, nat_lt, Bool, true, false, not, ◌&&◌, ◌==◌, cond, List, [], ◌∷◌, ◌++◌, length, take, map, get_or, slice_get, Option, Some, None, refl, sym, ap, subst, ◌∙◌, inl, inr, arith}
+use Rattle.std.proofs.Common.{◌≡◌, ◌⊎◌, ℕ, zero, suc, ◌+◌, ◌-◌, ◌<◌, nat_eq, nat_lt, Bool, true, false, not, ◌&&◌, ◌==◌, cond, List, [], ◌∷◌, length, take, map, get_or, slice_get, Option, Some, None, refl, sym, ap, subst, ◌∙◌, inl, inr, arith}
 use Rattle.std.specs.Prelude.{Contains, position, find}
 use Rattle.std.specs.Option.{option_map, option_map_or, option_and_then, option_or}
-use Rattle.std.specs.List.{list_any, filter_map, flat_map, position_or_len, range_with_len, AllByRecursion}
+use Rattle.std.specs.List.{list_any, filter_map, position_or_len, range_with_len}
 use Rattle.std.proofs.lemmas.Bool.{eqb-true}
 use Rattle.std.proofs.lemmas.Bool.Decides.{nat_tests}
 use Rattle.std.proofs.lemmas.List.Folds.{find_at}
 use Rattle.std.proofs.lemmas.List.Elements.{Contains-append_cases}
 use Rattle.std.proofs.lemmas.List.Quantifiers.{position-Some}
-use Rattle.std.proofs.lemmas.Option.{same_Some, slice_get-get_or, slice_get-map, slice_get_within}
+use Rattle.std.proofs.lemmas.Option.{same_Some, slice_get-get_or, slice_get_within}
 use Rattle.nt_bytes.specs.Folding.{folds_same}
 use Rattle.start_model.specs.Entries.{Entry}
 use Rattle.wait_cycles.specs.Waits.{needs_at}
@@ -18,15 +18,12 @@ use Rattle.service_control.proofs.LeastLemmas.{from}
 use Rattle.check_laws.proofs.ProperLaws.{only_in}
 use Rattle.check_laws.proofs.TakenLemmas.{item_here}
 use Rattle.quiet_run.specs.declared.last.BegunPhase.{BegunPhase}
-use Rattle.quiet_run.specs.declared.last.LastStart.{LastStart}
 use Rattle.quiet_run.specs.declared.last.QuietRun.{QuietRun}
 use Rattle.why_lines.specs.declared.lines.NeedState.{NeedState}
 use Rattle.why_lines.specs.declared.lines.NeedState.TheVariants as needs
-use Rattle.why_lines.specs.declared.lines.WhyLine.{WhyLine}
 use Rattle.why_lines.specs.declared.lines.WhyLine.TheVariants as lines
 use Rattle.why_state.specs.declared.views.PhaseView.{PhaseView}
-use Rattle.why_state.specs.declared.views.ViewedRun.{ViewedRun}
-use Rattle.why_state.specs.States.{place_in, placed_at, placed_below, need_of}
+use Rattle.why_state.specs.States.{place_in, placed_below, need_of}
 use Rattle.why_state.specs.Views.{names_of, view_of, views_of, viewed_of}
 use Rattle.why_items.specs.declared.needs.NeedsRun.{NeedsRun}
 use Rattle.why_items.specs.Items.{needs_run_of, lacks_services, lacks_groups, members_at, leads_if, leads}
