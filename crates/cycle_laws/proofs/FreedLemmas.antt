@@ -34,7 +34,7 @@ use Rattle.cycle_laws.proofs.WalkLemmas.{LeadRound, leads_round}
 use Rattle.cycle_laws.proofs.StepLemmas.{AreNamed, need_at, placed_number, of_number, are_named}
 use Rattle.cycle_laws.proofs.CycleLemmas.{has_line}
 use Rattle.cycle_laws.proofs.GrownLemmas.{items_first, items_all}
-use Rattle.cycle_laws.proofs.RoundLemmas.{place_of, put_in, put_only, put_first, freed_closed, first_failed, comes_back}
+use Rattle.cycle_laws.proofs.RoundLemmas.{place_of, put_in, put_listed, put_first, freed_closed, first_failed, comes_back}
 
 -- they have all that their open lacks lead to
 abbrev HaveAllWays : NeedsRun → List ℕ → Type 0
@@ -46,11 +46,11 @@ HaveAllWays n numbers =
 some_way : (n : NeedsRun) (at : ℕ) (v : PhaseView) (e : Entry) (tos : List ℕ) → Contains (needs_in n at v e) tos → (to : ℕ) × Contains tos to
 some_way n at v e tos c = elim (Contains-append_cases (map (λ to. to ∷ []) (leads_of n at v (lacks_services n v e)))
     (filter_map (group_ways n at v) (lacks_groups n v e)) tos c) [
-  | inl i ↦ (let m = mapped_from (λ to. to ∷ []) (leads_of n at v (lacks_services n v e)) tos i in
-      (m.item, subst (λ (xs : List ℕ). Contains xs m.item) m.is (first_in m.item [])))
-  | inr i ↦ (let g = from (group_ways n at v) (lacks_groups n v e) tos i in
-      opened (length (members_at n at g.item)) (leads_of n at v (members_at n at g.item)) g.is)
-]
+      | inl i ↦ (let m = mapped_from (λ to. to ∷ []) (leads_of n at v (lacks_services n v e)) tos i in
+          (m.item, subst (λ (xs : List ℕ). Contains xs m.item) m.is (first_in m.item [])))
+      | inr i ↦ (let g = from (group_ways n at v) (lacks_groups n v e) tos i in
+          opened (length (members_at n at g.item)) (leads_of n at v (members_at n at g.item)) g.is)
+    ]
   where
     first : (count : ℕ) (ways : List ℕ) → (nat_lt 0 count && (length ways == count)) ≡ true → (to : ℕ) × Contains ways to
     first count [] h = absurd (grind (arith, nat_tests, h))
@@ -99,6 +99,12 @@ module _ (n : NeedsRun) (items : List ℕ) where
   marked set (x ∷ xs) zero number is = ap (λ (o : Option ℕ). option_map_or set o false) is
   marked set (x ∷ xs) (suc p) number is = marked set xs p number is
 
+  chosen : (set : ℕ → Bool) (tos : List ℕ) (q : ℕ) → Contains (places_in items tos) q → member (map set items) q ≡ true
+      → (to : ℕ) × Contains tos to × (set to ≡ true)
+  chosen set tos q c on =
+      let f = from (λ number. position (nat_eq number) items) tos q c in
+      (f.item, f.there, sym (marked set items q f.item (placed_number items f.item q f.is)) ∙ on)
+
   -- a freed item is in each set that has what it frees
   freed_in : (p number : ℕ) → slice_get items p ≡ Some number → is_freed (waits_of n items) p ≡ true
       → (set : ℕ → Bool) → Closed set → set number ≡ true
@@ -124,8 +130,7 @@ module _ (n : NeedsRun) (items : List ℕ) where
           let way = any_gives (member (map set items)) (places_in items tos)
           (all_gives (λ ways. list_any (member (map set items)) ways) (needs_at (waits_of n items) p) (places_in items tos) free
           (needs_there items p x.0 (places_in items tos) x.1 (mapped_to (places_in items) (needs_of n x.0) tos c))) in
-          let f = from (λ number. position (nat_eq number) items) tos way.0 way.1 in
-          (f.item, f.there, sym (marked set items way.0 f.item (placed_number items f.item way.0 f.is)) ∙ way.2))))
+          chosen set tos way.0 way.1 way.2)))
 
   -- an item is freed that is in each such set
   in_freed : (p number : ℕ) → position (nat_eq number) items ≡ Some p → ((set : ℕ → Bool) → Closed set → set number ≡ true)
@@ -215,12 +220,6 @@ module _ (n : NeedsRun) (named : AreNamed n) (first : ℕ) (rest : List ℕ) (al
   inside : (x : ℕ) → Contains (first ∷ rest) x → Contains items x
   inside x c = put_in [] (first ∷ rest) x c
 
-  listed : (x : ℕ) → Contains items x → Contains (first ∷ rest) x
-  listed x c = elim (put_only [] (first ∷ rest) x c) [
-    | inl none ↦ absurd (none_in x none)
-    | inr c ↦ c
-  ]
-
   first_place : position (nat_eq first) (insert_all nat_eq [] (first ∷ rest)) ≡ Some 0
   first_place =
       let put = put_first first [] rest in
@@ -236,7 +235,7 @@ module _ (n : NeedsRun) (named : AreNamed n) (first : ℕ) (rest : List ℕ) (al
   goes_round : is_freed (waits_of n items) 0 ≡ false → (x : ℕ) × (xs : List ℕ) × (walked ≡ x ∷ xs)
   goes_round held =
       comes_back next (length items) (IsHeld n items) (λ p h. h.within)
-      (goes_on n items (λ number ways to c need way. inside to (all number ways to (listed number c) need way)))
+      (goes_on n items (λ number ways to c need way. inside to (all number ways to (put_listed (first ∷ rest) number c) need way)))
       (length (waits_of n items) + 1) [] 0 (replicate (length items) false)
       (record { within = (position-Some (nat_eq first) items 0 0 first_place).0; held = held })
       (length-replicate (length items) false) (λ k is. absurd (false≢true (sym (member_none (length items) k) ∙ is)))
@@ -249,14 +248,14 @@ module _ (n : NeedsRun) (named : AreNamed n) (first : ℕ) (rest : List ℕ) (al
       let r = goes_round is in
       let round : LeadRound next (r.0 ∷ r.1) =
       subst (LeadRound next) r.2 (leads_round next (length (waits_of n items) + 1) [] 0 tt) in
-      absurd (has_line n named items (is_freed (waits_of n items)) r.0 r.1 round
+      absurd (has_line n named (first ∷ rest) items (put_listed (first ∷ rest)) (is_freed (waits_of n items)) r.0 r.1 round
       (ap (flat_map (place_line n items)) (sym r.2) ∙ none))
 
   pub where_freed : (cycle_lines n (first ∷ rest) ≡ []) ↔ IsFreed n (first ∷ rest) first
   unfolding cycle_lines
   where_freed = (
     λ none set has. freed_in n items 0 first (placed_number items first 0 first_place) (by_freed (is_freed (waits_of n items) 0) refl none) set
-        (λ number c free. has number (listed number c) free),
+        (λ number c free. has number (put_listed (first ∷ rest) number c) free),
     λ freed. ap (λ (b : Bool). flat_map (place_line n items) (cond b [] walked))
         (in_freed n items 0 first first_place (λ set closed. freed set (λ number c free. closed number (inside number c) free))),
   )

@@ -42,14 +42,15 @@ put_keeps ks (y ∷ xs) x c = by (list_any (nat_eq y) ks) (λ ks c. put_keeps ks
 pub put_in : (ks xs : List ℕ) (x : ℕ) → Contains xs x → Contains (insert_all nat_eq ks xs) x
 put_in ks [] x c = absurd (none_in x c)
 put_in ks (y ∷ xs) x (suc k, lt, e) = put_in (insert_key nat_eq ks y) xs x (k, omega (arith, lt), e)
-put_in ks (y ∷ xs) x (zero, lt, e) = put_keeps (insert_key nat_eq ks y) xs x (subst (λ (z : ℕ). Contains (insert_key nat_eq ks y) z) e (here (list_any (nat_eq y) ks) refl))
+put_in ks (y ∷ xs) x (zero, lt, e) =
+    put_keeps (insert_key nat_eq ks y) xs x (subst (λ (z : ℕ). Contains (insert_key nat_eq ks y) z) e (here (list_any (nat_eq y) ks) refl))
   where
     here : (b : Bool) → list_any (nat_eq y) ks ≡ b → Contains (cond b ks (ks ++ y ∷ [])) y
     here true is =
         let a = any_gives (nat_eq y) ks is in subst (λ (z : ℕ). Contains ks z) (sym (eqb-true y a.0 a.2)) a.1
     here false is = Contains-push ks y
 
-pub put_only : (ks xs : List ℕ) (x : ℕ) → Contains (insert_all nat_eq ks xs) x → Contains ks x ⊎ Contains xs x
+put_only : (ks xs : List ℕ) (x : ℕ) → Contains (insert_all nat_eq ks xs) x → Contains ks x ⊎ Contains xs x
 put_only ks [] x c = inl c
 put_only ks (y ∷ xs) x c = elim (put_only (insert_key nat_eq ks y) xs x c) [
   | inl i ↦ by (list_any (nat_eq y) ks) i
@@ -62,6 +63,12 @@ put_only ks (y ∷ xs) x c = elim (put_only (insert_key nat_eq ks y) xs x c) [
       | inl old ↦ inl old
       | inr e ↦ inr (subst (λ (z : ℕ). Contains (y ∷ xs) z) e (first_in y xs))
     ]
+
+pub put_listed : (xs : List ℕ) (x : ℕ) → Contains (insert_all nat_eq [] xs) x → Contains xs x
+put_listed xs x c = elim (put_only [] xs x c) [
+  | inl none ↦ absurd (none_in x none)
+  | inr c ↦ c
+]
 
 -- the first one stays the first
 pub put_first : (k : ℕ) (ks xs : List ℕ) → (rest : List ℕ) × (insert_all nat_eq (k ∷ ks) xs ≡ k ∷ rest)
@@ -118,6 +125,10 @@ module _ (next : ℕ → Option ℕ) (count : ℕ) (Good : ℕ → Type 0) (with
   comes_back (suc fuel) path p marks good len marked few =
       by (position (nat_eq p) path) refl (on p good) (comes_back fuel (path ++ p ∷ []))
     where
+      went : (q : ℕ) → next p ≡ Some q → (x : ℕ) × (xs : List ℕ) × (gone_round next fuel (path ++ p ∷ []) q ≡ x ∷ xs)
+          → (x : ℕ) × (xs : List ℕ) × (option_map_or (gone_round next fuel (path ++ p ∷ [])) (next p) [] ≡ x ∷ xs)
+      went q is r = (r.0, r.1, ap (λ (o : Option ℕ). option_map_or (gone_round next fuel (path ++ p ∷ [])) o []) is ∙ r.2)
+
       by : (o : Option ℕ) → position (nat_eq p) path ≡ o → (step : (q : ℕ) × (next p ≡ Some q) × Good q)
           → ((q : ℕ) (marks : List Bool) → Good q → length marks ≡ count → ((k : ℕ) → member marks k ≡ true → Contains (path ++ p ∷ []) k)
           → count_by not marks < fuel → (x : ℕ) × (xs : List ℕ) × (gone_round next fuel (path ++ p ∷ []) q ≡ x ∷ xs))
@@ -135,4 +146,4 @@ module _ (next : ℕ → Option ℕ) (count : ℕ) (Good : ℕ → Type 0) (with
             | inl old ↦ Contains-append_left path (p ∷ []) k (marked k old)
             | inr e ↦ subst (λ (z : ℕ). Contains (path ++ p ∷ []) z) (sym e) (Contains-push path p)
           ]) (omega (arith, fewer, few)) in
-          (r.0, r.1, ap (λ (o : Option ℕ). option_map_or (gone_round next fuel (path ++ p ∷ [])) o []) step.1 ∙ r.2)
+          went step.0 step.1 r

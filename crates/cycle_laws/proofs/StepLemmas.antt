@@ -6,13 +6,15 @@ use Rattle.std.specs.List.{list_any, filter_map, position_or_len, range_with_len
 use Rattle.std.proofs.lemmas.Bool.{eqb-true}
 use Rattle.std.proofs.lemmas.Bool.Decides.{nat_tests}
 use Rattle.std.proofs.lemmas.List.Folds.{find_at}
-use Rattle.std.proofs.lemmas.List.Elements.{Contains-append_cases}
+use Rattle.std.proofs.lemmas.List.Elements.{Contains-append_cases, Contains-append_left, Contains-append_right}
 use Rattle.std.proofs.lemmas.List.Quantifiers.{position-Some}
 use Rattle.std.proofs.lemmas.Option.{same_Some, slice_get-get_or, slice_get_within}
 use Rattle.nt_bytes.specs.Folding.{folds_same}
 use Rattle.start_model.specs.Entries.{Entry}
 use Rattle.wait_cycles.specs.Waits.{needs_at}
 use Rattle.wait_cycles.proofs.InverseLemmas.{none_in}
+use Rattle.wait_cycles.proofs.CycleLemmas.{in_cons}
+use Rattle.wait_cycles.proofs.MetLemmas.{first_in}
 use Rattle.service_control.proofs.LeanLemmas.{mapped_from}
 use Rattle.service_control.proofs.LeastLemmas.{from}
 use Rattle.check_laws.proofs.ProperLaws.{only_in}
@@ -21,6 +23,7 @@ use Rattle.quiet_run.specs.declared.last.BegunPhase.{BegunPhase}
 use Rattle.quiet_run.specs.declared.last.QuietRun.{QuietRun}
 use Rattle.why_lines.specs.declared.lines.NeedState.{NeedState}
 use Rattle.why_lines.specs.declared.lines.NeedState.TheVariants as needs
+use Rattle.why_lines.specs.declared.lines.WhyLine.{WhyLine}
 use Rattle.why_lines.specs.declared.lines.WhyLine.TheVariants as lines
 use Rattle.why_state.specs.declared.views.PhaseView.{PhaseView}
 use Rattle.why_state.specs.States.{place_in, placed_below, need_of}
@@ -28,11 +31,11 @@ use Rattle.why_state.specs.Views.{names_of, view_of, views_of, viewed_of}
 use Rattle.why_items.specs.declared.needs.NeedsRun.{NeedsRun}
 use Rattle.why_items.specs.Items.{needs_run_of, lacks_services, lacks_groups, members_at, leads_if, leads}
 use Rattle.why_items.specs.Vertices.{entry_count, number_of, places_from}
-use Rattle.why_lacks.specs.Lacks.{of_entry}
+use Rattle.why_lacks.specs.Lacks.{of_entry, keys_of, all_keys, entry_lines, entries_from, lack_lines}
 use Rattle.why_cycle.specs.Needs.{leads_of, if_open, group_ways, needs_in, needs_of, places_in, waits_at, waits_of}
 use Rattle.why_cycle.specs.Cycle.{item_line, place_line}
 use Rattle.why_cycle.specs.Walk.{step}
-use Rattle.cycle_laws.specs.Cycles.{Item, IsTaken, Needs}
+use Rattle.cycle_laws.specs.Cycles.{Item, IsSaid, Needs}
 
 -- ---- what a step takes
 
@@ -262,8 +265,27 @@ one_entry n items p x y a b =
     one_item n a.number x y a.of
     (subst (λ (k : ℕ). IsOf n k y) (sym (same_Some a.number b.number (sym a.here ∙ b.here))) b.of)
 
-pub is_taken : (n : NeedsRun) (items : List ℕ) (p : ℕ) (x : Item) → IsAt n items p x → IsTaken n x
-is_taken n items p x a = record { phase = a.of.phase; plan = item_here x.view.plan a.of.place x.entry a.of.plan }
+-- its `unmet` line
+said_from : (n : NeedsRun) (keys : List (List ℕ)) (k : ℕ) (numbers : List ℕ) (number : ℕ) (x : Item) → IsOf n number x → Contains numbers number
+    → Contains (entries_from n keys k numbers) (lines.Unmet x.view.phase x.entry.name)
+said_from n keys k [] number x is c = absurd (none_in number c)
+said_from n keys k (y ∷ numbers) number x is c = elim (in_cons y numbers number c) [
+  | inl e ↦ Contains-append_left (of_entry n (entry_lines n keys k) y) (entries_from n keys (k + length (keys_of n y)) numbers)
+      (lines.Unmet x.view.phase x.entry.name)
+      (subst (λ (ls : List WhyLine). Contains ls (lines.Unmet x.view.phase x.entry.name))
+      (sym (entry_of n (entry_lines n keys k) number x is) ∙ ap (of_entry n (entry_lines n keys k)) (sym e)) (first_in _ _))
+  | inr there ↦ Contains-append_right (of_entry n (entry_lines n keys k) y) (entries_from n keys (k + length (keys_of n y)) numbers)
+      (lines.Unmet x.view.phase x.entry.name) (said_from n keys (k + length (keys_of n y)) numbers number x is there)
+]
+
+pub is_said : (n : NeedsRun) (numbers items : List ℕ) → ((k : ℕ) → Contains items k → Contains numbers k) → (p : ℕ) (x : Item) → IsAt n items p x
+    → IsSaid n numbers x
+unfolding lack_lines
+is_said n numbers items listed p x a = record {
+  phase = a.of.phase;
+  plan = item_here x.view.plan a.of.place x.entry a.of.plan;
+  said = said_from n (all_keys n numbers) 0 numbers a.number x a.of (listed a.number (item_here items p a.number a.here));
+}
 
 pub line_is : (n : NeedsRun) (items : List ℕ) (p : ℕ) (x : Item) → IsAt n items p x → place_line n items p ≡ lines.Cycle x.entry.name ∷ []
 line_is n items p x a =

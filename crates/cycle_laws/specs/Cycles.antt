@@ -12,6 +12,7 @@ use Rattle.why_state.specs.States.{need_of}
 use Rattle.why_state.specs.Views.{viewed_of}
 use Rattle.why_items.specs.declared.needs.NeedsRun.{NeedsRun}
 use Rattle.why_items.specs.Items.{needs_run_of, lacks_services, lacks_groups, members_at}
+use Rattle.why_lacks.specs.Lacks.{lack_lines}
 use Rattle.why_cycle.specs.Cycle.{cycle_lines}
 
 -- an entry, and its phase with the place of that in the start
@@ -20,10 +21,11 @@ pub record Item : Type 0 where
   pub view : PhaseView
   pub entry : Entry
 
--- the entry is of the plan of that phase
-pub record IsTaken (n : NeedsRun) (x : Item) : Type 0 where
+-- the entry is of the plan of that phase, and has an `unmet` line among those of these entries
+pub record IsSaid (n : NeedsRun) (numbers : List ℕ) (x : Item) : Type 0 where
   pub phase : slice_get n.run.views x.at ≡ Some x.view
   pub plan : Contains x.view.plan x.entry
+  pub said : Contains (lack_lines n numbers) (lines.Unmet x.view.phase x.entry.name)
 
 -- the first one lacks the name of the other one, or a group with a member of that name, which was unmet at the end of the first one's phase
 pub record Needs (n : NeedsRun) (x y : Item) : Type 0 where
@@ -43,13 +45,14 @@ abbrev pub NeedRound : NeedsRun → List Item → Type 0
 NeedRound n [] = Unit {0}
 NeedRound n (x ∷ xs) = NeedUpTo n x (x ∷ xs)
 
--- the lines are those of entries that need one another all round
-pub record IsCycle (n : NeedsRun) (found : List WhyLine) : Type 0 where
+-- the `cycle` lines of these entries are those of entries that need one another all round
+pub record IsCycle (n : NeedsRun) (numbers : List ℕ) (found : List WhyLine) : Type 0 where
   pub items : List Item
   pub lines : found ≡ map (λ (x : Item). lines.Cycle x.entry.name) items
-  pub taken : AllByRecursion (IsTaken n) items
+  pub said : AllByRecursion (IsSaid n numbers) items
   pub round : NeedRound n items
 
 abbrev pub EachNeedsTheNext : Type 0
 EachNeedsTheNext =
-    (run : QuietRun) (numbers : List ℕ) → IsCycle (needs_run_of (viewed_of run)) (cycle_lines (needs_run_of (viewed_of run)) numbers)
+    (run : QuietRun) (numbers : List ℕ)
+    → IsCycle (needs_run_of (viewed_of run)) numbers (cycle_lines (needs_run_of (viewed_of run)) numbers)
