@@ -172,37 +172,56 @@ module _ (n : NeedsRun) (items : List ℕ) where
     within : p < length items
     held : is_freed (waits_of n items) p ≡ false
 
-  goes_on : HaveAllWays n items → (p : ℕ) → IsHeld p → (q : ℕ) × (step (waits_of n items) (is_freed (waits_of n items)) p ≡ Some q) × IsHeld q
-  goes_on all p h =
-      let unfreed : frees (waits_of n items) (is_freed (waits_of n items)) p ≡ false =
-      elim (cases_Bool (frees (waits_of n items) (is_freed (waits_of n items)) p)) [
-        | inl on ↦ absurd (false≢true (sym h.held ∙ freed_closed (waits_of n items) p (omega (arith, count, h.within)) on))
-        | inr off ↦ off
-      ] in
-      let f = first_failed (λ ways. list_any (is_freed (waits_of n items)) ways) (needs_at (waits_of n items) p) unfreed in
-      let w = need_at n items items p f.0 f.2 in
-      let m = mapped_from (places_in items) (needs_of n w.0) f.0 w.2 in
+  -- a need has a way, and ways are items
+  way_there : HaveAllWays n items → (p : ℕ) (ways : List ℕ) → Contains (needs_at (waits_of n items) p) ways → (q : ℕ) × Contains ways q
+  way_there all p ways c =
+      let w = need_at n items items p ways c in
+      let m = mapped_from (places_in items) (needs_of n w.0) ways w.2 in
       let x = of_number n (needs_in n) w.0 m.item m.there in
       let to = some_way n x.0.at x.0.view x.0.entry m.item x.2 in
-      let place = place_of items to.0 (all w.0 m.item to.0 (item_here items p w.0 w.1) m.there to.1) in
-      let there = mapped_on (λ number. position (nat_eq number) items) m.item to.0 place.0 to.1 place.1 in
-      first f.0 m.item m.is (subst (λ (xs : List ℕ). Contains xs place.0) m.is there) f.1 f.3
-    where
-      first : (ways tos : List ℕ) → places_in items tos ≡ ways → {q : ℕ} → Contains ways q
-          → find (λ ways. not (list_any (is_freed (waits_of n items)) ways)) (needs_at (waits_of n items) p) ≡ Some ways
-          → list_any (is_freed (waits_of n items)) ways ≡ false
-          → (q : ℕ) × (step (waits_of n items) (is_freed (waits_of n items)) p ≡ Some q) × IsHeld q
-      first [] tos placed {q} c is off = absurd (none_in q c)
-      first (q ∷ ways) tos placed c is off =
-          let f = from (λ number. position (nat_eq number) items) tos q (subst (λ (xs : List ℕ). Contains xs q) (sym placed) (first_in q ways)) in (
-            q,
-            ap (λ (o : Option (List ℕ)). option_and_then (λ ways. slice_get ways 0) o) is,
-            record { within = (position-Some (nat_eq f.item) items q 0 f.is).0; held = no_first (is_freed (waits_of n items) q) off },
-          )
-        where
-          no_first : (b : Bool) → (b || list_any (is_freed (waits_of n items)) ways) ≡ false → b ≡ false
-          no_first true h = h
-          no_first false h = refl
+      let place = place_of items to.0 (all w.0 m.item to.0 (item_here items p w.0 w.1) m.there to.1) in (
+        place.0,
+        subst (λ (xs : List ℕ). Contains xs place.0) m.is
+            (mapped_on (λ number. position (nat_eq number) items) m.item to.0 place.0 to.1 place.1),
+      )
+
+  way_within : (p q : ℕ) (ways : List ℕ) → Contains (needs_at (waits_of n items) p) ways → Contains ways q → q < length items
+  way_within p q ways c there =
+      let w = need_at n items items p ways c in
+      let m = mapped_from (places_in items) (needs_of n w.0) ways w.2 in
+      let f = from (λ number. position (nat_eq number) items) m.item q (subst (λ (xs : List ℕ). Contains xs q) (sym m.is) there) in
+      (position-Some (nat_eq f.item) items q 0 f.is).0
+
+  unfreed : (p : ℕ) → IsHeld p → frees (waits_of n items) (is_freed (waits_of n items)) p ≡ false
+  unfreed p h = elim (cases_Bool (frees (waits_of n items) (is_freed (waits_of n items)) p)) [
+    | inl on ↦ absurd (false≢true (sym h.held ∙ freed_closed (waits_of n items) p (omega (arith, count, h.within)) on))
+    | inr off ↦ off
+  ]
+
+  no_first : (b c : Bool) → (b || c) ≡ false → b ≡ false
+  no_first true c h = h
+  no_first false c h = refl
+
+  abbrev StepsOn : ℕ → Type 0
+  StepsOn p = (q : ℕ) × (step (waits_of n items) (is_freed (waits_of n items)) p ≡ Some q) × IsHeld q
+
+  by_need : (p : ℕ) (ways : List ℕ) → (q : ℕ) × Contains ways q
+      → find (λ ways. not (list_any (is_freed (waits_of n items)) ways)) (needs_at (waits_of n items) p) ≡ Some ways
+      → Contains (needs_at (waits_of n items) p) ways → list_any (is_freed (waits_of n items)) ways ≡ false → StepsOn p
+  by_need p [] some is c off = absurd (none_in some.0 some.1)
+  by_need p (q ∷ ways) some is c off = (
+    q,
+    ap (λ (o : Option (List ℕ)). option_and_then (λ ways. slice_get ways 0) o) is,
+    record {
+      within = way_within p q (q ∷ ways) c (first_in q ways);
+      held = no_first (is_freed (waits_of n items) q) (list_any (is_freed (waits_of n items)) ways) off;
+    },
+  )
+
+  goes_on : HaveAllWays n items → (p : ℕ) → IsHeld p → StepsOn p
+  goes_on all p h =
+      let f = first_failed (λ ways. list_any (is_freed (waits_of n items)) ways) (needs_at (waits_of n items) p) (unfreed p h) in
+      by_need p f.0 (way_there all p f.0 f.2) f.1 f.2 f.3
 
 -- ---- the whole
 
