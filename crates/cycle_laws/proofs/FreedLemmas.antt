@@ -33,7 +33,7 @@ use Rattle.cycle_laws.specs.Freed.{Frees, IsFreed, NoCycleWhereFreed}
 use Rattle.cycle_laws.proofs.WalkLemmas.{LeadRound, leads_round}
 use Rattle.cycle_laws.proofs.StepLemmas.{AreNamed, need_at, placed_number, of_number, are_named}
 use Rattle.cycle_laws.proofs.CycleLemmas.{has_line}
-use Rattle.cycle_laws.proofs.GrownLemmas.{items_first, items_all}
+use Rattle.cycle_laws.proofs.GrownLemmas.{within, items_first, items_all}
 use Rattle.cycle_laws.proofs.RoundLemmas.{place_of, put_in, put_listed, put_first, freed_closed, first_failed, comes_back}
 
 -- they have all that their open lacks lead to
@@ -67,9 +67,6 @@ some_way n at v e tos c = elim (Contains-append_cases (map (λ to. to ∷ []) (l
 -- ---- items and their places
 
 module _ (n : NeedsRun) (items : List ℕ) where
-  abbrev waits : List (List (List ℕ))
-  waits = waits_of n items
-
   count : length (waits_of n items) ≡ length items
   count = length-map items (waits_at n items)
 
@@ -81,18 +78,10 @@ module _ (n : NeedsRun) (items : List ℕ) where
       subst (λ (k : ℕ). Contains (waits_at n items k) ways) (sym (same_Some x number is)) c
   needs_there (x ∷ xs) (suc p) number ways is c = needs_there xs p number ways is c
 
-  number_at : (xs : List ℕ) (p : ℕ) → p < length xs → (number : ℕ) × (slice_get xs p ≡ Some number)
-  number_at [] p lt = absurd (omega (arith, lt))
-  number_at (x ∷ xs) zero lt = (x, refl)
-  number_at (x ∷ xs) (suc p) lt = number_at xs p (omega (arith, lt))
-
   -- ---- from sets of numbers to sets of places
 
   abbrev Closed : (ℕ → Bool) → Type 0
   Closed set = (number : ℕ) → Contains items number → Frees n set number → set number ≡ true
-
-  marks_of : (ℕ → Bool) → List Bool
-  marks_of set = map set items
 
   marked : (set : ℕ → Bool) (xs : List ℕ) (p number : ℕ) → slice_get xs p ≡ Some number → member (map set xs) p ≡ set number
   marked set [] p number is = absurd cc
@@ -124,7 +113,7 @@ module _ (n : NeedsRun) (items : List ℕ) where
       has =
           all_from (λ p. not (frees (waits_of n items) (member (map set items)) p) || member (map set items) p)
           (range_with_len 0 (length (waits_of n items))) (λ p i.
-          let x = number_at items p (omega (arith, range_in (length (waits_of n items)) p i, count)) in
+          let x = within items p (omega (arith, range_in (length (waits_of n items)) p i, count)) in
           then_true (frees (waits_of n items) (member (map set items)) p) (member (map set items) p) (λ free.
           marked set items p x.0 x.1 ∙ closed x.0 (item_here items p x.0 x.1) (λ tos c.
           let way = any_gives (member (map set items)) (places_in items tos)

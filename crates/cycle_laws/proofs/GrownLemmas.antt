@@ -144,7 +144,7 @@ stays found (y ∷ xs) k x is = by (list_any (nat_eq y) found) (λ found is. sta
     by true deep = deep found is
     by false deep = deep (found ++ y ∷ []) (still_there found (y ∷ []) k x is)
 
-within : (xs : List ℕ) (k : ℕ) → k < length xs → (x : ℕ) × (slice_get xs k ≡ Some x)
+pub within : (xs : List ℕ) (k : ℕ) → k < length xs → (x : ℕ) × (slice_get xs k ≡ Some x)
 within [] k lt = absurd (omega (arith, lt))
 within (x ∷ xs) zero lt = (x, refl)
 within (x ∷ xs) (suc k) lt = within xs k (omega (arith, lt))

@@ -62,11 +62,6 @@ stepped waits freed p q is = by (find test (needs_at waits p)) refl is
 -- ---- the numbers of items
 
 -- the needs at a place are those of the item there
-record IsNeed (n : NeedsRun) (items : List ℕ) (p : ℕ) (ways : List ℕ) : Type 0 where
-  number : ℕ
-  here : slice_get items p ≡ Some number
-  need : Contains (waits_at n items number) ways
-
 pub need_at : (n : NeedsRun) (items all : List ℕ) (p : ℕ) (ways : List ℕ) → Contains (get_or (map (waits_at n all) items) p []) ways
     → (number : ℕ) × (slice_get items p ≡ Some number) × Contains (waits_at n all number) ways
 need_at n [] all p ways c = absurd (none_in ways c)
