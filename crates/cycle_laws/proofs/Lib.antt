@@ -1,0 +1,7 @@
+pub mod WalkLemmas
+pub mod StepLemmas
+pub mod CycleLemmas
+pub mod LackLemmas
+pub mod RoundLemmas
+pub mod GrownLemmas
+pub mod FreedLemmas
