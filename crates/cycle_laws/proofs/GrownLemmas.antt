@@ -86,9 +86,9 @@ leads_ways n number to ways c there =
           (flat_in (members_at n x.0.at) (lacks_groups n x.0.view x.0.entry) i.0 w.0 i.1 i.2)
     ]) w.2)
 
--- ---- so many can be found
+-- ---- how many can be found
 
--- each mark is of an item that was found, and as many are left as there is room for
+-- each mark is of an item that was found, and the rest is what there is room for
 record HasRoom (count : ℕ) (found : List ℕ) : Type 0 where
   marks : List Bool
   len : length marks ≡ count

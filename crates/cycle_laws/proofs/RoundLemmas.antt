@@ -114,7 +114,7 @@ dropped i [] lt = absurd (omega (arith, lt))
 dropped zero (x ∷ path) lt = (x, path, refl)
 dropped (suc i) (x ∷ path) lt = dropped i path (omega (arith, lt))
 
--- where each good place leads to a good one of so many, a walk from one comes back
+-- where each good place leads to a good one of a number of them, a walk from one comes back
 module _ (next : ℕ → Option ℕ) (count : ℕ) (Good : ℕ → Type 0) (within : (p : ℕ) → Good p → p < count)
     (on : (p : ℕ) → Good p → (q : ℕ) × (next p ≡ Some q) × Good q) where
   pub comes_back : (fuel : ℕ) (path : List ℕ) (p : ℕ) (marks : List Bool) → Good p → length marks ≡ count
