@@ -15,6 +15,7 @@ LABS = os.path.abspath(os.path.join(TOP, "labs"))
 PAGE = "file://" + os.path.join(LABS, "view.html")
 KEPT = {
     "run": os.path.join(TOP, "examples", "disabled_driver", "report.txt"),
+    "why": os.path.join(TOP, "examples", "unmet_dependencies", "why.txt"),
     "sweep": os.path.join(LABS, "06_commit_point", "table.txt"),
 }
 FLAGS = ["--headless=new", "--remote-debugging-pipe", "--no-first-run", "--disable-gpu", "--disable-background-networking", "--disable-component-update",
@@ -151,6 +152,7 @@ class Trial:
 SAID = {
     "run": ["Select over the starts", "Start 3, begin", "the script calls it vital", "unmet", "Ntfs", "Automatic phase"],
     "unmet": ["its members wait for each other", "needs the group “Tape”", "it needs something that was not started", "cycle 1"],
+    "why": ["Dhcp", "is unmet in the automatic phase", "lacks the group", "member"],
     "sweep": ["commit point", "sync 2", "0 neither", "keep odd", "sectors"],
     "whatif": ["Tcpip", "Who leans on it", "Share", "logged"],
     "check": ["found 3", "Audio", "Mixer"],
