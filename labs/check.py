@@ -17,8 +17,9 @@ What a lab asks for is its file `expected`. Its lines, in which `*` stands for a
 """
 import os
 import re
+import reports
+import signal
 import sys
-
 LABS = os.path.dirname(os.path.abspath(__file__))
 sys.path.insert(0, LABS)
 import reports
@@ -123,4 +124,5 @@ def main(words):
 
 
 if __name__ == "__main__":
+    signal.signal(signal.SIGPIPE, signal.SIG_DFL)  # a reader such as `head` may close early
     sys.exit(main(sys.argv[1:]))
