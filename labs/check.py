@@ -17,7 +17,6 @@ What a lab asks for is its file `expected`. Its lines, in which `*` stands for a
 """
 import os
 import re
-import reports
 import signal
 import sys
 LABS = os.path.dirname(os.path.abspath(__file__))
