@@ -19,6 +19,7 @@ import os
 import re
 import signal
 import sys
+
 LABS = os.path.dirname(os.path.abspath(__file__))
 sys.path.insert(0, LABS)
 import reports
