@@ -1,5 +1,4 @@
 pub mod HostLemmas
-pub mod PathLemmas
 pub mod UnmetLemmas
 pub mod DiskLemmas
 pub mod CommitLemmas

@@ -2,18 +2,17 @@
 use Rattle.std.proofs.Common.{◌≡◌, ◌≤◌, ℕ, Bool, true, false, cond, List, [], ◌∷◌, Option, Some, None, refl, sym, ap, subst, ◌∙◌}
 use Rattle.std.specs.Prelude.{Result, Ok, Err, IfOk, IfSome, option_map}
 use Rattle.std.specs.Option.{option_map_or}
-use Rattle.hive_model.specs.Edit.{Step, edited}
+use Rattle.hive_model.specs.Edit.{edited}
 use Rattle.hive_model.specs.Image.{Keep}
 use Rattle.hive_model.specs.Tree.{Tree}
 use Rattle.nt_edge.specs.Bench.{armed}
 use Rattle.nt_edge.specs.Crash.{EachCrash}
 use Rattle.nt_edge.specs.Disk.{DiskState}
 use Rattle.hive_store.specs.Session.{Session}
-use Rattle.reg_tree.specs.Fitting.{Fits}
 use Rattle.reg_tree.specs.Makes as made
 use Rattle.reg_tree.specs.declared.steps.TreeStep.{TreeStep}
 use Rattle.start_model.specs.Events as book
-use Rattle.start_model.specs.Events.{Event, Edit, BootNow, Go, Fail, Vital, Edits, Flush, Logon, Off, CutNow, Arm, Set, Delete, Make, Remove, is_protected}
+use Rattle.start_model.specs.Events.{Event, Edit, BootNow, Go, Fail, Vital, Edits, Flush, Logon, Off, CutNow, Arm, is_protected}
 use Rattle.start_model.specs.Lines.{RefusedWord, RefusedLine, ProtectedReason}
 use Rattle.start_model.specs.Machine.{Start, MachineState, failing, refusal_in, refusal_of}
 use Rattle.start_model.specs.Fits.{MayLoad}
@@ -224,22 +223,6 @@ other_does_nothing (code.ArmCut call n keep) f v a b = absurd (a call n keep ref
 other_does_nothing (code.ArmFault call n) f v a b = absurd (b call n refl)
 
 -- ---- edits
-
--- what an edit of a script brings along can be held
-pub step_fits : (number : ℕ) (e : Edit) → Fits (book.step_of number e)
-step_fits number (Set path name kind bytes) = tt
-step_fits number (Delete path name) = tt
-step_fits number (Make path) = tt
-step_fits number (Remove path) = tt
-
-pub made_fits : (step : TreeStep) (number : ℕ) (e : Edit) → made.step_of step ≡ book.step_of number e
-    → Fits (made.step_of step)
-made_fits step number e is = let P : Step → Type 0 = λ s. Fits s in subst P (sym is) (step_fits number e)
-
-pub made_all : {E : Type 0} → (r : Result TreeStep E) (number : ℕ) (e : Edit)
-    → IfOk r (λ s. made.step_of s ≡ book.step_of number e) → IfOk r (λ s. Fits (made.step_of s))
-made_all (Ok step) number e h = made_fits step number e h
-made_all (Err stop) number e h = tt
 
 -- the set of a start, by its number
 abbrev pub set_taken : Start → ℕ × Bool

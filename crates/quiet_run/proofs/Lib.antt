@@ -1,7 +1,6 @@
 pub mod WordLemmas
 pub mod SetLemmas
 pub mod EditLemmas
-pub mod PathLemmas
 pub mod TryLemmas
 pub mod SaveLemmas
 pub mod CaseLemmas

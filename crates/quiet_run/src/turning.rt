@@ -16,11 +16,11 @@ use crate::ending::end;
 use crate::play::Play;
 use crate::saving::logon;
 use crate::starter::{note, turn_go};
-use crate::steps::{delete_step, make_step, remove_step, set_step};
 use arc_path::Arc;
 use boot_ini::BootIni;
 use boot_machine::{Machine, Verdict};
 use boot_script::Event;
+use edit_steps::{delete_step, make_step, remove_step, set_step};
 use nt_bytes::Units;
 use std::alloc::{AllocError, Global};
 

@@ -10,8 +10,8 @@ use nt_bytes::{Bytes, Names, Units};
 use reg_tree::TreeStep;
 use std::alloc::{AllocError, Global};
 
-/// The step that writes a value.
-pub(crate) fn set_step(
+/// The step that writes a value. A set's number is at most 999.
+pub fn set_step(
     alloc: Global,
     path: &Names,
     name: &Units,
@@ -32,7 +32,7 @@ pub(crate) fn set_step(
 }
 
 /// The step that deletes a value.
-pub(crate) fn delete_step(
+pub fn delete_step(
     alloc: Global,
     path: &Names,
     name: &Units,
@@ -49,7 +49,7 @@ pub(crate) fn delete_step(
 }
 
 /// The step that makes the last key of a path.
-pub(crate) fn make_step(alloc: Global, path: &Names, number: u32) -> Result<TreeStep, AllocError>
+pub fn make_step(alloc: Global, path: &Names, number: u32) -> Result<TreeStep, AllocError>
     requires { number ≤ 999 }
     ensures step { IfOk result (λ s. step_of s ≡ book.step_of number (book.Make path.now)) }
     ensures fits { IfOk result (λ s. Fits (step_of s)) }
@@ -60,7 +60,7 @@ pub(crate) fn make_step(alloc: Global, path: &Names, number: u32) -> Result<Tree
 }
 
 /// The step that deletes a key and all below it.
-pub(crate) fn remove_step(alloc: Global, path: &Names, number: u32) -> Result<TreeStep, AllocError>
+pub fn remove_step(alloc: Global, path: &Names, number: u32) -> Result<TreeStep, AllocError>
     requires { number ≤ 999 }
     ensures step { IfOk result (λ s. step_of s ≡ book.step_of number (book.Remove path.now)) }
     ensures fits { IfOk result (λ s. Fits (step_of s)) }
