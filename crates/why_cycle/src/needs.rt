@@ -3,88 +3,13 @@
 ghost use Rattle.std.specs.Prelude.{◌≡◌, ◌<◌, ◌∷◌, ◌++◌, [], map, length, slice_get, IfOk, OnOk};
 ghost use Rattle.std.specs.Option.{option_copied, option_map_or, option_to_list};
 ghost use Rattle.std.specs.List.{filter_map};
-ghost use Rattle.why_items.specs.Items.{leads_if, leads};
-ghost use Rattle.why_cycle.specs.Needs.{leads_of, if_open, group_ways, needs_in, needs_of};
+ghost use Rattle.why_cycle.specs.Needs.{if_open, group_ways, needs_in, needs_of};
 
 use nt_bytes::{Row, Units};
 use service_entries::Entry;
 use std::alloc::{AllocError, Global};
-use why_items::{NeedsRun, lacks_groups, lacks_services, members_at, number_of, places_of};
-use why_lines::NeedState;
-use why_state::{PhaseView, ViewedRun, need_of, placed_upto};
-
-// ---- where names lead
-
-fn leads_if(
-    run: &ViewedRun,
-    state: NeedState,
-    place: Option<(usize, usize)>,
-) -> Result<Option<usize>, AllocError>
-    ensures { IfOk result (λ to. to ≡ leads_if run.now state place) }
-{
-    match state {
-        NeedState::Unmet => match place {
-            Some(place) => Ok(Some(number_of(run, place)?)),
-            None => Ok(None),
-        },
-        NeedState::Started => Ok(None),
-        NeedState::Failed => Ok(None),
-        NeedState::Later => Ok(None),
-        NeedState::Late => Ok(None),
-        NeedState::NotTaken(_) => Ok(None),
-    }
-}
-
-/// Where a name leads, at the end of the phase at a place, of which there are that many.
-fn leads(
-    needs: &NeedsRun,
-    at: usize,
-    view: &PhaseView,
-    name: &[u16],
-) -> Result<Option<usize>, AllocError>
-    requires { at < length needs.now.run.views }
-    ensures { IfOk result (λ to. to ≡ leads needs.now at view.now name.now) }
-{
-    let state = need_of(&needs.run, at, view, name);
-    leads_if(&needs.run, state, placed_upto(&needs.run, at, name))
-}
-
-/// Puts where a name leads after the others.
-fn push_lead(
-    needs: &NeedsRun,
-    at: usize,
-    view: &PhaseView,
-    name: &Units,
-    out: &mut Row<usize>,
-) -> Result<(), AllocError>
-    requires { at < length needs.now.run.views }
-    ensures { OnOk result (out.new ≡ out.old ++ option_to_list (leads needs.now at view.now name.now)) }
-{
-    match leads(needs, at, view, name.as_slice())? {
-        Some(to) => out.push(to),
-        None => Ok(()),
-    }
-}
-
-/// Where the names lead, in their order.
-fn leads_of(
-    alloc: Global,
-    needs: &NeedsRun,
-    at: usize,
-    view: &PhaseView,
-    names: &[Units],
-) -> Result<Row<usize>, AllocError>
-    requires { at < length needs.now.run.views }
-    ensures { IfOk result (λ out. out ≡ leads_of needs.now at view.now names.now) }
-{
-    let mut out = Row::new(alloc);
-    for name in names {
-        push_lead(needs, at, view, name, &mut out)?;
-    }
-    Ok(out)
-}
-
-// ---- the needs of an item
+use why_items::{NeedsRun, all_leads, lacks_groups, lacks_services, members_at, places_of};
+use why_state::PhaseView;
 
 fn one(alloc: Global, to: usize) -> Result<Row<usize>, AllocError>
     ensures { IfOk result (λ ways. ways ≡ to ∷ []) }
@@ -130,7 +55,7 @@ fn push_group(
     ensures { OnOk result (out.new ≡ out.old ++ option_to_list (group_ways needs.now at view.now group.now)) }
 {
     let names = members_at(alloc, needs, at, group.as_slice())?;
-    let to = leads_of(alloc, needs, at, view, names.as_slice())?;
+    let to = all_leads(alloc, needs, at, view, names.as_slice())?;
     push_if_open(names.len(), to, out)
 }
 
@@ -165,7 +90,7 @@ fn needs_in(
 {
     let mut out = Row::new(alloc);
     let names = lacks_services(alloc, needs, view, entry)?;
-    let leads = leads_of(alloc, needs, at, view, names.as_slice())?;
+    let leads = all_leads(alloc, needs, at, view, names.as_slice())?;
     push_services(alloc, leads.as_slice(), &mut out)?;
     let groups = lacks_groups(alloc, needs, view, entry)?;
     push_groups(alloc, needs, at, view, groups.as_slice(), &mut out)?;

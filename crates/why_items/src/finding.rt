@@ -129,8 +129,8 @@ fn push_lead(
     }
 }
 
-/// Where the names lead, in their order.
-fn all_leads(
+/// Where the names lead, in their order, at the end of the phase at a place, of which there are that many.
+pub fn all_leads(
     alloc: Global,
     needs: &NeedsRun,
     at: usize,
