@@ -1,6 +1,6 @@
 //! The command: files in, the graph of a start or the first obstacle out.
 
-ghost use Rattle.std.specs.Prelude.{◌≡◌, Err, IfOk, option_map};
+ghost use Rattle.std.specs.Prelude.{◌≡◌, Err, IfOk};
 ghost use Rattle.std.specs.Option.{option_copied};
 ghost use Rattle.hive_model.specs.Valid.{IsValid, HoldsKeys};
 ghost use Rattle.command_parts.specs.Inputs.{AsksSoMany};
@@ -9,7 +9,6 @@ ghost use Rattle.command_parts.specs.OnHive.{AnswersOnHive, SeeksAnswer, Decides
 ghost use Rattle.command_parts.specs.Refusals.{IsToldAs};
 ghost use Rattle.command_words.specs.Views.{graph_seen};
 ghost use Rattle.why_state.specs.Views.{viewed_of};
-ghost use Rattle.written_name.specs.Written.{written_of};
 ghost use Rattle.start_inputs.specs.Inputs.{arguments_in, files_seen, AsksStart};
 ghost use Rattle.graph_command.specs.Answer.{start_asked, run_on, text_by, text_on, question_at, question_on, question_in};
 ghost use Rattle.graph_command.specs.Inputs.{arguments_in as graph_arguments_in, asks_graph};
@@ -27,7 +26,7 @@ use start_inputs::{StartFiles, StartInputs, start_inputs};
 use std::alloc::{AllocError, Global};
 use why_lines::WhyLines;
 use why_state::{ViewedRun, push_head, viewed};
-use written_name::written_name;
+use written_name::written_name_if;
 
 /// The files that the command line names.
 fn files_of<'a>(words: &GraphWords<'a>) -> StartFiles<'a>
@@ -116,16 +115,6 @@ fn report_at(
     }
 }
 
-/// The name that a word writes, where there is one.
-fn name_in(alloc: Global, word: Option<&str>) -> Result<Option<Units>, AllocError>
-    ensures { IfOk result (λ name. name ≡ option_map written_of (option_map (λ v. v.now) word.entry)) }
-{
-    match word {
-        Some(word) => Ok(Some(written_name(alloc, word)?)),
-        None => Ok(None),
-    }
-}
-
 /// The graph that the command line asks for, or the hive's first fault.
 fn report_on(
     alloc: Global,
@@ -135,7 +124,7 @@ fn report_on(
 ) -> Result<Told, Obstacle>
     ensures { AnswersOnHive (question_on form (graph_seen words.entry) inputs.now) result }
 {
-    match name_in(alloc, words.of) {
+    match written_name_if(alloc, words.of) {
         Ok(name) => report_at(alloc, inputs, form, name.as_ref()),
         Err(_) => Err(no_memory()),
     }

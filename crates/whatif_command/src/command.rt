@@ -1,6 +1,6 @@
 //! The command: files in, the lines of single failures or the first obstacle out.
 
-ghost use Rattle.std.specs.Prelude.{◌≡◌, Err, IfOk, option_map};
+ghost use Rattle.std.specs.Prelude.{◌≡◌, Err, IfOk};
 ghost use Rattle.std.specs.Option.{option_copied};
 ghost use Rattle.hive_model.specs.Valid.{IsValid};
 ghost use Rattle.command_parts.specs.Inputs.{AsksSoMany};
@@ -10,7 +10,6 @@ ghost use Rattle.command_parts.specs.Refusals.{IsToldAs};
 ghost use Rattle.command_words.specs.Views.{whatif_seen};
 ghost use Rattle.failure_effects.specs.Effects.{effects_of};
 ghost use Rattle.whatif_text.specs.Lines.{printed_lines};
-ghost use Rattle.written_name.specs.Written.{written_of};
 ghost use Rattle.whatif_command.specs.Answer.{choice_in, question_at, question_on, question_in};
 ghost use Rattle.whatif_command.specs.Inputs.{arguments_in, asks_whatif, AsksWhatif};
 
@@ -25,7 +24,7 @@ use nt_edge::Host;
 use reg_tree::Key;
 use std::alloc::{AllocError, Global};
 use whatif_text::print_lines;
-use written_name::written_name;
+use written_name::written_name_if;
 
 /// The lines on the tree of a hive, in a form.
 fn text_on(
@@ -63,16 +62,6 @@ fn report_at(
     }
 }
 
-/// The name that a word writes, where there is one.
-fn name_in(alloc: Global, word: Option<&str>) -> Result<Option<Units>, AllocError>
-    ensures { IfOk result (λ name. name ≡ option_map written_of (option_map (λ v. v.now) word.entry)) }
-{
-    match word {
-        Some(word) => Ok(Some(written_name(alloc, word)?)),
-        None => Ok(None),
-    }
-}
-
 /// The lines that the command line asks for, or the hive's first fault.
 fn report_on(
     alloc: Global,
@@ -82,7 +71,7 @@ fn report_on(
 ) -> Result<Told, Obstacle>
     ensures { AnswersOnHive (question_on form (whatif_seen words.entry) inputs.now) result }
 {
-    match name_in(alloc, words.of) {
+    match written_name_if(alloc, words.of) {
         Ok(name) => report_at(alloc, inputs, form, name.as_ref()),
         Err(_) => Err(no_memory()),
     }

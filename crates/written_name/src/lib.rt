@@ -8,4 +8,4 @@ mod escapes;
 mod units;
 mod word;
 
-pub use word::written_name;
+pub use word::{written_name, written_name_if};

@@ -1,6 +1,6 @@
 //! A word read from the left.
 
-ghost use Rattle.std.specs.Prelude.{◌≡◌, ◌<◌, ◌++◌, ◌∷◌, [], length, None, IfOk, IfSome, IsSome, OnOk};
+ghost use Rattle.std.specs.Prelude.{◌≡◌, ◌<◌, ◌++◌, ◌∷◌, [], length, None, IfOk, IfSome, IsSome, OnOk, option_map};
 ghost use Rattle.written_name.specs.Written.{escaped_in, with_escapes_read, written_of};
 
 use crate::escapes::escaped_in;
@@ -55,4 +55,14 @@ pub fn written_name(alloc: Global, word: &str) -> Result<Units, AllocError>
     let mut name = Units::new(alloc);
     push_read(&mut name, units.as_slice())?;
     Ok(name)
+}
+
+/// The same of a word that may be missing.
+pub fn written_name_if(alloc: Global, word: Option<&str>) -> Result<Option<Units>, AllocError>
+    ensures { IfOk result (λ name. name ≡ option_map written_of (option_map (λ v. v.now) word.entry)) }
+{
+    match word {
+        Some(word) => Ok(Some(written_name(alloc, word)?)),
+        None => Ok(None),
+    }
 }
