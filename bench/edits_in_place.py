@@ -29,14 +29,6 @@ def lines(size):
     yield "off\n"
 
 
-def with_a_key(count):
-    """A hive of that many services whose root has a key `A` with a value `V` that has a cell for its data."""
-    services = [hives.service(i, 1, 0, []) for i in range(count)]
-    control_set = hives.control_set(b"ControlSet001", services, ["G0"], {"G0": list(range(20, 0, -1))})
-    key = (b"A", [(b"V", 3, bytes(9))], [])
-    return hives.hive(hives.layout((b"SYSTEM", [], [key, control_set, hives.select(1, 1, 0, 0)]), 32)[0])
-
-
 def comparisons():
     """The seconds that that many comparisons of 16 MiB take. Both are written first: of zeros that never were, one page would be read again and again."""
     one = os.urandom(16 << 20)
@@ -65,7 +57,7 @@ def main(words):
     if len(script) > SCRIPT:
         sys.exit(f"the script has {len(script)} bytes")
     with tempfile.TemporaryDirectory() as room:
-        for name, data in (("hive", with_a_key(SERVICES)), ("script", script)):
+        for name, data in (("hive", hives.with_a_key(SERVICES)), ("script", script)):
             with open(os.path.join(room, name), "wb") as f:
                 f.write(data)
         before = used()

@@ -210,3 +210,11 @@ def with_deep_services(count):
 def with_many_names(count):
     """Services of Start 2 of which each names the ten before it."""
     return system([service(i, 2, 0, [f"S{k:06d}" for k in range(max(0, i - 10), i)]) for i in range(count)])
+
+
+def with_a_key(count, values=1):
+    """That many services, and a key `A` of the root with that many values, of which each has a cell for its data."""
+    services = [service(i, 1, 0, []) for i in range(count)]
+    sets = control_set(b"ControlSet001", services, ["G0"], {"G0": list(range(20, 0, -1))})
+    key = (b"A", [(b"V%d" % i if i else b"V", 3, bytes(9)) for i in range(values)], [])
+    return hive(layout((b"SYSTEM", [], [key, sets, select(1, 1, 0, 0)]), 32)[0])

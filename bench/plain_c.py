@@ -1,0 +1,129 @@
+#!/usr/bin/env python3
+"""Counts the instructions of the program's work on a large hive beside those of a plain C program that makes the same checks (plain.c), and the
+memory that each takes: bench/plain_c.py PROGRAM [HIVE]. HIVE is a real SYSTEM hive; without one only generated hives are read. Needs gcc and
+valgrind. What `show` and `export` write of the generated hive must be what plain C writes. An edit is counted as the difference between two
+runs. No gate runs it."""
+import os
+import re
+import subprocess
+import sys
+import tempfile
+
+sys.path.insert(0, os.path.dirname(os.path.abspath(__file__)))
+import hives
+
+HERE = os.path.dirname(os.path.abspath(__file__))
+START = "boot\ngo\noff\n"
+
+
+def instructions(room, words):
+    """The instructions of a run, in millions."""
+    counted = ["valgrind", "--tool=callgrind", "--callgrind-out-file=/dev/null", *words]
+    done = subprocess.run(counted, cwd=room, stdout=subprocess.DEVNULL, stderr=subprocess.PIPE, text=True)
+    return int(re.search(r"Collected : (\d+)", done.stderr)[1]) / 1e6
+
+
+def memory(room, words):
+    """The most memory that a run has at once, in MiB, and what it prints."""
+    with open(os.path.join(room, "said"), "wb") as said:
+        process = subprocess.Popen(words, cwd=room, stdout=said)
+        _, status, used = os.wait4(process.pid, 0)
+        process.returncode = os.waitstatus_to_exitcode(status)
+    if process.returncode:
+        sys.exit(f"{' '.join(words)}: exit {process.returncode}")
+    with open(os.path.join(room, "said"), "rb") as said:
+        return used.ru_maxrss / 1024, said.read()
+
+
+def put(room, name, data):
+    with open(os.path.join(room, name), "wb") as f:
+        f.write(data if isinstance(data, bytes) else data.encode())
+    return name
+
+
+class Table:
+    """The rows, each printed once it is counted."""
+
+    def __init__(self, room, program, plain):
+        self.room, self.program, self.plain = room, os.path.abspath(program), plain
+        print("| Work | Mi | plain C, Mi | times | MiB |\n|---|---|---|---|---|")
+
+    def row(self, work, words, plain=None):
+        """A run of the program, beside one of plain C where there is one."""
+        words = [self.program, *words]
+        count, most = instructions(self.room, words), memory(self.room, words)[0]
+        other = instructions(self.room, [self.plain, *plain]) if plain else None
+        beside = f"{other:.1f} | {count / other:.1f}" if other else " | "
+        print(f"| {work} | {count:.1f} | {beside} | {most:.0f} |", flush=True)
+
+    def more(self, work, one, other, times):
+        """What a step costs, of which the second run makes that many more than the first."""
+        counts = [instructions(self.room, [self.program, *words]) for words in (one, other)]
+        print(f"| {work} | {(counts[1] - counts[0]) / times:.2f} | | | |", flush=True)
+
+    def same(self, words, plain, written=None):
+        """The program writes what plain C writes."""
+        said = memory(self.room, [self.program, *words])[1]
+        if written:
+            with open(os.path.join(self.room, written), "rb") as f:
+                said = f.read()
+        if said != memory(self.room, [self.plain, *plain])[1]:
+            sys.exit(f"{' '.join(words)} and plain C differ")
+
+
+def run(hive, script):
+    return ["run", "--hive", hive, "--script", script]
+
+
+def reading(table, hive):
+    """What reads a whole hive."""
+    put(table.room, "nothing", "")
+    table.row("load and check", run(hive, "nothing"), ["judge", hive])
+    table.row("`show`", ["show", "--hive", hive], ["show", hive])
+    table.row("`export`", ["export", "--hive", hive, "--reg", "reg"], ["export", hive])
+    table.row("`check`", ["check", "--hive", hive], ["judge", hive])
+    table.row("`diff` with itself", ["diff", "--hive", hive, "--with-set", "1"], ["judge", hive])
+
+
+def starting(table, hive, first):
+    """Starts, one and 64."""
+    put(table.room, "one", START)
+    put(table.room, "many", 64 * START)
+    table.row(f"one start{first}", run(hive, "one"))
+    table.row(f"64 starts{first}", run(hive, "many"))
+
+
+def steps(table, work, edit, hive, first=4, second=24):
+    """One edit of many, each with its commit."""
+    for name, count in (("few", first), ("several", second)):
+        put(table.room, name, "boot\n" + "".join(edit.format(i) + "\nflush\n" for i in range(1, count + 1)) + "off\n")
+    table.more(work, run(hive, "few"), run(hive, "several"), second - first)
+
+
+def registry_text(lines):
+    head = ["Windows Registry Editor Version 5.00", ""]
+    return b"\xff\xfe" + "".join(line + "\r\n" for line in head + lines + [""]).encode("utf-16-le")
+
+
+def main(words):
+    program, real = words[0], words[1] if len(words) > 1 else None
+    with tempfile.TemporaryDirectory() as room:
+        plain = os.path.join(room, "plain")
+        subprocess.run(["gcc", "-O2", "-o", plain, os.path.join(HERE, "plain.c")], check=True)
+        large = put(room, "large", hives.with_a_key(48_000))
+        table = Table(room, program, plain)
+        table.same(["show", "--hive", large], ["show", large])
+        table.same(["export", "--hive", large, "--reg", "reg"], ["export", large], "reg")
+        for hive in [large] + ([os.path.abspath(real)] if real else []):
+            reading(table, hive)
+            starting(table, hive, "")
+        table.row("`export --key` of one key", ["export", "--hive", large, "--reg", "reg", "--key", "A"], ["judge", large])
+        put(room, "reg.one", registry_text(['[HKEY_LOCAL_MACHINE\\SYSTEM\\A]', '"V"=dword:00000007']))
+        table.row("`import` of one value", ["import", "--hive", large, "--reg", "reg.one", "--save-hive", "out"], ["judge", large])
+        steps(table, "an edit of one value and its commit", "set A V dword {}", large)
+        steps(table, "`make` of a key and its commit", "make A\\K{}", large)
+        starting(table, put(room, "made", hives.with_services(1_000)), " of 1,000 services")
+        steps(table, "one deletion in a key of 100,000 values", "delete A V{}", put(room, "values", hives.with_a_key(10, 100_000)))
+
+
+main(sys.argv[1:])
