@@ -8,6 +8,7 @@ use Rattle.hive_model.specs.Security.{SecurityCell}
 use Rattle.hive_model.specs.Lists.{SubkeyList, Li, Lf, Lh, Ri}
 use Rattle.hive_model.specs.Lists.{ListKind as BookKind}
 use Rattle.cell_forms.specs.declared.key_node.NkForm.{NkForm}
+use Rattle.cell_forms.specs.declared.key_node.NkSlice.{NkSlice}
 use Rattle.cell_forms.specs.declared.key_value.VkForm.{VkForm}
 use Rattle.cell_forms.specs.declared.key_value.VkSlice.{VkSlice}
 use Rattle.cell_forms.specs.declared.stored.StoredName.{StoredName}
@@ -40,6 +41,27 @@ key_node_of f = record {
   greatest_value_size = f.greatest_value_size;
   class_length = f.class_length;
   name = f.name;
+}
+
+abbrev pub node_seen : NkSlice → KeyNode
+node_seen s = record {
+  flags = s.flags;
+  stamp = s.stamp;
+  parent = s.parent;
+  child_count = s.child_count;
+  volatile_count = s.volatile_count;
+  child_list = s.child_list;
+  volatile_list = s.volatile_list;
+  value_count = s.value_count;
+  value_list = s.value_list;
+  security = s.security;
+  class = s.class;
+  greatest_child_name = s.greatest_child_name;
+  greatest_child_class = s.greatest_child_class;
+  greatest_value_name = s.greatest_value_name;
+  greatest_value_size = s.greatest_value_size;
+  class_length = s.class_length;
+  name = name_of s.name;
 }
 
 abbrev pub key_value_of : VkForm → KeyValue

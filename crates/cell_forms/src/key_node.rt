@@ -3,7 +3,7 @@
 ghost use Rattle.std.specs.Prelude.{◌≡◌, ◌<◌, ◌≤◌, ℕ, true, length, slice_index, IfOk};
 ghost use Rattle.hive_model.specs.Forms.{Gives};
 ghost use Rattle.hive_model.specs.KeyNode.{is_narrow_key, key_node_in, key_node_at, key_node_text};
-ghost use Rattle.cell_forms.specs.Views.{key_node_of, name_of};
+ghost use Rattle.cell_forms.specs.Views.{key_node_of, name_of, node_seen};
 ghost use Rattle.hive_model.specs.Valid.{longest_key_name};
 
 use crate::names::{append_name, fault, name_size, see_key_name};
@@ -41,14 +41,29 @@ fn is_narrow(flags: u16) -> bool
     flags / 0x20 % 2 == 1
 }
 
-/// A key node, and its name where that stands.
+/// A key node, its name where it stands.
 #[derive(Drop)]
-pub struct NkSeen<'a> {
-    pub form: NkForm,
+pub struct NkSlice<'a> {
+    pub flags: u16,
+    pub stamp: u64,
+    pub parent: u32,
+    pub child_count: u32,
+    pub volatile_count: u32,
+    pub child_list: u32,
+    pub volatile_list: u32,
+    pub value_count: u32,
+    pub value_list: u32,
+    pub security: u32,
+    pub class: u32,
+    pub greatest_child_name: u32,
+    pub greatest_child_class: u32,
+    pub greatest_value_name: u32,
+    pub greatest_value_size: u32,
+    pub class_length: u16,
     pub name: StoredName<'a>,
 }
 
-/// The name of the key node in a payload, or why it holds none, as `read_nk` says.
+/// The name of the key node in a payload, or why it holds none, as `see_nk` says.
 #[tactic(auto, unfolding(hive_model::specs::KeyNode::key_node_at))]
 fn see_name(payload: &[u8], at: u32) -> Result<StoredName<'_>, ReadStop>
     ensures read { Gives (λ n. key_node_in payload.now (name_of n)) at result (key_node_at payload.now) }
@@ -75,33 +90,19 @@ fn see_name(payload: &[u8], at: u32) -> Result<StoredName<'_>, ReadStop>
 /// Reads a key node. `FormShort` where the payload is shorter than the fixed part or the name,
 /// `FormSign` where it does not begin with `nk`, `FormLength` where a wide name has half a unit,
 /// `FormName` where the name is over 255 units or has a backslash; each at `at`.
-pub fn read_nk(alloc: Global, payload: &[u8], at: u32) -> Result<NkForm, ReadStop>
-    ensures { Gives key_node_of at result (key_node_at payload.now) }
+pub fn see_nk(payload: &[u8], at: u32) -> Result<NkSlice<'_>, ReadStop>
+    ensures { Gives node_seen at result (key_node_at payload.now) }
 {
     let name = see_name(payload, at)?;
-    let units = name.units(alloc)?;
-    Ok(fields(payload, units))
-}
-
-/// The same, with the name both as units and where it stands.
-pub fn see_nk(alloc: Global, payload: &[u8], at: u32) -> Result<NkSeen<'_>, ReadStop>
-    ensures read { Gives (λ n. key_node_of n.form) at result (key_node_at payload.now) }
-    ensures named { IfOk result (λ n. name_of n.name ≡ n.form.name) }
-{
-    let name = see_name(payload, at)?;
-    let units = name.units(alloc)?;
-    Ok(NkSeen {
-        form: fields(payload, units),
-        name,
-    })
+    Ok(fields(payload, name))
 }
 
 /// The fields of a payload, with this name.
-fn fields(payload: &[u8], name: Units) -> NkForm
+fn fields<'a>(payload: &[u8], name: StoredName<'a>) -> NkSlice<'a>
     requires { 76 ≤ length payload.now }
-    ensures { key_node_of result ≡ key_node_in payload.now name }
+    ensures { node_seen result ≡ key_node_in payload.now (name_of name.entry) }
 {
-    NkForm {
+    NkSlice {
         flags: u16_at(payload, 2),
         stamp: u64_at(payload, 4),
         parent: u32_at(payload, 16),
@@ -120,6 +121,42 @@ fn fields(payload: &[u8], name: Units) -> NkForm
         class_length: u16_at(payload, 74),
         name,
     }
+}
+
+impl NkSlice<'_> {
+    /// The same with a name of its own.
+    pub fn owned(&self, alloc: Global) -> Result<NkForm, AllocError>
+        ensures { IfOk result (λ f. key_node_of f ≡ node_seen self.now) }
+    {
+        let name = self.name.units(alloc)?;
+        Ok(NkForm {
+            flags: self.flags,
+            stamp: self.stamp,
+            parent: self.parent,
+            child_count: self.child_count,
+            volatile_count: self.volatile_count,
+            child_list: self.child_list,
+            volatile_list: self.volatile_list,
+            value_count: self.value_count,
+            value_list: self.value_list,
+            security: self.security,
+            class: self.class,
+            greatest_child_name: self.greatest_child_name,
+            greatest_child_class: self.greatest_child_class,
+            greatest_value_name: self.greatest_value_name,
+            greatest_value_size: self.greatest_value_size,
+            class_length: self.class_length,
+            name,
+        })
+    }
+}
+
+/// Reads a key node as `see_nk` does, with a name of its own.
+pub fn read_nk(alloc: Global, payload: &[u8], at: u32) -> Result<NkForm, ReadStop>
+    ensures { Gives key_node_of at result (key_node_at payload.now) }
+{
+    let seen = see_nk(payload, at)?;
+    Ok(seen.owned(alloc)?)
 }
 
 /// The payload that a key node is spelled as. The two fields without a name are zero.

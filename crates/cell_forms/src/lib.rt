@@ -19,7 +19,7 @@ mod stored;
 
 pub use big_data::{DbForm, db_bytes, read_db};
 pub use bytes::read_bytes;
-pub use key_node::{NkForm, NkSeen, nk_bytes, read_nk, see_nk};
+pub use key_node::{NkForm, NkSlice, nk_bytes, read_nk, see_nk};
 pub use key_value::{VkForm, VkSlice, data_inside, read_vk, see_vk, vk_bytes};
 pub use laws::{
     big_data_is_read_back, bytes_are_read_back, key_node_is_read_back, key_value_is_read_back,

@@ -4,10 +4,7 @@ use Rattle.nt_bytes.specs.declared.fault.HiveFaultKind.{HiveFaultKind}
 use Rattle.nt_bytes.specs.declared.fault.ReadStop.{ReadStop}
 use Rattle.nt_bytes.specs.declared.fault.ReadStop.TheVariants as stops
 use Rattle.nt_bytes.specs.Folding.{folds_same}
-use Rattle.hive_model.specs.KeyNode.{KeyNode}
 use Rattle.hive_model.specs.Security.{SecurityCell}
-use Rattle.cell_forms.specs.declared.key_node.NkSeen.{NkSeen}
-use Rattle.cell_forms.specs.Views.{key_node_of}
 use Rattle.hive_model.specs.Bins.{Cells}
 use Rattle.hive_model.specs.Size.{cell, bulk_of}
 use Rattle.nt_bytes.specs.Counts.{capped}
@@ -47,10 +44,6 @@ HasLength read n = (bytes : List ℕ) × (read ≡ Ok bytes) × (length bytes �
 -- the names known now are those before and this one
 abbrev pub AddsName : List (List ℕ) → List (List ℕ) → List ℕ → Type 0
 AddsName old new name = (n : List ℕ) → has_name new n ≡ (has_name old n || folds_same n name)
-
--- the node that was seen
-abbrev pub node_of : NkSeen → KeyNode
-node_of n = key_node_of n.form
 
 -- a security cell whose descriptor is not copied
 abbrev pub security_seen : SkSlice → SecurityCell

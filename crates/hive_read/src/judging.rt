@@ -7,7 +7,7 @@ ghost use Rattle.hive_model.specs.Size.{list_size, size};
 ghost use Rattle.hive_model.specs.Tree.{head, trees};
 ghost use Rattle.hive_model.specs.Walk.{reading, children_checks, keys_in_turn, below_node, key_checks};
 ghost use Rattle.hive_model.specs.Stands.{Stands, AllStand};
-ghost use Rattle.cell_forms.specs.Views.{key_node_of};
+ghost use Rattle.cell_forms.specs.Views.{name_of, node_seen};
 ghost use Rattle.hive_read.specs.Judged.{AddsName, Counts, Judges};
 ghost use Rattle.hive_cells.specs.Sources.{cells_of};
 ghost use Rattle.hive_read.specs.Taken.{Knows};
@@ -15,14 +15,15 @@ ghost use Rattle.hive_read.specs.Walked.{walk, Steps, KeyRead, ChildrenRead};
 
 use crate::key::are_bytes;
 use crate::list::read_entries;
+use crate::sizes::stored_size;
 use crate::taken::Taken;
 use crate::used::Used;
 use crate::uses::{stop, take_name, use_node};
 use crate::weighing::{judge_class, judge_security, judge_values};
-use cell_forms::NkForm;
+use cell_forms::NkSlice;
 use hive_cells::{CellHeap, Source};
 use nt_bytes::{HiveFaultKind, HiveVersion, ReadStop};
-use reg_tree::sizes::{list_size, named_size, security_size};
+use reg_tree::sizes::{list_size, security_size};
 use std::alloc::Global;
 
 // The cells of a key and of all below it, under a key with this descriptor.
@@ -44,9 +45,9 @@ fn judge_key<'a>(
     if left == 0 {
         return Err(stop(HiveFaultKind::TooDeep, at));
     }
-    let node = use_node(alloc, cells, used, root, at)?;
+    let node = use_node(cells, used, root, at)?;
     take_name(alloc, taken, node.name, at)?;
-    judge_below(alloc, cells, used, shared, left - 1, &node.form, at)
+    judge_below(alloc, cells, used, shared, left - 1, &node, at)
 }
 
 // The cells of the key of a node, and of all that the node names.
@@ -57,20 +58,20 @@ fn judge_below(
     used: &mut Used,
     shared: &[u8],
     left: u32,
-    node: &NkForm,
+    node: &NkSlice,
     at: u32,
 ) -> Result<u64, ReadStop>
-    ensures { Steps (Counts (λ t. (reading key_node_at (cells_of cells.now) at ≡ Ok (key_node_of node.now) → Stands (cells_of cells.now) at t)
-        × ((head t).name ≡ node.now.name))
+    ensures { Steps (Counts (λ t. (reading key_node_at (cells_of cells.now) at ≡ Ok (node_seen node.now) → Stands (cells_of cells.now) at t)
+        × ((head t).name ≡ name_of node.now.name))
         (size cells.now.version shared.now))
         (walk (cells_of cells.now) used.old
-        (below_node (key_checks left (cells_of cells.now) false) (cells_of cells.now) (key_node_of node.now) at)) used.new result }
+        (below_node (key_checks left (cells_of cells.now) false) (cells_of cells.now) (node_seen node.now) at)) used.new result }
 {
     let class = judge_class(cells, used, node)?;
     let security = judge_security(cells, used, node)?;
     let values = judge_values(alloc, cells, used, node)?;
     let children = judge_children(alloc, cells, used, security, left, node, at)?;
-    let own = named_size(76, node.name.as_slice());
+    let own = stored_size(76, node.name);
     let descriptor = security_size(shared, security);
     Ok(
         own.saturating_add(class)
@@ -88,13 +89,13 @@ fn judge_children(
     used: &mut Used,
     shared: &[u8],
     left: u32,
-    node: &NkForm,
+    node: &NkSlice,
     at: u32,
 ) -> Result<u64, ReadStop>
-    ensures { Steps (Counts (ChildrenRead (cells_of cells.now) (key_node_of node.now))
+    ensures { Steps (Counts (ChildrenRead (cells_of cells.now) (node_seen node.now))
         (λ ts. list_size (length ts) + sum_by (size cells.now.version shared.now) ts))
         (walk (cells_of cells.now) used.old
-        (children_checks (key_checks left (cells_of cells.now) false) (cells_of cells.now) (key_node_of node.now) at))
+        (children_checks (key_checks left (cells_of cells.now) false) (cells_of cells.now) (node_seen node.now) at))
         used.new result }
 {
     if node.child_count == 0 {

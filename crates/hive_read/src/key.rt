@@ -9,7 +9,7 @@ ghost use Rattle.hive_model.specs.Tree.{head, trees};
 ghost use Rattle.hive_model.specs.Valid.{IsValid};
 ghost use Rattle.hive_model.specs.Walk.{reading, class_checks, security_checks, children_checks, keys_in_turn, below_node, key_checks};
 ghost use Rattle.hive_model.specs.Stands.{class_of, security_of, tree_flags, Stands, AllStand};
-ghost use Rattle.cell_forms.specs.Views.{key_node_of};
+ghost use Rattle.cell_forms.specs.Views.{name_of, node_seen};
 ghost use Rattle.hive_read.specs.Taken.{has_name, Knows};
 ghost use Rattle.hive_read.specs.Walked.{walk, Steps, Reads, KeyRead, ChildrenRead};
 
@@ -18,7 +18,7 @@ use crate::taken::Taken;
 use crate::used::Used;
 use crate::uses::{stop, take_name, use_bytes, use_node, use_security};
 use crate::value::read_values;
-use cell_forms::NkForm;
+use cell_forms::NkSlice;
 use hive_cells::{CellHeap, Source};
 use nt_bytes::{Bytes, HiveFaultKind, HiveVersion, ReadStop};
 use reg_tree::{Key, Keys};
@@ -29,10 +29,10 @@ fn read_class(
     alloc: Global,
     cells: &Source,
     used: &mut Used,
-    node: &NkForm,
+    node: &NkSlice,
 ) -> Result<Bytes, ReadStop>
-    ensures { Steps (λ b. class_of (cells_of cells.now) (key_node_of node.now) ≡ Ok b)
-        (walk (cells_of cells.now) used.old (class_checks (cells_of cells.now) (key_node_of node.now))) used.new result }
+    ensures { Steps (λ b. class_of (cells_of cells.now) (node_seen node.now) ≡ Ok b)
+        (walk (cells_of cells.now) used.old (class_checks (cells_of cells.now) (node_seen node.now))) used.new result }
 {
     if node.class_length == 0 {
         return Ok(Bytes::new(alloc));
@@ -45,10 +45,10 @@ fn read_descriptor(
     alloc: Global,
     cells: &Source,
     used: &mut Used,
-    node: &NkForm,
+    node: &NkSlice,
 ) -> Result<Bytes, ReadStop>
-    ensures { Steps (λ b. security_of (cells_of cells.now) (key_node_of node.now) ≡ Ok b)
-        (walk (cells_of cells.now) used.old (security_checks (cells_of cells.now) (key_node_of node.now))) used.new result }
+    ensures { Steps (λ b. security_of (cells_of cells.now) (node_seen node.now) ≡ Ok b)
+        (walk (cells_of cells.now) used.old (security_checks (cells_of cells.now) (node_seen node.now))) used.new result }
 {
     if node.security == 0xffff_ffff {
         return Ok(Bytes::new(alloc));
@@ -86,9 +86,9 @@ fn read_key<'a>(
     if left == 0 {
         return Err(stop(HiveFaultKind::TooDeep, at));
     }
-    let node = use_node(alloc, cells, used, root, at)?;
+    let node = use_node(cells, used, root, at)?;
     take_name(alloc, taken, node.name, at)?;
-    read_below(alloc, cells, used, left - 1, node.form, at)
+    read_below(alloc, cells, used, left - 1, &node, at)
 }
 
 // The key of a node, with all that the node names.
@@ -98,21 +98,22 @@ fn read_below(
     cells: &Source,
     used: &mut Used,
     left: u32,
-    node: NkForm,
+    node: &NkSlice,
     at: u32,
 ) -> Result<Key, ReadStop>
-    ensures walked { Steps (λ t. reading key_node_at (cells_of cells.now) at ≡ Ok (key_node_of node) → Stands (cells_of cells.now) at t)
+    ensures walked { Steps (λ t. reading key_node_at (cells_of cells.now) at ≡ Ok (node_seen node.now) → Stands (cells_of cells.now) at t)
         (walk (cells_of cells.now) used.old
-        (below_node (key_checks left (cells_of cells.now) false) (cells_of cells.now) (key_node_of node) at)) used.new result }
-    ensures named { IfOk result (λ t. (head t).name ≡ node.name) }
+        (below_node (key_checks left (cells_of cells.now) false) (cells_of cells.now) (node_seen node.now) at)) used.new result }
+    ensures named { IfOk result (λ t. (head t).name ≡ name_of node.now.name) }
 {
-    let class = read_class(alloc, cells, used, &node)?;
-    let security = read_descriptor(alloc, cells, used, &node)?;
-    let values = read_values(alloc, cells, used, &node)?;
-    let children = read_children(alloc, cells, used, left, &node, at)?;
+    let class = read_class(alloc, cells, used, node)?;
+    let security = read_descriptor(alloc, cells, used, node)?;
+    let values = read_values(alloc, cells, used, node)?;
+    let children = read_children(alloc, cells, used, left, node, at)?;
+    let name = node.name.units(alloc)?;
     let flags = own_flags(node.flags);
     Ok(Key {
-        name: node.name,
+        name,
         flags,
         stamp: node.stamp,
         class,
@@ -128,12 +129,12 @@ fn read_children(
     cells: &Source,
     used: &mut Used,
     left: u32,
-    node: &NkForm,
+    node: &NkSlice,
     at: u32,
 ) -> Result<Keys, ReadStop>
-    ensures { Steps (ChildrenRead (cells_of cells.now) (key_node_of node.now))
+    ensures { Steps (ChildrenRead (cells_of cells.now) (node_seen node.now))
         (walk (cells_of cells.now) used.old
-        (children_checks (key_checks left (cells_of cells.now) false) (cells_of cells.now) (key_node_of node.now) at))
+        (children_checks (key_checks left (cells_of cells.now) false) (cells_of cells.now) (node_seen node.now) at))
         used.new result }
 {
     if node.child_count == 0 {

@@ -1,6 +1,6 @@
 //! Cells used for their forms.
 
-ghost use Rattle.std.specs.Prelude.{◌≡◌, ℕ, true, false, List, [], ◌∷◌, ◌||◌, Ok, Err, IfOk, OnOk};
+ghost use Rattle.std.specs.Prelude.{◌≡◌, ℕ, true, false, List, [], ◌∷◌, ◌||◌, Ok, Err, OnOk};
 ghost use Rattle.nt_bytes.specs.declared.fault.ReadStop.TheVariants.{Fault};
 ghost use Rattle.hive_model.specs.Forms.{Gives, bytes_in};
 ghost use Rattle.hive_model.specs.KeyValue.{key_value_at};
@@ -11,16 +11,16 @@ ghost use Rattle.hive_model.specs.Bins.{Cells};
 ghost use Rattle.hive_cells.specs.Sources.{cells_of};
 ghost use Rattle.hive_model.specs.Size.{segment_count as segments_of};
 ghost use Rattle.hive_model.specs.Walk.{uses, node_at, big_data_of, leaf_at, name_check};
-ghost use Rattle.cell_forms.specs.Views.{big_data_of as form_of, name_of, security_of, subkey_list_of, value_seen};
+ghost use Rattle.cell_forms.specs.Views.{big_data_of as form_of, name_of, node_seen, security_of, subkey_list_of, value_seen};
 ghost use Rattle.hive_read.specs.Taken.{has_name, Knows};
 ghost use Rattle.hive_read.specs.Walked.{Seen, check, walk, Steps, Uses};
-ghost use Rattle.hive_read.specs.Judged.{node_of, security_seen};
+ghost use Rattle.hive_read.specs.Judged.{security_seen};
 
 use crate::data::SEGMENT;
 use crate::taken::Taken;
 use crate::used::Used;
 use cell_forms::{
-    DbForm, ListForm, ListKind, NkSeen, Offsets, SkForm, StoredName, VkSlice, read_bytes, read_db,
+    DbForm, ListForm, ListKind, NkSlice, Offsets, SkForm, StoredName, VkSlice, read_bytes, read_db,
     read_list, read_offsets, read_sk, see_nk, see_vk,
 };
 use hive_cells::Source;
@@ -79,12 +79,11 @@ fn segment_count(size: u32) -> u64
 
 // A key node. The root's name may be empty.
 #[tactic(auto, unfolding(hive_model::specs::Walk::node_at))]
-fn node_form(alloc: Global, payload: &[u8], root: bool, at: u32) -> Result<NkSeen<'_>, ReadStop>
-    ensures read { Gives node_of at result (node_at root payload.now) }
-    ensures named { IfOk result (λ n. name_of n.name ≡ n.form.name) }
+fn node_form(payload: &[u8], root: bool, at: u32) -> Result<NkSlice<'_>, ReadStop>
+    ensures { Gives node_seen at result (node_at root payload.now) }
 {
-    let node = see_nk(alloc, payload, at)?;
-    if node.form.name.len() == 0 && !root {
+    let node = see_nk(payload, at)?;
+    if node.name.len() == 0 && !root {
         return Err(stop(HiveFaultKind::FormName, at));
     }
     Ok(node)
@@ -162,17 +161,15 @@ fn security_form(payload: &[u8], at: u32) -> Result<SkSlice<'_>, ReadStop>
 }
 
 pub(crate) fn use_node<'a>(
-    alloc: Global,
     cells: &Source<'a>,
     used: &mut Used,
     root: bool,
     at: u32,
-) -> Result<NkSeen<'a>, ReadStop>
-    ensures used { Uses false (node_at root) node_of (cells_of cells.now) at used.old used.new result }
-    ensures named { IfOk result (λ n. name_of n.name ≡ n.form.name) }
+) -> Result<NkSlice<'a>, ReadStop>
+    ensures { Uses false (node_at root) node_seen (cells_of cells.now) at used.old used.new result }
 {
     let payload = use_cell(cells, used, at, false)?;
-    node_form(alloc, payload, root, at)
+    node_form(payload, root, at)
 }
 
 pub(crate) fn use_value<'a>(

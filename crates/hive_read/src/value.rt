@@ -5,7 +5,7 @@ ghost use Rattle.nt_bytes.specs.Folding.{folds_same};
 ghost use Rattle.hive_cells.specs.Sources.{cells_of};
 ghost use Rattle.hive_model.specs.Walk.{value_checks, values_in_turn, values_checks};
 ghost use Rattle.hive_model.specs.Stands.{item_at, items_at, values_of};
-ghost use Rattle.cell_forms.specs.Views.{key_node_of};
+ghost use Rattle.cell_forms.specs.Views.{node_seen};
 ghost use Rattle.hive_read.specs.Taken.{has_name, Knows};
 ghost use Rattle.hive_read.specs.Walked.{walk, Steps};
 
@@ -13,7 +13,7 @@ use crate::data::read_data;
 use crate::taken::Taken;
 use crate::used::Used;
 use crate::uses::{take_name, use_offsets, use_value};
-use cell_forms::NkForm;
+use cell_forms::NkSlice;
 use hive_cells::Source;
 use nt_bytes::ReadStop;
 use reg_tree::{Value, Values};
@@ -70,10 +70,10 @@ pub(crate) fn read_values(
     alloc: Global,
     cells: &Source,
     used: &mut Used,
-    node: &NkForm,
+    node: &NkSlice,
 ) -> Result<Values, ReadStop>
-    ensures { Steps (λ vs. values_of (cells_of cells.now) (key_node_of node.now) ≡ Ok vs)
-        (walk (cells_of cells.now) used.old (values_checks (cells_of cells.now) (key_node_of node.now))) used.new result }
+    ensures { Steps (λ vs. values_of (cells_of cells.now) (node_seen node.now) ≡ Ok vs)
+        (walk (cells_of cells.now) used.old (values_checks (cells_of cells.now) (node_seen node.now))) used.new result }
 {
     if node.value_count == 0 {
         return Ok(Values::new(alloc));

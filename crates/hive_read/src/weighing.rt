@@ -6,7 +6,7 @@ ghost use Rattle.hive_model.specs.Size.{class_size, data_size, item_size, items_
 ghost use Rattle.nt_bytes.specs.Counts.{capped};
 ghost use Rattle.hive_model.specs.Walk.{big_checks, class_checks, data_checks, security_checks, segments_checks, value_checks, values_in_turn, values_checks};
 ghost use Rattle.hive_model.specs.Stands.{big_bytes_at, class_of, data_of, item_at, items_at, joined_segments, security_of, values_of};
-ghost use Rattle.cell_forms.specs.Views.{key_node_of, value_seen};
+ghost use Rattle.cell_forms.specs.Views.{node_seen, value_seen};
 ghost use Rattle.hive_read.specs.Celled.{celled_bytes, celled_checks};
 ghost use Rattle.hive_read.specs.Judged.{AddsName, Counts, HasLength, value_list_size};
 ghost use Rattle.hive_cells.specs.Sources.{cells_of};
@@ -18,7 +18,7 @@ use crate::sizes::stored_size;
 use crate::taken::Taken;
 use crate::used::Used;
 use crate::uses::{take_name, use_big_data, use_front, use_offsets, use_security_slice, use_value};
-use cell_forms::{NkForm, VkSlice};
+use cell_forms::{NkSlice, VkSlice};
 use hive_cells::Source;
 use nt_bytes::ReadStop;
 use reg_tree::sizes::{cell_size, class_size, data_size};
@@ -28,9 +28,9 @@ use std::alloc::Global;
 
 /// The cell of a key's class.
 #[tactic(auto, unfolding(hive_model::specs::Walk::class_checks, hive_model::specs::Stands::class_of))]
-pub(crate) fn judge_class(cells: &Source, used: &mut Used, node: &NkForm) -> Result<u64, ReadStop>
-    ensures { Steps (Counts (λ b. class_of (cells_of cells.now) (key_node_of node.now) ≡ Ok b) class_size)
-        (walk (cells_of cells.now) used.old (class_checks (cells_of cells.now) (key_node_of node.now))) used.new result }
+pub(crate) fn judge_class(cells: &Source, used: &mut Used, node: &NkSlice) -> Result<u64, ReadStop>
+    ensures { Steps (Counts (λ b. class_of (cells_of cells.now) (node_seen node.now) ≡ Ok b) class_size)
+        (walk (cells_of cells.now) used.old (class_checks (cells_of cells.now) (node_seen node.now))) used.new result }
 {
     if node.class_length == 0 {
         return Ok(0);
@@ -44,10 +44,10 @@ pub(crate) fn judge_class(cells: &Source, used: &mut Used, node: &NkForm) -> Res
 pub(crate) fn judge_security<'a>(
     cells: &Source<'a>,
     used: &mut Used,
-    node: &NkForm,
+    node: &NkSlice,
 ) -> Result<&'a [u8], ReadStop>
-    ensures { Steps (λ d. security_of (cells_of cells.now) (key_node_of node.now) ≡ Ok d.now)
-        (walk (cells_of cells.now) used.old (security_checks (cells_of cells.now) (key_node_of node.now))) used.new result }
+    ensures { Steps (λ d. security_of (cells_of cells.now) (node_seen node.now) ≡ Ok d.now)
+        (walk (cells_of cells.now) used.old (security_checks (cells_of cells.now) (node_seen node.now))) used.new result }
 {
     if node.security == 0xffff_ffff {
         return Ok(&[]);
@@ -198,10 +198,10 @@ pub(crate) fn judge_values(
     alloc: Global,
     cells: &Source,
     used: &mut Used,
-    node: &NkForm,
+    node: &NkSlice,
 ) -> Result<u64, ReadStop>
-    ensures { Steps (Counts (λ vs. values_of (cells_of cells.now) (key_node_of node.now) ≡ Ok vs) (items_size cells.now.version))
-        (walk (cells_of cells.now) used.old (values_checks (cells_of cells.now) (key_node_of node.now))) used.new result }
+    ensures { Steps (Counts (λ vs. values_of (cells_of cells.now) (node_seen node.now) ≡ Ok vs) (items_size cells.now.version))
+        (walk (cells_of cells.now) used.old (values_checks (cells_of cells.now) (node_seen node.now))) used.new result }
 {
     if node.value_count == 0 {
         return Ok(0);

@@ -1,3 +1,4 @@
+use Rattle.cell_forms.specs.Views.{name_of}
 use Rattle.cell_forms.proofs.key_node.fields.Goals as goal
 
 pub returns : goal.returns
@@ -18,5 +19,5 @@ returns c = λ j. record {
   greatest_value_name = c.u32_at-12.ensures j;
   greatest_value_size = c.u32_at-13.ensures j;
   class_length = c.u16_at-2.ensures j;
-  name = c.args.name;
+  name = name_of c.args.name;
 }

@@ -3,7 +3,7 @@ use Rattle.std.proofs.lemmas.Result.{err_from_is_err_and}
 use Rattle.hive_cells.specs.Sources.{cells_of}
 use Rattle.hive_model.specs.Size.{size}
 use Rattle.hive_model.specs.Walk.{name_check, below_node, key_checks}
-use Rattle.cell_forms.specs.Views.{key_node_of}
+use Rattle.cell_forms.specs.Views.{node_seen}
 use Rattle.hive_read.specs.Judged.{Counts}
 use Rattle.hive_read.specs.Walked.{walk}
 use Rattle.hive_read.proofs.Walks.{stops-on, steps-same, walk-on, walk-off, none-left, first-and-rest}
@@ -23,27 +23,27 @@ judge_key-returns-in_err-node t c = λ names k.
     let p = err_from_is_err_and c.from_residual.result c.from_residual.ensures.1 in
     rw (p.1, p.2) (stops-on c.in_err-node.field-0.0 _ _
     (λ f. key-off c.args.left (cells_of c.args.cells.now) c.args.root c.args.used.now names c.args.at f
-    (omega arith)) c.in_err-node.ensures.used)
+    (omega arith)) c.in_err-node.ensures)
 
 pub judge_key-returns-in_err-take_name : goal.judge_key-returns-in_err-take_name
 judge_key-returns-in_err-take_name t c = λ names k.
     let p = err_from_is_err_and c.from_residual-in_err-take_name.result c.from_residual-in_err-take_name.ensures.1 in
     let cells = cells_of c.args.cells.now in
-    let u = c.in_ok-node.ensures.used in
-    let node = key_node_of c.in_ok-node.node.form in
+    let u = c.in_ok-node.ensures in
+    let node = node_seen c.in_ok-node.node in
     rw (p.1, p.2) (stops-on c.in_err-take_name.field-0.0 _ _
     (λ f e. key-named c.args.left cells c.args.root c.args.used.now c.use_node.new.used names c.args.at node
     (omega arith) u.0 u.1
     ∙ walk-off cells c.use_node.new.used (name_check names c.args.at node.name ∷ [])
     (below_node (key_checks (c.args.left - 1) cells false) cells node c.args.at) f e)
-    (rw c.in_ok-node.ensures.named at (c.in_err-take_name.ensures.walked names k cells c.use_node.new.used)))
+    (c.in_err-take_name.ensures.walked names k cells c.use_node.new.used))
 
 pub judge_key-returns : goal.judge_key-returns
 judge_key-returns t c = λ names k.
     let cells = cells_of c.args.cells.now in
-    let u = c.in_ok-node.ensures.used in
-    let node = key_node_of c.in_ok-node.node.form in
-    let taken = rw c.in_ok-node.ensures.named at (c.in_ok-take_name.ensures.walked names k cells c.use_node.new.used) in
+    let u = c.in_ok-node.ensures in
+    let node = node_seen c.in_ok-node.node in
+    let taken = c.in_ok-take_name.ensures.walked names k cells c.use_node.new.used in
     steps-same (Counts (BelowHere cells c.args.at node) (size cells.version c.args.shared.now))
     (Counts (KeyHere cells c.args.root c.args.at c.args.taken.now c.take_name.new.taken)
     (size cells.version c.args.shared.now))
@@ -55,7 +55,7 @@ judge_key-returns t c = λ names k.
     ∙ walk-on cells c.use_node.new.used c.use_node.new.used (name_check names c.args.at node.name ∷ [])
     (below_node (key_checks (c.args.left - 1) cells false) cells node c.args.at) taken.0)
     (λ (n : ℕ) b. key-counts cells c.args.root c.args.at node c.args.shared.now c.args.taken.now c.take_name.new.taken n
-    u.1 (λ m. rw c.in_ok-node.ensures.named at (c.in_ok-take_name.ensures.known m)) b)
+    u.1 c.in_ok-take_name.ensures.known b)
     c.judge_below.ensures
 
 -- ---- judge_below
@@ -65,7 +65,7 @@ judge_below-returns-in_err-class t c =
     let p = err_from_is_err_and c.from_residual.result c.from_residual.ensures.1 in
     let cells = cells_of c.args.cells.now in
     rw (p.1, p.2) (stops-on c.in_err-class.field-0.0 _ _
-    (λ f. below-class (key_checks c.args.left cells false) cells c.args.used.now (key_node_of c.args.node.now)
+    (λ f. below-class (key_checks c.args.left cells false) cells c.args.used.now (node_seen c.args.node.now)
     c.args.at f) c.in_err-class.ensures)
 
 pub judge_below-returns-in_err-security : goal.judge_below-returns-in_err-security
@@ -74,7 +74,7 @@ judge_below-returns-in_err-security t c =
     let cells = cells_of c.args.cells.now in
     rw (p.1, p.2) (stops-on c.in_err-security.field-0.0 _ _
     (λ f. below-security (key_checks c.args.left cells false) cells c.args.used.now c.judge_class.new.used
-    (key_node_of c.args.node.now) c.args.at f c.in_ok-class.ensures.0)
+    (node_seen c.args.node.now) c.args.at f c.in_ok-class.ensures.0)
     c.in_err-security.ensures)
 
 pub judge_below-returns-in_err-values : goal.judge_below-returns-in_err-values
@@ -83,7 +83,7 @@ judge_below-returns-in_err-values t c =
     let cells = cells_of c.args.cells.now in
     rw (p.1, p.2) (stops-on c.in_err-values.field-0.0 _ _
     (λ f. below-values (key_checks c.args.left cells false)
-    cells c.args.used.now c.judge_class.new.used c.judge_security.new.used (key_node_of c.args.node.now)
+    cells c.args.used.now c.judge_class.new.used c.judge_security.new.used (node_seen c.args.node.now)
     c.args.at f c.in_ok-class.ensures.0 c.in_ok-security.ensures.0) c.in_err-values.ensures)
 
 pub judge_below-returns-in_err-children : goal.judge_below-returns-in_err-children
@@ -92,24 +92,24 @@ judge_below-returns-in_err-children t c =
     let cells = cells_of c.args.cells.now in
     let below = below-children (key_checks c.args.left cells false)
     cells c.args.used.now c.judge_class.new.used c.judge_security.new.used c.judge_values.new.used
-    (key_node_of c.args.node.now) c.args.at
+    (node_seen c.args.node.now) c.args.at
     c.in_ok-class.ensures.0 c.in_ok-security.ensures.0 c.in_ok-values.ensures.0 in
     rw (p.1, p.2) (stops-on c.in_err-children.field-0.0 _ _ (λ f e. below ∙ e) c.in_err-children.ensures)
 
 pub judge_below-returns : goal.judge_below-returns
 judge_below-returns t c =
     let cells = cells_of c.args.cells.now in
-    let node = key_node_of c.args.node.now in
+    let node = node_seen c.args.node.now in
     let s = c.in_ok-children.ensures in
     let below = below-children (key_checks c.args.left cells false)
     cells c.args.used.now c.judge_class.new.used c.judge_security.new.used c.judge_values.new.used node c.args.at
     c.in_ok-class.ensures.0 c.in_ok-security.ensures.0 c.in_ok-values.ensures.0 in (
       below ∙ s.0,
-      below-counts cells c.args.at node c.args.shared.now c.in_ok-security.security.now c.named_size-own.result
+      below-counts cells c.args.at node c.args.shared.now c.in_ok-security.security.now c.stored_size-own.result
           c.in_ok-class.class c.security_size-descriptor.result c.in_ok-values.values c.in_ok-children.children
           c.saturating_add.result c.saturating_add-2.result c.saturating_add-3.result c.saturating_add-4.result
           (record {
-            own = rw c.as_slice.ensures at c.named_size-own.ensures;
+            own = c.stored_size-own.ensures;
             class = c.in_ok-class.ensures.1;
             security = c.in_ok-security.ensures.1;
             described = c.security_size-descriptor.ensures;
@@ -124,7 +124,7 @@ judge_below-returns t c =
 pub judge_children-returns-then-node-eq0 : goal.judge_children-returns-then-node-eq0
 judge_children-returns-then-node-eq0 t c =
     let cells = cells_of c.args.cells.now in
-    no-children (key_checks c.args.left cells false) cells c.args.used.now (key_node_of c.args.node.now)
+    no-children (key_checks c.args.left cells false) cells c.args.used.now (node_seen c.args.node.now)
     c.args.at c.args.shared.now c.if-node-eq0.true
 
 pub judge_children-returns-in_err-offsets : goal.judge_children-returns-in_err-offsets
@@ -132,7 +132,7 @@ judge_children-returns-in_err-offsets t c =
     let p = err_from_is_err_and c.from_residual.result c.from_residual.ensures.1 in
     let cells = cells_of c.args.cells.now in
     rw (p.1, p.2) (stops-on c.in_err-offsets.field-0.0 _ _
-    (λ f. children-off (key_checks c.args.left cells false) cells c.args.used.now (key_node_of c.args.node.now)
+    (λ f. children-off (key_checks c.args.left cells false) cells c.args.used.now (node_seen c.args.node.now)
     c.args.at f c.if-node-eq0.false) c.in_err-offsets.ensures)
 
 pub judge_children-returns-then-found-node : goal.judge_children-returns-then-found-node
@@ -140,7 +140,7 @@ judge_children-returns-then-found-node t c =
     let cells = cells_of c.args.cells.now in
     let e = c.in_ok-offsets.ensures in
     rw c.stop.ensures (children-count (key_checks c.args.left cells false) cells c.args.used.now c.read_entries.new.used
-    (key_node_of c.args.node.now) c.args.at c.in_ok-offsets.offsets c.if-node-eq0.false e.0 e.1
+    (node_seen c.args.node.now) c.args.at c.in_ok-offsets.offsets c.if-node-eq0.false e.0 e.1
     (λ d. c.if-found-node.true (ap length c.as_slice-found.ensures ∙ d)))
 
 pub judge_children-returns-in_err-children : goal.judge_children-returns-in_err-children
@@ -149,7 +149,7 @@ judge_children-returns-in_err-children t c =
     let cells = cells_of c.args.cells.now in
     let e = c.in_ok-offsets.ensures in
     let on = children-on (key_checks c.args.left cells false) cells c.args.used.now c.read_entries.new.used
-    (key_node_of c.args.node.now) c.args.at c.in_ok-offsets.offsets c.if-node-eq0.false e.0 e.1
+    (node_seen c.args.node.now) c.args.at c.in_ok-offsets.offsets c.if-node-eq0.false e.0 e.1
     (sym (ap length c.as_slice-found.ensures) ∙ c.if-found-node.false) in
     rw (p.1, p.2) (stops-on c.in_err-children.field-0.0 _ _ (λ f s. on.0 ∙ s)
     (rw c.as_slice-found.ensures at c.in_err-children.ensures))
@@ -159,11 +159,11 @@ judge_children-returns t c =
     let cells = cells_of c.args.cells.now in
     let e = c.in_ok-offsets.ensures in
     let on = children-on (key_checks c.args.left cells false) cells c.args.used.now c.read_entries.new.used
-    (key_node_of c.args.node.now) c.args.at c.in_ok-offsets.offsets c.if-node-eq0.false e.0 e.1
+    (node_seen c.args.node.now) c.args.at c.in_ok-offsets.offsets c.if-node-eq0.false e.0 e.1
     (sym (ap length c.as_slice-found.ensures) ∙ c.if-found-node.false) in
     let s = rw c.as_slice-found.ensures at c.in_ok-children.ensures in (
       on.0 ∙ s.0,
-      children-counts cells (key_node_of c.args.node.now)
+      children-counts cells (node_seen c.args.node.now)
           c.args.shared.now c.in_ok-offsets.offsets c.list_size-lists.result c.in_ok-children.children
           c.saturating_add.result on.1
           (rw c.as_slice-found.ensures at c.list_size-lists.ensures) s.1 c.saturating_add.ensures,

@@ -7,7 +7,7 @@ use Rattle.hive_cells.specs.Sources.{cells_of}
 use Rattle.hive_model.specs.Tree.{Tree, trees, head}
 use Rattle.hive_model.specs.Walk.{reading, names_of, name_check, keys_in_turn, below_node, key_checks}
 use Rattle.hive_model.specs.Stands.{Stands, AllStand}
-use Rattle.cell_forms.specs.Views.{key_node_of}
+use Rattle.cell_forms.specs.Views.{name_of, node_seen}
 use Rattle.hive_read.specs.Taken.{has_name, Knows}
 use Rattle.hive_read.specs.Walked.{walk, KeyRead, ChildrenRead}
 use Rattle.hive_read.proofs.TakenLemmas.{knows-none, knows-more}
@@ -27,27 +27,27 @@ read_key-returns-in_err-node-clause-walked t c = λ names k.
     let p = err_from_is_err_and c.from_residual.result c.from_residual.ensures.1 in
     rw (p.1, p.2) (stops-on c.in_err-node.field-0.0 _ _
     (λ f. key-off c.args.left (cells_of c.args.cells.now) c.args.root c.args.used.now names c.args.at f
-    (omega arith)) c.in_err-node.ensures.used)
+    (omega arith)) c.in_err-node.ensures)
 
 pub read_key-returns-in_err-take_name-clause-walked : goal.read_key-returns-in_err-take_name-clause-walked
 read_key-returns-in_err-take_name-clause-walked t c = λ names k.
     let p = err_from_is_err_and c.from_residual-in_err-take_name.result c.from_residual-in_err-take_name.ensures.1 in
     let cells = cells_of c.args.cells.now in
-    let u = c.in_ok-node.ensures.used in
-    let node = key_node_of c.in_ok-node.node.form in
+    let u = c.in_ok-node.ensures in
+    let node = node_seen c.in_ok-node.node in
     rw (p.1, p.2) (stops-on c.in_err-take_name.field-0.0 _ _
     (λ f e. key-named c.args.left cells c.args.root c.args.used.now c.use_node.new.used names c.args.at node
     (omega arith) u.0 u.1
     ∙ walk-off cells c.use_node.new.used (name_check names c.args.at node.name ∷ [])
     (below_node (key_checks (c.args.left - 1) cells false) cells node c.args.at) f e)
-    (rw c.in_ok-node.ensures.named at (c.in_err-take_name.ensures.walked names k cells c.use_node.new.used)))
+    (c.in_err-take_name.ensures.walked names k cells c.use_node.new.used))
 
 pub read_key-returns-clause-walked : goal.read_key-returns-clause-walked
 read_key-returns-clause-walked t c = λ names k.
     let cells = cells_of c.args.cells.now in
-    let u = c.in_ok-node.ensures.used in
-    let node = key_node_of c.in_ok-node.node.form in
-    let taken = rw c.in_ok-node.ensures.named at (c.in_ok-take_name.ensures.walked names k cells c.use_node.new.used) in
+    let u = c.in_ok-node.ensures in
+    let node = node_seen c.in_ok-node.node in
+    let taken = c.in_ok-take_name.ensures.walked names k cells c.use_node.new.used in
     steps-with (λ (key : Tree). reading key_node_at cells c.args.at ≡ Ok node → Stands cells c.args.at key)
     (KeyRead cells c.args.root c.args.at) (λ (key : Tree). (head key).name ≡ node.name)
     (walk cells c.use_node.new.used (below_node (key_checks (c.args.left - 1) cells false) cells node c.args.at))
@@ -65,8 +65,8 @@ read_key-returns-clause-walked t c = λ names k.
 
 pub read_key-returns-clause-known : goal.read_key-returns-clause-known
 read_key-returns-clause-known t c =
-    IfOk-weaker c.read_below.result (λ (key : Tree). (head key).name ≡ c.in_ok-node.node.form.name) _
-    (λ key named n. rw c.in_ok-node.ensures.named at (c.in_ok-take_name.ensures.known n)
+    IfOk-weaker c.read_below.result (λ (key : Tree). (head key).name ≡ name_of c.in_ok-node.node.name) _
+    (λ key named n. c.in_ok-take_name.ensures.known n
     ∙ ap (λ (m : List ℕ). has_name c.args.taken.now n || folds_same n m) (sym named)) c.read_below.ensures.named
 
 -- ---- read_below
@@ -76,7 +76,7 @@ read_below-returns-in_err-class-clause-walked t c =
     let p = err_from_is_err_and c.from_residual.result c.from_residual.ensures.1 in
     let cells = cells_of c.args.cells.now in
     rw (p.1, p.2) (stops-on c.in_err-class.field-0.0 _ _
-    (λ f. below-class (key_checks c.args.left cells false) cells c.args.used.now (key_node_of c.args.node)
+    (λ f. below-class (key_checks c.args.left cells false) cells c.args.used.now (node_seen c.args.node.now)
     c.args.at f) c.in_err-class.ensures)
 
 pub read_below-returns-in_err-security-clause-walked : goal.read_below-returns-in_err-security-clause-walked
@@ -85,7 +85,7 @@ read_below-returns-in_err-security-clause-walked t c =
     let cells = cells_of c.args.cells.now in
     rw (p.1, p.2) (stops-on c.in_err-security.field-0.0 _ _
     (λ f. below-security (key_checks c.args.left cells false) cells c.args.used.now c.read_class.new.used
-    (key_node_of c.args.node) c.args.at f c.in_ok-class.ensures.0)
+    (node_seen c.args.node.now) c.args.at f c.in_ok-class.ensures.0)
     c.in_err-security.ensures)
 
 pub read_below-returns-in_err-values-clause-walked : goal.read_below-returns-in_err-values-clause-walked
@@ -94,7 +94,7 @@ read_below-returns-in_err-values-clause-walked t c =
     let cells = cells_of c.args.cells.now in
     rw (p.1, p.2) (stops-on c.in_err-values.field-0.0 _ _
     (λ f. below-values (key_checks c.args.left cells false)
-    cells c.args.used.now c.read_class.new.used c.read_descriptor.new.used (key_node_of c.args.node)
+    cells c.args.used.now c.read_class.new.used c.read_descriptor.new.used (node_seen c.args.node.now)
     c.args.at f c.in_ok-class.ensures.0 c.in_ok-security.ensures.0) c.in_err-values.ensures)
 
 pub read_below-returns-in_err-children-clause-walked : goal.read_below-returns-in_err-children-clause-walked
@@ -103,7 +103,7 @@ read_below-returns-in_err-children-clause-walked t c =
     let cells = cells_of c.args.cells.now in
     let below = below-children (key_checks c.args.left cells false)
     cells c.args.used.now c.read_class.new.used c.read_descriptor.new.used c.read_values.new.used
-    (key_node_of c.args.node) c.args.at
+    (node_seen c.args.node.now) c.args.at
     c.in_ok-class.ensures.0 c.in_ok-security.ensures.0 c.in_ok-values.ensures.0 in
     rw (p.1, p.2) (stops-on c.in_err-children.field-0.0 _ _ (λ f e. below ∙ e) c.in_err-children.ensures)
 
@@ -113,15 +113,15 @@ read_below-returns-clause-walked t c =
     let s = c.in_ok-children.ensures in
     let below = below-children (key_checks c.args.left cells false)
     cells c.args.used.now c.read_class.new.used c.read_descriptor.new.used c.read_values.new.used
-    (key_node_of c.args.node) c.args.at
+    (node_seen c.args.node.now) c.args.at
     c.in_ok-class.ensures.0 c.in_ok-security.ensures.0 c.in_ok-values.ensures.0 in (
       below ∙ s.0,
       λ read. (
         s.1.0,
         record {
-          node = key_node_of c.args.node;
+          node = node_seen c.args.node.now;
           read = read;
-          name = refl;
+          name = c.in_ok-name.ensures;
           flags = c.own_flags-flags.ensures;
           stamp = refl;
           class = c.in_ok-class.ensures.1;
@@ -138,7 +138,7 @@ read_below-returns-clause-walked t c =
 pub read_children-returns-then-node-eq0 : goal.read_children-returns-then-node-eq0
 read_children-returns-then-node-eq0 t c =
     let cells = cells_of c.args.cells.now in
-    let n = children-none (key_checks c.args.left cells false) cells c.args.used.now (key_node_of c.args.node.now)
+    let n = children-none (key_checks c.args.left cells false) cells c.args.used.now (node_seen c.args.node.now)
     c.args.at c.if-node-eq0.true in
     rw c.new.ensures (n.0, ([], n.1, refl))
 
@@ -147,7 +147,7 @@ read_children-returns-in_err-offsets t c =
     let p = err_from_is_err_and c.from_residual.result c.from_residual.ensures.1 in
     let cells = cells_of c.args.cells.now in
     rw (p.1, p.2) (stops-on c.in_err-offsets.field-0.0 _ _
-    (λ f. children-off (key_checks c.args.left cells false) cells c.args.used.now (key_node_of c.args.node.now)
+    (λ f. children-off (key_checks c.args.left cells false) cells c.args.used.now (node_seen c.args.node.now)
     c.args.at f c.if-node-eq0.false) c.in_err-offsets.ensures)
 
 pub read_children-returns-then-found-node : goal.read_children-returns-then-found-node
@@ -155,7 +155,7 @@ read_children-returns-then-found-node t c =
     let cells = cells_of c.args.cells.now in
     let e = c.in_ok-offsets.ensures in
     rw c.stop.ensures (children-count (key_checks c.args.left cells false) cells c.args.used.now c.read_entries.new.used
-    (key_node_of c.args.node.now) c.args.at c.in_ok-offsets.offsets c.if-node-eq0.false e.0 e.1
+    (node_seen c.args.node.now) c.args.at c.in_ok-offsets.offsets c.if-node-eq0.false e.0 e.1
     (λ d. c.if-found-node.true (ap length c.as_slice-found.ensures ∙ d)))
 
 pub read_children-returns : goal.read_children-returns
@@ -163,10 +163,10 @@ read_children-returns t c =
     let cells = cells_of c.args.cells.now in
     let e = c.in_ok-offsets.ensures in
     let on = children-on (key_checks c.args.left cells false) cells c.args.used.now c.read_entries.new.used
-    (key_node_of c.args.node.now) c.args.at c.in_ok-offsets.offsets c.if-node-eq0.false e.0 e.1
+    (node_seen c.args.node.now) c.args.at c.in_ok-offsets.offsets c.if-node-eq0.false e.0 e.1
     (sym (ap length c.as_slice-found.ensures) ∙ c.if-found-node.false) in
     steps-same (λ (ts : List Tree). AllStand cells c.in_ok-offsets.offsets (trees ts))
-    (ChildrenRead cells (key_node_of c.args.node.now))
+    (ChildrenRead cells (node_seen c.args.node.now))
     (walk cells c.read_entries.new.used
     (keys_in_turn (key_checks c.args.left cells false) cells [] c.in_ok-offsets.offsets))
     _ c.read_in_turn.new.used c.read_in_turn.result
