@@ -17,4 +17,5 @@ pub mod FormFacts
 pub mod ValidTrees
 pub mod Loading
 pub mod WeighingLemmas
+pub mod DescribedLemmas
 pub mod JudgingLemmas

@@ -4,6 +4,7 @@ use Rattle.nt_bytes.specs.declared.fault.HiveFaultKind.{HiveFaultKind}
 use Rattle.nt_bytes.specs.declared.fault.ReadStop.{ReadStop}
 use Rattle.nt_bytes.specs.declared.fault.ReadStop.TheVariants as stops
 use Rattle.nt_bytes.specs.Folding.{folds_same}
+use Rattle.hive_model.specs.KeyNode.{KeyNode}
 use Rattle.hive_model.specs.Security.{SecurityCell}
 use Rattle.hive_model.specs.Bins.{Cells}
 use Rattle.hive_model.specs.Size.{cell, bulk_of}
@@ -11,9 +12,10 @@ use Rattle.nt_bytes.specs.Counts.{capped}
 use Rattle.hive_model.specs.Tree.{Tree}
 use Rattle.hive_model.specs.Valid.{IsValid}
 use Rattle.hive_model.specs.Walk.{first_fault}
-use Rattle.hive_model.specs.Stands.{IsWellFormed}
+use Rattle.hive_model.specs.Stands.{IsWellFormed, security_of}
 use Rattle.hive_read.specs.Taken.{has_name}
 use Rattle.hive_read.specs.declared.uses.SkSlice.{SkSlice}
+use Rattle.hive_read.specs.declared.weighing.Descriptor.{Descriptor}
 
 -- A tree that a hive can hold is at the root in well-formed cells, no check fails, and the number is the tree's bulk.
 pub record HasBulk (cells : Cells) (root n : ℕ) : Type 0 where
@@ -48,6 +50,10 @@ AddsName old new name = (n : List ℕ) → has_name new n ≡ (has_name old n ||
 -- a security cell whose descriptor is not copied
 abbrev pub security_seen : SkSlice → SecurityCell
 security_seen s = record { forward = s.forward; backward = s.backward; uses = s.uses; descriptor = s.descriptor.now }
+
+-- it is the descriptor of each node that names its cell
+abbrev pub Describes : Cells → Descriptor → Type 0
+Describes cells d = (node : KeyNode) → node.security ≡ d.at → security_of cells node ≡ Ok d.bytes.now
 
 -- the cell of a list of that many values; where there is none, no list is written
 abbrev pub value_list_size : ℕ → ℕ

@@ -8,7 +8,7 @@ ghost use Rattle.hive_model.specs.Tree.{head, trees};
 ghost use Rattle.hive_model.specs.Walk.{reading, children_checks, keys_in_turn, below_node, key_checks};
 ghost use Rattle.hive_model.specs.Stands.{Stands, AllStand};
 ghost use Rattle.cell_forms.specs.Views.{name_of, node_seen};
-ghost use Rattle.hive_read.specs.Judged.{AddsName, Counts, Judges};
+ghost use Rattle.hive_read.specs.Judged.{AddsName, Counts, Describes, Judges};
 ghost use Rattle.hive_cells.specs.Sources.{cells_of};
 ghost use Rattle.hive_read.specs.Taken.{Knows};
 ghost use Rattle.hive_read.specs.Walked.{walk, Steps, KeyRead, ChildrenRead};
@@ -19,11 +19,11 @@ use crate::sizes::stored_size;
 use crate::taken::Taken;
 use crate::used::Used;
 use crate::uses::{stop, take_name, use_node};
-use crate::weighing::{judge_class, judge_security, judge_values};
+use crate::weighing::{Descriptor, descriptor_size, judge_class, judge_security, judge_values};
 use cell_forms::NkSlice;
 use hive_cells::{CellHeap, Source};
 use nt_bytes::{HiveFaultKind, HiveVersion, ReadStop};
-use reg_tree::sizes::{list_size, security_size};
+use reg_tree::sizes::list_size;
 use std::alloc::Global;
 
 // The cells of a key and of all below it, under a key with this descriptor.
@@ -33,13 +33,14 @@ fn judge_key<'a>(
     cells: &Source<'a>,
     used: &mut Used,
     taken: &mut Taken<'a>,
-    shared: &[u8],
+    shared: &Descriptor,
     left: u32,
     root: bool,
     at: u32,
 ) -> Result<u64, ReadStop>
+    requires { Describes (cells_of cells.now) shared.now }
     ensures { (names : List (List ℕ)) → Knows taken.old names →
-        Steps (Counts (λ t. KeyRead (cells_of cells.now) root at t × AddsName taken.old taken.new (head t).name) (size cells.now.version shared.now))
+        Steps (Counts (λ t. KeyRead (cells_of cells.now) root at t × AddsName taken.old taken.new (head t).name) (size cells.now.version shared.now.bytes.now))
         (walk (cells_of cells.now) used.old (key_checks left (cells_of cells.now) root names at)) used.new result }
 {
     if left == 0 {
@@ -56,23 +57,28 @@ fn judge_below(
     alloc: Global,
     cells: &Source,
     used: &mut Used,
-    shared: &[u8],
+    shared: &Descriptor,
     left: u32,
     node: &NkSlice,
     at: u32,
 ) -> Result<u64, ReadStop>
+    requires { Describes (cells_of cells.now) shared.now }
     ensures { Steps (Counts (λ t. (reading key_node_at (cells_of cells.now) at ≡ Ok (node_seen node.now) → Stands (cells_of cells.now) at t)
         × ((head t).name ≡ name_of node.now.name))
-        (size cells.now.version shared.now))
+        (size cells.now.version shared.now.bytes.now))
         (walk (cells_of cells.now) used.old
         (below_node (key_checks left (cells_of cells.now) false) (cells_of cells.now) (node_seen node.now) at)) used.new result }
 {
     let class = judge_class(cells, used, node)?;
     let security = judge_security(cells, used, node)?;
+    let described = Descriptor {
+        at: node.security,
+        bytes: security,
+    };
     let values = judge_values(alloc, cells, used, node)?;
-    let children = judge_children(alloc, cells, used, security, left, node, at)?;
+    let children = judge_children(alloc, cells, used, &described, left, node, at)?;
     let own = stored_size(76, node.name);
-    let descriptor = security_size(shared, security);
+    let descriptor = descriptor_size(shared, &described);
     Ok(
         own.saturating_add(class)
             .saturating_add(descriptor)
@@ -87,13 +93,14 @@ fn judge_children(
     alloc: Global,
     cells: &Source,
     used: &mut Used,
-    shared: &[u8],
+    shared: &Descriptor,
     left: u32,
     node: &NkSlice,
     at: u32,
 ) -> Result<u64, ReadStop>
+    requires { Describes (cells_of cells.now) shared.now }
     ensures { Steps (Counts (ChildrenRead (cells_of cells.now) (node_seen node.now))
-        (λ ts. list_size (length ts) + sum_by (size cells.now.version shared.now) ts))
+        (λ ts. list_size (length ts) + sum_by (size cells.now.version shared.now.bytes.now) ts))
         (walk (cells_of cells.now) used.old
         (children_checks (key_checks left (cells_of cells.now) false) (cells_of cells.now) (node_seen node.now) at))
         used.new result }
@@ -117,11 +124,12 @@ fn judge_in_turn(
     alloc: Global,
     cells: &Source,
     used: &mut Used,
-    shared: &[u8],
+    shared: &Descriptor,
     left: u32,
     offsets: &[u32],
 ) -> Result<u64, ReadStop>
-    ensures { Steps (Counts (λ ts. AllStand (cells_of cells.now) offsets.now (trees ts)) (sum_by (size cells.now.version shared.now)))
+    requires { Describes (cells_of cells.now) shared.now }
+    ensures { Steps (Counts (λ ts. AllStand (cells_of cells.now) offsets.now (trees ts)) (sum_by (size cells.now.version shared.now.bytes.now)))
         (walk (cells_of cells.now) used.old (keys_in_turn (key_checks left (cells_of cells.now) false) (cells_of cells.now) [] offsets.now)) used.new result }
 {
     let mut taken = Taken::new(alloc);
@@ -154,6 +162,12 @@ pub fn judge(
     };
     let mut used = Used::new(alloc);
     let mut taken = Taken::new(alloc);
-    let tree = judge_key(alloc, &source, &mut used, &mut taken, &[], 512, true, root)?;
+    let none = Descriptor {
+        at: 0xffff_ffff,
+        bytes: &[],
+    };
+    let tree = judge_key(
+        alloc, &source, &mut used, &mut taken, &none, 512, true, root,
+    )?;
     Ok(tree.saturating_add(32))
 }

@@ -2,7 +2,7 @@
 
 ghost use Rattle.std.specs.Prelude.{◌≡◌, ℕ, List, [], Ok, is_some, sum_by};
 ghost use Rattle.hive_model.specs.KeyValue.{data_inside};
-ghost use Rattle.hive_model.specs.Size.{class_size, data_size, item_size, items_size};
+ghost use Rattle.hive_model.specs.Size.{class_size, data_size, item_size, items_size, security_size};
 ghost use Rattle.nt_bytes.specs.Counts.{capped};
 ghost use Rattle.hive_model.specs.Walk.{big_checks, class_checks, data_checks, security_checks, segments_checks, value_checks, values_in_turn, values_checks};
 ghost use Rattle.hive_model.specs.Stands.{big_bytes_at, class_of, data_of, item_at, items_at, joined_segments, security_of, values_of};
@@ -21,10 +21,17 @@ use crate::uses::{take_name, use_big_data, use_front, use_offsets, use_security_
 use cell_forms::{NkSlice, VkSlice};
 use hive_cells::Source;
 use nt_bytes::ReadStop;
-use reg_tree::sizes::{cell_size, class_size, data_size};
+use reg_tree::sizes::{cell_size, class_size, data_size, security_size};
 use std::alloc::Global;
 
 // ---- a key's class and security
+
+/// A key's descriptor, and the offset of its cell.
+#[derive(Clone, Copy)]
+pub struct Descriptor<'a> {
+    pub at: u32,
+    pub bytes: &'a [u8],
+}
 
 /// The cell of a key's class.
 #[tactic(auto, unfolding(hive_model::specs::Walk::class_checks, hive_model::specs::Stands::class_of))]
@@ -54,6 +61,17 @@ pub(crate) fn judge_security<'a>(
     }
     let security = use_security_slice(cells, used, node.security)?;
     Ok(security.descriptor)
+}
+
+/// The cell of a descriptor under a key with another one. Two in one cell are the same.
+pub(crate) fn descriptor_size(shared: &Descriptor, own: &Descriptor) -> u64
+    requires { own.now.at ≡ shared.now.at → own.now.bytes.now ≡ shared.now.bytes.now }
+    ensures { result ≡ capped (security_size shared.now.bytes.now own.now.bytes.now) }
+{
+    if own.at == shared.at {
+        return 0;
+    }
+    security_size(shared.bytes, own.bytes)
 }
 
 // ---- a value's data

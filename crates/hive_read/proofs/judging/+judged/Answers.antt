@@ -8,6 +8,7 @@ use Rattle.hive_read.specs.Judged.{Counts}
 use Rattle.hive_read.specs.Walked.{walk}
 use Rattle.hive_read.proofs.Walks.{stops-on, steps-same, walk-on, walk-off, none-left, first-and-rest}
 use Rattle.hive_read.proofs.KeyWalks.{key-deep, key-off, key-named, below-class, below-security, below-values, below-children, children-off, children-count, children-on, key_name, keys-off}
+use Rattle.hive_read.proofs.DescribedLemmas.{its-own}
 use Rattle.hive_read.proofs.JudgingLemmas.{KeyHere, BelowHere, keys-first, keys-next, keys-last, no-children, children-counts, below-counts, key-counts}
 use Rattle.hive_read.proofs.judging.+judged.Goals as goal
 
@@ -44,9 +45,9 @@ judge_key-returns t c = λ names k.
     let u = c.in_ok-node.ensures in
     let node = node_seen c.in_ok-node.node in
     let taken = c.in_ok-take_name.ensures.walked names k cells c.use_node.new.used in
-    steps-same (Counts (BelowHere cells c.args.at node) (size cells.version c.args.shared.now))
+    steps-same (Counts (BelowHere cells c.args.at node) (size cells.version c.args.shared.now.bytes.now))
     (Counts (KeyHere cells c.args.root c.args.at c.args.taken.now c.take_name.new.taken)
-    (size cells.version c.args.shared.now))
+    (size cells.version c.args.shared.now.bytes.now))
     (walk cells c.use_node.new.used (below_node (key_checks (c.args.left - 1) cells false) cells node c.args.at))
     (walk cells c.args.used.now (key_checks c.args.left cells c.args.root names c.args.at))
     c.judge_below.new.used c.judge_below.result
@@ -54,11 +55,18 @@ judge_key-returns t c = λ names k.
     u.0 u.1
     ∙ walk-on cells c.use_node.new.used c.use_node.new.used (name_check names c.args.at node.name ∷ [])
     (below_node (key_checks (c.args.left - 1) cells false) cells node c.args.at) taken.0)
-    (λ (n : ℕ) b. key-counts cells c.args.root c.args.at node c.args.shared.now c.args.taken.now c.take_name.new.taken n
-    u.1 c.in_ok-take_name.ensures.known b)
+    (λ (n : ℕ) b. key-counts cells c.args.root c.args.at node c.args.shared.now.bytes.now
+    c.args.taken.now c.take_name.new.taken n u.1 c.in_ok-take_name.ensures.known b)
     c.judge_below.ensures
 
 -- ---- judge_below
+
+pub judge_below-judge_children-requires : goal.judge_below-judge_children-requires
+judge_below-judge_children-requires t c = (
+  omega arith,
+  λ other same. its-own (cells_of c.args.cells.now) (node_seen c.args.node.now)
+      other c.in_ok-security.security.now c.in_ok-security.ensures.1 same,
+)
 
 pub judge_below-returns-in_err-class : goal.judge_below-returns-in_err-class
 judge_below-returns-in_err-class t c =
@@ -105,14 +113,15 @@ judge_below-returns t c =
     cells c.args.used.now c.judge_class.new.used c.judge_security.new.used c.judge_values.new.used node c.args.at
     c.in_ok-class.ensures.0 c.in_ok-security.ensures.0 c.in_ok-values.ensures.0 in (
       below ∙ s.0,
-      below-counts cells c.args.at node c.args.shared.now c.in_ok-security.security.now c.stored_size-own.result
-          c.in_ok-class.class c.security_size-descriptor.result c.in_ok-values.values c.in_ok-children.children
+      below-counts cells c.args.at node c.args.shared.now.bytes.now c.in_ok-security.security.now
+          c.stored_size-own.result c.in_ok-class.class c.descriptor_size-descriptor.result
+          c.in_ok-values.values c.in_ok-children.children
           c.saturating_add.result c.saturating_add-2.result c.saturating_add-3.result c.saturating_add-4.result
           (record {
             own = c.stored_size-own.ensures;
             class = c.in_ok-class.ensures.1;
             security = c.in_ok-security.ensures.1;
-            described = c.security_size-descriptor.ensures;
+            described = c.descriptor_size-descriptor.ensures;
             values = c.in_ok-values.ensures.1;
             below = s.1;
           })
@@ -125,7 +134,7 @@ pub judge_children-returns-then-node-eq0 : goal.judge_children-returns-then-node
 judge_children-returns-then-node-eq0 t c =
     let cells = cells_of c.args.cells.now in
     no-children (key_checks c.args.left cells false) cells c.args.used.now (node_seen c.args.node.now)
-    c.args.at c.args.shared.now c.if-node-eq0.true
+    c.args.at c.args.shared.now.bytes.now c.if-node-eq0.true
 
 pub judge_children-returns-in_err-offsets : goal.judge_children-returns-in_err-offsets
 judge_children-returns-in_err-offsets t c =
@@ -164,7 +173,7 @@ judge_children-returns t c =
     let s = rw c.as_slice-found.ensures at c.in_ok-children.ensures in (
       on.0 ∙ s.0,
       children-counts cells (node_seen c.args.node.now)
-          c.args.shared.now c.in_ok-offsets.offsets c.list_size-lists.result c.in_ok-children.children
+          c.args.shared.now.bytes.now c.in_ok-offsets.offsets c.list_size-lists.result c.in_ok-children.children
           c.saturating_add.result on.1
           (rw c.as_slice-found.ensures at c.list_size-lists.ensures) s.1 c.saturating_add.ensures,
     )
@@ -174,12 +183,12 @@ judge_children-returns t c =
 pub judge_in_turn-children-init : goal.judge_in_turn-children-init
 judge_in_turn-children-init t c =
     keys-first (cells_of c.args.cells.now)
-    c.args.left c.args.shared.now c.args.offsets.now c.new-taken.result c.args.used.now c.new-taken.ensures
+    c.args.left c.args.shared.now.bytes.now c.args.offsets.now c.new-taken.result c.args.used.now c.new-taken.ensures
 
 pub judge_in_turn-returns-in_default : goal.judge_in_turn-returns-in_default
 judge_in_turn-returns-in_default t c =
     keys-last (cells_of c.args.cells.now)
-    c.args.left c.args.shared.now c.args.offsets.now c.children.rest.now c.children.taken c.children.total
+    c.args.left c.args.shared.now.bytes.now c.args.offsets.now c.children.rest.now c.children.taken c.children.total
     c.children.used c.args.used.now c.children.invariant
     (none-left c.children.rest.now c.in_default.len_below)
 
@@ -202,6 +211,7 @@ judge_in_turn-children-preserved t c =
     let rest = c.children.rest.now in
     let s = c.in_ok-child.ensures (map key_name i.children) i.knows in
     rw c.saturating_add-total.ensures
-    (keys-next cells c.args.left c.args.shared.now c.args.offsets.now rest c.children.taken c.judge_key.new.taken
-    c.children.total c.in_ok-child.child c.children.used c.args.used.now c.judge_key.new.used
+    (keys-next cells c.args.left c.args.shared.now.bytes.now c.args.offsets.now
+    rest c.children.taken c.judge_key.new.taken c.children.total c.in_ok-child.child
+    c.children.used c.args.used.now c.judge_key.new.used
     (get_or rest 0 0) (take (length rest - 1) (drop 1 rest)) i (first-and-rest rest c.in-len1-up.len_at_least) s.0 s.1)

@@ -17,7 +17,7 @@ decreases-judge_below l = 4 * l.left + 3
 
 abbrev pub invariant-judge_in_turn-children : goal.invariant-judge_in_turn-children
 invariant-judge_in_turn-children l =
-    KeysSoFar (cells_of l.cells) l.left l.shared l.offsets l.rest l.taken l.total l.used l.fn.used
+    KeysSoFar (cells_of l.cells) l.left l.shared.bytes.now l.offsets l.rest l.taken l.total l.used l.fn.used
 
 abbrev pub decreases-judge_in_turn-children : goal.decreases-judge_in_turn-children
 decreases-judge_in_turn-children l = length l.rest

@@ -4,8 +4,12 @@ use Rattle.hive_model.specs.Bins.{look_up}
 use Rattle.hive_read.proofs.TakenLemmas.{knows-none}
 use Rattle.hive_read.proofs.FormFacts.{IsBytes}
 use Rattle.hive_read.proofs.ValidTrees.{cells-bytes}
+use Rattle.hive_read.proofs.DescribedLemmas.{no-cell}
 use Rattle.hive_read.proofs.JudgingLemmas.{judged-err, judged-ok}
 use Rattle.hive_read.proofs.judging.judge.Goals as goal
+
+pub judge_key-requires : goal.judge_key-requires
+judge_key-requires c = λ node e. no-cell _ node e
 
 pub returns-in_err-tree : goal.returns-in_err-tree
 returns-in_err-tree c =
