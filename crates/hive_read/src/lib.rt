@@ -7,6 +7,7 @@
 #![tactic(auto)]
 
 mod bits;
+mod by_fold;
 mod data;
 mod few;
 mod judging;

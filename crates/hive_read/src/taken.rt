@@ -6,52 +6,41 @@ ghost use Rattle.nt_bytes.specs.Folding.{folds_same};
 ghost use Rattle.cell_forms.specs.Views.{name_of};
 ghost use Rattle.hive_read.specs.Taken.{folded_name, has_name};
 
+use crate::by_fold::ByFold;
 use crate::few::Few;
 use cell_forms::StoredName;
-use nt_bytes::fold;
 use std::alloc::{AllocError, Global};
 use std::collections::BTreeSet;
 use std::marker::Model;
 
-/// Names, folded. While they rise, or are few, they are left where they are in their cells.
+/// Names where they are in their cells: while they rise, or are few, as they came, and else in the order of
+/// their folded units. Contracts see them folded.
 #[derive(Drop)]
 pub struct Taken<'a> {
-    many: BTreeSet<Vec<u16>>,
+    many: BTreeSet<ByFold<'a>>,
     few: Few<'a>,
 }
 
 impl<'a> Model for Taken<'a> {
     ghost use Rattle.std.specs.Prelude.{ℕ, List, map, ◌++◌};
+    ghost use Rattle.hive_read.specs.Taken.{folded_name};
 
     ghost Value = { List (List ℕ) };
 
-    ghost view = { λ a. map (λ v. v.items) a.many.keys ++ a.few };
-}
-
-// The name with `a` to `z` taken for `A` to `Z`.
-fn upper(alloc: Global, name: StoredName<'_>) -> Result<Vec<u16>, AllocError>
-    ensures { IfOk result (λ v. v.items ≡ folded_name name.entry) }
-{
-    let units = name.units(alloc)?;
-    units.as_slice().iter().map(|u| fold(*u)).collect(alloc)
+    ghost view = { λ a. map (λ k. folded_name k.name) a.many.keys ++ a.few };
 }
 
 // Puts the names into the set.
-fn gather(
-    alloc: Global,
-    set: &mut BTreeSet<Vec<u16>>,
-    names: &[StoredName<'_>],
-) -> Result<(), AllocError>
-    ensures { OnOk result ((p : List ℕ → Bool) → list_any p (map (λ v. v.items) set.new.keys)
-        ≡ (list_any p (map (λ v. v.items) set.old.keys) || list_any p (map folded_name names.now))) }
+fn gather<'a>(set: &mut BTreeSet<ByFold<'a>>, names: &[StoredName<'a>]) -> Result<(), AllocError>
+    ensures { OnOk result ((p : List ℕ → Bool) → list_any p (map (λ k. folded_name k.name) set.new.keys)
+        ≡ (list_any p (map (λ k. folded_name k.name) set.old.keys) || list_any p (map folded_name names.now))) }
 {
     let mut rest = names;
     'names: loop {
         let [name, more @ ..] = rest else {
             return Ok(());
         };
-        let key = upper(alloc, *name)?;
-        let _fresh = set.insert(key)?;
+        let _fresh = set.insert(ByFold { name: *name })?;
         rest = more;
     }
 }
@@ -82,10 +71,9 @@ impl<'a> Taken<'a> {
         ensures fresh { IfOk result (λ fresh. fresh ≡ not (has_name self.old (name_of name.entry))) }
         ensures added { OnOk result ((n : List ℕ) → has_name self.new n ≡ (has_name self.old n || folds_same n (name_of name.entry))) }
     {
-        gather(alloc, &mut self.many, self.few.as_slice())?;
+        gather(&mut self.many, self.few.as_slice())?;
         self.few = Few::new(alloc);
-        let key = upper(alloc, name)?;
-        let fresh = self.many.insert(key)?;
+        let fresh = self.many.insert(ByFold { name })?;
         Ok(fresh)
     }
 }
