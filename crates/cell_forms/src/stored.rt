@@ -1,6 +1,6 @@
 //! Names where they stand: units read out of the bytes that store them.
 
-ghost use Rattle.std.specs.Prelude.{◌≡◌, ◌∷◌, List, [], IfOk};
+ghost use Rattle.std.specs.Prelude.{◌≡◌, ◌∷◌, true, List, [], IfOk};
 ghost use Rattle.std.specs.List.{list_any};
 ghost use Rattle.std.specs.Option.{IfSome, IsNone};
 ghost use Rattle.std.specs.Prelude.{length};
@@ -60,6 +60,29 @@ fn first_wide(bytes: &[u8]) -> Option<FirstUnit<'_>>
     })
 }
 
+// Does a name of one byte a unit have a backslash?
+fn has_backslash_byte(bytes: &[u8]) -> bool
+    ensures { result ≡ list_any is_backslash bytes.now }
+{
+    let mut rest = bytes;
+    'bytes: loop {
+        let [byte, more @ ..] = rest else {
+            return false;
+        };
+        if *byte == 0x5c {
+            return true;
+        }
+        rest = more;
+    }
+}
+
+// Each byte is below 256.
+fn are_low(bytes: &[u8])
+    ensures { is_narrow bytes.now ≡ true }
+{
+    let _whole = bytes;
+}
+
 impl<'a> StoredName<'a> {
     /// The first unit, and the rest. None of an empty name.
     fn first(self) -> Option<FirstUnit<'a>>
@@ -87,6 +110,9 @@ impl<'a> StoredName<'a> {
     pub fn has_backslash(self) -> bool
         ensures { result ≡ list_any is_backslash (name_of self.entry) }
     {
+        if self.is_narrow {
+            return has_backslash_byte(self.bytes);
+        }
         let mut rest = self;
         'units: loop {
             let Some(first) = rest.first() else {
@@ -103,6 +129,10 @@ impl<'a> StoredName<'a> {
     pub fn is_low(self) -> bool
         ensures { result ≡ is_narrow (name_of self.entry) }
     {
+        if self.is_narrow {
+            are_low(self.bytes);
+            return true;
+        }
         let mut rest = self;
         'units: loop {
             let Some(first) = rest.first() else {
