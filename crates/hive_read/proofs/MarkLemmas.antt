@@ -207,7 +207,7 @@ mark-security plain security others at whole new =
     go slot true = refl
     go slot false = refl
 
-pub mark-plain : (plain security others : List ℕ) (at : ℕ) → at % 8 ≡ 0
+mark-plain : (plain security others : List ℕ) (at : ℕ) → at % 8 ≡ 0
     → clashes (map.get (marks_in plain security) at) false ≡ false
     → ((slot : ℕ) → has_bit others slot ≡ (eqb slot (at / 8) || has_bit plain slot))
     → marks_in others security ≡ map.insert (marks_in plain security) at false
@@ -228,6 +228,33 @@ mark-plain plain security others at whole fresh new =
         let here : slot ≡ at / 8 = eqb-true slot (at / 8) e in
         rw (ap (has_bit security) here ∙ none_kept) refl
     go slot false e = refl
+
+-- a security cell's mark is there already where its bit is on
+pub mark-kept : (plain security : List ℕ) (at : ℕ) → at % 8 ≡ 0 → has_bit security (at / 8) ≡ true
+    → marks_in plain security ≡ map.insert (marks_in plain security) at true
+mark-kept plain security at whole kept =
+    mark-security plain security security at whole (λ slot. go slot (eqb slot (at / 8)) refl)
+  where
+    go : (slot : ℕ) (b : Bool) → eqb slot (at / 8) ≡ b → has_bit security slot ≡ (b || has_bit security slot)
+    go slot true e = ap (has_bit security) (eqb-true slot (at / 8) e) ∙ kept
+    go slot false e = refl
+
+-- a cell that is no security cell clashes where it has the other mark, and gets it where it does not
+pub plain-clash : (plain security : List ℕ) (at : ℕ) → at % 8 ≡ 0 → has_bit security (at / 8) ≡ false
+    → clashes (map.get (marks_in plain security) at) false ≡ has_bit plain (at / 8)
+plain-clash plain security at whole kept = rw (clash-marks plain security at false whole, kept) refl
+
+pub mark-unset : (plain security others : List ℕ) (at : ℕ) (fresh : Bool) → at % 8 ≡ 0
+    → has_bit security (at / 8) ≡ false → fresh ≡ not (has_bit plain (at / 8))
+    → ((slot : ℕ) → has_bit others slot ≡ (eqb slot (at / 8) || has_bit plain slot)) → fresh ≡ true
+    → marks_in others security ≡ map.insert (marks_in plain security) at false
+mark-unset plain security others at fresh whole kept f new e =
+    mark-plain plain security others at whole
+    (plain-clash plain security at whole kept ∙ flip (has_bit plain (at / 8)) (sym f ∙ e)) new
+  where
+    flip : (b : Bool) → not b ≡ true → b ≡ false
+    flip true h = absurd cc
+    flip false h = refl
 
 -- the same bits are the same marks
 pub same-marks : (plain security others kept : List ℕ) → ((slot : ℕ) → has_bit others slot ≡ has_bit plain slot)

@@ -1,6 +1,6 @@
 //! Bits in words: one for each slot.
 
-ghost use Rattle.std.specs.Prelude.{◌≡◌, ◌≢◌, ◌<◌, ℕ, ◌==◌, ◌||◌, length, OnOk, OnErr};
+ghost use Rattle.std.specs.Prelude.{◌≡◌, ◌≢◌, ◌<◌, ℕ, ◌==◌, not, ◌||◌, length, IfOk, OnOk, OnErr};
 ghost use Rattle.std.specs.Int.{bit_at};
 ghost use Rattle.hive_read.specs.Marks.{has_bit, HaveSame};
 
@@ -45,12 +45,15 @@ fn widen(words: &mut Vec<u64>, place: usize) -> Result<(), AllocError>
     Ok(())
 }
 
-/// Sets the bit of this slot. Without memory for it no bit changes.
-pub(crate) fn set(words: &mut Vec<u64>, slot: usize) -> Result<(), AllocError>
+/// Sets the bit of this slot. False where it was set already. Without memory for it no bit changes.
+pub(crate) fn set(words: &mut Vec<u64>, slot: usize) -> Result<bool, AllocError>
+    ensures fresh { IfOk result (λ fresh. fresh ≡ not (has_bit words.old.items slot)) }
     ensures ok { OnOk result ((i : ℕ) → has_bit words.new.items i ≡ (i == slot || has_bit words.old.items i)) }
     ensures err { OnErr result ((i : ℕ) → has_bit words.new.items i ≡ has_bit words.old.items i) }
 {
     widen(words, slot / 64)?;
-    words[slot / 64] = with_bit(words[slot / 64], (slot % 64) as u32);
-    Ok(())
+    let place = (slot % 64) as u32;
+    let word = words[slot / 64];
+    words[slot / 64] = with_bit(word, place);
+    Ok(!bit(word, place))
 }

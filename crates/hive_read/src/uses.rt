@@ -44,10 +44,9 @@ fn use_cell<'a>(
     ensures { Steps (λ p. (cells_of cells.now).payload at ≡ Ok p.now) (check (cells_of cells.now) used.old (uses at security)) used.new result }
 {
     let payload = cells.heap.payload(at)?;
-    if used.clashes(at, security) {
+    if !used.mark(at, security)? {
         return Err(stop(HiveFaultKind::Shared, at));
     }
-    used.mark(at, security)?;
     Ok(payload)
 }
 
