@@ -1,7 +1,8 @@
 //! Names that are in their cells, looked for in sequence.
 
-ghost use Rattle.std.specs.Prelude.{◌≡◌, ℕ, List, [], map, not, ◌||◌, IfOk, OnOk};
+ghost use Rattle.std.specs.Prelude.{◌≡◌, ℕ, List, [], map, not, ◌||◌, IfOk};
 ghost use Rattle.std.specs.List.{list_any};
+ghost use Rattle.std.specs.Option.{IfSome, IsNone};
 ghost use Rattle.nt_bytes.specs.Folding.{folds_same};
 ghost use Rattle.cell_forms.specs.Views.{name_of};
 ghost use Rattle.hive_read.specs.Taken.{folded_name, folds_to, has_name};
@@ -61,31 +62,31 @@ impl<'a> Few<'a> {
         }
     }
 
-    /// Is it cheap to add the name? It is after them all, or they are few.
-    pub(crate) fn takes(&self, name: StoredName<'a>) -> bool {
-        self.names.len() < MOST || compare_stored(name, self.greatest).is_gt()
-    }
-
     pub(crate) fn as_slice(&self) -> &[StoredName<'a>]
         ensures { map folded_name result.now ≡ self.now }
     {
         self.names.as_slice()
     }
 
-    /// Adds a name. False where one is there that folds alike.
-    pub(crate) fn add(&mut self, name: StoredName<'a>) -> Result<bool, AllocError>
-        ensures fresh { IfOk result (λ fresh. fresh ≡ not (has_name self.old (name_of name.entry))) }
-        ensures added { OnOk result ((n : List ℕ) → has_name self.new n ≡ (has_name self.old n || folds_same n (name_of name.entry))) }
+    /// Adds a name where that is cheap: it is after them all, or they are few. False where one is there that
+    /// folds alike, none where it was not added.
+    pub(crate) fn add(&mut self, name: StoredName<'a>) -> Result<Option<bool>, AllocError>
+        ensures fresh { IfOk result (λ r. IfSome r (λ fresh. fresh ≡ not (has_name self.old (name_of name.entry)))) }
+        ensures added { IfOk result (λ r. IfSome r (λ _. (n : List ℕ) → has_name self.new n ≡ (has_name self.old n || folds_same n (name_of name.entry)))) }
+        ensures left { IfOk result (λ r. IsNone r → self.new ≡ self.old) }
     {
         if compare_stored(name, self.greatest).is_gt() {
             self.names.push(name)?;
             self.greatest = name;
-            return Ok(true);
+            return Ok(Some(true));
+        }
+        if self.names.len() >= MOST {
+            return Ok(None);
         }
         if has_same(self.names.as_slice(), name) {
-            return Ok(false);
+            return Ok(Some(false));
         }
         self.names.push(name)?;
-        Ok(true)
+        Ok(Some(true))
     }
 }

@@ -60,10 +60,13 @@ impl<'a> Taken<'a> {
         ensures fresh { IfOk result (λ fresh. fresh ≡ not (has_name self.old (name_of name.entry))) }
         ensures added { OnOk result ((n : List ℕ) → has_name self.new n ≡ (has_name self.old n || folds_same n (name_of name.entry))) }
     {
-        if self.many.is_empty() && self.few.takes(name) {
-            return self.few.add(name);
+        if !self.many.is_empty() {
+            return self.add_to_many(alloc, name);
         }
-        self.add_to_many(alloc, name)
+        match self.few.add(name)? {
+            Some(fresh) => Ok(fresh),
+            None => self.add_to_many(alloc, name),
+        }
     }
 
     // The same, in the set, with all that are there.
