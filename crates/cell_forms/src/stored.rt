@@ -4,7 +4,8 @@ ghost use Rattle.std.specs.Prelude.{◌≡◌, ◌∷◌, true, List, [], IfOk};
 ghost use Rattle.std.specs.List.{list_any};
 ghost use Rattle.std.specs.Option.{IfSome, IsNone};
 ghost use Rattle.std.specs.Prelude.{length};
-ghost use Rattle.nt_bytes.specs.Folding.{folded_order};
+ghost use Rattle.std.specs.Ordering.{nat_cmp};
+ghost use Rattle.nt_bytes.specs.Folding.{folded_order, folded_unit};
 ghost use Rattle.nt_bytes.specs.Text.{wide_of};
 ghost use Rattle.hive_model.specs.Size.{is_narrow};
 ghost use Rattle.nt_bytes.specs.Text.{is_backslash};
@@ -157,6 +158,16 @@ impl<'a> StoredName<'a> {
     }
 }
 
+// The order of two units below 256. The same two, as in a front that names share, are not folded.
+fn compare_bytes(x: u8, y: u8) -> Ordering
+    ensures { result ≡ nat_cmp (folded_unit x) (folded_unit y) }
+{
+    if x == y {
+        return Ordering::Equal;
+    }
+    fold(u16::from(x)).cmp(&fold(u16::from(y)))
+}
+
 fn compare_narrow(a: &[u8], b: &[u8]) -> Ordering
     ensures { result ≡ folded_order a.now b.now }
 {
@@ -169,7 +180,7 @@ fn compare_narrow(a: &[u8], b: &[u8]) -> Ordering
         let [y, more_ys @ ..] = ys else {
             return Ordering::Greater;
         };
-        let order = fold(u16::from(*x)).cmp(&fold(u16::from(*y)));
+        let order = compare_bytes(*x, *y);
         if order != Ordering::Equal {
             return order;
         }
