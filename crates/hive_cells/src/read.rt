@@ -103,10 +103,10 @@ fn size(rest: &[u8], room: usize, at: u32) -> Result<usize, HiveFault>
 pub(crate) fn push_false(starts: &mut Vec<bool>, count: usize) -> Result<(), AllocError>
     ensures { OnOk result (starts.new.items ≡ starts.old.items ++ replicate count false) }
 {
-    for _i in 0..count {
-        starts.push(false)?;
-    }
-    Ok(())
+    let Some(len) = starts.len().checked_add(count) else {
+        return Err(AllocError);
+    };
+    starts.resize(len, false)
 }
 
 /// Reads a bin, and says how long it is.
