@@ -16,3 +16,4 @@ pub mod GrowLemmas
 pub mod Made
 pub mod PatchLemmas
 pub mod HeldLemmas
+pub mod Flags

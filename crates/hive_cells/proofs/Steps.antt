@@ -6,10 +6,8 @@ use Rattle.std.proofs.lemmas.List.{drop_at, length-drop, append-nil, drop-drop}
 use Rattle.std.proofs.lemmas.List.Concat.{flat_map-append}
 use Rattle.nt_bytes.specs.declared.fault.HiveFaultKind.{HiveFaultKind}
 use Rattle.nt_bytes.specs.declared.fault.HiveFault.{HiveFault}
-use Rattle.nt_bytes.specs.declared.fault.ReadStop.{ReadStop}
-use Rattle.nt_bytes.specs.declared.fault.ReadStop.TheVariants.{Fault, Memory}
 use Rattle.hive_model.specs.Bins.{Cell, cell_size, cells_size, bins_size, head_bytes, cell_bytes, bin_bytes, spelled, IsCell, IsBin, IsHeap, header_at, size_at, BinFails, BinsFault, with_place}
-use Rattle.hive_cells.specs.Reading.{Stops, cell_in, bins_of, cell_marks, bin_marks, marks, IsKept, BinRead, CellsRead, BinsRead}
+use Rattle.hive_cells.specs.Reading.{cell_in, bins_of, cell_marks, bin_marks, marks, IsKept, BinRead, CellsRead, BinsRead}
 use Rattle.hive_cells.proofs.Tools.{IsBytes, IsBytes-drop, length_bin, length_spelled, both_hold, cells_size-append, bins_size-append, spelled-append}
 use Rattle.hive_cells.proofs.Again.{bins_of_again}
 use Rattle.hive_cells.proofs.Taken.{cell_taken, header_taken}
@@ -178,8 +176,3 @@ pub kept_seen : (text : List ℕ) (starts : List Bool) → IsKept text starts
 kept_seen text starts k =
     let e : bins_of text ≡ k.bins = ap bins_of k.bytes ∙ bins_of_again k.bins k.sound in
     rw e (k.sound, k.bytes, k.table)
-
-pub stops_whole : (text : List ℕ) (at : ℕ) (starts : List Bool) (e : ReadStop) → BinsRead text at starts
-    → Stops (BinFails at (drop at text)) e → Stops (BinsFault text) e
-stops_whole text at starts Memory r s = tt
-stops_whole text at starts (Fault f) r s = bins_fail text at starts f r s

@@ -1,5 +1,5 @@
 -- Bins read back from their bytes, and the table of the places where cells begin.
-use Rattle.std.specs.Prelude.{◌≡◌, ℕ, zero, suc, ◌+◌, ◌-◌, ◌/◌, nat_lt, Bool, true, false, if◌then◌else◌, List, [], ◌∷◌, ◌++◌, length, drop, Result, Ok, Err, slice_range, replicate}
+use Rattle.std.specs.Prelude.{◌≡◌, ℕ, zero, suc, ◌+◌, ◌-◌, ◌/◌, nat_lt, Bool, true, false, if◌then◌else◌, List, [], ◌∷◌, ◌++◌, length, take, drop, Result, Ok, Err, slice_range, replicate}
 use Rattle.std.specs.List.{AllByRecursion, flat_map}
 use Rattle.nt_bytes.specs.declared.fault.HiveFault.{HiveFault}
 use Rattle.nt_bytes.specs.declared.fault.ReadStop.{ReadStop}
@@ -69,6 +69,11 @@ pub record BinRead (at : ℕ) (bytes : List ℕ) (old new : List Bool) (size : �
   pub parts : bytes ≡ bin_bytes at bin ++ rest
   pub sized : size ≡ bin_size bin
   pub table : new ≡ old ++ bin_marks bin
+
+-- such a bin was read where each flag of the table from it on is off, and each behind it is off still
+pub record BinMarked (at : ℕ) (bytes : List ℕ) (old new : List Bool) (size : ℕ) : Type 0 where
+  pub read : BinRead at bytes (take (at / 8) old) (take ((at + size) / 8) new) size
+  pub off : drop ((at + size) / 8) new ≡ replicate ((length bytes - size) / 8) false
 
 abbrev pub Stops : (HiveFault → Type 0) → ReadStop → Type 0
 Stops Fails Memory = Unit {0}

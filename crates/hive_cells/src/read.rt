@@ -1,8 +1,8 @@
 //! Bins and cells checked.
 
-ghost use Rattle.std.specs.Prelude.{◌≡◌, ℕ, ◌+◌, ◌%◌, ◌<◌, ◌≤◌, ◌++◌, false, length, replicate, IfOk, OnOk, MatchResult};
+ghost use Rattle.std.specs.Prelude.{◌≡◌, ◌+◌, ◌/◌, ◌%◌, ◌<◌, ◌≤◌, false, length, drop, replicate, IfOk, MatchResult};
 ghost use Rattle.hive_model.specs.Bins.{header_at, size_at, with_place, Sees, BinFails, BinsFault, IsBins};
-ghost use Rattle.hive_cells.specs.Reading.{BinRead, Stops};
+ghost use Rattle.hive_cells.specs.Reading.{BinMarked, Stops};
 
 use crate::heap::CellHeap;
 use nt_bytes::{Bytes, HiveFault, HiveFaultKind, ReadStop, u32_at};
@@ -71,7 +71,7 @@ fn header(rest: &[u8], at: u32) -> Result<u32, HiveFault>
 fn size(rest: &[u8], room: usize, at: u32) -> Result<usize, HiveFault>
     requires { 4 ≤ length rest.now }
     ensures exact { Sees (λ size. size) result (with_place at (size_at room rest.now)) }
-    ensures bounds { IfOk result (λ size. (8 ≤ size) × (size ≤ room)) }
+    ensures bounds { IfOk result (λ size. (8 ≤ size) × (size ≤ room) × (size % 8 ≡ 0)) }
 {
     let head = u32_at(rest, 0);
     let size = if head < 0x8000_0000 {
@@ -100,32 +100,32 @@ fn size(rest: &[u8], room: usize, at: u32) -> Result<usize, HiveFault>
     Ok(size as usize)
 }
 
-pub(crate) fn push_false(starts: &mut Vec<bool>, count: usize) -> Result<(), AllocError>
-    ensures { OnOk result (starts.new.items ≡ starts.old.items ++ replicate count false) }
-{
-    let Some(len) = starts.len().checked_add(count) else {
-        return Err(AllocError);
-    };
-    starts.resize(len, false)
-}
-
-/// Reads a bin, and says how long it is.
-fn read_bin(rest: &[u8], at: u32, starts: &mut Vec<bool>) -> Result<usize, ReadStop>
+/// Reads a bin, turns the flags on where its cells begin, and says how long it is.
+fn read_bin(rest: &[u8], at: u32, starts: &mut Vec<bool>) -> Result<usize, HiveFault>
     requires small { at + length rest.now ≤ 16777216 }
     requires some { 0 < length rest.now }
-    ensures exact { MatchResult result (λ size. BinRead at rest.now starts.old.items starts.new.items size) (Stops (BinFails at rest.now)) }
+    requires off { drop (at / 8) starts.old.items ≡ replicate (length rest.now / 8) false }
+    ensures exact { MatchResult result (BinMarked at rest.now starts.old.items starts.new.items) (BinFails at rest.now) }
     ensures within { IfOk result (λ size. size ≤ length rest.now) }
 {
     let total = header(rest, at)? as usize;
-    push_false(starts, 4)?;
+    let slot = at as usize / 8;
     let mut cell = 32;
     'cells: while cell < total {
         let found = size(&rest[cell..], total - cell, at + cell as u32)?;
-        starts.push(true)?;
-        push_false(starts, found / 8 - 1)?;
+        starts[slot + cell / 8] = true;
         cell += found;
     }
     Ok(total)
+}
+
+/// That many flags, each off.
+fn flags_off(alloc: Global, count: usize) -> Result<Vec<bool>, AllocError>
+    ensures { IfOk result (λ starts. starts.items ≡ replicate count false) }
+{
+    let mut starts = Vec::new(alloc);
+    starts.resize(count, false)?;
+    Ok(starts)
 }
 
 /// The heap that these bytes are, or the first check that fails.
@@ -133,9 +133,9 @@ pub fn read_cells(alloc: Global, bins: Bytes) -> Result<CellHeap, ReadStop>
     requires { length bins ≤ 16777216 }
     ensures { MatchResult result (IsBins bins) (Stops (BinsFault bins)) }
 {
-    let mut starts = Vec::new(alloc);
     let bytes = bins.into_vec();
     let all = bytes.as_slice();
+    let mut starts = flags_off(alloc, all.len() / 8)?;
     let mut at = 0;
     'reading: while at < all.len() {
         let size = read_bin(&all[at..], at as u32, &mut starts)?;
