@@ -71,7 +71,7 @@ fn compare_stored(is_narrow: bool, stored: &[u8], name: &[u16]) -> Ordering
 }
 
 /// The bytes that the name of the key node in a payload is stored in.
-fn stored_bytes(node: &[u8]) -> &[u8]
+pub(crate) fn stored_bytes(node: &[u8]) -> &[u8]
     requires { IsOk (key_node_at node.now) }
     ensures { result.now ≡ slice_range node.now 76 (76 + u16_in node.now 72) }
 {
@@ -80,7 +80,7 @@ fn stored_bytes(node: &[u8]) -> &[u8]
 }
 
 /// Whether the name of the key node in a payload has one byte a unit.
-fn is_narrow(node: &[u8]) -> bool
+pub(crate) fn is_narrow(node: &[u8]) -> bool
     requires { IsOk (key_node_at node.now) }
     ensures { result ≡ is_narrow_key (u16_in node.now 2) }
 {
