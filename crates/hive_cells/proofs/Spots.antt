@@ -344,7 +344,7 @@ free_head c h lt = by_flag c.allocated (cell_size c) h.fits lt
 
 -- ---- what the head of a cell reports
 
-pair_same : (x y : Bool × ℕ) → Some x ≡ Some y → x ≡ y
+pub pair_same : (x y : Bool × ℕ) → Some x ≡ Some y → x ≡ y
 pair_same x y e = cc
 
 pub some_head : (text : List ℕ) (at : ℕ) (c : Cell) (size : ℕ) (allocated : Bool) → There text at c

@@ -42,7 +42,7 @@ impl Model for OpenHeap {
 }
 
 impl CellHeap {
-    /// The same heap, with an index of its free cells: one look at each eight bytes.
+    /// The same heap, with an index of its free cells: one look at each cell.
     pub fn opened(self, alloc: Global) -> Result<OpenHeap, AllocError>
         ensures { IfOk result (λ heap. heap ≡ self) }
     {
