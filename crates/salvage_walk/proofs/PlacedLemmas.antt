@@ -3,14 +3,15 @@ use Rattle.std.proofs.Common.{◌≡◌, ℕ, zero, suc, ◌+◌, ◌<◌, ◌�
 use Rattle.std.specs.Prelude.{◌==◌, ◌||◌, ◌&&◌, ◌⊎◌, OnOk, OnErr, find, nat_lt, slice_get}
 use Rattle.std.specs.List.{list_any}
 use Rattle.std.specs.Ordering.{nat_cmp, is_eq}
-use Rattle.std.specs.BTreeMap.{BTreeMap, get, Updates}
+use Rattle.std.specs.BTreeMap.{BTreeMap, get, is_at, Updates}
+use Rattle.std.specs.Map.{lookup}
 use Rattle.std.specs.declared.cmp.Ordering.{Ordering}
 use Rattle.std.specs.declared.cmp.Ordering.TheVariants.{Less, Equal, Greater}
 use Rattle.std.proofs.lemmas.Bool.{eqb-true}
 use Rattle.std.proofs.lemmas.Bool.Decides.{nat_tests}
 use Rattle.salvage_walk.specs.declared.claims.Claim.{Claim}
-use Rattle.salvage_walk.specs.Uses.{lies_in, claim_of}
-use Rattle.salvage_walk.specs.Placed.{claim_if_some, claim_at_place, claim_where, ArePlaced}
+use Rattle.salvage_walk.specs.Uses.{claim_of}
+use Rattle.salvage_walk.specs.Placed.{claim_if_some, claim_at_place, claim_where, AreOnce, ArePlaced}
 
 abbrev found : Claim → Option Claim
 found c = Some c
@@ -27,7 +28,7 @@ find-rest p c cs e = go (p c) refl e
     go true d e = absurd cc
     go false d e = (d, e)
 
-find-take : (p : Claim → Bool) (n : ℕ) (cs : List Claim) → find p cs ≡ None → find p (take n cs) ≡ None
+pub find-take : (p : Claim → Bool) (n : ℕ) (cs : List Claim) → find p cs ≡ None → find p (take n cs) ≡ None
 find-take p zero cs e = refl
 find-take p (suc n) [] e = refl
 find-take p (suc n) (c ∷ cs) e =
@@ -45,13 +46,13 @@ find-within p (suc n) (x ∷ cs) zero c l e t =
 find-within p (suc n) (x ∷ cs) (suc i) c l e t =
     ap (λ (o : Option Claim). cond (p x) (Some x) o) (find-within p n cs i c (omega (arith, l)) e t)
 
-find-last : (p : Claim → Bool) (cs : List Claim) (c : Claim) → find p cs ≡ None → find p (cs ++ c ∷ []) ≡ cond (p c) (Some c) None
+pub find-last : (p : Claim → Bool) (cs : List Claim) (c : Claim) → find p cs ≡ None → find p (cs ++ c ∷ []) ≡ cond (p c) (Some c) None
 find-last p [] c e = refl
 find-last p (x ∷ cs) c e =
     let r = find-rest p x cs e in
     ap (λ b. cond b (Some x) (find p (cs ++ c ∷ []))) r.0 ∙ find-last p cs c r.1
 
-find-before : (p : Claim → Bool) (cs : List Claim) (c : Claim) → p c ≡ false → find p (cs ++ c ∷ []) ≡ find p cs
+pub find-before : (p : Claim → Bool) (cs : List Claim) (c : Claim) → p c ≡ false → find p (cs ++ c ∷ []) ≡ find p cs
 find-before p [] c e = ap (λ b. cond b (Some c) None) e
 find-before p (x ∷ cs) c e = ap (λ (o : Option Claim). cond (p x) (Some x) o) (find-before p cs c e)
 
@@ -61,7 +62,7 @@ get-end : (cs : List Claim) → slice_get cs (length cs) ≡ None
 get-end [] = refl
 get-end (c ∷ cs) = get-end cs
 
-get-last : (cs : List Claim) (c : Claim) → slice_get (cs ++ c ∷ []) (length cs) ≡ Some c
+pub get-last : (cs : List Claim) (c : Claim) → slice_get (cs ++ c ∷ []) (length cs) ≡ Some c
 get-last [] c = refl
 get-last (x ∷ cs) c = get-last cs c
 
@@ -113,7 +114,7 @@ take-both (suc n) zero cs l = absurd (omega (arith, l))
 take-both (suc n) (suc m) [] l = refl
 take-both (suc n) (suc m) (x ∷ cs) l = ap (λ (ys : List Claim). x ∷ ys) (take-both n m cs (omega (arith, l)))
 
-eq-cmp : (a b : ℕ) → is_eq (nat_cmp a b) ≡ (a == b)
+pub eq-cmp : (a b : ℕ) → is_eq (nat_cmp a b) ≡ (a == b)
 eq-cmp a b = go (nat_lt a b) (a == b) refl refl
   where
     go : (l e : Bool) → nat_lt a b ≡ l → (a == b) ≡ e → is_eq (cond {A = Ordering} l Less (cond e Equal Greater)) ≡ e
@@ -121,25 +122,6 @@ eq-cmp a b = go (nat_lt a b) (a == b) refl refl
     go true false h k = refl
     go false true h k = refl
     go false false h k = refl
-
--- ---- bytes of loose cells
-
-any-rest : (a b : Bool) → (a || b) ≡ false → (a ≡ false) × (b ≡ false)
-any-rest true b e = absurd cc
-any-rest false b e = (refl, e)
-
-any-take : (p : Claim → Bool) (n : ℕ) (cs : List Claim) → list_any p cs ≡ false → list_any p (take n cs) ≡ false
-any-take p zero cs e = refl
-any-take p (suc n) [] e = refl
-any-take p (suc n) (c ∷ cs) e =
-    let r = any-rest (p c) (list_any p cs) e in
-    ap (λ b. b || list_any p (take n cs)) r.0 ∙ any-take p n cs r.1
-
-any-push : (p : Claim → Bool) (cs : List Claim) (c : Claim) → list_any p cs ≡ false → p c ≡ false → list_any p (cs ++ c ∷ []) ≡ false
-any-push p [] c e d = ap (λ b. b || false) d
-any-push p (x ∷ cs) c e d =
-    let r = any-rest (p x) (list_any p cs) e in
-    ap (λ b. b || list_any p (cs ++ c ∷ [])) r.0 ∙ any-push p cs c r.1 d
 
 -- ---- all of it
 
@@ -183,14 +165,16 @@ taken at n claims (Some i) e once = by (slice_get claims i) refl e
             other (slice_get (take n claims) i) refl
             (λ d k. ap (λ (x : Claim). x.at == at) (found-same d c (sym k ∙ h)) ∙ t) ∙ sym (find-take p n claims (sym e))
 
-pub placed-take : (places : BTreeMap ℕ ℕ) (b : Bool) (claims new : List Claim) (n : ℕ) → new ≡ take n claims → ArePlaced places b claims
-    → ArePlaced places b new
-placed-take places b claims new n e f = rw e (record {
+pub once-take : (n : ℕ) (claims : List Claim) → AreOnce claims → AreOnce (take n claims)
+once-take n claims o = λ m c h.
+    let r = get-take n claims m c h in
+    ap (claim_of c.at) (take-both m n claims (omega (arith, r.1))) ∙ o m c r.0
+
+pub placed-take : (places : BTreeMap ℕ ℕ) (claims new : List Claim) (n : ℕ) → new ≡ take n claims → ArePlaced places claims
+    → ArePlaced places new
+placed-take places claims new n e f = rw e (record {
   each = λ at. taken at n claims (get nat_cmp places at) (f.each at) f.once;
-  once = λ m c h.
-      let r = get-take n claims m c h in
-      ap (claim_of c.at) (take-both m n claims (omega (arith, r.1))) ∙ f.once m c r.0;
-  bound = λ h at end. any-take (lies_in at end) n claims (f.bound h at end);
+  once = once-take n claims f.once;
 })
 
 pushed-each : (places new : BTreeMap ℕ ℕ) (claims : List Claim) (c : Claim) → Updates nat_cmp places new c.at (Some (length claims))
@@ -209,23 +193,22 @@ pushed-each places new claims c u fresh each at = rw (u.0 at, eq-cmp c.at at) (g
         kept (Some i) = where-before at claims c i t
         kept None = refl
 
-pub placed-push : (places new : BTreeMap ℕ ℕ) (b : Bool) (claims after : List Claim) (c : Claim)
-    → Updates nat_cmp places new c.at (Some (length claims)) → claim_of c.at claims ≡ None → after ≡ claims ++ c ∷ []
-    → ArePlaced places b claims → ArePlaced new (b || c.loose) after
-placed-push places new b claims after c u fresh e f = rw e (record {
-  each = pushed-each places new claims c u fresh f.each;
-  once = λ m d h. last m d (get-push claims c m d h);
-  bound = λ h at end.
-      let p = any-rest b c.loose h in
-      any-push (lies_in at end) claims c (f.bound p.0 at end)
-      (ap (λ x. x && (nat_lt c.at end && nat_lt at c.end)) p.1);
-})
+once-push : (claims : List Claim) (c : Claim) → claim_of c.at claims ≡ None → AreOnce claims → AreOnce (claims ++ c ∷ [])
+once-push claims c fresh o = λ m d h. last m d (get-push claims c m d h)
   where
     last : (m : ℕ) (d : Claim)
         → ((slice_get claims m ≡ Some d) × (take m (claims ++ c ∷ []) ≡ take m claims)) ⊎ ((d ≡ c) × (take m (claims ++ c ∷ []) ≡ claims))
         → claim_of d.at (take m (claims ++ c ∷ [])) ≡ None
-    last m d (inl r) = ap (claim_of d.at) r.1 ∙ f.once m d r.0
+    last m d (inl r) = ap (claim_of d.at) r.1 ∙ o m d r.0
     last m d (inr r) = ap (claim_of d.at) r.1 ∙ ap (λ (x : Claim). claim_of x.at claims) r.0 ∙ fresh
+
+placed-push : (places new : BTreeMap ℕ ℕ) (claims : List Claim) (c : Claim)
+    → Updates nat_cmp places new c.at (Some (length claims)) → claim_of c.at claims ≡ None
+    → ArePlaced places claims → ArePlaced new (claims ++ c ∷ [])
+placed-push places new claims c u fresh f = record {
+  each = pushed-each places new claims c u fresh f.each;
+  once = once-push claims c fresh f.once;
+}
 
 -- the place was noted, and there was no memory for the use
 unpushed-each : (places new : BTreeMap ℕ ℕ) (claims : List Claim) (c : Claim) → Updates nat_cmp places new c.at (Some (length claims))
@@ -240,12 +223,20 @@ unpushed-each places new claims c u fresh each at = rw (u.0 at, eq-cmp c.at at) 
         ap (claim_if_some at) (get-end claims) ∙ sym none
     go false t = each at
 
-pub placed-step : {X E : Type 0} (places new : BTreeMap ℕ ℕ) (b d : Bool) (claims after : List Claim) (c : Claim) (r : Result X E)
-    → Updates nat_cmp places new c.at (Some (length claims)) → claim_of c.at claims ≡ None → d ≡ (b || c.loose)
-    → OnOk r (after ≡ claims ++ c ∷ []) → OnErr r (after ≡ claims) → ArePlaced places b claims → ArePlaced new d after
-placed-step places new b d claims after c (Ok x) u fresh l ok err f = rw l (placed-push places new b claims after c u fresh ok f)
-placed-step places new b d claims after c (Err x) u fresh l ok err f = rw (l, err) (record {
-  each = unpushed-each places new claims c u fresh f.each;
+pub placed-noted : (places new : BTreeMap ℕ ℕ) (claims : List Claim) (c : Claim)
+    → Updates nat_cmp places new c.at (Some (length claims)) → claim_of c.at claims ≡ None
+    → ArePlaced places claims → ArePlaced new claims
+placed-noted places new claims c u fresh f = record { each = unpushed-each places new claims c u fresh f.each; once = f.once }
+
+pub placed-step : {X E : Type 0} (places new : BTreeMap ℕ ℕ) (claims after : List Claim) (c : Claim) (r : Result X E)
+    → Updates nat_cmp places new c.at (Some (length claims)) → claim_of c.at claims ≡ None
+    → OnOk r (after ≡ claims ++ c ∷ []) → OnErr r (after ≡ claims) → ArePlaced places claims → ArePlaced new after
+placed-step places new claims after c (Ok x) u fresh ok err f = rw ok (placed-push places new claims c u fresh f)
+placed-step places new claims after c (Err x) u fresh ok err f = rw err (placed-noted places new claims c u fresh f)
+
+pub placed-same : (places new : BTreeMap ℕ ℕ) (claims : List Claim) → new.entries ≡ places.entries → ArePlaced places claims
+    → ArePlaced new claims
+placed-same places new claims e f = record {
+  each = λ at. ap (λ (es : List (ℕ × ℕ)). claim_where at claims (lookup (is_at (nat_cmp at)) es)) e ∙ f.each at;
   once = f.once;
-  bound = λ h. f.bound (any-rest b c.loose h).0;
-})
+}

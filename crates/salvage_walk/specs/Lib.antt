@@ -9,4 +9,5 @@ pub mod Incomplete
 pub mod Found
 pub mod FrontSeen
 pub mod Placed
-pub mod Hashed
+pub mod LooseEnds
+pub mod Folded

@@ -1,9 +1,9 @@
 -- Where among the uses is that of a cell (this project's own)?
-use Rattle.std.specs.Prelude.{◌≡◌, ◌==◌, ℕ, Bool, false, if◌then◌else◌, List, take, slice_get, Option, None, Some}
+use Rattle.std.specs.Prelude.{◌≡◌, ◌==◌, ℕ, if◌then◌else◌, List, take, slice_get, Option, None, Some}
 use Rattle.std.specs.Ordering.{nat_cmp}
 use Rattle.std.specs.BTreeMap.{BTreeMap, get}
 use Rattle.salvage_walk.specs.declared.claims.Claim.{Claim}
-use Rattle.salvage_walk.specs.Uses.{claim_of, overlaps}
+use Rattle.salvage_walk.specs.Uses.{claim_of}
 
 -- the use, if it is of this cell
 abbrev pub claim_if : ℕ → Claim → Option Claim
@@ -22,8 +22,11 @@ abbrev pub claim_where : ℕ → List Claim → Option ℕ → Option Claim
 claim_where at claims (Some place) = claim_at_place at claims place
 claim_where at claims None = None
 
--- the use of each cell is where its place says, and none is of a cell that was used before; and without a loose cell no byte of one was used
-pub record ArePlaced (places : BTreeMap ℕ ℕ) (some_loose : Bool) (claims : List Claim) : Type 0 where
+-- none is of a cell that was used before
+abbrev pub AreOnce : List Claim → Type 0
+AreOnce claims = (n : ℕ) (c : Claim) → slice_get claims n ≡ Some c → claim_of c.at (take n claims) ≡ None
+
+-- the use of each cell is where its place says
+pub record ArePlaced (places : BTreeMap ℕ ℕ) (claims : List Claim) : Type 0 where
   pub each : (at : ℕ) → claim_where at claims (get nat_cmp places at) ≡ claim_of at claims
-  pub once : (n : ℕ) (c : Claim) → slice_get claims n ≡ Some c → claim_of c.at (take n claims) ≡ None
-  pub bound : some_loose ≡ false → (at end : ℕ) → overlaps at end claims ≡ false
+  pub once : AreOnce claims

@@ -1,9 +1,10 @@
 //! Which cells are used, and how much of each.
 
-ghost use Rattle.std.specs.Prelude.{◌≡◌, ◌<◌, [], ◌∷◌, ◌++◌, ◌||◌, true, false, None, Some, length, take, OnOk, OnErr};
+ghost use Rattle.std.specs.Prelude.{◌≡◌, ◌<◌, ℕ, [], ◌∷◌, ◌++◌, true, false, None, Some, length, take, OnOk, OnErr};
 ghost use Rattle.std.specs.Ordering.{nat_cmp};
-ghost use Rattle.std.specs.BTreeMap.{Updates};
-ghost use Rattle.salvage_walk.specs.Placed.{claim_at_place, claim_if};
+ghost use Rattle.std.specs.BTreeMap.{get, Updates};
+ghost use Rattle.salvage_walk.specs.Placed.{AreOnce, claim_at_place, claim_if};
+ghost use Rattle.salvage_walk.specs.LooseEnds.{IsLastBefore, LooseEnds, with_end, without_end};
 ghost use Rattle.salvage_walk.specs.Uses.{claim_of, overlaps};
 
 use std::alloc::{AllocError, Global};
@@ -19,25 +20,25 @@ pub struct Claim {
     pub loose: bool,
 }
 
-/// The uses so far, in order. Beside them stands by the offset of a cell which use may be the one of that cell, so that none is
-/// looked for in sequence.
+/// The uses so far, in order. Beside them stands by the offset of a cell which use may be the one of that cell, and up to where a
+/// loose cell is used, so that none is looked for in sequence.
 #[derive(Drop)]
 pub struct Used {
     claims: Vec<Claim>,
     places: BTreeMap<u32, usize>,
-    some_loose: bool,
+    loose: BTreeMap<u64, u64>,
 }
 
 impl Model for Used {
     ghost use Rattle.std.specs.Prelude.{List};
     ghost use Rattle.salvage_walk.specs.declared.claims.Claim.{Claim};
-    ghost use Rattle.salvage_walk.specs.Placed.{ArePlaced};
+    ghost use Rattle.salvage_walk.specs.LooseEnds.{AreKept};
 
     ghost Value = { List Claim };
 
     ghost view = { λ a. a.claims.items };
 
-    ghost invariant = { λ a. ArePlaced a.places a.some_loose a.claims.items };
+    ghost invariant = { λ a. AreKept a.places a.loose a.claims.items };
 }
 
 // The use at a place in their order, if it is of this cell.
@@ -71,19 +72,70 @@ fn put(places: &mut BTreeMap<u32, usize>, at: u32, place: usize) -> Result<(), A
     Ok(())
 }
 
-fn either(a: bool, b: bool) -> bool
-    ensures { result ≡ (a || b) }
+// Notes up to where a cell is used, if it is loose. Without memory for it nothing changes.
+fn put_loose(loose: &mut BTreeMap<u64, u64>, claim: Claim) -> Result<(), AllocError>
+    ensures ok { OnOk result ((at : ℕ) → get nat_cmp loose.new at ≡ with_end claim at (get nat_cmp loose.old at)) }
+    ensures err { OnErr result (loose.new.entries ≡ loose.old.entries) }
 {
-    a || b
+    if claim.loose {
+        loose.insert(u64::from(claim.at), claim.end)?;
+    }
+    Ok(())
 }
 
-// One claim more. Without memory for it nothing changes.
-fn append(claims: &mut Vec<Claim>, claim: Claim) -> Result<(), AllocError>
-    ensures ok { OnOk result (claims.new.items ≡ claims.old.items ++ claim ∷ []) }
-    ensures err { OnErr result (claims.new.items ≡ claims.old.items) }
+// Forgets up to where a cell is used, if it is loose.
+fn drop_loose(loose: &mut BTreeMap<u64, u64>, claim: Claim)
+    ensures { (at : ℕ) → get nat_cmp loose.new at ≡ without_end claim at (get nat_cmp loose.old at) }
 {
-    claims.push(claim)?;
-    Ok(())
+    if claim.loose {
+        let _end = loose.remove(&u64::from(claim.at));
+    }
+}
+
+// The last of these uses that begins before a place, with its end.
+fn last_before(loose: &BTreeMap<u64, u64>, place: u64) -> Option<(u64, u64)>
+    ensures { IsLastBefore loose.now place result }
+{
+    let mut before = loose.range(..place);
+    match before.next_back() {
+        Some((at, end)) => Some((*at, *end)),
+        None => None,
+    }
+}
+
+// One claim more, whose end was noted. Without memory for it the end is forgotten.
+fn append(
+    claims: &mut Vec<Claim>,
+    loose: &mut BTreeMap<u64, u64>,
+    claim: Claim,
+) -> Result<(), AllocError>
+    ensures ok { OnOk result (claims.new.items ≡ claims.old.items ++ claim ∷ []) }
+    ensures noted { OnOk result (loose.new.entries ≡ loose.old.entries) }
+    ensures err { OnErr result (claims.new.items ≡ claims.old.items) }
+    ensures forgotten { OnErr result ((at : ℕ) → get nat_cmp loose.new at ≡ without_end claim at (get nat_cmp loose.old at)) }
+{
+    match claims.push(claim) {
+        Ok(()) => Ok(()),
+        Err(_) => {
+            drop_loose(loose, claim);
+            Err(AllocError)
+        }
+    }
+}
+
+// Takes all claims back but the first ones, and forgets their ends.
+fn take_back(claims: &mut Vec<Claim>, loose: &mut BTreeMap<u64, u64>, len: usize)
+    requires once { AreOnce claims.old.items }
+    requires ends_before { LooseEnds loose.old claims.old.items }
+    ensures kept { claims.new.items ≡ take len claims.old.items }
+    ensures ends { LooseEnds loose.new claims.new.items }
+{
+    'claims: while claims.len() > len {
+        let Some(claim) = claims.pop() else {
+            return;
+        };
+        drop_loose(loose, claim);
+    }
 }
 
 impl Used {
@@ -93,7 +145,7 @@ impl Used {
         Used {
             claims: Vec::new(alloc),
             places: BTreeMap::new(alloc),
-            some_loose: false,
+            loose: BTreeMap::new(alloc),
         }
     }
 
@@ -117,13 +169,10 @@ impl Used {
     pub(crate) fn overlaps(&self, at: u32, end: u64) -> bool
         ensures { result ≡ overlaps at end self.now }
     {
-        if !self.some_loose {
-            return false;
+        match last_before(&self.loose, end) {
+            Some((_, last)) => u64::from(at) < last,
+            None => false,
         }
-        let at = u64::from(at);
-        self.claims
-            .iter()
-            .any(|c| c.loose && u64::from(c.at) < end && at < c.end)
     }
 
     /// One use more, of a cell that wasn't used before. Without memory for it nothing changes.
@@ -136,14 +185,14 @@ impl Used {
     {
         let place = count_of(&self.claims);
         put(&mut self.places, claim.at, place)?;
-        self.some_loose = either(self.some_loose, claim.loose);
-        append(&mut self.claims, claim)
+        put_loose(&mut self.loose, claim)?;
+        append(&mut self.claims, &mut self.loose, claim)
     }
 
     /// Takes all uses back but the first ones.
     pub(crate) fn back_to(&mut self, len: usize)
         ensures { self.new ≡ take len self.old }
     {
-        self.claims.truncate(len);
+        take_back(&mut self.claims, &mut self.loose, len);
     }
 }

@@ -235,7 +235,7 @@ fn add(
         None => Ok(()),
         Some(child) => {
             let name = child.name.copy(alloc)?;
-            taken.add(name)?;
+            taken.add(alloc, name)?;
             children.push(child)
         }
     }
@@ -333,7 +333,7 @@ fn names_of(alloc: Global, keys: &[Key]) -> Result<NameSet, AllocError>
     let mut taken = NameSet::new(alloc);
     for key in keys {
         let name = key.name.copy(alloc)?;
-        taken.add(name)?;
+        taken.add(alloc, name)?;
     }
     Ok(taken)
 }

@@ -106,7 +106,7 @@ fn node_in(
     if node.name.len() == 0 && !root {
         return Err(stop(HiveFaultKind::FormName, at));
     }
-    if taken.has(node.name.as_slice()) {
+    if taken.has(alloc, node.name.as_slice())? {
         return Err(stop(HiveFaultKind::DoubleName, at));
     }
     Ok(node)
@@ -118,7 +118,7 @@ fn value_in(alloc: Global, payload: &[u8], taken: &NameSet, at: u32) -> Result<V
     ensures { Gives key_value_of at result (value_form taken.now payload.now) }
 {
     let value = read_vk(alloc, payload, at)?;
-    if taken.has(value.name.as_slice()) {
+    if taken.has(alloc, value.name.as_slice())? {
         return Err(stop(HiveFaultKind::DoubleName, at));
     }
     Ok(value)

@@ -151,7 +151,7 @@ fn value(
     match take_value(alloc, cells, &mut walk.used, taken, at) {
         Ok(value) => {
             let name = value.name.copy(alloc)?;
-            taken.add(name)?;
+            taken.add(alloc, name)?;
             values.push(value)
         }
         Err(ReadStop::Memory) => Err(AllocError),

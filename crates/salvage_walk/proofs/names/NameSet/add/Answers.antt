@@ -1,10 +1,10 @@
 use Rattle.std.proofs.Common.{ap, ◌∙◌}
-use Rattle.hive_model.specs.Lists.{hash_of}
-use Rattle.salvage_walk.proofs.NameLemmas.{names-step}
+use Rattle.nt_bytes.specs.Folding.{folded}
+use Rattle.salvage_walk.proofs.NameLemmas.{keys-step}
 use Rattle.salvage_walk.proofs.names.NameSet.add.Goals as goal
 
-pub invariant_of-self-2 : goal.invariant_of-self-2
-invariant_of-self-2 c =
-    names-step c.self.inside.hashes c.insert.new.self c.self.inside.names c.push.new.self c.args.name c.name_hash-hash.result c.push.result
-    (c.name_hash-hash.ensures ∙ ap hash_of c.as_slice.ensures) c.in_ok-_before.ensures.updates c.push.ensures.ok c.push.ensures.err
-    c.self.invariant
+pub invariant_of-self : goal.invariant_of-self
+invariant_of-self c =
+    keys-step (λ v. v.items) c.self.inside.keys.keys c.put.new.keys.keys c.self.inside.names.items c.put.new.names.items c.args.name
+    c.in_ok-key.key c.put.result (c.in_ok-key.ensures ∙ ap folded c.as_slice.ensures) c.put.ensures.named c.put.ensures.keyed
+    c.put.ensures.names_before c.put.ensures.keys_before c.self.invariant
