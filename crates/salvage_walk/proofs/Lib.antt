@@ -1,4 +1,5 @@
 pub mod UseLemmas
+pub mod SegmentLemmas
 pub mod WalkLemmas
 pub mod PlacedLemmas
 pub mod LooseLemmas

@@ -3,6 +3,7 @@ pub mod Parts
 pub mod Fronts
 pub mod Values
 pub mod Walked
+pub mod Segments
 pub mod Steps
 pub mod Keys
 pub mod Incomplete

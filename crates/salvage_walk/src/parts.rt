@@ -16,8 +16,7 @@ ghost use Rattle.salvage_walk.specs.Walked.{Gains, ClaimsOf};
 use crate::claims::{Claim, Used};
 use crate::names::NameSet;
 use cell_forms::{
-    DbForm, NkForm, Offsets, SkForm, VkForm, read_bytes, read_db, read_nk, read_offsets, read_sk,
-    read_vk,
+    DbForm, NkForm, Offsets, SkForm, VkForm, read_db, read_nk, read_offsets, read_sk, read_vk,
 };
 use nt_bytes::{Bytes, HiveFault, HiveFaultKind, ReadStop};
 use salvage_bins::DamagedCells;
@@ -207,8 +206,35 @@ pub(crate) fn use_security(
     Ok(cell)
 }
 
-/// The first bytes of a cell, as of a class or of data, and their use.
+// The first bytes of a payload, where they stand.
+#[tactic(auto, unfolding(hive_model::specs::Forms::bytes_in))]
+fn front_of(payload: &[u8], count: u32, at: u32) -> Result<&[u8], ReadStop>
+    ensures { Gives (λ p. p.now) at result (bytes_in count payload.now) }
+{
+    let count = count as usize;
+    if payload.len() < count {
+        return Err(stop(HiveFaultKind::FormShort, at));
+    }
+    Ok(&payload[..count])
+}
+
+/// The first bytes of a cell, where they stand, and their use. Takes the same time for any number of bytes.
 #[tactic(auto, unfolding(crate::specs::Parts::part))]
+pub(crate) fn use_front<'a>(
+    cells: &DamagedCells<'a>,
+    used: &mut Used,
+    count: u32,
+    at: u32,
+) -> Result<&'a [u8], ReadStop>
+    ensures { Gains (λ p. p.now) at used.old used.new result (part (bytes_in count) bytes_long false (ground_of cells.now) used.old at) }
+{
+    let payload = admit(cells, used, false, at)?;
+    let front = front_of(payload, count, at)?;
+    claim(cells, used, false, at, 4 + front.len() as u64)?;
+    Ok(front)
+}
+
+/// The first bytes of a cell, as of a class or of data, and their use.
 pub(crate) fn use_bytes(
     alloc: Global,
     cells: &DamagedCells<'_>,
@@ -218,11 +244,8 @@ pub(crate) fn use_bytes(
 ) -> Result<Bytes, ReadStop>
     ensures { Gains (λ b. b) at used.old used.new result (part (bytes_in count) bytes_long false (ground_of cells.now) used.old at) }
 {
-    let payload = admit(cells, used, false, at)?;
-    let bytes = read_bytes(alloc, payload, count, at)?;
-    let long = 4 + bytes.len() as u64;
-    claim(cells, used, false, at, long)?;
-    Ok(bytes)
+    let front = use_front(cells, used, count, at)?;
+    Ok(Bytes::from_slice(alloc, front)?)
 }
 
 /// That many offsets of segments, and their use.

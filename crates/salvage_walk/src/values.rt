@@ -1,20 +1,21 @@
 //! Values with their data.
 
-ghost use Rattle.std.specs.Prelude.{◌≡◌, []};
+ghost use Rattle.std.specs.Prelude.{◌≡◌, [], IfOk};
 ghost use Rattle.hive_model.specs.Size.{is_big as is_big_data};
 ghost use Rattle.cell_forms.specs.Views.{key_value_of};
 ghost use Rattle.salvage_bins.specs.Ground.{ground_of};
 ghost use Rattle.salvage_walk.specs.Values.{bytes_part, segments_part, big_part, celled_part, data_part, value_part};
+ghost use Rattle.salvage_walk.specs.Segments.{front_in, segments_there, segments_used, Spends};
 ghost use Rattle.salvage_walk.specs.Walked.{Tries, Takes};
 
 use crate::claims::Used;
 use crate::names::NameSet;
-use crate::parts::{use_big_data, use_bytes, use_offsets, use_value};
+use crate::parts::{use_big_data, use_bytes, use_front, use_offsets, use_value};
 use cell_forms::{VkForm, data_inside};
 use nt_bytes::{Bytes, HiveVersion, ReadStop};
 use reg_tree::Value;
 use salvage_bins::DamagedCells;
-use std::alloc::Global;
+use std::alloc::{AllocError, Global};
 
 // How many bytes a full segment of big data holds.
 const SEGMENT: u32 = 16_344;
@@ -34,7 +35,73 @@ pub(crate) fn take_bytes(
     use_bytes(alloc, cells, used, count, at)
 }
 
+// The first bytes of a segment, where they stand, and their use.
+#[tactic(auto, unfolding(crate::specs::Values::bytes_part))]
+fn use_segment<'a>(
+    cells: &DamagedCells<'a>,
+    used: &mut Used,
+    count: u32,
+    at: u32,
+) -> Result<&'a [u8], ReadStop>
+    ensures { Tries (λ p. p.now) used.old used.new result (bytes_part count (ground_of cells.now) used.old at) }
+{
+    use_front(cells, used, count, at)
+}
+
+// Uses the segments at these offsets. None of their bytes is read.
+fn use_segments(
+    cells: &DamagedCells<'_>,
+    used: &mut Used,
+    size: u32,
+    offsets: &[u32],
+) -> Result<(), ReadStop>
+    ensures { Spends used.old used.new result (segments_used (ground_of cells.now) size offsets.now used.old) }
+{
+    let mut left = size;
+    let mut rest = offsets;
+    'segments: loop {
+        let [at, more @ ..] = rest else {
+            return Ok(());
+        };
+        let _front = use_segment(cells, used, SEGMENT.min(left), *at)?;
+        left = left.saturating_sub(SEGMENT);
+        rest = more;
+    }
+}
+
+// The first bytes of an allocated cell, as many of them as there are.
+fn front_at<'a>(cells: &DamagedCells<'a>, count: u32, at: u32) -> &'a [u8]
+    ensures { result.now ≡ front_in count ((ground_of cells.now).cells.payload at) }
+{
+    match cells.payload(at) {
+        Ok(payload) => &payload[..payload.len().min(count as usize)],
+        Err(_) => &[],
+    }
+}
+
 // The bytes of the segments at these offsets, joined in order.
+fn join_segments(
+    alloc: Global,
+    cells: &DamagedCells<'_>,
+    size: u32,
+    offsets: &[u32],
+) -> Result<Bytes, AllocError>
+    ensures { IfOk result (λ b. b ≡ segments_there (ground_of cells.now) size offsets.now) }
+{
+    let mut bytes = Bytes::new(alloc);
+    let mut left = size;
+    let mut rest = offsets;
+    'segments: loop {
+        let [at, more @ ..] = rest else {
+            return Ok(bytes);
+        };
+        bytes.append(front_at(cells, SEGMENT.min(left), *at))?;
+        left = left.saturating_sub(SEGMENT);
+        rest = more;
+    }
+}
+
+// The bytes of the segments at these offsets, which are read only once all segments are used.
 fn try_segments(
     alloc: Global,
     cells: &DamagedCells<'_>,
@@ -44,18 +111,8 @@ fn try_segments(
 ) -> Result<Bytes, ReadStop>
     ensures { Tries (λ b. b) used.old used.new result (segments_part (ground_of cells.now) [] size offsets.now used.old) }
 {
-    let mut bytes = Bytes::new(alloc);
-    let mut left = size;
-    let mut rest = offsets;
-    'segments: loop {
-        let [at, more @ ..] = rest else {
-            return Ok(bytes);
-        };
-        let part = take_bytes(alloc, cells, used, SEGMENT.min(left), *at)?;
-        bytes.append(part.as_slice())?;
-        left = left.saturating_sub(SEGMENT);
-        rest = more;
-    }
+    use_segments(cells, used, size, offsets)?;
+    Ok(join_segments(alloc, cells, size, offsets)?)
 }
 
 // Big data of that many bytes.
