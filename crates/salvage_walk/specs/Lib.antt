@@ -9,6 +9,8 @@ pub mod Keys
 pub mod Incomplete
 pub mod Found
 pub mod FrontSeen
+pub mod FrontPlaces
+pub mod SecuritySeen
 pub mod Placed
 pub mod LooseEnds
 pub mod Folded

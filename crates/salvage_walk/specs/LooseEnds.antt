@@ -2,12 +2,12 @@
 --
 -- What is used of one loose cell lies apart from what is used of another, so that of the bytes up to an end those can be used alone
 -- that lie in what is used of the last one that begins before the end.
-use Rattle.std.specs.Prelude.{◌≡◌, ◌<◌, ◌≤◌, ◌==◌, ◌&&◌, ℕ, Bool, if◌then◌else◌, List, take, slice_get, Option, None, Some}
+use Rattle.std.specs.Prelude.{◌≡◌, ◌<◌, ◌≤◌, ◌==◌, ◌&&◌, ℕ, if◌then◌else◌, List, Option, None, Some}
 use Rattle.std.specs.Ordering.{nat_cmp}
 use Rattle.std.specs.BTreeMap.{BTreeMap, get}
 use Rattle.salvage_walk.specs.declared.claims.Claim.{Claim}
 use Rattle.salvage_walk.specs.Uses.{claim_of}
-use Rattle.salvage_walk.specs.Placed.{ArePlaced, AreOnce}
+use Rattle.salvage_walk.specs.Placed.{ArePlaced}
 
 -- up to where a cell is used, where it is loose
 abbrev pub loose_end : Option Claim → Option ℕ

@@ -9,6 +9,7 @@ ghost use Rattle.salvage_bins.specs.Ground.{ground_of};
 ghost use Rattle.salvage_walk.specs.Uses.{claimed};
 ghost use Rattle.salvage_walk.specs.Fronts.{front_of, kind_front, list_front, leaf_front, values_front, kind_or_short, claimed_or_short, front_part};
 ghost use Rattle.salvage_walk.specs.FrontSeen.{front_seen};
+ghost use Rattle.salvage_walk.specs.FrontPlaces.{front_there, IsFrontPlace};
 ghost use Rattle.salvage_walk.specs.Walked.{Gains};
 
 use crate::claims::Used;
@@ -23,6 +24,17 @@ use std::alloc::{AllocError, Global};
 pub struct FrontForm {
     pub kind: ListKind,
     pub offsets: Offsets,
+    pub long: u64,
+    pub short: bool,
+}
+
+/// The same, with its entries where they stand: that many, of `step` bytes each.
+#[derive(Drop)]
+pub struct FrontPlace<'a> {
+    pub kind: ListKind,
+    pub step: usize,
+    pub fits: usize,
+    pub entries: &'a [u8],
     pub long: u64,
     pub short: bool,
 }
@@ -45,73 +57,66 @@ fn numbers(alloc: Global, step: usize, count: usize, bytes: &[u8]) -> Result<Off
 }
 
 // Of that many entries of that many bytes each, after that many bytes of a payload, those that are there.
-fn front(
-    alloc: Global,
-    kind: ListKind,
-    step: usize,
-    count: usize,
-    from: usize,
-    payload: &[u8],
-) -> Result<FrontForm, AllocError>
+fn front(kind: ListKind, step: usize, count: usize, from: usize, payload: &[u8]) -> FrontPlace<'_>
     requires wide { 4 ≤ step }
     requires narrow { step ≤ 8 }
     requires few { count < 2 ^ 32 }
     requires inside { from ≤ length payload.now }
-    ensures exact { IfOk result (λ f. front_seen f ≡ front_of (kind_of kind) step count from payload.now) }
-    ensures bounds { IfOk result (λ f. (4 ≤ f.long) × (f.long ≤ 2 ^ 63 + 4)) }
+    ensures exact { front_there result ≡ front_of (kind_of kind) step count from payload.now }
+    ensures bounds { IsFrontPlace result }
 {
     let fits = count.min((payload.len() - from) / step);
-    let offsets = numbers(alloc, step, fits, &payload[from..])?;
-    Ok(FrontForm {
+    FrontPlace {
         kind,
-        offsets,
+        step,
+        fits,
+        entries: &payload[from..],
         long: (4 + from + step * fits) as u64,
         short: payload.len() < from + step * count,
-    })
+    }
 }
 
 // A list of subkeys of this kind, whose entries have `step` bytes.
 #[tactic(auto, unfolding(crate::specs::Fronts::kind_front))]
 fn kind_of_list(
-    alloc: Global,
     kind: ListKind,
     step: usize,
     payload: &[u8],
     at: u32,
-) -> Result<FrontForm, ReadStop>
+) -> Result<FrontPlace<'_>, ReadStop>
     requires wide { 4 ≤ step }
     requires narrow { step ≤ 8 }
-    ensures exact { Gives front_seen at result (kind_front (kind_of kind) step payload.now) }
-    ensures bounds { IfOk result (λ f. (4 ≤ f.long) × (f.long ≤ 2 ^ 63 + 4)) }
+    ensures exact { Gives front_there at result (kind_front (kind_of kind) step payload.now) }
+    ensures bounds { IfOk result IsFrontPlace }
 {
     if payload.len() < 4 {
         return Err(stop(HiveFaultKind::FormShort, at));
     }
     let count = usize::from(u16_at(payload, 2));
-    Ok(front(alloc, kind, step, count, 4, payload)?)
+    Ok(front(kind, step, count, 4, payload))
 }
 
 // A list of subkeys.
 #[tactic(auto, unfolding(crate::specs::Fronts::list_front))]
-fn list_in(alloc: Global, payload: &[u8], at: u32) -> Result<FrontForm, ReadStop>
-    ensures exact { Gives front_seen at result (list_front payload.now) }
-    ensures bounds { IfOk result (λ f. (4 ≤ f.long) × (f.long ≤ 2 ^ 63 + 4)) }
+fn list_in(payload: &[u8], at: u32) -> Result<FrontPlace<'_>, ReadStop>
+    ensures exact { Gives front_there at result (list_front payload.now) }
+    ensures bounds { IfOk result IsFrontPlace }
 {
     if payload.len() < 2 {
         return Err(stop(HiveFaultKind::FormShort, at));
     }
     let sign = u16_at(payload, 0);
     if sign == 0x696c {
-        return kind_of_list(alloc, ListKind::Li, 4, payload, at);
+        return kind_of_list(ListKind::Li, 4, payload, at);
     }
     if sign == 0x666c {
-        return kind_of_list(alloc, ListKind::Lf, 8, payload, at);
+        return kind_of_list(ListKind::Lf, 8, payload, at);
     }
     if sign == 0x686c {
-        return kind_of_list(alloc, ListKind::Lh, 8, payload, at);
+        return kind_of_list(ListKind::Lh, 8, payload, at);
     }
     if sign == 0x6972 {
-        return kind_of_list(alloc, ListKind::Ri, 4, payload, at);
+        return kind_of_list(ListKind::Ri, 4, payload, at);
     }
     Err(stop(HiveFaultKind::FormSign, at))
 }
@@ -141,31 +146,45 @@ fn or_short(short: bool, kind: HiveFaultKind) -> HiveFaultKind
 
 // A list of a list of lists.
 #[tactic(auto, unfolding(crate::specs::Fronts::leaf_front))]
-fn leaf_in(alloc: Global, payload: &[u8], at: u32) -> Result<FrontForm, ReadStop>
-    ensures exact { Gives front_seen at result (leaf_front payload.now) }
-    ensures bounds { IfOk result (λ f. (4 ≤ f.long) × (f.long ≤ 2 ^ 63 + 4)) }
+fn leaf_in(payload: &[u8], at: u32) -> Result<FrontPlace<'_>, ReadStop>
+    ensures exact { Gives front_there at result (leaf_front payload.now) }
+    ensures bounds { IfOk result IsFrontPlace }
 {
-    let list = list_in(alloc, payload, at)?;
+    let list = list_in(payload, at)?;
     if lists_lists(list.kind) {
         return Err(stop(or_short(list.short, HiveFaultKind::FormKind), at));
     }
     Ok(list)
 }
 
-// The use of a list.
+// The front that stands at this place.
+fn read_front(alloc: Global, list: FrontPlace<'_>) -> Result<FrontForm, AllocError>
+    requires { IsFrontPlace list }
+    ensures { IfOk result (λ f. front_seen f ≡ front_there list.entry) }
+{
+    let offsets = numbers(alloc, list.step, list.fits, list.entries)?;
+    Ok(FrontForm {
+        kind: list.kind,
+        offsets,
+        long: list.long,
+        short: list.short,
+    })
+}
+
+// The use of a list. Its entries are read only then.
 fn claim_front(
+    alloc: Global,
     cells: &DamagedCells<'_>,
     used: &mut Used,
-    list: FrontForm,
+    list: FrontPlace<'_>,
     at: u32,
 ) -> Result<FrontForm, ReadStop>
-    requires some { 4 ≤ list.long }
-    requires small { list.long ≤ 2 ^ 63 + 4 }
+    requires { IsFrontPlace list }
     ensures { Gains front_seen at used.old used.new result
-        (claimed_or_short (front_seen list) (claimed (ground_of cells.now) used.old false at list.long)) }
+        (claimed_or_short (front_there list.entry) (claimed (ground_of cells.now) used.old false at list.entry.long)) }
 {
     match claim(cells, used, false, at, list.long) {
-        Ok(()) => Ok(list),
+        Ok(()) => Ok(read_front(alloc, list)?),
         Err(ReadStop::Memory) => Err(ReadStop::Memory),
         Err(ReadStop::Fault(fault)) => Err(stop(or_short(list.short, fault.kind), at)),
     }
@@ -183,8 +202,8 @@ pub(crate) fn use_values(
     ensures { Gains front_seen at used.old used.new result (front_part (values_front count) (ground_of cells.now) used.old at) }
 {
     let payload = admit(cells, used, false, at)?;
-    let list = front(alloc, ListKind::Li, 4, count as usize, 0, payload)?;
-    claim_front(cells, used, list, at)
+    let list = front(ListKind::Li, 4, count as usize, 0, payload);
+    claim_front(alloc, cells, used, list, at)
 }
 
 /// A list of subkeys, and its use.
@@ -198,8 +217,8 @@ pub(crate) fn use_list(
     ensures { Gains front_seen at used.old used.new result (front_part list_front (ground_of cells.now) used.old at) }
 {
     let payload = admit(cells, used, false, at)?;
-    let list = list_in(alloc, payload, at)?;
-    claim_front(cells, used, list, at)
+    let list = list_in(payload, at)?;
+    claim_front(alloc, cells, used, list, at)
 }
 
 /// A list of a list of lists, and its use.
@@ -213,6 +232,6 @@ pub(crate) fn use_leaf(
     ensures { Gains front_seen at used.old used.new result (front_part leaf_front (ground_of cells.now) used.old at) }
 {
     let payload = admit(cells, used, false, at)?;
-    let list = leaf_in(alloc, payload, at)?;
-    claim_front(cells, used, list, at)
+    let list = leaf_in(payload, at)?;
+    claim_front(alloc, cells, used, list, at)
 }

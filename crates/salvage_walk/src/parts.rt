@@ -11,14 +11,15 @@ ghost use Rattle.cell_forms.specs.Views.{big_data_of as form_of, key_node_of, ke
 ghost use Rattle.salvage_bins.specs.Ground.{ground_of};
 ghost use Rattle.salvage_walk.specs.Uses.{admitted, claimed, clashes};
 ghost use Rattle.salvage_walk.specs.Parts.{part, node_form, value_form, name_bytes, node_long, value_long, security_long, bytes_long, big_long, offsets_long};
+ghost use Rattle.salvage_walk.specs.SecuritySeen.{sk_seen};
 ghost use Rattle.salvage_walk.specs.Walked.{Gains, ClaimsOf};
 
 use crate::claims::{Claim, Used};
 use crate::names::NameSet;
 use cell_forms::{
-    DbForm, NkForm, Offsets, SkForm, VkForm, read_db, read_nk, read_offsets, read_sk, read_vk,
+    DbForm, NkForm, Offsets, SkForm, VkForm, read_db, read_nk, read_offsets, read_vk,
 };
-use nt_bytes::{Bytes, HiveFault, HiveFaultKind, ReadStop};
+use nt_bytes::{Bytes, HiveFault, HiveFaultKind, ReadStop, u16_at, u32_at};
 use salvage_bins::DamagedCells;
 use std::alloc::Global;
 
@@ -188,7 +189,42 @@ pub(crate) fn use_value(
     Ok(value)
 }
 
-/// The security cell, and its use.
+/// A security cell, its descriptor where it stands.
+#[derive(Drop)]
+pub struct SkSeen<'a> {
+    pub forward: u32,
+    pub backward: u32,
+    pub uses: u32,
+    pub descriptor: &'a [u8],
+}
+
+// The security cell in a payload.
+#[tactic(auto, unfolding(hive_model::specs::Security::security_at))]
+fn see_sk(payload: &[u8], at: u32) -> Result<SkSeen<'_>, ReadStop>
+    ensures { Gives sk_seen at result (security_at payload.now) }
+{
+    if payload.len() < 2 {
+        return Err(stop(HiveFaultKind::FormShort, at));
+    }
+    if u16_at(payload, 0) != 0x6b73 {
+        return Err(stop(HiveFaultKind::FormSign, at));
+    }
+    if payload.len() < 20 {
+        return Err(stop(HiveFaultKind::FormShort, at));
+    }
+    let end = 20 + u32_at(payload, 16) as usize;
+    if payload.len() < end {
+        return Err(stop(HiveFaultKind::FormShort, at));
+    }
+    Ok(SkSeen {
+        forward: u32_at(payload, 4),
+        backward: u32_at(payload, 8),
+        uses: u32_at(payload, 12),
+        descriptor: &payload[20..end],
+    })
+}
+
+/// The security cell, and its use. Its descriptor is read only then.
 #[tactic(auto, unfolding(crate::specs::Parts::part))]
 pub(crate) fn use_security(
     alloc: Global,
@@ -200,10 +236,15 @@ pub(crate) fn use_security(
         (part security_at security_long true (ground_of cells.now) used.old at) }
 {
     let payload = admit(cells, used, true, at)?;
-    let cell = read_sk(alloc, payload, at)?;
+    let cell = see_sk(payload, at)?;
     let long = 24 + cell.descriptor.len() as u64;
     claim(cells, used, true, at, long)?;
-    Ok(cell)
+    Ok(SkForm {
+        forward: cell.forward,
+        backward: cell.backward,
+        uses: cell.uses,
+        descriptor: Bytes::from_slice(alloc, cell.descriptor)?,
+    })
 }
 
 // The first bytes of a payload, where they stand.
