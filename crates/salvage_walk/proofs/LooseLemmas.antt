@@ -23,12 +23,14 @@ any-rest true b e = absurd cc
 any-rest false b e = (refl, e)
 
 -- where none of them is at a place
-any-none : (p : Claim → Bool) (cs : List Claim) → ((n : ℕ) (c : Claim) → slice_get cs n ≡ Some c → p c ≡ false) → list_any p cs ≡ false
+any-none : (p : Claim → Bool) (cs : List Claim) → ((n : ℕ) (c : Claim) → slice_get cs n ≡ Some c → p c ≡ false)
+    → list_any p cs ≡ false
 any-none p [] h = refl
 any-none p (c ∷ cs) h = ap (λ b. b || list_any p cs) (h 0 c refl) ∙ any-none p cs (λ n d e. h (suc n) d e)
 
 -- one at a place is found where none before it is
-find-at : (p : Claim → Bool) (cs : List Claim) (n : ℕ) (c : Claim) → slice_get cs n ≡ Some c → p c ≡ true → find p (take n cs) ≡ None
+find-at : (p : Claim → Bool) (cs : List Claim) (n : ℕ) (c : Claim) → slice_get cs n ≡ Some c → p c ≡ true
+    → find p (take n cs) ≡ None
     → find p cs ≡ Some c
 find-at p [] n c e t none = absurd cc
 find-at p (x ∷ cs) zero c e t none = same c (sym e) t
@@ -38,17 +40,20 @@ find-at p (x ∷ cs) zero c e t none = same c (sym e) t
 find-at p (x ∷ cs) (suc n) c e t none = go (p x) refl (λ k. find-at p cs n c e t k)
   where
     go : (b : Bool) → p x ≡ b → (find p (take n cs) ≡ None → find p cs ≡ Some c) → cond b (Some x) (find p cs) ≡ Some c
-    go true h more = absurd (let f : Some x ≡ None = ap (λ (b : Bool). cond b (Some x) (find p (take n cs))) (sym h) ∙ none in cc)
+    go true h more =
+        absurd (let f : Some x ≡ None = ap (λ (b : Bool). cond b (Some x) (find p (take n cs))) (sym h) ∙ none in cc)
     go false h more = more (ap (λ (b : Bool). cond b (Some x) (find p (take n cs))) (sym h) ∙ none)
 
 eq-self : (n : ℕ) → (n == n) ≡ true
 eq-self n = grind (arith, nat_tests)
 
-once-found : (claims : List Claim) (n : ℕ) (c : Claim) → AreOnce claims → slice_get claims n ≡ Some c → claim_of c.at claims ≡ Some c
+once-found : (claims : List Claim) (n : ℕ) (c : Claim) → AreOnce claims → slice_get claims n ≡ Some c
+    → claim_of c.at claims ≡ Some c
 once-found claims n c o e = find-at (λ (d : Claim). d.at == c.at) claims n c e (eq-self c.at) (o n c e)
 
 -- of what is used of a loose cell no byte is among others of which none is used
-found-lies : (cs : List Claim) (a end x y : ℕ) → loose_end (claim_of a cs) ≡ Some end → list_any (lies_in x y) cs ≡ false
+found-lies : (cs : List Claim) (a end x y : ℕ) → loose_end (claim_of a cs) ≡ Some end
+    → list_any (lies_in x y) cs ≡ false
     → (nat_lt a y && nat_lt x end) ≡ false
 found-lies [] a end x y e none = absurd cc
 found-lies (c ∷ cs) a end x y e none = go (c.at == a) refl e (λ d. found-lies cs a end x y d r.1)
@@ -56,15 +61,18 @@ found-lies (c ∷ cs) a end x y e none = go (c.at == a) refl e (λ d. found-lies
     r : (lies_in x y c ≡ false) × (list_any (lies_in x y) cs ≡ false)
     r = any-rest (lies_in x y c) (list_any (lies_in x y) cs) none
 
-    loose : (l : Bool) → c.loose ≡ l → c.at ≡ a → cond l (Some c.end) None ≡ Some end → (nat_lt a y && nat_lt x end) ≡ false
+    loose : (l : Bool) → c.loose ≡ l → c.at ≡ a → cond l (Some c.end) None ≡ Some end
+        → (nat_lt a y && nat_lt x end) ≡ false
     loose false h t e = absurd cc
     loose true h t e =
         let f : c.end ≡ end = cc in
-        sym (ap (λ b. b && (nat_lt c.at y && nat_lt x c.end)) h ∙ ap (λ n. nat_lt n y && nat_lt x c.end) t ∙ ap (λ n. nat_lt a y && nat_lt x n) f)
+        sym (ap (λ b. b && (nat_lt c.at y && nat_lt x c.end)) h ∙ ap (λ n. nat_lt n y && nat_lt x c.end) t
+        ∙ ap (λ n. nat_lt a y && nat_lt x n) f)
         ∙ r.0
 
     go : (b : Bool) → (c.at == a) ≡ b → loose_end (cond b (Some c) (claim_of a cs)) ≡ Some end
-        → (loose_end (claim_of a cs) ≡ Some end → (nat_lt a y && nat_lt x end) ≡ false) → (nat_lt a y && nat_lt x end) ≡ false
+        → (loose_end (claim_of a cs) ≡ Some end → (nat_lt a y && nat_lt x end) ≡ false)
+        → (nat_lt a y && nat_lt x end) ≡ false
     go true t e more = loose c.loose refl (eqb-true c.at a t) e
     go false t e more = more e
 
@@ -86,11 +94,13 @@ lies-not c x y never = go c.loose (nat_lt c.at y) (nat_lt x c.end) refl refl ref
 pub ends-none : (ends : BTreeMap ℕ ℕ) (claims : List Claim) (at end : ℕ) → AreOnce claims → LooseEnds ends claims
     → IsLastBefore ends end None → false ≡ overlaps at end claims
 ends-none ends claims at end o e last = sym (any-none (lies_in at end) claims (λ n c h. lies-not c at end (λ l low high.
-    let found : get nat_cmp ends c.at ≡ Some c.end = e.each c.at ∙ ap loose_end (once-found claims n c o h) ∙ ap (λ b. cond b (Some c.end) None) l in
+    let found : get nat_cmp ends c.at ≡ Some c.end = e.each c.at ∙ ap loose_end (once-found claims n c o h)
+    ∙ ap (λ b. cond b (Some c.end) None) l in
     let none : get nat_cmp ends c.at ≡ None = last c.at low in
     absurd (let f : Some c.end ≡ None = sym found ∙ none in cc))))
 
-pub ends-some : (ends : BTreeMap ℕ ℕ) (claims : List Claim) (at end : ℕ) (last : ℕ × ℕ) → AreOnce claims → LooseEnds ends claims
+pub ends-some : (ends : BTreeMap ℕ ℕ) (claims : List Claim) (at end : ℕ) (last : ℕ × ℕ) → AreOnce claims
+    → LooseEnds ends claims
     → IsLastBefore ends end (Some last) → nat_lt at last.1 ≡ overlaps at end claims
 ends-some ends claims at end last o e h = go (nat_lt at last.1) (overlaps at end claims) refl refl
   where
@@ -101,17 +111,20 @@ ends-some ends claims at end last o e h = go (nat_lt at last.1) (overlaps at end
     go true true i j = refl
     go false false i j = refl
     go true false i j =
-        absurd (let f : true ≡ false = sym (ap (λ b. b && true) (below-true last.0 end h.0)) ∙ ap (λ b. nat_lt last.0 end && b) (sym i)
+        absurd (let f : true ≡ false = sym (ap (λ b. b && true) (below-true last.0 end h.0))
+        ∙ ap (λ b. nat_lt last.0 end && b) (sym i)
         ∙ found-lies claims last.0 last.1 at end there j in cc)
     go false true i j =
         let high : last.1 ≤ at = grind (arith, nat_tests, i) in
-        absurd (let f : true ≡ false = sym j ∙ any-none (lies_in at end) claims (λ n c k. lies-not c at end (λ l low over.
+        absurd (let f : true ≡ false = sym j ∙ any-none (lies_in at end) claims (λ n c k. lies-not c at end (λ l low
+        over.
         let found : get nat_cmp ends c.at ≡ Some c.end
         = e.each c.at ∙ ap loose_end (once-found claims n c o k) ∙ ap (λ b. cond b (Some c.end) None) l in
         let near : c.at ≤ last.0 = h.2 c.at c.end low found in
         by c over high near found (c.at == last.0) refl)) in cc)
       where
-        by : (c : Claim) → at < c.end → last.1 ≤ at → c.at ≤ last.0 → get nat_cmp ends c.at ≡ Some c.end → (b : Bool) → (c.at == last.0) ≡ b → ⊥
+        by : (c : Claim) → at < c.end → last.1 ≤ at → c.at ≤ last.0 → get nat_cmp ends c.at ≡ Some c.end
+            → (b : Bool) → (c.at == last.0) ≡ b → ⊥
         by c over high near found true t =
             let same : c.at ≡ last.0 = eqb-true c.at last.0 t in
             let twice : Some c.end ≡ Some last.1 = sym found ∙ ap (get nat_cmp ends) same ∙ h.1 in
@@ -137,7 +150,8 @@ is-less a b l = ap (λ c. cond {A = Ordering} c Less (cond (a == b) Equal Greate
 pub last-one : (ends : BTreeMap ℕ ℕ) (place at end : ℕ) → nat_cmp at place ≡ Less → get nat_cmp ends at ≡ Some end
     → ((q : ℕ) → nat_cmp q place ≡ Less → IsSome (get nat_cmp ends q) → is_lt (nat_cmp at q) ≡ false)
     → IsLastBefore ends place (Some (at, end))
-last-one ends place at end l e h = (less-is at place l, e, λ q other low found. near q (h q (is-less q place low) (is q other found)))
+last-one ends place at end l e h =
+    (less-is at place l, e, λ q other low found. near q (h q (is-less q place low) (is q other found)))
   where
     is : (q other : ℕ) → get nat_cmp ends q ≡ Some other → IsSome (get nat_cmp ends q)
     is q other d = rw d refl
@@ -147,7 +161,8 @@ last-one ends place at end l e h = (less-is at place l, e, λ q other low found.
       where
         go : (b : Bool) → nat_lt at q ≡ b → q ≤ at
         go false i = grind (arith, nat_tests, i)
-        go true i = absurd (let f : true ≡ false = sym (ap is_lt (is-less at q (grind (arith, nat_tests, i)))) ∙ k in cc)
+        go true i = absurd (let f : true ≡ false = sym (ap is_lt (is-less at q (grind (arith, nat_tests, i))))
+            ∙ k in cc)
 
 -- ---- a use more, and a use less
 
@@ -180,16 +195,19 @@ loose-push old new claims c u fresh long free f = record {
       (λ d. f.apart a end b other e d less));
 }
   where
-    spared : (a end : ℕ) → get nat_cmp old a ≡ Some end → overlaps c.at c.end claims ≡ false → (nat_lt a c.end && nat_lt c.at end) ≡ false
+    spared : (a end : ℕ) → get nat_cmp old a ≡ Some end → overlaps c.at c.end claims ≡ false
+        → (nat_lt a c.end && nat_lt c.at end) ≡ false
     spared a end e none = found-lies claims a end c.at c.end (sym (f.each a) ∙ e) none
 
-    first : (a end b other long : ℕ) → a < b → c.at ≡ a → c.end ≡ end → b < other → (nat_lt b c.end && nat_lt c.at other) ≡ false → end ≤ b
+    first : (a end b other long : ℕ) → a < b → c.at ≡ a → c.end ≡ end → b < other
+        → (nat_lt b c.end && nat_lt c.at other) ≡ false → end ≤ b
     first a end b other long less same k z y = grind (arith, nat_tests)
 
     second : (a end b : ℕ) → a < b → c.at ≡ b → (nat_lt a c.end && nat_lt c.at end) ≡ false → end ≤ b
     second a end b less same y = grind (arith, nat_tests)
 
-    at_each : (at : ℕ) (b : Bool) → (c.at == at) ≡ b → with_end c at (get nat_cmp old at) ≡ loose_end (claim_of at (claims ++ c ∷ []))
+    at_each : (at : ℕ) (b : Bool) → (c.at == at) ≡ b
+        → with_end c at (get nat_cmp old at) ≡ loose_end (claim_of at (claims ++ c ∷ []))
     at_each at true t = by c.loose refl
       where
         none : claim_of at claims ≡ None
@@ -199,14 +217,17 @@ loose-push old new claims c u fresh long free f = record {
         found = find-last (λ (d : Claim). d.at == at) claims c none ∙ ap (λ b. cond b (Some c) None) t
 
         by : (l : Bool) → c.loose ≡ l → with_end c at (get nat_cmp old at) ≡ loose_end (claim_of at (claims ++ c ∷ []))
-        by true h = ap (λ b. cond (b && (c.at == at)) (Some c.end) (get nat_cmp old at)) h ∙ ap (λ b. cond b (Some c.end) (get nat_cmp old at)) t
+        by true h = ap (λ b. cond (b && (c.at == at)) (Some c.end) (get nat_cmp old at)) h
+            ∙ ap (λ b. cond b (Some c.end) (get nat_cmp old at)) t
             ∙ sym (ap loose_end found ∙ ap (λ b. cond b (Some c.end) None) h)
-        by false h = ap (λ b. cond (b && (c.at == at)) (Some c.end) (get nat_cmp old at)) h ∙ f.each at ∙ ap loose_end none
+        by false h = ap (λ b. cond (b && (c.at == at)) (Some c.end) (get nat_cmp old at)) h ∙ f.each at
+            ∙ ap loose_end none
             ∙ sym (ap loose_end found ∙ ap (λ b. cond b (Some c.end) None) h)
     at_each at false t = by c.loose refl
       where
         by : (l : Bool) → c.loose ≡ l → with_end c at (get nat_cmp old at) ≡ loose_end (claim_of at (claims ++ c ∷ []))
-        by true h = ap (λ b. cond (b && (c.at == at)) (Some c.end) (get nat_cmp old at)) h ∙ ap (λ b. cond b (Some c.end) (get nat_cmp old at)) t
+        by true h = ap (λ b. cond (b && (c.at == at)) (Some c.end) (get nat_cmp old at)) h
+            ∙ ap (λ b. cond b (Some c.end) (get nat_cmp old at)) t
             ∙ f.each at ∙ ap loose_end (sym (find-before (λ (d : Claim). d.at == at) claims c t))
         by false h = ap (λ b. cond (b && (c.at == at)) (Some c.end) (get nat_cmp old at)) h
             ∙ f.each at ∙ ap loose_end (sym (find-before (λ (d : Claim). d.at == at) claims c t))
@@ -230,7 +251,8 @@ loose-pop old new claims c u fresh f = record {
       (without-was c b other (get nat_cmp old b) (sym (u b) ∙ d)) less;
 }
   where
-    at_each : (at : ℕ) (b : Bool) → (c.at == at) ≡ b → without_end c at (get nat_cmp old at) ≡ loose_end (claim_of at claims)
+    at_each : (at : ℕ) (b : Bool) → (c.at == at) ≡ b
+        → without_end c at (get nat_cmp old at) ≡ loose_end (claim_of at claims)
     at_each at true t = by c.loose refl
       where
         none : claim_of at claims ≡ None
@@ -240,7 +262,8 @@ loose-pop old new claims c u fresh f = record {
         found = find-last (λ (d : Claim). d.at == at) claims c none ∙ ap (λ b. cond b (Some c) None) t
 
         by : (l : Bool) → c.loose ≡ l → without_end c at (get nat_cmp old at) ≡ loose_end (claim_of at claims)
-        by true h = ap (λ b. cond (b && (c.at == at)) None (get nat_cmp old at)) h ∙ ap (λ b. cond b None (get nat_cmp old at)) t
+        by true h = ap (λ b. cond (b && (c.at == at)) None (get nat_cmp old at)) h
+            ∙ ap (λ b. cond b None (get nat_cmp old at)) t
             ∙ sym (ap loose_end none)
         by false h = ap (λ b. cond (b && (c.at == at)) None (get nat_cmp old at)) h ∙ f.each at ∙ ap loose_end found
             ∙ ap (λ b. cond b (Some c.end) None) h ∙ sym (ap loose_end none)
@@ -250,7 +273,8 @@ loose-pop old new claims c u fresh f = record {
         kept = f.each at ∙ ap loose_end (find-before (λ (d : Claim). d.at == at) claims c t)
 
         by : (l : Bool) → c.loose ≡ l → without_end c at (get nat_cmp old at) ≡ loose_end (claim_of at claims)
-        by true h = ap (λ b. cond (b && (c.at == at)) None (get nat_cmp old at)) h ∙ ap (λ b. cond b None (get nat_cmp old at)) t ∙ kept
+        by true h = ap (λ b. cond (b && (c.at == at)) None (get nat_cmp old at)) h
+            ∙ ap (λ b. cond b None (get nat_cmp old at)) t ∙ kept
         by false h = ap (λ b. cond (b && (c.at == at)) None (get nat_cmp old at)) h ∙ kept
 
 -- the last of some was of no cell before
@@ -274,8 +298,10 @@ loose-alike old new claims s f = record {
   apart = λ a end b other e d less. f.apart a end b other (sym (s a) ∙ e) (sym (s b) ∙ d) less;
 }
 
-pub loose-same : (old new : BTreeMap ℕ ℕ) (claims : List Claim) → new.entries ≡ old.entries → LooseEnds old claims → LooseEnds new claims
-loose-same old new claims e f = loose-alike old new claims (λ at. ap (λ (es : List (ℕ × ℕ)). lookup (is_at (nat_cmp at)) es) e) f
+pub loose-same : (old new : BTreeMap ℕ ℕ) (claims : List Claim) → new.entries ≡ old.entries → LooseEnds old claims
+    → LooseEnds new claims
+loose-same old new claims e f =
+    loose-alike old new claims (λ at. ap (λ (es : List (ℕ × ℕ)). lookup (is_at (nat_cmp at)) es) e) f
 
 -- an end that was noted and forgotten again
 undone : (c : Claim) (at : ℕ) (o : Option ℕ) → (c.at ≡ at → o ≡ None) → without_end c at (with_end c at o) ≡ o
@@ -287,8 +313,10 @@ undone c at o none = go c.loose (c.at == at) refl
     go true true t = sym (none (eqb-true c.at at t))
 
 pub loose-step : {X E : Type 0} (old noted new : BTreeMap ℕ ℕ) (claims after : List Claim) (c : Claim) (r : Result X E)
-    → ((at : ℕ) → get nat_cmp noted at ≡ with_end c at (get nat_cmp old at)) → claim_of c.at claims ≡ None → c.at < c.end
-    → (c.loose ≡ true → overlaps c.at c.end claims ≡ false) → OnOk r (after ≡ claims ++ c ∷ []) → OnOk r (new.entries ≡ noted.entries)
+    → ((at : ℕ) → get nat_cmp noted at ≡ with_end c at (get nat_cmp old at)) → claim_of c.at claims ≡ None
+    → c.at < c.end
+    → (c.loose ≡ true → overlaps c.at c.end claims ≡ false) → OnOk r (after ≡ claims ++ c ∷ [])
+    → OnOk r (new.entries ≡ noted.entries)
     → OnErr r (after ≡ claims) → OnErr r ((at : ℕ) → get nat_cmp new at ≡ without_end c at (get nat_cmp noted at))
     → LooseEnds old claims → LooseEnds new after
 loose-step old noted new claims after c (Ok x) u fresh long free ok same err gone f =

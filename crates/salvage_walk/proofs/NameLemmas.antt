@@ -74,23 +74,27 @@ any-insert f p (x ∷ xs) k = go (slice_cmp nat_cmp (f k) (f x)) refl (any-inser
     go Greater e h = ap (λ b. p (f x) || b) h ∙ any-or (p (f x)) (list_any p (map f xs)) (p (f k))
 
 -- a key that is there is that of a name that folds alike
-pub has-key : {K : Type 0} (f : K → List ℕ) (ks : List K) (names : List (List ℕ)) (name : List ℕ) (k : K) → f k ≡ folded name
+pub has-key : {K : Type 0} (f : K → List ℕ) (ks : List K) (names : List (List ℕ)) (name : List ℕ) (k : K)
+    → f k ≡ folded name
     → AreKeysOf (map f ks) names
     → list_any (λ x. is_eq (slice_cmp nat_cmp (f k) (f x))) ks ≡ list_any (folds_same name) names
 has-key f ks names name k e a =
     ap (λ n. list_any (λ x. is_eq (slice_cmp nat_cmp n (f x))) ks) e ∙ sym (any-map f (folds_to name) ks) ∙ a.each name
 
 -- the keys of the names and one more
-keys-more : {K : Type 0} (f : K → List ℕ) (ks : List K) (names : List (List ℕ)) (name : List ℕ) (k : K) → f k ≡ folded name
+keys-more : {K : Type 0} (f : K → List ℕ) (ks : List K) (names : List (List ℕ)) (name : List ℕ) (k : K)
+    → f k ≡ folded name
     → AreKeysOf (map f ks) names
     → AreKeysOf (map f (insert_key (λ x y. slice_cmp nat_cmp (f x) (f y)) ks k)) (names ++ name ∷ [])
 keys-more f ks names name k e a = record {
   each = λ n. any-insert f (folds_to n) ks k ∙ ap (λ b. b || folds_to n (f k)) (a.each n)
-      ∙ ap (λ b. list_any (folds_same n) names || b) (folds_to-folded n name (f k) e ∙ sym (or-false (folds_same n name)))
+      ∙ ap (λ b. list_any (folds_same n) names || b) (folds_to-folded n name (f k) e
+      ∙ sym (or-false (folds_same n name)))
       ∙ sym (list_any-append (folds_same n) names (name ∷ []));
 }
 
-pub keys-step : {K X E : Type 0} (f : K → List ℕ) (ks new : List K) (names after : List (List ℕ)) (name : List ℕ) (k : K)
+pub keys-step : {K X E : Type 0} (f : K → List ℕ) (ks new : List K) (names after : List (List ℕ)) (name : List ℕ)
+    (k : K)
     (r : Result X E) → f k ≡ folded name
     → OnOk r (after ≡ names ++ name ∷ []) → OnOk r (new ≡ insert_key (λ x y. slice_cmp nat_cmp (f x) (f y)) ks k)
     → OnErr r (after ≡ names) → OnErr r (new ≡ ks) → AreKeysOf (map f ks) names → AreKeysOf (map f new) after

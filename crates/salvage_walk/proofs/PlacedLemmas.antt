@@ -45,7 +45,8 @@ find-within p (suc n) (x ∷ cs) zero c l e t =
 find-within p (suc n) (x ∷ cs) (suc i) c l e t =
     ap (λ (o : Option Claim). cond (p x) (Some x) o) (find-within p n cs i c (omega (arith, l)) e t)
 
-pub find-last : (p : Claim → Bool) (cs : List Claim) (c : Claim) → find p cs ≡ None → find p (cs ++ c ∷ []) ≡ cond (p c) (Some c) None
+pub find-last : (p : Claim → Bool) (cs : List Claim) (c : Claim) → find p cs ≡ None
+    → find p (cs ++ c ∷ []) ≡ cond (p c) (Some c) None
 find-last p [] c e = refl
 find-last p (x ∷ cs) c e =
     let r = find-rest p x cs e in
@@ -169,7 +170,8 @@ once-take n claims o = λ m c h.
     let r = get-take n claims m c h in
     ap (claim_of c.at) (take-both m n claims (omega (arith, r.1))) ∙ o m c r.0
 
-pub placed-take : (places : BTreeMap ℕ ℕ) (claims new : List Claim) (n : ℕ) → new ≡ take n claims → ArePlaced places claims
+pub placed-take : (places : BTreeMap ℕ ℕ) (claims new : List Claim) (n : ℕ) → new ≡ take n claims
+    → ArePlaced places claims
     → ArePlaced places new
 placed-take places claims new n e f = rw e (record {
   each = λ at. taken at n claims (get nat_cmp places at) (f.each at) f.once;
@@ -192,7 +194,8 @@ pushed-each places new claims c u fresh each at = rw (u.0 at, eq-cmp c.at at) (g
         kept (Some i) = where-before at claims c i t
         kept None = refl
 
-once-push : (claims : List Claim) (c : Claim) → claim_of c.at claims ≡ None → AreOnce claims → AreOnce (claims ++ c ∷ [])
+once-push : (claims : List Claim) (c : Claim) → claim_of c.at claims ≡ None → AreOnce claims
+    → AreOnce (claims ++ c ∷ [])
 once-push claims c fresh o = λ m d h. last m d (get-push claims c m d h)
   where
     last : (m : ℕ) (d : Claim)
@@ -225,7 +228,10 @@ unpushed-each places new claims c u fresh each at = rw (u.0 at, eq-cmp c.at at) 
 pub placed-noted : (places new : BTreeMap ℕ ℕ) (claims : List Claim) (c : Claim)
     → Updates nat_cmp places new c.at (Some (length claims)) → claim_of c.at claims ≡ None
     → ArePlaced places claims → ArePlaced new claims
-placed-noted places new claims c u fresh f = record { each = unpushed-each places new claims c u fresh f.each; once = f.once }
+placed-noted places new claims c u fresh f = record {
+  each = unpushed-each places new claims c u fresh f.each;
+  once = f.once;
+}
 
 pub placed-step : {X E : Type 0} (places new : BTreeMap ℕ ℕ) (claims after : List Claim) (c : Claim) (r : Result X E)
     → Updates nat_cmp places new c.at (Some (length claims)) → claim_of c.at claims ≡ None
@@ -233,7 +239,8 @@ pub placed-step : {X E : Type 0} (places new : BTreeMap ℕ ℕ) (claims after :
 placed-step places new claims after c (Ok x) u fresh ok err f = rw ok (placed-push places new claims c u fresh f)
 placed-step places new claims after c (Err x) u fresh ok err f = rw err (placed-noted places new claims c u fresh f)
 
-pub placed-same : (places new : BTreeMap ℕ ℕ) (claims : List Claim) → new.entries ≡ places.entries → ArePlaced places claims
+pub placed-same : (places new : BTreeMap ℕ ℕ) (claims : List Claim) → new.entries ≡ places.entries
+    → ArePlaced places claims
     → ArePlaced new claims
 placed-same places new claims e f = record {
   each = λ at. ap (λ (es : List (ℕ × ℕ)). claim_where at claims (lookup (is_at (nat_cmp at)) es)) e ∙ f.each at;

@@ -32,7 +32,8 @@ unfolding segments_used
 used-on hive n at offsets more claims after bytes e d = rw (e, d) refl
 
 pub used-off : (hive : Ground) (n at : ℕ) (offsets more : List ℕ) (claims : List Claim) (f : HiveFault)
-    → offsets ≡ at ∷ more → bytes_part (segment_part n) hive claims at ≡ Err f → segments_used hive n offsets claims ≡ Err f
+    → offsets ≡ at ∷ more → bytes_part (segment_part n) hive claims at ≡ Err f
+    → segments_used hive n offsets claims ≡ Err f
 unfolding segments_used
 used-off hive n at offsets more claims f e d = rw (e, d) refl
 
@@ -51,12 +52,14 @@ pub there-on : (hive : Ground) (n at : ℕ) (offsets more bytes : List ℕ) → 
     ≡ bytes ++ segments_there hive n offsets
 unfolding segments_there
 there-on hive n at offsets more bytes e =
-    rw e (append_assoc bytes (front_in (segment_part n) (hive.cells.payload at)) (segments_there hive (n - segment_bytes) more))
+    let part = front_in (segment_part n) (hive.cells.payload at) in
+    rw e (append_assoc bytes part (segments_there hive (n - segment_bytes) more))
 
 -- ---- both together
 
 -- a part that is used is the front of its payload
-front-is : (n : ℕ) (hive : Ground) (claims : List Claim) (at : ℕ) (s : List ℕ × List Claim) → bytes_part n hive claims at ≡ Ok s
+front-is : (n : ℕ) (hive : Ground) (claims : List Claim) (at : ℕ) (s : List ℕ × List Claim)
+    → bytes_part n hive claims at ≡ Ok s
     → s.0 ≡ front_in n (hive.cells.payload at)
 unfolding bytes_part part admitted bytes_in
 front-is n hive claims at s e = by (hive.cells.payload at) e
@@ -67,13 +70,15 @@ front-is n hive claims at s e = by (hive.cells.payload at) e
     claims-end bytes (Err kind) e = absurd cc
 
     form : (p : List ℕ) (b : Bool)
-        → with_place at ((if b then Err FormShort else Ok (take n p)) >>= λ f. claimed hive claims false at (bytes_long f) >>= λ after. Ok (f, after))
+        → with_place at ((if b then Err FormShort else Ok (take n p))
+        >>= λ f. claimed hive claims false at (bytes_long f) >>= λ after. Ok (f, after))
         ≡ Ok s → s.0 ≡ take n p
     form p true e = absurd cc
     form p false e = claims-end (take n p) (claimed hive claims false at (bytes_long (take n p))) e
 
     free : (p : List ℕ) (b : Bool)
-        → with_place at ((if b then Err Shared else Ok p) >>= λ q. (if nat_lt (length q) n then Err FormShort else Ok (take n q))
+        → with_place at ((if b then Err Shared else Ok p)
+        >>= λ q. (if nat_lt (length q) n then Err FormShort else Ok (take n q))
         >>= λ f. claimed hive claims false at (bytes_long f) >>= λ after. Ok (f, after))
         ≡ Ok s → s.0 ≡ take n p
     free p true e = absurd cc
@@ -93,7 +98,8 @@ with_bytes bytes (Ok claims) = Ok (bytes, claims)
 with_bytes bytes (Err f) = Err f
 
 joined : (hive : Ground) (bytes : List ℕ) (n : ℕ) (offsets : List ℕ) (claims : List Claim)
-    → segments_part hive bytes n offsets claims ≡ with_bytes (bytes ++ segments_there hive n offsets) (segments_used hive n offsets claims)
+    → segments_part hive bytes n offsets claims
+    ≡ with_bytes (bytes ++ segments_there hive n offsets) (segments_used hive n offsets claims)
 unfolding segments_part segments_used segments_there
 joined hive bytes n [] claims = ap (λ (b : List ℕ). Ok (b, claims)) (nothing-behind bytes)
 joined hive bytes n (at ∷ more) claims =
@@ -112,16 +118,22 @@ joined hive bytes n (at ∷ more) claims =
     by (Err f) e more-of = refl
     by (Ok s) e more-of =
         more-of s ∙ ap (λ (b : List ℕ). with_bytes b (segments_used hive (n - segment_bytes) more s.1))
-        (append_assoc bytes s.0 rest ∙ ap (λ (b : List ℕ). bytes ++ (b ++ rest)) (front-is (segment_part n) hive claims at s e))
+        (append_assoc bytes s.0 rest
+        ∙ ap (λ (b : List ℕ). bytes ++ (b ++ rest)) (front-is (segment_part n) hive claims at s e))
 
 -- the bytes of segments that were used
-pub tries-joined : {X : Type 0} (v : X → List ℕ) (hive : Ground) (n : ℕ) (offsets : List ℕ) (old new : List Claim) (x : X)
+pub tries-joined : {X : Type 0} (v : X → List ℕ) (hive : Ground) (n : ℕ) (offsets : List ℕ) (old new : List Claim)
+    (x : X)
     → v x ≡ segments_there hive n offsets → Spends old new (Ok tt) (segments_used hive n offsets old)
     → Tries v old new (Ok x) (segments_part hive [] n offsets old)
-tries-joined v hive n offsets old new x e s =
-    (joined hive [] n offsets old ∙ ap (with_bytes (segments_there hive n offsets)) s.0 ∙ ap (λ (b : List ℕ). Ok (b, new)) (sym e), s.1)
+tries-joined v hive n offsets old new x e s = (
+  joined hive [] n offsets old ∙ ap (with_bytes (segments_there hive n offsets)) s.0
+      ∙ ap (λ (b : List ℕ). Ok (b, new)) (sym e),
+  s.1,
+)
 
-pub tries-unjoined : {X : Type 0} (v : X → List ℕ) (hive : Ground) (n : ℕ) (offsets : List ℕ) (old new : List Claim) (r : ReadStop)
+pub tries-unjoined : {X : Type 0} (v : X → List ℕ) (hive : Ground) (n : ℕ) (offsets : List ℕ) (old new : List Claim)
+    (r : ReadStop)
     → Spends old new (Err r) (segments_used hive n offsets old)
     → Tries v old new (Err r) (segments_part hive [] n offsets old)
 tries-unjoined v hive n offsets old new stops.Memory s = tt
@@ -129,8 +141,10 @@ tries-unjoined v hive n offsets old new (stops.Fault f) s =
     (joined hive [] n offsets old ∙ ap (with_bytes (segments_there hive n offsets)) s.0, s.1)
 
 -- a segment that failed after others
-pub spends-off : {X : Type 0} (v : X → List ℕ) (hive : Ground) (n at : ℕ) (offsets more : List ℕ) (a b c : List Claim) (r : ReadStop)
-    (answer : Result (List Claim) HiveFault) → offsets ≡ at ∷ more → segments_used hive n offsets b ≡ answer → Before a b
+pub spends-off : {X : Type 0} (v : X → List ℕ) (hive : Ground) (n at : ℕ) (offsets more : List ℕ) (a b c : List Claim)
+    (r : ReadStop)
+    (answer : Result (List Claim) HiveFault) → offsets ≡ at ∷ more → segments_used hive n offsets b ≡ answer
+    → Before a b
     → Tries {X = X} v b c (Err r) (bytes_part (segment_part n) hive b at) → Spends a c (Err r) answer
 spends-off v hive n at offsets more a b c stops.Memory answer e told before t = tt
 spends-off v hive n at offsets more a b c (stops.Fault f) answer e told before t =

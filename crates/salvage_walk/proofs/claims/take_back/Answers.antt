@@ -13,7 +13,8 @@ claims-preserved c =
     let fits : c.args.len ≤ length front = omega (arith, c.claims-test.true, c.len.ensures, c.in-Some.ensures.len) in
     let once = subst AreOnce e i.once in
     record {
-      front = sym (take-append-le c.args.len front (c.in-Some.claim ∷ []) fits) ∙ ap (take c.args.len) (sym e) ∙ i.front;
+      front = sym (take-append-le c.args.len front (c.in-Some.claim ∷ []) fits) ∙ ap (take c.args.len) (sym e)
+          ∙ i.front;
       once = once-front front c.in-Some.claim once;
       ends = loose-pop c.claims.loose c.drop_loose.new.loose front c.in-Some.claim c.drop_loose.ensures
           (once-last front c.in-Some.claim once) (subst (LooseEnds c.claims.loose) e i.ends);

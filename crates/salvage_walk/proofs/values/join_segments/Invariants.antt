@@ -7,4 +7,5 @@ abbrev pub decreases-segments : goal.decreases-segments
 decreases-segments l = length l.rest
 
 abbrev pub invariant-segments : goal.invariant-segments
-invariant-segments l = l.bytes ++ segments_there (ground_of l.cells) l.left l.rest ≡ segments_there (ground_of l.cells) l.size l.offsets
+invariant-segments l = l.bytes ++ segments_there (ground_of l.cells) l.left l.rest
+    ≡ segments_there (ground_of l.cells) l.size l.offsets

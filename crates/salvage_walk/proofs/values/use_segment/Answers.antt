@@ -4,4 +4,5 @@ use Rattle.salvage_walk.proofs.values.use_segment.Goals as goal
 
 pub returns : goal.returns
 unfolding bytes_part
-returns c = takes-tries (λ p. p.now) c.args.used.now c.use_front.new.used c.args.at c.use_front.result _ c.use_front.ensures
+returns c = takes-tries (λ p. p.now) c.args.used.now c.use_front.new.used c.args.at c.use_front.result _
+    c.use_front.ensures

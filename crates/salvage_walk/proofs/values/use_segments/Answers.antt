@@ -20,8 +20,9 @@ returns-in_err-_front c =
     let i = c.segments.invariant in
     let rest = c.segments.rest.now in
     let r = first-and-rest rest c.in-len1-up.len_at_least in
-    rw (p.1, p.2) (spends-off (λ (p : Bor (List ℕ)). p.now) (ground_of c.args.cells.now) c.segments.left (get_or rest 0 0) rest
-    (take (length rest - 1) (drop 1 rest)) c.args.used.now c.segments.used c.use_segment.new.used c.in_err-_front.field-0.0 _
+    rw (p.1, p.2) (spends-off (λ (p : Bor (List ℕ)). p.now) (ground_of c.args.cells.now) c.segments.left
+    (get_or rest 0 0) rest (take (length rest - 1) (drop 1 rest)) c.args.used.now c.segments.used c.use_segment.new.used
+    c.in_err-_front.field-0.0 _
     r i.told i.before (rw c.min.ensures at c.in_err-_front.ensures))
 
 pub segments-preserved : goal.segments-preserved
