@@ -1,5 +1,5 @@
 -- Segments that are used first and read then.
-use Rattle.std.proofs.Common.{◌≡◌, ℕ, ◌-◌, Bool, true, false, List, [], ◌∷◌, ◌++◌, length, take, Result, Ok, Err, refl, sym, ap, ◌∙◌, append_assoc}
+use Rattle.std.proofs.Common.{◌≡◌, ℕ, zero, suc, ◌-◌, ◌<◌, drop, arith, Bool, true, false, List, [], ◌∷◌, ◌++◌, length, take, Result, Ok, Err, refl, sym, ap, ◌∙◌, append_assoc}
 use Rattle.std.specs.Prelude.{nat_lt, if◌then◌else◌}
 use Rattle.nt_bytes.specs.declared.fault.HiveFault.{HiveFault}
 use Rattle.nt_bytes.specs.declared.fault.HiveFaultKind.{HiveFaultKind}
@@ -8,6 +8,8 @@ use Rattle.nt_bytes.specs.declared.fault.ReadStop.{ReadStop}
 use Rattle.nt_bytes.specs.declared.fault.ReadStop.TheVariants as stops
 use Rattle.hive_model.specs.Bins.{with_place}
 use Rattle.hive_model.specs.Forms.{◌>>=◌, bytes_in}
+use Rattle.hive_model.specs.Lists.{numbers_in}
+use Rattle.nt_bytes.specs.Fields.{u32_in}
 use Rattle.hive_model.specs.Size.{segment_bytes, segment_part}
 use Rattle.salvage_bins.specs.Ground.{Ground}
 use Rattle.salvage_walk.specs.declared.claims.Claim.{Claim}
@@ -17,6 +19,19 @@ use Rattle.salvage_walk.specs.Values.{bytes_part, segments_part}
 use Rattle.salvage_walk.specs.Segments.{segments_used, segments_there, front_in, Spends}
 use Rattle.salvage_walk.specs.Walked.{Before, Tries}
 use Rattle.salvage_walk.proofs.UseLemmas.{before-after}
+
+-- ---- offsets in a row
+
+pub numbers-length : (step n : ℕ) (p : List ℕ) → length (numbers_in step n p) ≡ n
+numbers-length step zero p = refl
+numbers-length step (suc n) p = ap suc (numbers-length step n (drop step p))
+
+pub numbers-end : (n : ℕ) (p : List ℕ) → n ≡ 0 → numbers_in 4 n p ≡ []
+numbers-end n p e = rw e refl
+
+pub numbers-more : (n at : ℕ) (p : List ℕ) → 0 < n → at ≡ u32_in p 0 → numbers_in 4 n p ≡ at ∷ numbers_in 4 (n - 1) (drop 4 p)
+numbers-more zero at p l e = absurd (omega arith)
+numbers-more (suc n) at p l e = let d : suc n - 1 ≡ n = omega arith in rw (d, e) refl
 
 -- ---- the loops
 

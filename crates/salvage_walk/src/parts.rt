@@ -1,10 +1,10 @@
 //! Cells used for their forms.
 
-ghost use Rattle.std.specs.Prelude.{◌≡◌, ◌+◌, ◌<◌, ◌≤◌, ◌^◌, true, false};
+ghost use Rattle.std.specs.Prelude.{◌≡◌, ◌+◌, ◌*◌, ◌<◌, ◌≤◌, ◌^◌, true, false, length, IfOk};
 ghost use Rattle.nt_bytes.specs.declared.fault.ReadStop.TheVariants.{Fault};
 ghost use Rattle.hive_model.specs.Forms.{Gives, bytes_in};
 ghost use Rattle.hive_model.specs.Security.{security_at};
-ghost use Rattle.hive_model.specs.Lists.{offsets_in};
+ghost use Rattle.hive_model.specs.Lists.{numbers_in, offsets_in};
 ghost use Rattle.hive_model.specs.Walk.{big_data_of};
 ghost use Rattle.hive_model.specs.Size.{segment_count as segments_of};
 ghost use Rattle.cell_forms.specs.Views.{big_data_of as form_of, key_node_of, key_value_of, security_of};
@@ -16,9 +16,7 @@ ghost use Rattle.salvage_walk.specs.Walked.{Gains, ClaimsOf};
 
 use crate::claims::{Claim, Used};
 use crate::names::NameSet;
-use cell_forms::{
-    DbForm, NkForm, Offsets, SkForm, VkForm, read_db, read_nk, read_offsets, read_vk,
-};
+use cell_forms::{DbForm, NkForm, SkForm, VkForm, read_db, read_nk, read_vk};
 use nt_bytes::{Bytes, HiveFault, HiveFaultKind, ReadStop, u16_at, u32_at};
 use salvage_bins::DamagedCells;
 use std::alloc::Global;
@@ -289,22 +287,43 @@ pub(crate) fn use_bytes(
     Ok(Bytes::from_slice(alloc, front)?)
 }
 
-/// That many offsets of segments, and their use.
+// The payload of a cell that begins with that many offsets.
+#[tactic(auto, unfolding(hive_model::specs::Lists::offsets_in))]
+fn with_offsets(payload: &[u8], count: u32, at: u32) -> Result<&[u8], ReadStop>
+    ensures exact { Gives (λ p. numbers_in 4 count p.now) at result (offsets_in count payload.now) }
+    ensures inside { IfOk result (λ p. 4 * count ≤ length p.now) }
+{
+    if payload.len() < 4 * count as usize {
+        return Err(stop(HiveFaultKind::FormShort, at));
+    }
+    Ok(payload)
+}
+
+// How many bytes of the cell of a list of segments are used.
+fn offsets_len(count: u32, entries: &[u8]) -> u64
+    ensures exact { result ≡ offsets_long (numbers_in 4 count entries.now) }
+    ensures some { 0 < result }
+    ensures small { result ≤ 2 ^ 63 }
+{
+    4 + 4 * u64::from(count)
+}
+
+/// Where that many offsets of segments stand, and their use. None of them is read.
 #[tactic(auto, unfolding(crate::specs::Parts::part))]
-pub(crate) fn use_offsets(
-    alloc: Global,
-    cells: &DamagedCells<'_>,
+pub(crate) fn use_offsets<'a>(
+    cells: &DamagedCells<'a>,
     used: &mut Used,
     count: u32,
     at: u32,
-) -> Result<Offsets, ReadStop>
-    ensures { Gains (λ o. o) at used.old used.new result (part (offsets_in count) offsets_long false (ground_of cells.now) used.old at) }
+) -> Result<&'a [u8], ReadStop>
+    ensures exact { Gains (λ p. numbers_in 4 count p.now) at used.old used.new result
+        (part (offsets_in count) offsets_long false (ground_of cells.now) used.old at) }
+    ensures inside { IfOk result (λ p. 4 * count ≤ length p.now) }
 {
     let payload = admit(cells, used, false, at)?;
-    let offsets = read_offsets(alloc, payload, count, at)?;
-    let long = 4 + 4 * offsets.len() as u64;
-    claim(cells, used, false, at, long)?;
-    Ok(offsets)
+    let entries = with_offsets(payload, count, at)?;
+    claim(cells, used, false, at, offsets_len(count, entries))?;
+    Ok(entries)
 }
 
 // How many segments that many bytes of big data fill.

@@ -1,6 +1,7 @@
 //! Values with their data.
 
-ghost use Rattle.std.specs.Prelude.{◌≡◌, [], IfOk};
+ghost use Rattle.std.specs.Prelude.{◌≡◌, ◌≤◌, ◌*◌, [], length, IfOk};
+ghost use Rattle.hive_model.specs.Lists.{numbers_in};
 ghost use Rattle.hive_model.specs.Size.{is_big as is_big_data};
 ghost use Rattle.cell_forms.specs.Views.{key_value_of};
 ghost use Rattle.salvage_bins.specs.Ground.{ground_of};
@@ -12,7 +13,7 @@ use crate::claims::Used;
 use crate::names::NameSet;
 use crate::parts::{use_big_data, use_bytes, use_front, use_offsets, use_value};
 use cell_forms::{VkForm, data_inside};
-use nt_bytes::{Bytes, HiveVersion, ReadStop};
+use nt_bytes::{Bytes, HiveVersion, ReadStop, u32_at};
 use reg_tree::Value;
 use salvage_bins::DamagedCells;
 use std::alloc::{AllocError, Global};
@@ -48,25 +49,28 @@ fn use_segment<'a>(
     use_front(cells, used, count, at)
 }
 
-// Uses the segments at these offsets. None of their bytes is read.
+// Uses the segments at that many offsets, which stand in these bytes. None of the segments' bytes is read.
 fn use_segments(
     cells: &DamagedCells<'_>,
     used: &mut Used,
     size: u32,
-    offsets: &[u32],
+    count: u32,
+    entries: &[u8],
 ) -> Result<(), ReadStop>
-    ensures { Spends used.old used.new result (segments_used (ground_of cells.now) size offsets.now used.old) }
+    requires { 4 * count ≤ length entries.now }
+    ensures { Spends used.old used.new result (segments_used (ground_of cells.now) size (numbers_in 4 count entries.now) used.old) }
 {
     let mut left = size;
-    let mut rest = offsets;
-    'segments: loop {
-        let [at, more @ ..] = rest else {
-            return Ok(());
-        };
-        let _front = use_segment(cells, used, SEGMENT.min(left), *at)?;
+    let mut rest = entries;
+    let mut number = count;
+    'segments: while number > 0 {
+        let at = u32_at(rest, 0);
+        let _front = use_segment(cells, used, SEGMENT.min(left), at)?;
         left = left.saturating_sub(SEGMENT);
-        rest = more;
+        rest = &rest[4..];
+        number -= 1;
     }
+    Ok(())
 }
 
 // The first bytes of an allocated cell, as many of them as there are.
@@ -79,40 +83,46 @@ fn front_at<'a>(cells: &DamagedCells<'a>, count: u32, at: u32) -> &'a [u8]
     }
 }
 
-// The bytes of the segments at these offsets, joined in order.
+// The bytes of the segments at that many offsets, which stand in these bytes, joined in order.
 fn join_segments(
     alloc: Global,
     cells: &DamagedCells<'_>,
     size: u32,
-    offsets: &[u32],
+    count: u32,
+    entries: &[u8],
 ) -> Result<Bytes, AllocError>
-    ensures { IfOk result (λ b. b ≡ segments_there (ground_of cells.now) size offsets.now) }
+    requires { 4 * count ≤ length entries.now }
+    ensures { IfOk result (λ b. b ≡ segments_there (ground_of cells.now) size (numbers_in 4 count entries.now)) }
 {
     let mut bytes = Bytes::new(alloc);
     let mut left = size;
-    let mut rest = offsets;
-    'segments: loop {
-        let [at, more @ ..] = rest else {
-            return Ok(bytes);
-        };
-        bytes.append(front_at(cells, SEGMENT.min(left), *at))?;
+    let mut rest = entries;
+    let mut number = count;
+    'segments: while number > 0 {
+        let at = u32_at(rest, 0);
+        bytes.append(front_at(cells, SEGMENT.min(left), at))?;
         left = left.saturating_sub(SEGMENT);
-        rest = more;
+        rest = &rest[4..];
+        number -= 1;
     }
+    Ok(bytes)
 }
 
-// The bytes of the segments at these offsets, which are read only once all segments are used.
+// The bytes of the segments at that many offsets, which are read only once all segments are used.
 fn try_segments(
     alloc: Global,
     cells: &DamagedCells<'_>,
     used: &mut Used,
     size: u32,
-    offsets: &[u32],
+    count: u32,
+    entries: &[u8],
 ) -> Result<Bytes, ReadStop>
-    ensures { Tries (λ b. b) used.old used.new result (segments_part (ground_of cells.now) [] size offsets.now used.old) }
+    requires { 4 * count ≤ length entries.now }
+    ensures { Tries (λ b. b) used.old used.new result
+        (segments_part (ground_of cells.now) [] size (numbers_in 4 count entries.now) used.old) }
 {
-    use_segments(cells, used, size, offsets)?;
-    Ok(join_segments(alloc, cells, size, offsets)?)
+    use_segments(cells, used, size, count, entries)?;
+    Ok(join_segments(alloc, cells, size, count, entries)?)
 }
 
 // Big data of that many bytes.
@@ -127,8 +137,9 @@ fn try_big(
     ensures { Tries (λ b. b) used.old used.new result (big_part size (ground_of cells.now) used.old at) }
 {
     let big = use_big_data(cells, used, size, at)?;
-    let offsets = use_offsets(alloc, cells, used, u32::from(big.segments), big.list)?;
-    try_segments(alloc, cells, used, size, offsets.as_slice())
+    let count = u32::from(big.segments);
+    let entries = use_offsets(cells, used, count, big.list)?;
+    try_segments(alloc, cells, used, size, count, entries)
 }
 
 // Data of more bytes than a segment holds are big in version 1.5.

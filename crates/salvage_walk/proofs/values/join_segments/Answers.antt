@@ -1,17 +1,20 @@
-use Rattle.std.proofs.Common.{◌-◌, length, take, drop, get_or, ◌∙◌}
+use Rattle.std.proofs.Common.{◌∙◌, arith}
+use Rattle.std.proofs.lemmas.List.{take_rest}
+use Rattle.cell_forms.proofs.Steps.{room_next}
 use Rattle.salvage_bins.specs.Ground.{ground_of}
-use Rattle.salvage_walk.proofs.UseLemmas.{none-left, first-and-rest}
-use Rattle.salvage_walk.proofs.SegmentLemmas.{there-end, there-on}
+use Rattle.salvage_walk.proofs.SegmentLemmas.{numbers-end, numbers-more, there-end, there-on}
 use Rattle.salvage_walk.proofs.values.join_segments.Goals as goal
 
-pub returns-in_default : goal.returns-in_default
-returns-in_default c =
-    there-end (ground_of c.args.cells.now) c.segments.left c.segments.rest.now c.segments.bytes _
-    (none-left c.segments.rest.now c.in_default.len_below) c.segments.invariant
+pub returns : goal.returns
+returns c =
+    there-end (ground_of c.args.cells.now) c.segments.left _ c.segments.bytes _
+    (numbers-end c.segments.number c.segments.rest.now (omega arith)) c.segments.invariant.so_far
 
 pub segments-preserved : goal.segments-preserved
 segments-preserved c =
-    let rest = c.segments.rest.now in
-    rw (c.in_ok-append.ensures.ok, c.saturating_sub-left.ensures, c.front_at.ensures, c.min.ensures)
-    (there-on (ground_of c.args.cells.now) c.segments.left (get_or rest 0 0) rest (take (length rest - 1) (drop 1 rest))
-    c.segments.bytes (first-and-rest rest c.in-len1-up.len_at_least) ∙ c.segments.invariant)
+    let i = c.segments.invariant in
+    let r = numbers-more c.segments.number c.u32_at-at.result c.segments.rest.now (omega arith) c.u32_at-at.ensures in
+    rw (c.in_ok-append.ensures.ok, c.saturating_sub-left.ensures, c.front_at.ensures, c.min.ensures, take_rest) (record {
+      so_far = there-on (ground_of c.args.cells.now) c.segments.left c.u32_at-at.result _ _ c.segments.bytes r ∙ i.so_far;
+      inside = room_next 4 c.segments.number c.segments.rest.now (omega arith) i.inside;
+    })

@@ -1,5 +1,6 @@
 use Rattle.std.proofs.Common.{ℕ, List}
 use Rattle.std.proofs.lemmas.Result.{err_from_is_err_and}
+use Rattle.hive_model.specs.Lists.{numbers_in}
 use Rattle.salvage_bins.specs.Ground.{ground_of}
 use Rattle.salvage_walk.proofs.SegmentLemmas.{tries-joined, tries-unjoined}
 use Rattle.salvage_walk.proofs.values.try_segments.Goals as goal
@@ -7,10 +8,12 @@ use Rattle.salvage_walk.proofs.values.try_segments.Goals as goal
 pub returns-in_err-use_segments : goal.returns-in_err-use_segments
 returns-in_err-use_segments c =
     let p = err_from_is_err_and c.from_residual.result c.from_residual.ensures.1 in
-    rw (p.1, p.2) (tries-unjoined (λ (b : List ℕ). b) (ground_of c.args.cells.now) c.args.size c.args.offsets.now
-    c.args.used.now c.use_segments.new.used c.in_err-use_segments.field-0.0 c.in_err-use_segments.ensures)
+    rw (p.1, p.2) (tries-unjoined (λ (b : List ℕ). b) (ground_of c.args.cells.now) c.args.size
+    (numbers_in 4 c.args.count c.args.entries.now) c.args.used.now c.use_segments.new.used
+    c.in_err-use_segments.field-0.0 c.in_err-use_segments.ensures)
 
 pub returns : goal.returns
 returns c =
-    tries-joined (λ (b : List ℕ). b) (ground_of c.args.cells.now) c.args.size c.args.offsets.now c.args.used.now
-    c.use_segments.new.used c.in_ok-join_segments.field-0 c.in_ok-join_segments.ensures c.in_ok-use_segments.ensures
+    tries-joined (λ (b : List ℕ). b) (ground_of c.args.cells.now) c.args.size
+    (numbers_in 4 c.args.count c.args.entries.now) c.args.used.now c.use_segments.new.used
+    c.in_ok-join_segments.field-0 c.in_ok-join_segments.ensures c.in_ok-use_segments.ensures
