@@ -6,6 +6,7 @@ use Rattle.hive_model.specs.Image.{Image, Bytes, put}
 use Rattle.hive_model.specs.Recovery.{primary_in, log_in, sector}
 use Rattle.hive_model.specs.Carries.{HasLog}
 use Rattle.nt_edge.proofs.Images.{put_here, put_other}
+use Rattle.std.proofs.lemmas.Bool.{cases_lt}
 use Rattle.hive_log.proofs.Ranks.{split}
 use Rattle.hive_commit.specs.Stages.{is_marked}
 use Rattle.hive_model.specs.Asked.{log_at, primary_at, bin_at}
@@ -56,6 +57,13 @@ pub marked_skip : (image : Image) (bits : ℕ → Bool) (bins : List ℕ) (i : �
 marked_skip image bits bins i so_far off = record {
   each = λ j below on. ⊎_elim (λ less. so_far.each j less on)
       (λ same. let here : bits j ≡ false = ap bits same ∙ off in absurd (cc)) (split j i (omega arith));
+}
+
+pub marked_passed : (image : Image) (bits : ℕ → Bool) (bins : List ℕ) (i n : ℕ) → HasMarkedBelow image bits bins i
+    → ((j : ℕ) → i ≤ j → j < i + n → bits j ≡ false) → HasMarkedBelow image bits bins (i + n)
+marked_passed image bits bins i n so_far off = record {
+  each = λ j below on. ⊎_elim (λ less. so_far.each j less on)
+      (λ from. let here : bits j ≡ false = off j from below in absurd (cc)) (cases_lt j i);
 }
 
 pub marked_more : (image after : Image) (bits : ℕ → Bool) (bins bytes : List ℕ) (i : ℕ)

@@ -11,3 +11,4 @@ pub mod RecoveryCalls
 pub mod LogSectors
 pub mod Staged
 pub mod StagedCuts
+pub mod Blank

@@ -84,6 +84,15 @@ module _ (bits : ℕ → Bool) (bins : List ℕ) where
       ∙ ap (λ b. map (bin_write bins) (cond b (i ∷ []) [])) is
       ∙ last on)
 
+  -- sectors whose bits are off
+  marked_off : (i n : ℕ) → ((j : ℕ) → i ≤ j → j < i + n → bits j ≡ false)
+      → marked_below bits bins (i + n) ≡ marked_below bits bins i
+  marked_off i zero off = ap (marked_below bits bins) (omega arith)
+  marked_off i (suc n) off =
+      let next : i + suc n ≡ i + n + 1 = omega arith in
+      ap (marked_below bits bins) next ∙ marked_next (i + n) false (off (i + n) (omega arith) (omega arith))
+      ∙ append-nil (marked_below bits bins (i + n)) ∙ marked_off i n (λ j from below. off j from (omega (arith, below)))
+
   module _ (a b : List Made → Type 0) (i : ℕ) (so_far : Makes a b (writes_of (marked_below bits bins i))) where
     -- one more sector, where its bit is on
     pub marked_more : (c : List Made → Type 0) (bytes : List ℕ) → bits i ≡ true → bytes ≡ sector bins i
@@ -95,10 +104,10 @@ module _ (bits : ℕ → Bool) (bins : List ℕ) where
         ∙ ap writes_of (sym (marked_next i true on)))
         (made_then a b c (writes_of (marked_below bits bins i)) (writes_of (bin_write bins i ∷ [])) so_far last)
 
-    -- and no more where it is off
-    pub marked_skip : bits i ≡ false → Makes a b (writes_of (marked_below bits bins (i + 1)))
-    marked_skip off = subst (λ (l : List Write). Makes a b (writes_of l))
-        (sym (marked_next i false off ∙ append-nil (marked_below bits bins i))) so_far
+    -- and no more where they are off
+    pub marked_passed : (n : ℕ) → ((j : ℕ) → i ≤ j → j < i + n → bits j ≡ false)
+        → Makes a b (writes_of (marked_below bits bins (i + n)))
+    marked_passed n off = subst (λ (l : List Write). Makes a b (writes_of l)) (sym (marked_off i n off)) so_far
 
     -- a refusal before all of them are written
     pub marked_stopped : {T E : Type 0} (r : Result T E) (count : ℕ) → IsErr r → i ≤ count

@@ -11,6 +11,7 @@ mod blocks;
 mod change;
 mod laws;
 mod loading;
+mod marks;
 mod parts;
 mod restoring;
 mod stages;

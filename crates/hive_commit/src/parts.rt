@@ -14,7 +14,8 @@ ghost use Rattle.hive_commit.specs.Calls.{bins_writes};
 ghost use Rattle.hive_commit.specs.Stages.{in_log, is_marked};
 ghost use Rattle.hive_commit.specs.Growing.{HasBitmap, HasRun, HasFront, HasMarkedBelow, log_part};
 
-use hive_log::{bitmap_sector, bitmap_sectors, copy_sector, first_dirty, has_bit, logged_block};
+use crate::marks::bits_off;
+use hive_log::{bitmap_sector, bitmap_sectors, copy_sector, first_dirty, logged_block};
 use nt_edge::{Address, Disk, DiskStop, HiveFile};
 use regf_base::{BaseBlock, base_bytes};
 
@@ -106,10 +107,14 @@ pub fn write_log_run<D: Disk>(disk: &mut D, bitmap: &[u8], new: &[u8]) -> Result
         → HasFront (now_of (D.state disk.new)) log (recovery.first_dirty (length new.now) + rank (bit bitmap.now) (length new.now / 512))) }
     ensures goes { Goes (D.state disk.old) (D.state disk.new) result }
 {
+    let count = new.len() / 512;
     let mut sector = [0; 512];
     let mut number = first_dirty(new.len());
-    for i in 0..new.len() / 512 {
-        if !has_bit(bitmap, i) {
+    let mut i = 0;
+    'sectors: while i < count {
+        let off = bits_off(bitmap, i, count);
+        if off > 0 {
+            i += off;
             continue;
         }
         copy_sector(new, i, &mut sector);
@@ -119,6 +124,7 @@ pub fn write_log_run<D: Disk>(disk: &mut D, bitmap: &[u8], new: &[u8]) -> Result
         };
         put_sector(disk, at, &sector)?;
         number += 1;
+        i += 1;
     }
     Ok(())
 }
@@ -134,9 +140,13 @@ pub fn write_marked<D: Disk>(disk: &mut D, bitmap: &[u8], new: &[u8]) -> Result<
     ensures written { D.tells ≡ true → OnOk result (HasMarkedBelow (now_of (D.state disk.new)) (bit bitmap.now) new.now (length new.now / 512)) }
     ensures goes { Goes (D.state disk.old) (D.state disk.new) result }
 {
+    let count = new.len() / 512;
     let mut sector = [0; 512];
-    for i in 0..new.len() / 512 {
-        if !has_bit(bitmap, i) {
+    let mut i = 0;
+    'sectors: while i < count {
+        let off = bits_off(bitmap, i, count);
+        if off > 0 {
+            i += off;
             continue;
         }
         copy_sector(new, i, &mut sector);
@@ -145,6 +155,7 @@ pub fn write_marked<D: Disk>(disk: &mut D, bitmap: &[u8], new: &[u8]) -> Result<
             sector: 8 + i as u32,
         };
         put_sector(disk, at, &sector)?;
+        i += 1;
     }
     Ok(())
 }

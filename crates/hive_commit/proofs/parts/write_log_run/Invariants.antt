@@ -1,4 +1,4 @@
-use Rattle.std.proofs.Common.{◌≡◌, ◌≤◌, ◌+◌, true, ℕ, List, length}
+use Rattle.std.proofs.Common.{◌≡◌, ◌-◌, ◌/◌, ◌≤◌, ◌+◌, true, ℕ, List, length}
 use Rattle.hive_model.specs.Recovery.{bit, rank, first_dirty}
 use Rattle.nt_edge.specs.Disk.{DiskState, now_of}
 use Rattle.nt_edge.specs.Frames.{GoesOn}
@@ -8,9 +8,10 @@ use Rattle.hive_commit.specs.Stages.{in_log}
 use Rattle.hive_commit.specs.Growing.{HasRun, HasFront, log_part}
 use Rattle.hive_commit.proofs.parts.write_log_run.Given as goal
 
-abbrev pub invariant-loop-i : goal.invariant-loop-i
-invariant-loop-i g l = record {
+abbrev pub invariant-sectors : goal.invariant-sectors
+invariant-sectors g l = record {
   on : (g.D.Disk.state l.disk).on ≡ true;
+  within : l.i ≤ length l.new / 512;
   place : l.number ≡ first_dirty (length l.new) + rank (bit l.bitmap) l.i;
   small : l.number ≤ 100 + l.i;
   writing : g.D.Disk.tells ≡ true → (first : DiskState) → Writing in_log first (g.D.Disk.state l.fn.disk)
@@ -25,3 +26,6 @@ invariant-loop-i g l = record {
       → HasFront (now_of (g.D.Disk.state l.disk)) log (first_dirty (length l.new) + rank (bit l.bitmap) l.i);
   goes : GoesOn (g.D.Disk.state l.fn.disk) (g.D.Disk.state l.disk) ⊥ ⊥ ⊥;
 }
+
+abbrev pub decreases-sectors : goal.decreases-sectors
+decreases-sectors g l = length l.new / 512 - l.i
