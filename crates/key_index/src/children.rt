@@ -18,9 +18,11 @@ fn read_list(alloc: Global, list: &[u8]) -> Result<Vec<u32>, AllocError>
     requires { IsOk (list_at list.now) }
     ensures { IfOk result (λ v. v.items ≡ offsets_of list.now) }
 {
+    let count = entry_count(list);
     let mut all = Vec::new(alloc);
-    for place in 0..entry_count(list) {
-        all.push(entry(list, place))?;
+    all.resize(count, 0)?;
+    for place in 0..count {
+        all[place] = entry(list, place);
     }
     Ok(all)
 }
