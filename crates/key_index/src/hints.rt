@@ -150,8 +150,9 @@ pub(crate) fn hints(
     ensures { IfOk result (λ v. v.items ≡ hints_in (cells_of cells.now) offsets.now) }
 {
     let mut made = Vec::new(alloc);
-    for at in offsets {
-        made.push(hint_at(alloc, cells, *at)?)?;
+    made.resize(offsets.len(), [0; 4])?;
+    for (i, at) in offsets.iter().enumerate() {
+        made[i] = hint_at(alloc, cells, *at)?;
     }
     Ok(made)
 }
