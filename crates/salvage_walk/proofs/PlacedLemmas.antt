@@ -27,7 +27,7 @@ find-rest p c cs e = go (p c) refl e
     go true d e = absurd cc
     go false d e = (d, e)
 
-pub find-take : (p : Claim → Bool) (n : ℕ) (cs : List Claim) → find p cs ≡ None → find p (take n cs) ≡ None
+find-take : (p : Claim → Bool) (n : ℕ) (cs : List Claim) → find p cs ≡ None → find p (take n cs) ≡ None
 find-take p zero cs e = refl
 find-take p (suc n) [] e = refl
 find-take p (suc n) (c ∷ cs) e =
@@ -114,7 +114,7 @@ take-both (suc n) zero cs l = absurd (omega (arith, l))
 take-both (suc n) (suc m) [] l = refl
 take-both (suc n) (suc m) (x ∷ cs) l = ap (λ (ys : List Claim). x ∷ ys) (take-both n m cs (omega (arith, l)))
 
-pub eq-cmp : (a b : ℕ) → is_eq (nat_cmp a b) ≡ (a == b)
+eq-cmp : (a b : ℕ) → is_eq (nat_cmp a b) ≡ (a == b)
 eq-cmp a b = go (nat_lt a b) (a == b) refl refl
   where
     go : (l e : Bool) → nat_lt a b ≡ l → (a == b) ≡ e → is_eq (cond {A = Ordering} l Less (cond e Equal Greater)) ≡ e

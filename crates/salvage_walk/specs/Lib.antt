@@ -4,6 +4,7 @@ pub mod Fronts
 pub mod Values
 pub mod Walked
 pub mod Segments
+pub mod Failures
 pub mod Steps
 pub mod Keys
 pub mod Incomplete

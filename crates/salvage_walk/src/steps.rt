@@ -7,6 +7,7 @@ ghost use Rattle.hive_model.specs.Walk.{reading};
 ghost use Rattle.hive_model.specs.KeyValue.{key_value_at};
 ghost use Rattle.cell_forms.specs.Views.{key_node_of};
 ghost use Rattle.salvage_bins.specs.Ground.{ground_of};
+ghost use Rattle.salvage_walk.specs.Failures.{AreFailures};
 ghost use Rattle.salvage_walk.specs.Walked.{say, state_of};
 ghost use Rattle.salvage_walk.specs.Steps.{class_step, item_names, part_line, said_short, security_step, value_line, value_next, values_next, values_step};
 
@@ -14,12 +15,13 @@ use crate::fronts::use_values;
 use crate::lines::{KeyPart, Walk, WalkLine};
 use crate::names::NameSet;
 use crate::parts::use_security;
-use crate::values::{take_bytes, take_value};
+use crate::values::{take_bytes, take_unless_failed};
 use cell_forms::{NkForm, read_vk};
 use nt_bytes::{Bytes, HiveFault, HiveFaultKind, Names, ReadStop, Units};
 use reg_tree::Values;
 use salvage_bins::DamagedCells;
 use std::alloc::{AllocError, Global};
+use std::collections::BTreeMap;
 
 /// Says this fault of a part of the key at a path.
 pub(crate) fn say_part(
@@ -139,16 +141,19 @@ fn value(
     walk: &mut Walk,
     path: &[Units],
     taken: &mut NameSet,
+    faults: &mut BTreeMap<u32, HiveFault>,
     values: &mut Values,
     number: usize,
     at: u32,
 ) -> Result<(), AllocError>
-    requires { taken.old ≡ item_names values.old }
+    requires named { taken.old ≡ item_names values.old }
+    requires judged { AreFailures (ground_of cells.now) taken.old (state_of walk.old).claims faults.old }
     ensures stepped { OnOk result ((values.new, state_of walk.new)
         ≡ value_next (ground_of cells.now) path.now number at values.old (state_of walk.old)) }
     ensures known { OnOk result (taken.new ≡ item_names values.new) }
+    ensures failed { OnOk result (AreFailures (ground_of cells.now) taken.new (state_of walk.new).claims faults.new) }
 {
-    match take_value(alloc, cells, &mut walk.used, taken, at) {
+    match take_unless_failed(alloc, cells, &mut walk.used, taken, faults, at) {
         Ok(value) => {
             let name = value.name.copy(alloc)?;
             taken.add(alloc, name)?;
@@ -174,6 +179,7 @@ fn values_at(
         ≡ values_next (ground_of cells.now) path.now 1 offsets.now [] (state_of walk.old)) }
 {
     let mut taken = NameSet::new(alloc);
+    let mut faults = BTreeMap::new(alloc);
     let mut values = Values::new(alloc);
     let mut number = 1;
     let mut rest = offsets;
@@ -187,6 +193,7 @@ fn values_at(
             walk,
             path,
             &mut taken,
+            &mut faults,
             &mut values,
             number,
             *at,

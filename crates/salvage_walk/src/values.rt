@@ -7,16 +7,18 @@ ghost use Rattle.cell_forms.specs.Views.{key_value_of};
 ghost use Rattle.salvage_bins.specs.Ground.{ground_of};
 ghost use Rattle.salvage_walk.specs.Values.{bytes_part, segments_part, big_part, celled_part, data_part, value_part};
 ghost use Rattle.salvage_walk.specs.Segments.{front_in, segments_there, segments_used, Spends};
+ghost use Rattle.salvage_walk.specs.Failures.{AreFailures, Remembers};
 ghost use Rattle.salvage_walk.specs.Walked.{Tries, Takes};
 
 use crate::claims::Used;
 use crate::names::NameSet;
 use crate::parts::{use_big_data, use_bytes, use_front, use_offsets, use_value};
 use cell_forms::{VkForm, data_inside};
-use nt_bytes::{Bytes, HiveVersion, ReadStop, u32_at};
+use nt_bytes::{Bytes, HiveFault, HiveVersion, ReadStop, u32_at};
 use reg_tree::Value;
 use salvage_bins::DamagedCells;
 use std::alloc::{AllocError, Global};
+use std::collections::BTreeMap;
 
 // How many bytes a full segment of big data holds.
 const SEGMENT: u32 = 16_344;
@@ -206,9 +208,9 @@ fn try_value(
     })
 }
 
-/// A value with its data, beside values of these names. Where a check fails none of its cells is used.
+// A value with its data, beside values of these names. Where a check fails none of its cells is used.
 #[tactic(auto, using(crate::proofs::UseLemmas::backs))]
-pub(crate) fn take_value(
+fn take_value(
     alloc: Global,
     cells: &DamagedCells<'_>,
     used: &mut Used,
@@ -224,5 +226,35 @@ pub(crate) fn take_value(
             Err(ReadStop::Fault(fault))
         }
         other => other,
+    }
+}
+
+/// A value with its data, beside values of these names, where the faults of some values are known. Where a check fails none of its
+/// cells is used. A value that stands has the faults forgotten.
+pub(crate) fn take_unless_failed(
+    alloc: Global,
+    cells: &DamagedCells<'_>,
+    used: &mut Used,
+    taken: &NameSet,
+    faults: &mut BTreeMap<u32, HiveFault>,
+    at: u32,
+) -> Result<Value, ReadStop>
+    requires { AreFailures (ground_of cells.now) taken.now used.old faults.old }
+    ensures taken { Takes (λ v. v) used.old used.new result (value_part taken.now (ground_of cells.now) used.old at) }
+    ensures known { Remembers (ground_of cells.now) taken.now used.new faults.new result }
+{
+    if let Some(fault) = faults.get(&at) {
+        return Err(ReadStop::Fault(*fault));
+    }
+    match take_value(alloc, cells, used, taken, at) {
+        Ok(value) => {
+            faults.clear();
+            Ok(value)
+        }
+        Err(ReadStop::Memory) => Err(ReadStop::Memory),
+        Err(ReadStop::Fault(fault)) => {
+            let _before = faults.insert(at, fault)?;
+            Err(ReadStop::Fault(fault))
+        }
     }
 }

@@ -21,5 +21,6 @@ values-preserved c =
       told = values-on (ground_of c.args.cells.now) c.args.path.now c.values.number (get_or rest 0 0) rest others
           c.values.values _ (state_of c.values.walk) _ r c.in_ok-value.ensures.stepped ∙ i.told;
       known = c.in_ok-value.ensures.known;
+      failed = c.in_ok-value.ensures.failed;
       few = omega arith;
     }
