@@ -1,6 +1,6 @@
 //! A key as a text.
 
-ghost use Rattle.std.specs.Prelude.{◌≡◌, ◌++◌, codes, OnOk, IfOk};
+ghost use Rattle.std.specs.Prelude.{◌≡◌, [], ◌∷◌, ◌++◌, ◌/◌, ◌%◌, codes, OnOk, IfOk};
 ghost use Rattle.std.specs.List.{flat_map};
 ghost use Rattle.reg_text.specs.declared.stop.RegStop.TheVariants as stops;
 ghost use Rattle.reg_text.specs.Writing.{place_of, text_of, unit_bytes, mark, reg_text_of};
@@ -52,7 +52,7 @@ fn push_unit(out: &mut Vec<u8>, unit: u16) -> Result<(), AllocError>
     Ok(())
 }
 
-fn push_units(out: &mut Vec<u8>, units: &[u16]) -> Result<(), AllocError>
+fn push_few(out: &mut Vec<u8>, units: &[u16]) -> Result<(), AllocError>
     ensures { OnOk result (out.new.items ≡ out.old.items ++ flat_map unit_bytes units.now) }
 {
     for unit in units {
@@ -61,11 +61,53 @@ fn push_units(out: &mut Vec<u8>, units: &[u16]) -> Result<(), AllocError>
     Ok(())
 }
 
+fn low(unit: u16) -> u8
+    ensures { result ≡ unit % 256 }
+{
+    (unit % 256) as u8
+}
+
+fn high(unit: u16) -> u8
+    ensures { result ≡ unit / 256 }
+{
+    (unit / 256) as u8
+}
+
+fn push_four(out: &mut Vec<u8>, a: u16, b: u16, c: u16, d: u16) -> Result<(), AllocError>
+    ensures { OnOk result (out.new.items ≡ out.old.items ++ flat_map unit_bytes (a ∷ b ∷ c ∷ d ∷ [])) }
+{
+    out.extend_from_slice(&[
+        low(a),
+        high(a),
+        low(b),
+        high(b),
+        low(c),
+        high(c),
+        low(d),
+        high(d),
+    ])
+}
+
+/// Four units at a time, since a call for each byte would take most of the time of a whole text.
+fn push_units(out: &mut Vec<u8>, units: &[u16]) -> Result<(), AllocError>
+    ensures { OnOk result (out.new.items ≡ out.old.items ++ flat_map unit_bytes units.now) }
+{
+    let mut rest = units;
+    'fours: loop {
+        let [a, b, c, d, more @ ..] = rest else {
+            return push_few(out, rest);
+        };
+        push_four(out, *a, *b, *c, *d)?;
+        rest = more;
+    }
+}
+
 /// The units in UTF-16 after the mark.
 fn marked(alloc: Global, units: &[u16]) -> Result<Bytes, AllocError>
     ensures { IfOk result (λ b. b ≡ mark ++ flat_map unit_bytes units.now) }
 {
     let mut out = Vec::from_slice(alloc, b"\xff\xfe")?;
+    out.reserve(2 * units.len())?;
     push_units(&mut out, units)?;
     Ok(Bytes::from_vec(out))
 }
