@@ -1,5 +1,6 @@
 mod DigitLemmas
 mod FitLemmas
+mod FourLemmas
 mod PairLemmas
 mod QuoteLemmas
 pub mod ReadLemmas

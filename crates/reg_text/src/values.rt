@@ -1,8 +1,8 @@
 //! The line of a value.
 
-ghost use Rattle.std.specs.Prelude.{◌≡◌, ◌++◌, ◌*◌, ◌≤◌, if◌then◌else◌, false, length, codes, OnOk};
+ghost use Rattle.std.specs.Prelude.{◌≡◌, [], ◌∷◌, ◌++◌, ◌*◌, ◌/◌, ◌%◌, ◌≤◌, if◌then◌else◌, false, length, codes, OnOk};
 ghost use Rattle.std.specs.List.{flat_map};
-ghost use Rattle.std.specs.Fmt.{digits};
+ghost use Rattle.std.specs.Fmt.{digits, digit_glyph};
 ghost use Rattle.std.specs.Int.{w32, from_le_bytes};
 ghost use Rattle.nt_bytes.specs.Text.{sz_of};
 ghost use Rattle.reg_text.specs.Writing.{quoted_unit, quoted, name_text, byte_digits, bytes_text, number_digits, is_string, binary_text, data_text, value_text, breaks};
@@ -16,8 +16,9 @@ use std::alloc::{AllocError, Global};
 pub fn push_ascii(out: &mut Vec<u16>, text: &[u8]) -> Result<(), AllocError>
     ensures { OnOk result (out.new.items ≡ out.old.items ++ text.now) }
 {
+    out.reserve(text.len())?;
     for c in text {
-        out.push(u16::from(*c))?;
+        out.push_reserved(u16::from(*c));
     }
     Ok(())
 }
@@ -59,23 +60,72 @@ fn push_name(out: &mut Vec<u16>, name: &[u16]) -> Result<(), AllocError>
     push_quoted(out, name)
 }
 
+/// The high digit of a byte.
+fn high_digit(byte: u8) -> u16
+    ensures { result ≡ digit_glyph false (byte / 16) }
+{
+    u16::from(hex_digit(u32::from(byte) / 16))
+}
+
+/// The low digit of a byte.
+fn low_digit(byte: u8) -> u16
+    ensures { result ≡ digit_glyph false (byte % 16) }
+{
+    u16::from(hex_digit(u32::from(byte) % 16))
+}
+
 fn push_byte(out: &mut Vec<u16>, byte: u8) -> Result<(), AllocError>
     ensures { OnOk result (out.new.items ≡ out.old.items ++ byte_digits byte) }
 {
-    let value = u32::from(byte);
-    out.push(u16::from(hex_digit(value / 16)))?;
-    out.push(u16::from(hex_digit(value % 16)))?;
-    Ok(())
+    out.extend_from_slice(&[high_digit(byte), low_digit(byte)])
 }
 
-fn push_more_bytes(out: &mut Vec<u16>, bytes: &[u8]) -> Result<(), AllocError>
+fn push_next_byte(out: &mut Vec<u16>, byte: u8) -> Result<(), AllocError>
+    ensures { OnOk result (out.new.items ≡ out.old.items ++ codes "," ++ byte_digits byte) }
+{
+    out.extend_from_slice(&[0x2c, high_digit(byte), low_digit(byte)])
+}
+
+fn push_few_bytes(out: &mut Vec<u16>, bytes: &[u8]) -> Result<(), AllocError>
     ensures { OnOk result (out.new.items ≡ out.old.items ++ flat_map (λ b. codes "," ++ byte_digits b) bytes.now) }
 {
     for byte in bytes {
-        push_ascii(out, b",")?;
-        push_byte(out, *byte)?;
+        push_next_byte(out, *byte)?;
     }
     Ok(())
+}
+
+fn push_four_bytes(out: &mut Vec<u16>, a: u8, b: u8, c: u8, d: u8) -> Result<(), AllocError>
+    ensures { OnOk result (out.new.items ≡ out.old.items ++ flat_map (λ b. codes "," ++ byte_digits b) (a ∷ b ∷ c ∷ d ∷ [])) }
+{
+    out.extend_from_slice(&[
+        0x2c,
+        high_digit(a),
+        low_digit(a),
+        0x2c,
+        high_digit(b),
+        low_digit(b),
+        0x2c,
+        high_digit(c),
+        low_digit(c),
+        0x2c,
+        high_digit(d),
+        low_digit(d),
+    ])
+}
+
+/// Four bytes at a time, since a call for each digit would take most of the time of a text.
+fn push_more_bytes(out: &mut Vec<u16>, bytes: &[u8]) -> Result<(), AllocError>
+    ensures { OnOk result (out.new.items ≡ out.old.items ++ flat_map (λ b. codes "," ++ byte_digits b) bytes.now) }
+{
+    let mut rest = bytes;
+    'fours: loop {
+        let [a, b, c, d, more @ ..] = rest else {
+            return push_few_bytes(out, rest);
+        };
+        push_four_bytes(out, *a, *b, *c, *d)?;
+        rest = more;
+    }
 }
 
 fn push_bytes(out: &mut Vec<u16>, bytes: &[u8]) -> Result<(), AllocError>
@@ -90,13 +140,22 @@ fn push_bytes(out: &mut Vec<u16>, bytes: &[u8]) -> Result<(), AllocError>
     }
 }
 
+fn push_two_bytes(out: &mut Vec<u16>, high: u8, low: u8) -> Result<(), AllocError>
+    ensures { OnOk result (out.new.items ≡ out.old.items ++ byte_digits high ++ byte_digits low) }
+{
+    out.extend_from_slice(&[
+        high_digit(high),
+        low_digit(high),
+        high_digit(low),
+        low_digit(low),
+    ])
+}
+
 fn push_number(out: &mut Vec<u16>, number: u32) -> Result<(), AllocError>
     ensures { OnOk result (out.new.items ≡ out.old.items ++ number_digits number) }
 {
-    push_byte(out, (number / 16777216) as u8)?;
-    push_byte(out, (number / 65536 % 256) as u8)?;
-    push_byte(out, (number / 256 % 256) as u8)?;
-    push_byte(out, (number % 256) as u8)
+    push_two_bytes(out, (number / 16777216) as u8, (number / 65536 % 256) as u8)?;
+    push_two_bytes(out, (number / 256 % 256) as u8, (number % 256) as u8)
 }
 
 /// The type in hexadecimal digits.
