@@ -1,6 +1,7 @@
 //! The line of a value.
 
-ghost use Rattle.std.specs.Prelude.{◌≡◌, [], ◌∷◌, ◌++◌, ◌*◌, ◌/◌, ◌%◌, ◌≤◌, if◌then◌else◌, false, length, codes, OnOk};
+ghost use Rattle.std.specs.Prelude.{◌≡◌, [], ◌∷◌, ◌++◌, ◌+◌, ◌*◌, ◌/◌, ◌%◌, ◌≤◌, if◌then◌else◌, false, length, codes, OnOk};
+ghost use Rattle.std.specs.Vec.{vec_len, vec_capacity};
 ghost use Rattle.std.specs.List.{flat_map};
 ghost use Rattle.std.specs.Fmt.{digits, digit_glyph};
 ghost use Rattle.std.specs.Int.{w32, from_le_bytes};
@@ -23,22 +24,26 @@ pub fn push_ascii(out: &mut Vec<u16>, text: &[u8]) -> Result<(), AllocError>
     Ok(())
 }
 
+/// There is room for the unit and a backslash before it.
 #[tactic(auto, unfolding(crate::specs::Writing::quoted_unit))]
-fn push_quoted_unit(out: &mut Vec<u16>, unit: u16) -> Result<(), AllocError>
-    ensures { OnOk result (out.new.items ≡ out.old.items ++ quoted_unit unit) }
+fn put_quoted_unit(out: &mut Vec<u16>, unit: u16)
+    requires { vec_len out.old + 2 ≤ vec_capacity out.old }
+    ensures items { out.new.items ≡ out.old.items ++ quoted_unit unit }
+    ensures len { vec_len out.new ≤ vec_len out.old + 2 }
+    ensures capacity { vec_capacity out.new ≡ vec_capacity out.old }
 {
     if unit == 0x5c || unit == 0x22 {
-        out.push(0x5c)?;
+        out.push_reserved(0x5c);
     }
-    out.push(unit)?;
-    Ok(())
+    out.push_reserved(unit);
 }
 
 fn push_units(out: &mut Vec<u16>, text: &[u16]) -> Result<(), AllocError>
     ensures { OnOk result (out.new.items ≡ out.old.items ++ flat_map quoted_unit text.now) }
 {
+    out.reserve(2 * text.len())?;
     for unit in text {
-        push_quoted_unit(out, *unit)?;
+        put_quoted_unit(out, *unit);
     }
     Ok(())
 }
