@@ -1,14 +1,18 @@
 //! One line of the text: a key or a value.
 
-ghost use Rattle.std.specs.Prelude.{◌≡◌, ◌++◌, codes, OnOk};
+ghost use Rattle.std.specs.Prelude.{◌≡◌, [], ◌∷◌, ◌++◌, ◌/◌, ◌%◌, slice_index, codes, OnOk};
 ghost use Rattle.std.specs.Fmt.{decimal};
+ghost use Rattle.hex.specs.Hex.{encode_lower, lower_digits};
 ghost use Rattle.start_model.specs.Lines.{name_text};
 ghost use Rattle.tree_text.specs.TreeText.{data_text, value_text};
 
 use boot_report::push_name;
 use itoa::{Buffer, Integer};
 use reg_tree::Value;
-use std::alloc::{AllocError, Global};
+use std::alloc::AllocError;
+
+/// The hexadecimal digits.
+const HEX: [u8; 16] = *b"0123456789abcdef";
 
 /// Puts a space and the number at the end.
 fn push_number(out: &mut Vec<u8>, number: u64) -> Result<(), AllocError>
@@ -19,15 +23,73 @@ fn push_number(out: &mut Vec<u8>, number: u64) -> Result<(), AllocError>
     out.extend_from_slice(buffer.format(number).as_bytes())
 }
 
-fn push_data(alloc: Global, out: &mut Vec<u8>, bytes: &[u8]) -> Result<(), AllocError>
+/// The high digit of a byte.
+fn high_digit(byte: u8) -> u8
+    ensures { result ≡ slice_index lower_digits (byte / 16) }
+{
+    HEX[usize::from(byte / 16)]
+}
+
+/// The low digit of a byte.
+fn low_digit(byte: u8) -> u8
+    ensures { result ≡ slice_index lower_digits (byte % 16) }
+{
+    HEX[usize::from(byte % 16)]
+}
+
+#[tactic(auto, unfolding(hex::specs::Hex::encode_with))]
+fn push_few(out: &mut Vec<u8>, bytes: &[u8]) -> Result<(), AllocError>
+    ensures { OnOk result (out.new.items ≡ out.old.items ++ encode_lower bytes.now) }
+{
+    let mut rest = bytes;
+    'bytes: loop {
+        let [byte, more @ ..] = rest else {
+            return Ok(());
+        };
+        out.extend_from_slice(&[high_digit(*byte), low_digit(*byte)])?;
+        rest = more;
+    }
+}
+
+#[tactic(auto, unfolding(hex::specs::Hex::encode_with))]
+fn push_four(out: &mut Vec<u8>, a: u8, b: u8, c: u8, d: u8) -> Result<(), AllocError>
+    ensures { OnOk result (out.new.items ≡ out.old.items ++ encode_lower (a ∷ b ∷ c ∷ d ∷ [])) }
+{
+    out.extend_from_slice(&[
+        high_digit(a),
+        low_digit(a),
+        high_digit(b),
+        low_digit(b),
+        high_digit(c),
+        low_digit(c),
+        high_digit(d),
+        low_digit(d),
+    ])
+}
+
+/// Four bytes at a time, since a call for each would take most of the time of a text.
+#[tactic(auto, unfolding(hex::specs::Hex::encode_with))]
+fn push_hex(out: &mut Vec<u8>, bytes: &[u8]) -> Result<(), AllocError>
+    ensures { OnOk result (out.new.items ≡ out.old.items ++ encode_lower bytes.now) }
+{
+    let mut rest = bytes;
+    'fours: loop {
+        let [a, b, c, d, more @ ..] = rest else {
+            return push_few(out, rest);
+        };
+        push_four(out, *a, *b, *c, *d)?;
+        rest = more;
+    }
+}
+
+fn push_data(out: &mut Vec<u8>, bytes: &[u8]) -> Result<(), AllocError>
     ensures { OnOk result (out.new.items ≡ out.old.items ++ data_text bytes.now) }
 {
     if bytes.is_empty() {
         return Ok(());
     }
-    let text = hex::encode(alloc, bytes)?;
     out.push(b' ')?;
-    out.extend_from_slice(text.as_bytes())
+    push_hex(out, bytes)
 }
 
 /// Puts the line of a key at the end.
@@ -42,12 +104,7 @@ pub fn push_head(out: &mut Vec<u8>, margin: &[u8], name: &[u16]) -> Result<(), A
 
 /// Puts the line of a value at the end.
 #[tactic(auto, unfolding(crate::specs::TreeText::value_text))]
-pub fn push_value(
-    alloc: Global,
-    out: &mut Vec<u8>,
-    margin: &[u8],
-    value: &Value,
-) -> Result<(), AllocError>
+pub fn push_value(out: &mut Vec<u8>, margin: &[u8], value: &Value) -> Result<(), AllocError>
     ensures { OnOk result (out.new.items ≡ out.old.items ++ value_text margin.now value.now) }
 {
     out.extend_from_slice(margin)?;
@@ -55,7 +112,7 @@ pub fn push_value(
     push_name(out, value.name.as_slice())?;
     push_number(out, u64::from(value.kind))?;
     push_number(out, value.bytes.len() as u64)?;
-    push_data(alloc, out, value.bytes.as_slice())?;
+    push_data(out, value.bytes.as_slice())?;
     out.push(b'\n')?;
     Ok(())
 }

@@ -17,7 +17,7 @@ pub fn tree_text(alloc: Global, root: &Key) -> Result<Bytes, AllocError>
     ensures exact { IfOk result (λ b. b ≡ tree_text root.now) }
 {
     let mut out = Vec::new(alloc);
-    push_key(alloc, &mut out, &mut Vec::new(alloc), root)?;
+    push_key(&mut out, &mut Vec::new(alloc), root)?;
     Ok(Bytes::from_vec(out))
 }
 
@@ -28,7 +28,7 @@ pub fn shown_text(alloc: Global, sequence: u32, bulk: u64, root: &Key) -> Result
     ensures exact { IfOk result (λ b. b ≡ shown_text sequence bulk root.now) }
 {
     let mut out = format!(in alloc; "sequence {sequence} bulk {bulk}\n")?.into_bytes();
-    push_key(alloc, &mut out, &mut Vec::new(alloc), root)?;
+    push_key(&mut out, &mut Vec::new(alloc), root)?;
     Ok(Bytes::from_vec(out))
 }
 
