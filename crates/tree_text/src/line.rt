@@ -3,10 +3,10 @@
 ghost use Rattle.std.specs.Prelude.{◌≡◌, [], ◌∷◌, ◌++◌, ◌/◌, ◌%◌, slice_index, codes, OnOk};
 ghost use Rattle.std.specs.Fmt.{decimal};
 ghost use Rattle.hex.specs.Hex.{encode_lower, lower_digits};
+ghost use Rattle.nt_bytes.specs.Text.{is_printable};
 ghost use Rattle.start_model.specs.Lines.{name_text};
 ghost use Rattle.tree_text.specs.TreeText.{data_text, value_text};
 
-use boot_report::push_name;
 use itoa::{Buffer, Integer};
 use reg_tree::Value;
 use std::alloc::AllocError;
@@ -21,6 +21,13 @@ fn push_number(out: &mut Vec<u8>, number: u64) -> Result<(), AllocError>
     let mut buffer = Buffer::new();
     out.push(b' ')?;
     out.extend_from_slice(buffer.format(number).as_bytes())
+}
+
+/// Whether the unit is printed as it is.
+fn is_plain(unit: u16) -> bool
+    ensures { result ≡ is_printable unit }
+{
+    (0x20..=0x7e).contains(&unit)
 }
 
 /// The high digit of a byte.
@@ -90,6 +97,30 @@ fn push_data(out: &mut Vec<u8>, bytes: &[u8]) -> Result<(), AllocError>
     }
     out.push(b' ')?;
     push_hex(out, bytes)
+}
+
+/// Puts four units at the end.
+#[tactic(auto, unfolding(start_model::specs::Lines::unit_text))]
+fn push_four_units(out: &mut Vec<u8>, a: u16, b: u16, c: u16, d: u16) -> Result<(), AllocError>
+    ensures { OnOk result (out.new.items ≡ out.old.items ++ name_text (a ∷ b ∷ c ∷ d ∷ [])) }
+{
+    if is_plain(a) && is_plain(b) && is_plain(c) && is_plain(d) {
+        return out.extend_from_slice(&[a as u8, b as u8, c as u8, d as u8]);
+    }
+    boot_report::push_name(out, &[a, b, c, d])
+}
+
+fn push_name(out: &mut Vec<u8>, name: &[u16]) -> Result<(), AllocError>
+    ensures { OnOk result (out.new.items ≡ out.old.items ++ name_text name.now) }
+{
+    let mut rest = name;
+    'fours: loop {
+        let [a, b, c, d, more @ ..] = rest else {
+            return boot_report::push_name(out, rest);
+        };
+        push_four_units(out, *a, *b, *c, *d)?;
+        rest = more;
+    }
 }
 
 /// Puts the line of a key at the end.
