@@ -4,3 +4,4 @@ mod FourLemmas
 mod PairLemmas
 mod QuoteLemmas
 pub mod ReadLemmas
+mod StringLemmas

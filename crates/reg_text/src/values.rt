@@ -1,6 +1,6 @@
 //! The line of a value.
 
-ghost use Rattle.std.specs.Prelude.{◌≡◌, [], ◌∷◌, ◌++◌, ◌+◌, ◌*◌, ◌/◌, ◌%◌, ◌≤◌, if◌then◌else◌, false, length, codes, OnOk};
+ghost use Rattle.std.specs.Prelude.{◌≡◌, [], ◌∷◌, ◌++◌, ◌+◌, ◌*◌, ◌/◌, ◌%◌, ◌≤◌, if◌then◌else◌, false, length, codes, OnOk, IfOk};
 ghost use Rattle.std.specs.Vec.{vec_len, vec_capacity};
 ghost use Rattle.std.specs.List.{flat_map};
 ghost use Rattle.std.specs.Fmt.{digits, digit_glyph};
@@ -9,7 +9,7 @@ ghost use Rattle.nt_bytes.specs.Text.{sz_of};
 ghost use Rattle.reg_text.specs.Writing.{quoted_unit, quoted, name_text, byte_digits, bytes_text, number_digits, is_string, binary_text, data_text, value_text, breaks};
 
 use crate::names::breaks;
-use nt_bytes::{hex_digit, sz, u32_at};
+use nt_bytes::{hex_digit, u32_at};
 use reg_tree::Value;
 use std::alloc::{AllocError, Global};
 
@@ -194,10 +194,31 @@ fn is_plain_string(bytes: &[u8], text: &[u16]) -> bool
     bytes.len() - 2 * text.len() == 2 && !breaks(text)
 }
 
+/// What `sz` says of the data, in room that is reserved once.
+fn string_in(alloc: Global, bytes: &[u8]) -> Result<Vec<u16>, AllocError>
+    ensures text { IfOk result (λ t. t.items ≡ sz_of bytes.now) }
+    ensures half { IfOk result (λ t. 2 * vec_len t ≤ length bytes.now) }
+{
+    let mut text = Vec::new(alloc);
+    text.reserve(bytes.len() / 2)?;
+    let mut rest = bytes;
+    'units: loop {
+        let [low, high, more @ ..] = rest else {
+            return Ok(text);
+        };
+        let unit = u16::from_le_bytes([*low, *high]);
+        if unit == 0 {
+            return Ok(text);
+        }
+        text.push_reserved(unit);
+        rest = more;
+    }
+}
+
 fn push_string(alloc: Global, out: &mut Vec<u16>, bytes: &[u8]) -> Result<(), AllocError>
     ensures { OnOk result (out.new.items ≡ out.old.items ++ (if is_string 1 bytes.now then quoted (sz_of bytes.now) else binary_text 1 bytes.now)) }
 {
-    let text = sz(alloc, bytes)?;
+    let text = string_in(alloc, bytes)?;
     if is_plain_string(bytes, text.as_slice()) {
         return push_quoted(out, text.as_slice());
     }
