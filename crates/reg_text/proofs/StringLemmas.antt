@@ -17,5 +17,6 @@ string_goes_on [] text new total u le is unlike read so_far = absurd (omega arit
 string_goes_on (low ∷ []) text new total u le is unlike read so_far = absurd (omega arith)
 string_goes_on (low ∷ high ∷ more) text new total u le is unlike read so_far =
     rw (take_rest (low ∷ high ∷ more) 2, read) (append_assoc text (u ∷ []) (sz_of more)
-    ∙ ap (λ t. text ++ t) (sym (unit_stays u (wide_of more) unlike) ∙ ap (λ v. before_first is_zero (v ∷ wide_of more)) is)
+    ∙ ap (λ t. text ++ t) (sym (unit_stays u (wide_of more) unlike)
+    ∙ ap (λ v. before_first is_zero (v ∷ wide_of more)) is)
     ∙ so_far)
