@@ -12,7 +12,7 @@ use reg_tree::Value;
 use std::alloc::AllocError;
 
 /// The hexadecimal digits.
-const HEX: [u8; 16] = *b"0123456789abcdef";
+const HEX: &[u8; 16] = b"0123456789abcdef";
 
 /// Puts a space and the number at the end.
 fn push_number(out: &mut Vec<u8>, number: u64) -> Result<(), AllocError>
