@@ -13,6 +13,10 @@ is_there (Some x) = true
 abbrev pub on_start : (Start → Start) → MachineState → MachineState
 on_start change m = record m { start = option_map change m.start }
 
+-- the start keeps no copy of the set that it began with
+abbrev pub without_clone : Start → Start
+without_clone s = record s { clone = None }
+
 -- no start runs that has an entry to attempt
 abbrev pub is_at_end : Option Start → Bool
 is_at_end None = true

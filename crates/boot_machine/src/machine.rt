@@ -8,7 +8,7 @@ ghost use Rattle.boot_phases.specs.Phases.{phase_in};
 ghost use Rattle.boot_report.specs.Report.{verdict_of};
 ghost use Rattle.start_model.specs.Entries.{Done};
 ghost use Rattle.start_model.specs.Machine.{off_machine, failing, requiring, missing_in, attempt_of, after_phase, unmet_in, begun_with, with_start, save_due, ending_of, ended, refusal_of};
-ghost use Rattle.boot_machine.specs.Steps.{is_there, on_start, is_at_end, is_in_last_phase, falls_back};
+ghost use Rattle.boot_machine.specs.Steps.{is_there, on_start, is_at_end, is_in_last_phase, falls_back, without_clone};
 ghost use Rattle.boot_machine.specs.Views.{event_in, tried_in, Answers};
 
 use crate::accept::{accept_off, accept_running};
@@ -188,6 +188,24 @@ impl Machine {
         ensures kept { OnErr result (self.new ≡ self.old) }
     {
         let start = Start::begun(alloc, set, number, on_last_known_good)?;
+        self.start = Some(start);
+        Ok(())
+    }
+
+    /// Begins a start as `begin` does, but without a clone, which only a save needs: the set is not copied.
+    pub fn begin_quiet(
+        &mut self,
+        alloc: Global,
+        set: &Key,
+        number: u32,
+        on_last_known_good: bool,
+    ) -> Result<(), AllocError>
+        requires off { is_there self.old.start ≡ false }
+        requires keys { HoldsKeys set.now }
+        ensures ok { OnOk result (self.new ≡ with_start (without_clone (begun_with set.now number on_last_known_good)) self.old) }
+        ensures kept { OnErr result (self.new ≡ self.old) }
+    {
+        let start = Start::quiet(alloc, set, number, on_last_known_good)?;
         self.start = Some(start);
         Ok(())
     }

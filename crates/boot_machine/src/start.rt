@@ -8,7 +8,7 @@ ghost use Rattle.boot_report.specs.Report.{verdict_of};
 ghost use Rattle.start_model.specs.Order.{plan_of};
 ghost use Rattle.start_model.specs.Ready.{has_name};
 ghost use Rattle.start_model.specs.Machine.{next_in, failures_of, one_failure_less, missing_in, phase_after, unmet_in, after_phase, begun_with, is_good, save_due, ending_with, ending_of};
-ghost use Rattle.boot_machine.specs.Steps.{is_there, is_last_phase, AttemptsNext};
+ghost use Rattle.boot_machine.specs.Steps.{is_there, is_last_phase, AttemptsNext, without_clone};
 
 use crate::failures::Failures;
 use crate::names::note;
@@ -71,9 +71,24 @@ impl Start {
         requires { HoldsKeys set }
         ensures { IfOk result (λ s. s ≡ begun_with set number on_good) }
     {
+        let mut start = Start::quiet(alloc, &set, number, on_good)?;
+        start.clone = Some(set);
+        Ok(start)
+    }
+
+    /// The same without a clone.
+    pub(crate) fn quiet(
+        alloc: Global,
+        set: &Key,
+        number: u32,
+        on_good: bool,
+    ) -> Result<Start, AllocError>
+        requires { HoldsKeys set.now }
+        ensures { IfOk result (λ s. s ≡ without_clone (begun_with set.now number on_good)) }
+    {
         let tried = Vec::new(alloc);
         let started = Started::new(alloc);
-        let queue = planned(alloc, &set, Phase::Boot, tried.as_slice(), &started)?;
+        let queue = planned(alloc, set, Phase::Boot, tried.as_slice(), &started)?;
         Ok(Start {
             number,
             on_good,
@@ -82,7 +97,7 @@ impl Start {
             tried,
             logged_on: false,
             saved: None,
-            clone: Some(set),
+            clone: None,
         })
     }
 

@@ -54,8 +54,7 @@ fn begin(
 {
     let mut machine = Machine::new(alloc);
     note_failure(alloc, failing, &mut machine)?;
-    machine.begin(alloc, set, taken.number, taken.on_good)?;
-    let _clone = machine.take_clone();
+    machine.begin_quiet(alloc, set, taken.number, taken.on_good)?;
     Ok(Course {
         told: ToldRow::new(alloc),
         machine,

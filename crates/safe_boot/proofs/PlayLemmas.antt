@@ -13,7 +13,7 @@ use Rattle.start_model.specs.Starter.{phase_line}
 use Rattle.boot_phases.specs.declared.phase.Phase as code_phase
 use Rattle.boot_phases.specs.declared.phase.Phase.TheVariants as phases
 use Rattle.boot_phases.specs.Phases.{phase_in}
-use Rattle.boot_machine.specs.Steps.{is_there, is_at_end, on_start}
+use Rattle.boot_machine.specs.Steps.{is_there, is_at_end, on_start, without_clone}
 use Rattle.safe_boot.specs.declared.lines.SafeLine.{SafeLine}
 use Rattle.safe_boot.specs.declared.lines.SafeLine.TheVariants as code
 use Rattle.safe_boot.specs.declared.mode.SafeMode.{SafeMode}
@@ -22,7 +22,7 @@ use Rattle.safe_boot.specs.Listed.{reduced_of}
 use Rattle.safe_boot.specs.Played.{Course, at_place, waiting_at, next_entry, tried_at, attempts_of, phase_ended, phase_played, course_begun, start_lines_of, safe_lines_by, IsAt, AttemptsNext, waiting_count}
 
 abbrev pub running : Start → MachineState
-running s = with_start s off_machine
+running s = with_start (without_clone s) off_machine
 
 -- ---- one attempt
 
@@ -39,11 +39,11 @@ next_at s place e p w = ap (option_and_then (waiting_at s)) p ∙ ap (option_map
 
 tried_here : (s : Start) (m : MachineState) (t : machine.Tried) (place : ℕ) (w : Option Entry) → next_in s ≡ Some place
     → slice_get s.waiting place ≡ w
-    → option_map (attempt_at (running s) s false place) w ≡ Some (m, t) → TriedOne s m t
+    → option_map (attempt_at (running s) (without_clone s) false place) w ≡ Some (m, t) → TriedOne s m t
 tried_here s m t place None p is h = absurd cc
 tried_here s m t place (Some e) p is h =
-    let same : attempt_at (running s) s false place e ≡ (m, t) =
-    same_Some (attempt_at (running s) s false place e) (m, t) h in
+    let same : attempt_at (running s) (without_clone s) false place e ≡ (m, t) =
+    same_Some (attempt_at (running s) (without_clone s) false place e) (m, t) h in
     record {
       place = place;
       entry = e;
@@ -53,7 +53,7 @@ tried_here s m t place (Some e) p is h =
     }
 
 tried_by : (s : Start) (m : MachineState) (t : machine.Tried) (o : Option ℕ) → next_in s ≡ o
-    → option_and_then (λ place. option_map (attempt_at (running s) s false place) (slice_get s.waiting place)) o
+    → option_and_then (λ place. option_map (attempt_at (running s) (without_clone s) false place) (slice_get s.waiting place)) o
     ≡ Some (m, t) → TriedOne s m t
 tried_by s m t None p h = absurd cc
 tried_by s m t (Some place) p h = tried_here s m t place (slice_get s.waiting place) p refl h
@@ -240,11 +240,11 @@ played_by (Err e) set m m' m'' said said' said'' tried over = tt
 -- ---- the whole start
 
 pub begun_at : (set : Tree) (off m : MachineState) (none said : List SafeLine) → off ≡ off_machine
-    → m ≡ with_start (begun_with set 0 false) off → none ≡ [] → said ≡ none ++ code.Phase phases.Boot ∷ []
+    → m ≡ with_start (without_clone (begun_with set 0 false)) off → none ≡ [] → said ≡ none ++ code.Phase phases.Boot ∷ []
     → IsAt m said (course_begun set)
 unfolding course_begun
 begun_at set off m none said is begun empty first = record {
-  start = begun ∙ ap (with_start (begun_with set 0 false)) is;
+  start = begun ∙ ap (with_start (without_clone (begun_with set 0 false))) is;
   lines = ap (map line_of) (first ∙ ap (λ ls. ls ++ code.Phase phases.Boot ∷ []) empty);
 }
 

@@ -8,6 +8,7 @@ use Rattle.start_model.specs.Entries.{Entry, Boot}
 use Rattle.start_model.specs.Lines.{Line, TryLine, TryOk, UnmetLine}
 use Rattle.start_model.specs.Machine.{Start, MachineState, off_machine, next_in, after_attempt, unmet_in, after_phase, begun_with, with_start}
 use Rattle.start_model.specs.Starter.{phase_line}
+use Rattle.boot_machine.specs.Steps.{without_clone}
 use Rattle.safe_boot.specs.declared.mode.SafeMode.{SafeMode}
 use Rattle.safe_boot.specs.declared.lines.SafeLine.{SafeLine}
 use Rattle.safe_boot.specs.Lines.{line_of}
@@ -69,9 +70,9 @@ safe_lines_of set mode = safe_lines_by set mode false
 
 -- ---- the machine that plays it
 
--- a machine in which nothing is to fail runs this start, and these lines are its lines
+-- a machine in which nothing is to fail runs this start, but for the copy of the set, and these lines are its lines
 pub record IsAt (machine : MachineState) (said : List SafeLine) (c : Course) : Type 0 where
-  pub start : machine ≡ with_start c.start off_machine
+  pub start : machine ≡ with_start (without_clone c.start) off_machine
   pub lines : map line_of said ≡ c.lines
 
 -- the next entry of this course is attempted, and the course goes on so

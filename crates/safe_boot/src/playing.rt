@@ -80,7 +80,7 @@ fn play_start(
     requires unsaid { lines.old ≡ [] }
     ensures { OnOk result (map line_of lines.new ≡ start_lines_of set.now) }
 {
-    machine.begin(alloc, set, 0, false)?;
+    machine.begin_quiet(alloc, set, 0, false)?;
     lines.push(SafeLine::Phase(Phase::Boot))?;
     play_phase(alloc, set, machine, lines)?;
     play_phase(alloc, set, machine, lines)?;
