@@ -1,4 +1,3 @@
-pub mod FewLemmas
 pub mod PartLemmas
 pub mod Places
 pub mod QueueLemmas

@@ -1,4 +1,5 @@
 pub mod ApartLemmas
+pub mod FewLemmas
 pub mod ListLemmas
 pub mod PlaceLemmas
 pub mod PlanLemmas

@@ -5,6 +5,7 @@
 #![tactic(auto)]
 
 mod kind;
+mod lists;
 mod phase;
 mod planning;
 mod rank;
@@ -12,6 +13,7 @@ mod taken;
 mod tried;
 mod untried;
 
+pub use lists::SetLists;
 pub use phase::Phase;
 pub use planning::plan;
 pub use rank::{a_plan_is_in_order, each_place_counts_those_before};

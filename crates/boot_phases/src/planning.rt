@@ -3,15 +3,16 @@
 ghost use Rattle.std.specs.Prelude.{◌≡◌, Some, None, map, slice_get, slice_index_or, slice_set, IfOk};
 ghost use Rattle.std.specs.List.{filter_map};
 ghost use Rattle.hive_model.specs.Valid.{HoldsKeys};
-ghost use Rattle.start_model.specs.Order.{plan_of};
+ghost use Rattle.start_model.specs.Order.{ordered_of, plan_of};
 ghost use Rattle.boot_phases.specs.Phases.{phase_in};
 ghost use Rattle.boot_phases.specs.Apart.{StandApart};
+ghost use Rattle.boot_phases.specs.Lists.{plan_among, ranks_among};
 
 use crate::phase::{Phase, tags_count};
 use crate::rank::{Rank, in_order, ranks_at};
 use crate::taken::taken;
 use crate::tried::TriedNames;
-use group_order::read_orders;
+use group_order::{Orders, read_orders};
 use nt_bytes::Units;
 use reg_tree::Key;
 use service_entries::{Entries, Entry, ServiceTable, entries};
@@ -41,11 +42,52 @@ fn plan_phase(
 {
     let table = entries(alloc, set)?;
     let orders = read_orders(alloc, set)?;
-    let tried = TriedNames::new(alloc, tried)?;
-    let places = taken(alloc, &table, phase, &tried)?;
-    let mut ranks = ranks_at(alloc, &table, &orders, tags_count(phase), places.as_slice())?;
-    in_order(&mut ranks);
+    let ranks = ranked(alloc, &table, &orders, phase, tried)?;
     entries_at(alloc, table, ranks.as_slice())
+}
+
+/// What a phase takes of these, each entry copied.
+pub(crate) fn plan_copied(
+    alloc: Global,
+    table: &ServiceTable,
+    orders: &Orders,
+    phase: Phase,
+    tried: &[Units],
+) -> Result<Entries, AllocError>
+    ensures { IfOk result (λ p. p ≡ plan_among (record { entries = table.now; orders = orders.now }) (phase_in phase) tried.now) }
+{
+    let ranks = ranked(alloc, table, orders, phase, tried)?;
+    copies_at(alloc, table, ranks.as_slice())
+}
+
+/// The ranks of what a phase takes, in their order.
+fn ranked(
+    alloc: Global,
+    table: &ServiceTable,
+    orders: &Orders,
+    phase: Phase,
+    tried: &[Units],
+) -> Result<Vec<Rank>, AllocError>
+    ensures { IfOk result (λ r. r.items ≡ ordered_of (ranks_among (record { entries = table.now; orders = orders.now }) (phase_in phase) tried.now)) }
+{
+    let tried = TriedNames::new(alloc, tried)?;
+    let places = taken(alloc, table, phase, &tried)?;
+    let mut ranks = ranks_at(alloc, table, orders, tags_count(phase), places.as_slice())?;
+    in_order(&mut ranks);
+    Ok(ranks)
+}
+
+/// A copy of the entry of each of these ranks.
+fn copies_at(alloc: Global, table: &ServiceTable, ranks: &[Rank]) -> Result<Entries, AllocError>
+    ensures { IfOk result (λ e. e ≡ filter_map (λ r. slice_get table.now r.place) ranks.now) }
+{
+    let mut copies = Entries::new(alloc);
+    for rank in ranks {
+        if let Some(entry) = table.get(rank.place) {
+            copies.push(entry.copy(alloc)?)?;
+        }
+    }
+    Ok(copies)
 }
 
 /// The entries of these ranks, each moved out of its place.

@@ -1,5 +1,5 @@
 use Rattle.boot_phases.specs.Phases.{phase_in}
-use Rattle.boot_machine.proofs.FewLemmas.{plan_few}
+use Rattle.boot_phases.proofs.FewLemmas.{plan_few}
 use Rattle.boot_machine.proofs.start.planned.Goals as goal
 
 pub new-requires : goal.new-requires

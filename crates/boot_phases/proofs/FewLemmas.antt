@@ -1,6 +1,6 @@
 -- A phase takes fewer entries than a u32 has values.
 use Rattle.std.proofs.Common.{◌≡◌, ℕ, ◌^◌, ◌<◌, ◌≤◌, suc, Bool, true, false, cond, List, [], ◌∷◌, length, Option, Some, None, refl, ap, ◌∙◌, arith}
-use Rattle.std.specs.Prelude.{slice_get, filter}
+use Rattle.std.specs.Prelude.{slice_get, filter, Result, Ok, Err, IfOk}
 use Rattle.std.specs.Option.{option_map, option_map_or}
 use Rattle.std.specs.List.{filter_map, cons_option, range_with_len}
 use Rattle.std.proofs.lemmas.List.Sums.{length-filter, count_by-le-length}
@@ -9,8 +9,9 @@ use Rattle.hive_model.specs.Tree.{Tree}
 use Rattle.hive_model.specs.Valid.{HoldsKeys}
 use Rattle.start_model.specs.Demand.{automatic_of, is_taken}
 use Rattle.start_model.specs.Entries.{Entry, Phase, Boot, System, Automatic, Done, entry_of, entries_of, services_of, need_of, needs_at, is_driver_of, is_open, places_of, taken_of}
-use Rattle.start_model.specs.Order.{Rank, is_before, placed, ordered_of, orders_of, rank_of, tags_count_in, ranks_of, plan_of}
+use Rattle.start_model.specs.Order.{Rank, is_before, placed, ordered_of, rank_of, tags_count_in, plan_of}
 use Rattle.start_model.proofs.HeldLemmas.{services_few}
+use Rattle.boot_phases.specs.Lists.{Lists, lists_of, ranks_among, plan_among}
 
 one_more : {X : Type 0} (o : Option X) (xs : List X) (n : ℕ) → length xs ≤ n → length (cons_option o xs) ≤ suc n
 one_more None xs n le = omega arith
@@ -59,19 +60,36 @@ taken entries Automatic tried =
     )
 taken entries Done tried = omega arith
 
-pub plan_few : (set : Tree) (phase : Phase) (tried : List (List ℕ)) → HoldsKeys set
-    → length (plan_of set phase tried) < 2 ^ 32
-plan_few set phase tried held =
-    let entries = entries_of set in
-    let places = taken_of entries phase tried in
-    let h : ℕ → Option Rank = λ p. option_map (rank_of (orders_of set) (tags_count_in phase) p) (slice_get entries p) in
-    let ranks = ranks_of set phase tried in
+-- a phase takes no more than there are
+among : (lists : Lists) (phase : Phase) (tried : List (List ℕ))
+    → length (plan_among lists phase tried) ≤ length lists.entries
+among lists phase tried =
+    let places = taken_of lists.entries phase tried in
+    let h : ℕ → Option Rank =
+    λ p. option_map (rank_of lists.orders (tags_count_in phase) p) (slice_get lists.entries p) in
+    let ranks = ranks_among lists phase tried in
     omega (
       arith,
-      mapped (λ (r : Rank). slice_get entries r.place) (ordered_of ranks),
+      mapped (λ (r : Rank). slice_get lists.entries r.place) (ordered_of ranks),
       length-ordered_of ranks,
       mapped h places,
-      taken entries phase tried,
-      mapped entry_of (services_of set),
-      services_few set held,
+      taken lists.entries phase tried,
     )
+
+pub few_among : (lists : Lists) (phase : Phase) (tried : List (List ℕ)) → length lists.entries < 2 ^ 32
+    → length (plan_among lists phase tried) < 2 ^ 32
+few_among lists phase tried few = omega (arith, few, among lists phase tried)
+
+pub few_by : {E : Type 0} (r : Result (List Entry) E) (lists : Lists) (phase : Phase) (tried : List (List ℕ))
+    → length lists.entries < 2 ^ 32 → IfOk r (λ p. p ≡ plan_among lists phase tried) → IfOk r (λ p. length p < 2 ^ 32)
+few_by (Ok p) lists phase tried few is =
+    let count : length p ≡ length (plan_among lists phase tried) = ap length is in
+    omega (arith, count, few_among lists phase tried few)
+few_by (Err e) lists phase tried few is = tt
+
+pub entries_few : (set : Tree) → HoldsKeys set → length (entries_of set) < 2 ^ 32
+entries_few set held = omega (arith, mapped entry_of (services_of set), services_few set held)
+
+pub plan_few : (set : Tree) (phase : Phase) (tried : List (List ℕ)) → HoldsKeys set
+    → length (plan_of set phase tried) < 2 ^ 32
+plan_few set phase tried held = few_among (lists_of set) phase tried (entries_few set held)

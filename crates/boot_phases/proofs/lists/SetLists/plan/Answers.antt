@@ -1,0 +1,15 @@
+use Rattle.std.proofs.Common.{◌≡◌, subst}
+use Rattle.std.specs.Prelude.{IfOk}
+use Rattle.boot_phases.specs.Lists.{Lists, plan_among}
+use Rattle.boot_phases.specs.Phases.{phase_in}
+use Rattle.boot_phases.proofs.FewLemmas.{few_by}
+use Rattle.boot_phases.proofs.lists.SetLists.plan.Goals as goal
+
+pub returns-in-Boot : goal.returns-in-Boot
+returns-in-Boot c =
+    let phase = phase_in c.args.phase in
+    let tried = c.args.tried.now in
+    record {
+      plan = subst (λ (l : Lists). IfOk c.plan_copied.result (λ p. p ≡ plan_among l phase tried)) c.self.view_is c.plan_copied.ensures;
+      few = few_by c.plan_copied.result (record { entries = c.self.inside.table; orders = c.self.inside.orders }) phase tried c.self.invariant c.plan_copied.ensures;
+    }

@@ -1,0 +1,58 @@
+//! What plans take from a control set, read once.
+
+ghost use Rattle.std.specs.Prelude.{◌≡◌, ◌<◌, ◌^◌, length, IfOk};
+ghost use Rattle.hive_model.specs.Valid.{HoldsKeys};
+ghost use Rattle.boot_phases.specs.Lists.{lists_of, plan_among};
+ghost use Rattle.boot_phases.specs.Phases.{phase_in};
+
+use crate::phase::Phase;
+use crate::planning::plan_copied;
+use group_order::{Orders, read_orders};
+use nt_bytes::Units;
+use reg_tree::Key;
+use service_entries::{Entries, ServiceTable, entries};
+use std::alloc::{AllocError, Global};
+use std::marker::Model;
+
+/// The services of a control set, and its groups with their tags. Contracts see both.
+#[derive(Drop)]
+pub struct SetLists {
+    pub(crate) table: ServiceTable,
+    pub(crate) orders: Orders,
+}
+
+impl Model for SetLists {
+    ghost use Rattle.std.specs.Prelude.{◌<◌, ◌^◌, length};
+    ghost use Rattle.boot_phases.specs.Lists.{Lists};
+
+    ghost Value = { Lists };
+
+    ghost view = { λ a. record { entries = a.table; orders = a.orders } };
+
+    ghost invariant = { λ a. length a.table < 2 ^ 32 };
+}
+
+impl SetLists {
+    /// Those of a set.
+    pub fn read(alloc: Global, set: &Key) -> Result<SetLists, AllocError>
+        requires { HoldsKeys set.now }
+        ensures { IfOk result (λ lists. lists ≡ lists_of set.now) }
+    {
+        let table = entries(alloc, set)?;
+        let orders = read_orders(alloc, set)?;
+        Ok(SetLists { table, orders })
+    }
+
+    /// What a phase takes, in its order, as `plan` of the set does. An entry is copied where it is taken.
+    pub fn plan(&self, alloc: Global, phase: Phase, tried: &[Units]) -> Result<Entries, AllocError>
+        ensures plan { IfOk result (λ p. p ≡ plan_among self.now (phase_in phase) tried.now) }
+        ensures few { IfOk result (λ p. length p < 2 ^ 32) }
+    {
+        match phase {
+            Phase::Done => Ok(Entries::new(alloc)),
+            Phase::Boot | Phase::System | Phase::Automatic => {
+                plan_copied(alloc, &self.table, &self.orders, phase, tried)
+            }
+        }
+    }
+}
