@@ -1,9 +1,11 @@
 -- What are the steps of the machine, where the book has no word for them? (this project's own)
 use Rattle.std.specs.Prelude.{◌≡◌, ℕ, Bool, true, false, not, [], ◌∷◌, ◌++◌, slice_get, remove, Option, Some, None, option_map, if◌then◌else◌}
 use Rattle.nt_bytes.specs.Folding.{folded}
+use Rattle.hive_model.specs.Tree.{Tree}
 use Rattle.start_model.specs.Entries.{Entry, Phase, Boot, System, Automatic, Done}
 use Rattle.start_model.specs.Lines.{Verdict, Good, GoodUnsaved, Running, FallBack, Stopped, Cut, Device, Full, NoNumber, NoEntry, OtherLoader, NoSystem, NoControlSet, NoLastKnownGood}
 use Rattle.start_model.specs.Machine.{Start, MachineState, next_in, label_of}
+use Rattle.boot_machine.specs.Queue.{QueueState}
 
 abbrev pub is_there : {X : Type 0} → Option X → Bool
 is_there None = false
@@ -12,6 +14,20 @@ is_there (Some x) = true
 -- the running start is changed; nothing is done where none runs
 abbrev pub on_start : (Start → Start) → MachineState → MachineState
 on_start change m = record m { start = option_map change m.start }
+
+-- a start in its boot phase, whose entries these are
+abbrev pub begun_on : QueueState → ℕ → Bool → Option Tree → Start
+begun_on queue number on_good clone = record {
+  number = number;
+  on_good = on_good;
+  phase = Boot;
+  waiting = queue.waiting;
+  tried = [];
+  started = queue.started;
+  logged_on = false;
+  saved = None;
+  clone = clone;
+}
 
 -- the start keeps no copy of the set that it began with
 abbrev pub without_clone : Start → Start

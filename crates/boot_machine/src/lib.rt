@@ -20,7 +20,7 @@ mod tried;
 mod vital;
 
 pub use accept::is_current;
-pub use boot_phases::Phase;
+pub use boot_phases::{Phase, SetLists};
 pub use boot_report::Verdict;
 pub use error_control::Judgement;
 pub use machine::Machine;

@@ -4,6 +4,7 @@ ghost use Rattle.std.specs.Prelude.{◌≡◌, true, false, [], IfOk, OnOk, OnEr
 ghost use Rattle.std.specs.Option.{option_map_or};
 ghost use Rattle.hive_model.specs.Tree.{Tree};
 ghost use Rattle.hive_model.specs.Valid.{HoldsKeys};
+ghost use Rattle.boot_phases.specs.Lists.{lists_of};
 ghost use Rattle.boot_phases.specs.Phases.{phase_in};
 ghost use Rattle.boot_report.specs.Report.{verdict_of};
 ghost use Rattle.start_model.specs.Entries.{Done};
@@ -19,7 +20,7 @@ use crate::refusal::EventRefusal;
 use crate::start::Start;
 use crate::tried::Tried;
 use crate::vital::require;
-use boot_phases::Phase;
+use boot_phases::{Phase, SetLists};
 use boot_report::Verdict;
 use boot_script::Event;
 use nt_bytes::{Names, Units};
@@ -192,20 +193,20 @@ impl Machine {
         Ok(())
     }
 
-    /// Begins a start as `begin` does, but without a clone, which only a save needs: the set is not copied.
-    pub fn begin_quiet(
+    /// Begins a start on a set of which these are the lists, without a clone, which only a save needs. No start may run.
+    pub fn begin_listed(
         &mut self,
         alloc: Global,
-        set: &Key,
+        lists: &SetLists,
         number: u32,
         on_last_known_good: bool,
     ) -> Result<(), AllocError>
-        requires off { is_there self.old.start ≡ false }
-        requires keys { HoldsKeys set.now }
-        ensures ok { OnOk result (self.new ≡ with_start (without_clone (begun_with set.now number on_last_known_good)) self.old) }
+        requires { is_there self.old.start ≡ false }
+        ensures ok { OnOk result ((set : Tree) → lists.now ≡ lists_of set
+            → self.new ≡ with_start (without_clone (begun_with set number on_last_known_good)) self.old) }
         ensures kept { OnErr result (self.new ≡ self.old) }
     {
-        let start = Start::quiet(alloc, set, number, on_last_known_good)?;
+        let start = Start::begun_listed(alloc, lists, number, on_last_known_good)?;
         self.start = Some(start);
         Ok(())
     }
@@ -243,6 +244,22 @@ impl Machine {
     {
         match &mut self.start {
             Some(start) => start.next_phase(alloc, set),
+            None => Ok(Names::new(alloc)),
+        }
+    }
+
+    /// Goes on as `next_phase` does, where these are the lists of the set.
+    pub fn next_phase_listed(
+        &mut self,
+        alloc: Global,
+        lists: &SetLists,
+    ) -> Result<Names, AllocError>
+        ensures machine { IfOk result (λ _. (set : Tree) → lists.now ≡ lists_of set → self.new ≡ on_start (after_phase set) self.old) }
+        ensures unmet { IfOk result (λ names. names ≡ option_map_or unmet_in self.old.start []) }
+        ensures kept { OnErr result (self.new ≡ self.old) }
+    {
+        match &mut self.start {
+            Some(start) => start.next_phase_listed(alloc, lists),
             None => Ok(Names::new(alloc)),
         }
     }

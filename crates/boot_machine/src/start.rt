@@ -3,19 +3,20 @@
 ghost use Rattle.std.specs.Prelude.{◌≡◌, ℕ, List, ◌==◌, true, not, filter, Some, None, IfOk, OnErr};
 ghost use Rattle.hive_model.specs.Tree.{Tree};
 ghost use Rattle.hive_model.specs.Valid.{HoldsKeys};
+ghost use Rattle.boot_phases.specs.Lists.{lists_of};
 ghost use Rattle.boot_phases.specs.Phases.{phase_in};
 ghost use Rattle.boot_report.specs.Report.{verdict_of};
 ghost use Rattle.start_model.specs.Order.{plan_of};
 ghost use Rattle.start_model.specs.Ready.{has_name};
 ghost use Rattle.start_model.specs.Machine.{next_in, failures_of, one_failure_less, missing_in, phase_after, unmet_in, after_phase, begun_with, is_good, save_due, ending_with, ending_of};
-ghost use Rattle.boot_machine.specs.Steps.{is_there, is_last_phase, AttemptsNext, without_clone};
+ghost use Rattle.boot_machine.specs.Steps.{is_there, is_last_phase, AttemptsNext, begun_on, without_clone};
 
 use crate::failures::Failures;
 use crate::names::note;
 use crate::phases::{is_done, phase_after};
 use crate::queue::Queue;
 use crate::vital::missing;
-use boot_phases::{Phase, plan};
+use boot_phases::{Phase, SetLists, plan};
 use boot_report::Verdict;
 use dependencies::Started;
 use nt_bytes::{Names, Units};
@@ -71,34 +72,45 @@ impl Start {
         requires { HoldsKeys set }
         ensures { IfOk result (λ s. s ≡ begun_with set number on_good) }
     {
-        let mut start = Start::quiet(alloc, &set, number, on_good)?;
-        start.clone = Some(set);
-        Ok(start)
+        let started = Started::new(alloc);
+        let queue = planned(alloc, &set, Phase::Boot, &[], &started)?;
+        Ok(Start::of_queue(alloc, queue, number, on_good, Some(set)))
     }
 
-    /// The same without a clone.
-    pub(crate) fn quiet(
+    /// The same on the lists of a set, without a clone.
+    pub(crate) fn begun_listed(
         alloc: Global,
-        set: &Key,
+        lists: &SetLists,
         number: u32,
         on_good: bool,
     ) -> Result<Start, AllocError>
-        requires { HoldsKeys set.now }
-        ensures { IfOk result (λ s. s ≡ without_clone (begun_with set.now number on_good)) }
+        ensures { IfOk result (λ s. (set : Tree) → lists.now ≡ lists_of set → s ≡ without_clone (begun_with set number on_good)) }
     {
-        let tried = Vec::new(alloc);
         let started = Started::new(alloc);
-        let queue = planned(alloc, set, Phase::Boot, tried.as_slice(), &started)?;
-        Ok(Start {
+        let queue = planned_listed(alloc, lists, Phase::Boot, &[], &started)?;
+        Ok(Start::of_queue(alloc, queue, number, on_good, None))
+    }
+
+    /// A start in its boot phase, whose entries these are.
+    fn of_queue(
+        alloc: Global,
+        queue: Queue,
+        number: u32,
+        on_good: bool,
+        clone: Option<Key>,
+    ) -> Start
+        ensures { result ≡ begun_on queue number on_good clone }
+    {
+        Start {
             number,
             on_good,
             phase: Phase::Boot,
             queue,
-            tried,
+            tried: Vec::new(alloc),
             logged_on: false,
             saved: None,
-            clone: None,
-        })
+            clone,
+        }
     }
 
     pub(crate) fn phase(&self) -> Phase
@@ -191,10 +203,23 @@ impl Start {
         let phase = phase_after(self.phase);
         let started = self.queue.started(alloc)?;
         let queue = planned(alloc, set, phase, self.tried.as_slice(), &started)?;
-        let unmet = self.queue.names(alloc)?;
-        self.phase = phase;
-        self.queue = queue;
-        Ok(unmet)
+        self.go_on(alloc, phase, queue)
+    }
+
+    /// The same where these are the lists of the set.
+    pub(crate) fn next_phase_listed(
+        &mut self,
+        alloc: Global,
+        lists: &SetLists,
+    ) -> Result<Names, AllocError>
+        ensures start { IfOk result (λ _. (set : Tree) → lists.now ≡ lists_of set → self.new ≡ after_phase set self.old) }
+        ensures unmet { IfOk result (λ names. names ≡ unmet_in self.old) }
+        ensures kept { OnErr result (self.new ≡ self.old) }
+    {
+        let phase = phase_after(self.phase);
+        let started = self.queue.started(alloc)?;
+        let queue = planned_listed(alloc, lists, phase, self.tried.as_slice(), &started)?;
+        self.go_on(alloc, phase, queue)
     }
 
     /// Goes on from the last phase, after which nothing is taken of a set, and answers the names of those that wait.
@@ -207,6 +232,18 @@ impl Start {
         let phase = phase_after(self.phase);
         let started = self.queue.started(alloc)?;
         let queue = nothing_planned(alloc, self.phase, &started)?;
+        let unmet = self.queue.names(alloc)?;
+        self.phase = phase;
+        self.queue = queue;
+        Ok(unmet)
+    }
+
+    /// Goes on to a phase, whose entries these are, and answers the names of those that wait.
+    fn go_on(&mut self, alloc: Global, phase: Phase, queue: Queue) -> Result<Names, AllocError>
+        ensures start { IfOk result (λ _. self.new ≡ record self.old { phase = phase_in phase; waiting = queue.waiting; started = queue.started }) }
+        ensures unmet { IfOk result (λ names. names ≡ unmet_in self.old) }
+        ensures kept { OnErr result (self.new ≡ self.old) }
+    {
         let unmet = self.queue.names(alloc)?;
         self.phase = phase;
         self.queue = queue;
@@ -280,6 +317,21 @@ fn planned(
     ensures { IfOk result (λ q. q ≡ record { waiting = plan_of set.now (phase_in phase) tried.now; started = started.now }) }
 {
     let entries = plan(alloc, set, phase, tried)?;
+    Queue::new(alloc, entries.into_vec(), started)
+}
+
+/// The entries of a phase, which all wait, where these are the lists of a set.
+fn planned_listed(
+    alloc: Global,
+    lists: &SetLists,
+    phase: Phase,
+    tried: &[Units],
+    started: &Started,
+) -> Result<Queue, AllocError>
+    ensures { IfOk result (λ q. (set : Tree) → lists.now ≡ lists_of set
+        → q ≡ record { waiting = plan_of set (phase_in phase) tried.now; started = started.now }) }
+{
+    let entries = lists.plan(alloc, phase, tried)?;
     Queue::new(alloc, entries.into_vec(), started)
 }
 

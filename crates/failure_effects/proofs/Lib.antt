@@ -1,6 +1,7 @@
+pub mod HeldLemmas
+pub mod LayerLemmas
+pub mod ListedLemmas
+pub mod NameLemmas
+pub mod OpeningLemmas
 pub mod PlayLemmas
 pub mod SwitchLemmas
-pub mod HeldLemmas
-pub mod NameLemmas
-pub mod LayerLemmas
-pub mod OpeningLemmas

@@ -1,7 +1,8 @@
+pub mod Codes
+pub mod Effects
+pub mod Leans
+pub mod Lost
 pub mod Opening
 pub mod Played
-pub mod Switching
-pub mod Lost
 pub mod States
-pub mod Leans
-pub mod Effects
+pub mod Switching

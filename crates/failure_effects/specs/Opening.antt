@@ -1,7 +1,7 @@
 -- What does the plain start come to before its phases? (this project's own)
 --
 -- Which set is taken, and what its beginning changes, is that of the book of startup.
-use Rattle.std.specs.Prelude.{ℕ, Bool, Option, Result, Ok, Err}
+use Rattle.std.specs.Prelude.{ℕ, Bool, Result, Ok, Err}
 use Rattle.std.specs.Option.{unwrap_or}
 use Rattle.nt_bytes.specs.declared.version.HiveVersion.{HiveVersion}
 use Rattle.hive_model.specs.Tree.{Tree}

@@ -1,7 +1,7 @@
 -- What does a start say of the entries that it takes, where at most one attempt fails? (this project's own)
 --
 -- Phases, plans, which entry is next, what is unmet and what follows from a failure are those of the book of startup.
-use Rattle.std.specs.Prelude.{◌≡◌, ℕ, zero, suc, Bool, true, false, List, [], ◌∷◌, ◌++◌, map, filter, length, Option, Some, None, option_map, if◌then◌else◌}
+use Rattle.std.specs.Prelude.{ℕ, zero, suc, Bool, true, false, List, [], ◌∷◌, ◌++◌, map, filter, length, Option, Some, None, option_map, if◌then◌else◌}
 use Rattle.std.specs.Option.{option_map_or, option_or}
 use Rattle.hive_model.specs.Tree.{Tree}
 use Rattle.start_model.specs.Judge as book

@@ -2,17 +2,14 @@
 
 ghost use Rattle.std.specs.Prelude.{◌≡◌, ◌++◌, [], Some, None, OnOk, if◌then◌else◌};
 ghost use Rattle.std.specs.Option.{option_copied};
-ghost use Rattle.hive_model.specs.Valid.{HoldsKeys};
 ghost use Rattle.failure_effects.specs.Lost.{other_of, lost_lines, goes_on, failed_lines, fail_block, off_block, blocks_of, blocks_where};
 ghost use Rattle.failure_effects.specs.Played.{is_started, played};
 ghost use Rattle.failure_effects.specs.Effects.{is_asked};
 ghost use Rattle.failure_effects.specs.Switching.{off_set};
 
-use crate::course::play;
 use crate::lines::{EffectLine, EffectLines};
 use crate::lost::{Other, goes_on, lost_in, other_of, push_lost};
-use crate::opening::Taken;
-use crate::switching::off_set;
+use crate::reading::ReadTaken;
 use crate::told::{Told, is_started};
 use error_control::Judgement;
 use nt_bytes::{Units, same_folded};
@@ -21,16 +18,15 @@ use std::alloc::{AllocError, Global};
 /// The blocks of each entry that is asked for, in the order of the plain start.
 pub(crate) fn push_blocks(
     alloc: Global,
-    taken: &Taken,
+    read: &ReadTaken<'_>,
     plain: &[Told],
     of: Option<&Units>,
     lines: &mut EffectLines,
 ) -> Result<(), AllocError>
-    requires { HoldsKeys taken.now.set }
-    ensures { OnOk result (lines.new ≡ lines.old ++ blocks_where (is_asked (option_copied of.entry)) taken.now plain.now) }
+    ensures { OnOk result (lines.new ≡ lines.old ++ blocks_where (is_asked (option_copied of.entry)) read.now plain.now) }
 {
     for told in plain {
-        push_where_asked(alloc, taken, plain, told, of, lines)?;
+        push_where_asked(alloc, read, plain, told, of, lines)?;
     }
     Ok(())
 }
@@ -48,17 +44,16 @@ fn is_asked(of: Option<&Units>, name: &[u16]) -> bool
 /// The blocks of the entry, where it is asked for.
 fn push_where_asked(
     alloc: Global,
-    taken: &Taken,
+    read: &ReadTaken<'_>,
     plain: &[Told],
     told: &Told,
     of: Option<&Units>,
     lines: &mut EffectLines,
 ) -> Result<(), AllocError>
-    requires { HoldsKeys taken.now.set }
-    ensures { OnOk result (lines.new ≡ lines.old ++ (if is_asked (option_copied of.entry) told.now.name then blocks_of taken.now plain.now told.now else [])) }
+    ensures { OnOk result (lines.new ≡ lines.old ++ (if is_asked (option_copied of.entry) told.now.name then blocks_of read.now plain.now told.now else [])) }
 {
     if is_asked(of, told.name.as_slice()) {
-        push_blocks_of(alloc, taken, plain, told, lines)
+        push_blocks_of(alloc, read, plain, told, lines)
     } else {
         Ok(())
     }
@@ -67,32 +62,30 @@ fn push_where_asked(
 /// The blocks of the entry.
 fn push_blocks_of(
     alloc: Global,
-    taken: &Taken,
+    read: &ReadTaken<'_>,
     plain: &[Told],
     told: &Told,
     lines: &mut EffectLines,
 ) -> Result<(), AllocError>
-    requires { HoldsKeys taken.now.set }
-    ensures { OnOk result (lines.new ≡ lines.old ++ blocks_of taken.now plain.now told.now) }
+    ensures { OnOk result (lines.new ≡ lines.old ++ blocks_of read.now plain.now told.now) }
 {
-    push_failed_where(alloc, taken, plain, told, lines)?;
-    push_off(alloc, taken, plain, &told.name, lines)
+    push_failed_where(alloc, read, plain, told, lines)?;
+    push_off(alloc, read, plain, &told.name, lines)
 }
 
 /// The block in which it fails, where the plain start started it.
 fn push_failed_where(
     alloc: Global,
-    taken: &Taken,
+    read: &ReadTaken<'_>,
     plain: &[Told],
     told: &Told,
     lines: &mut EffectLines,
 ) -> Result<(), AllocError>
-    requires { HoldsKeys taken.now.set }
     ensures { OnOk result (lines.new ≡ lines.old
-        ++ (if is_started told.now.fate then fail_block plain.now (other_of (played taken.now taken.now.set (Some told.now.name))) told.now.name else [])) }
+        ++ (if is_started told.now.fate then fail_block plain.now (other_of (played read.now read.now.set (Some told.now.name))) told.now.name else [])) }
 {
     if is_started(told.fate) {
-        push_failed(alloc, taken, plain, &told.name, lines)
+        push_failed(alloc, read, plain, &told.name, lines)
     } else {
         Ok(())
     }
@@ -101,15 +94,14 @@ fn push_failed_where(
 /// The block of an entry that fails.
 fn push_failed(
     alloc: Global,
-    taken: &Taken,
+    read: &ReadTaken<'_>,
     plain: &[Told],
     name: &Units,
     lines: &mut EffectLines,
 ) -> Result<(), AllocError>
-    requires { HoldsKeys taken.now.set }
-    ensures { OnOk result (lines.new ≡ lines.old ++ fail_block plain.now (other_of (played taken.now taken.now.set (Some name.now))) name.now) }
+    ensures { OnOk result (lines.new ≡ lines.old ++ fail_block plain.now (other_of (played read.now read.now.set (Some name.now))) name.now) }
 {
-    let told = play(alloc, taken, &taken.set, Some(name))?;
+    let told = read.play(alloc, Some(name))?;
     let other = other_of(alloc, told.as_slice())?;
     push_fail_block(alloc, plain, &other, name, lines)
 }
@@ -170,16 +162,14 @@ fn push_lost_where(
 /// The block of an entry that is off.
 fn push_off(
     alloc: Global,
-    taken: &Taken,
+    read: &ReadTaken<'_>,
     plain: &[Told],
     name: &Units,
     lines: &mut EffectLines,
 ) -> Result<(), AllocError>
-    requires { HoldsKeys taken.now.set }
-    ensures { OnOk result (lines.new ≡ lines.old ++ off_block plain.now (other_of (played taken.now (off_set name.now taken.now.set) None)) name.now) }
+    ensures { OnOk result (lines.new ≡ lines.old ++ off_block plain.now (other_of (played read.now (off_set name.now read.now.set) None)) name.now) }
 {
-    let set = off_set(alloc, &taken.set, name.as_slice())?;
-    let told = play(alloc, taken, &set, None)?;
+    let told = read.play_off(alloc, name.as_slice())?;
     let other = other_of(alloc, told.as_slice())?;
     push_off_block(alloc, plain, &other, name, lines)
 }

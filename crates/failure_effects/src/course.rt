@@ -2,7 +2,8 @@
 
 ghost use Rattle.std.specs.Prelude.{◌≡◌, ◌<◌, ◌++◌, false, map, Some, IfOk, OnOk, length};
 ghost use Rattle.std.specs.Option.{option_copied};
-ghost use Rattle.hive_model.specs.Valid.{HoldsKeys};
+ghost use Rattle.hive_model.specs.Tree.{Tree};
+ghost use Rattle.boot_phases.specs.Lists.{lists_of};
 ghost use Rattle.start_model.specs.Machine.{MachineState, off_machine};
 ghost use Rattle.boot_machine.specs.Steps.{is_at_end};
 ghost use Rattle.failure_effects.specs.Played.{noted, judged, left, begun, attempted, next_course, attempts_of, phase_ended, phase_played, played_on, played, waiting_count};
@@ -10,11 +11,10 @@ ghost use Rattle.error_control.specs.Judgement.{judgement_in};
 
 use crate::opening::Taken;
 use crate::told::{Fate, Told, ToldRow, told_of};
-use boot_machine::Machine;
+use boot_machine::{Machine, SetLists};
 use boot_report::Verdict;
 use error_control::Judgement;
 use nt_bytes::Units;
-use reg_tree::Key;
 use std::alloc::{AllocError, Global};
 
 /// What a start has said so far, and the machine that plays it.
@@ -24,37 +24,34 @@ pub struct Course {
     pub machine: Machine,
 }
 
-/// What a start on this set says of the entries that it takes. The first attempt of the entry of this name fails, where there
-/// is one, and each other attempt goes well.
-#[tactic(auto, unfolding(crate::specs::Played::played))]
+/// What a start says of the entries that it takes, on a set of which these are the lists. The first attempt of the entry of this
+/// name fails, where there is one, and each other attempt goes well.
 pub(crate) fn play(
     alloc: Global,
     taken: &Taken,
-    set: &Key,
+    lists: &SetLists,
     failing: Option<&Units>,
 ) -> Result<ToldRow, AllocError>
-    requires { HoldsKeys set.now }
-    ensures { IfOk result (λ told. told ≡ played taken.now set.now (option_copied failing.entry)) }
+    ensures { IfOk result (λ told. (set : Tree) → lists.now ≡ lists_of set → told ≡ played taken.now set (option_copied failing.entry)) }
 {
-    let mut course = begin(alloc, taken, set, failing)?;
-    play_phases(alloc, set, taken.usable, &mut course)?;
+    let mut course = begin(alloc, taken, lists, failing)?;
+    play_phases(alloc, lists, taken.usable, &mut course)?;
     Ok(course.told)
 }
 
 /// The start in its boot phase, with the failure that is to come.
-#[tactic(auto, unfolding(crate::specs::Played::begun), using(crate::proofs::PlayLemmas::noted_off))]
+#[tactic(auto, using(crate::proofs::PlayLemmas::noted_off))]
 fn begin(
     alloc: Global,
     taken: &Taken,
-    set: &Key,
+    lists: &SetLists,
     failing: Option<&Units>,
 ) -> Result<Course, AllocError>
-    requires { HoldsKeys set.now }
-    ensures { IfOk result (λ course. course ≡ begun taken.now set.now (option_copied failing.entry)) }
+    ensures { IfOk result (λ course. (set : Tree) → lists.now ≡ lists_of set → course ≡ begun taken.now set (option_copied failing.entry)) }
 {
     let mut machine = Machine::new(alloc);
     note_failure(alloc, failing, &mut machine)?;
-    machine.begin_quiet(alloc, set, taken.number, taken.on_good)?;
+    machine.begin_listed(alloc, lists, taken.number, taken.on_good)?;
     Ok(Course {
         told: ToldRow::new(alloc),
         machine,
@@ -78,26 +75,28 @@ fn note_failure(
 /// The three phases.
 fn play_phases(
     alloc: Global,
-    set: &Key,
+    lists: &SetLists,
     usable: bool,
     course: &mut Course,
 ) -> Result<(), AllocError>
-    requires { HoldsKeys set.now }
-    ensures { OnOk result (course.new ≡ played_on usable set.now course.old) }
+    ensures { OnOk result ((set : Tree) → lists.now ≡ lists_of set → course.new ≡ played_on usable set course.old) }
 {
-    play_phase(alloc, set, usable, course)?;
-    play_phase(alloc, set, usable, course)?;
-    play_phase(alloc, set, usable, course)
+    play_phase(alloc, lists, usable, course)?;
+    play_phase(alloc, lists, usable, course)?;
+    play_phase(alloc, lists, usable, course)
 }
 
 /// A phase to its end.
-#[tactic(auto, unfolding(crate::specs::Played::phase_played))]
-fn play_phase(alloc: Global, set: &Key, usable: bool, course: &mut Course) -> Result<(), AllocError>
-    requires { HoldsKeys set.now }
-    ensures { OnOk result (course.new ≡ phase_played usable set.now course.old) }
+fn play_phase(
+    alloc: Global,
+    lists: &SetLists,
+    usable: bool,
+    course: &mut Course,
+) -> Result<(), AllocError>
+    ensures { OnOk result ((set : Tree) → lists.now ≡ lists_of set → course.new ≡ phase_played usable set course.old) }
 {
     attempt_all(alloc, usable, course)?;
-    end_phase(alloc, set, course)
+    end_phase(alloc, lists, course)
 }
 
 /// Attempts the entries of a phase, until none that waits is ready or the start is over.
@@ -133,11 +132,10 @@ fn end_where_judged(judgement: Judgement, machine: &mut Machine)
 }
 
 /// Says what is unmet, and goes on to the next phase.
-fn end_phase(alloc: Global, set: &Key, course: &mut Course) -> Result<(), AllocError>
-    requires { HoldsKeys set.now }
-    ensures { OnOk result (course.new ≡ phase_ended set.now course.old) }
+fn end_phase(alloc: Global, lists: &SetLists, course: &mut Course) -> Result<(), AllocError>
+    ensures { OnOk result ((set : Tree) → lists.now ≡ lists_of set → course.new ≡ phase_ended set course.old) }
 {
-    let unmet = course.machine.next_phase(alloc, set)?;
+    let unmet = course.machine.next_phase_listed(alloc, lists)?;
     push_unmet(alloc, unmet.as_slice(), &mut course.told)
 }
 

@@ -11,6 +11,7 @@ mod leaning;
 mod lines;
 mod lost;
 mod opening;
+mod reading;
 mod report;
 mod states;
 mod switching;

@@ -7,10 +7,10 @@ ghost use Rattle.failure_effects.specs.Opening.{HoldsTaken};
 ghost use Rattle.failure_effects.specs.Effects.{of_lines, leaning_lines, told_lines, plain_told, opened_lines, effects_of};
 
 use crate::blocks::push_blocks;
-use crate::course::play;
 use crate::leaning::push_leaning;
 use crate::lines::{EffectLine, EffectLines};
 use crate::opening::{Opening, StartChoice, Taken, open};
+use crate::reading::ReadTaken;
 use crate::states::{States, spelled, state_of};
 use crate::told::Told;
 use boot_report::Verdict;
@@ -84,26 +84,26 @@ fn push_taken(
     ensures { OnOk result (lines.new ≡ lines.old ++ EffectLine.Set taken.now.number taken.now.on_good ∷ EffectLine.Verdict Verdict.Running
         ∷ told_lines taken.now (option_copied of.entry) (plain_told taken.now)) }
 {
-    let plain = play(alloc, taken, &taken.set, None)?;
+    let read = ReadTaken::new(alloc, taken)?;
+    let plain = read.play(alloc, None)?;
     push_set(taken.number, taken.on_good, Verdict::Running, lines)?;
-    push_told(alloc, taken, plain.as_slice(), of, lines)
+    push_told(alloc, &read, plain.as_slice(), of, lines)
 }
 
 /// What follows the verdict, by what the plain start says.
 fn push_told(
     alloc: Global,
-    taken: &Taken,
+    read: &ReadTaken<'_>,
     plain: &[Told],
     of: Option<&Units>,
     lines: &mut EffectLines,
 ) -> Result<(), AllocError>
-    requires { HoldsKeys taken.now.set }
-    ensures { OnOk result (lines.new ≡ lines.old ++ told_lines taken.now (option_copied of.entry) plain.now) }
+    ensures { OnOk result (lines.new ≡ lines.old ++ told_lines read.now (option_copied of.entry) plain.now) }
 {
     let states = States::new(alloc, plain)?;
-    push_of(alloc, taken, &states, of, lines)?;
-    push_blocks(alloc, taken, plain, of, lines)?;
-    push_leaning_on(alloc, taken, &states, of, lines)
+    push_of(alloc, read.taken(), &states, of, lines)?;
+    push_blocks(alloc, read, plain, of, lines)?;
+    push_leaning_on(alloc, read.taken(), &states, of, lines)
 }
 
 /// What the plain start made of the name that is asked for.

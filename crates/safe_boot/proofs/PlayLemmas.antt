@@ -12,6 +12,7 @@ use Rattle.start_model.specs.Machine.{Start, MachineState, off_machine, next_in,
 use Rattle.start_model.specs.Starter.{phase_line}
 use Rattle.boot_phases.specs.declared.phase.Phase as code_phase
 use Rattle.boot_phases.specs.declared.phase.Phase.TheVariants as phases
+use Rattle.boot_phases.specs.Lists.{Lists, lists_of}
 use Rattle.boot_phases.specs.Phases.{phase_in}
 use Rattle.boot_machine.specs.Steps.{is_there, is_at_end, on_start, without_clone}
 use Rattle.safe_boot.specs.declared.lines.SafeLine.{SafeLine}
@@ -216,26 +217,26 @@ pub fewer_by_push : {E : Type 0} (r : Result (Unit {0}) E) (m m' : MachineState)
 fewer_by_push (Ok u) m m' t h = fewer m m' t false h
 fewer_by_push (Err e) m m' t h = tt
 
-pub ended_by : {E : Type 0} (r : Result (Unit {0}) E) (set : Tree) (m m' : MachineState)
+pub ended_by : {E : Type 0} (r : Result (Unit {0}) E) (lists : Lists) (m m' : MachineState)
     (said more said' : List SafeLine) (unmet : List (List ℕ)) (phase : code_phase.Phase)
-    → m' ≡ on_start (after_phase set) m → unmet ≡ option_map_or unmet_in m.start []
+    → ((set : Tree) → lists ≡ lists_of set → m' ≡ on_start (after_phase set) m) → unmet ≡ option_map_or unmet_in m.start []
     → map line_of more ≡ map line_of said ++ map UnmetLine unmet
     → phase_in phase ≡ option_map_or (λ (s : Start). s.phase) m'.start Done
     → OnOk r (said' ≡ more ++ code.Phase phase ∷ [])
-    → OnOk r ((c : Course) → IsAt m said c → IsAt m' said' (phase_ended set c))
-ended_by (Ok u) set m m' said more said' unmet phase after names lines word last =
-    λ c at. ended set c m m' said more said' unmet phase after names lines word last at
-ended_by (Err e) set m m' said more said' unmet phase after names lines word last = tt
+    → OnOk r ((set : Tree) → lists ≡ lists_of set → (c : Course) → IsAt m said c → IsAt m' said' (phase_ended set c))
+ended_by (Ok u) lists m m' said more said' unmet phase after names lines word last =
+    λ set is c at. ended set c m m' said more said' unmet phase (after set is) names lines word last at
+ended_by (Err e) lists m m' said more said' unmet phase after names lines word last = tt
 
-pub played_by : {E : Type 0} (r : Result (Unit {0}) E) (set : Tree) (m m' m'' : MachineState)
+pub played_by : {E : Type 0} (r : Result (Unit {0}) E) (lists : Lists) (m m' m'' : MachineState)
     (said said' said'' : List SafeLine)
     → ((c : Course) → IsAt m said c → IsAt m' said' (attempts_of (length c.start.waiting) c))
-    → OnOk r ((c : Course) → IsAt m' said' c → IsAt m'' said'' (phase_ended set c))
-    → OnOk r ((c : Course) → IsAt m said c → IsAt m'' said'' (phase_played set c))
+    → OnOk r ((set : Tree) → lists ≡ lists_of set → (c : Course) → IsAt m' said' c → IsAt m'' said'' (phase_ended set c))
+    → OnOk r ((set : Tree) → lists ≡ lists_of set → (c : Course) → IsAt m said c → IsAt m'' said'' (phase_played set c))
 unfolding phase_played
-played_by (Ok u) set m m' m'' said said' said'' tried over =
-    λ c at. over (attempts_of (length c.start.waiting) c) (tried c at)
-played_by (Err e) set m m' m'' said said' said'' tried over = tt
+played_by (Ok u) lists m m' m'' said said' said'' tried over =
+    λ set is c at. over set is (attempts_of (length c.start.waiting) c) (tried c at)
+played_by (Err e) lists m m' m'' said said' said'' tried over = tt
 
 -- ---- the whole start
 
@@ -254,9 +255,10 @@ pub reduced_lines : {E : Type 0} (r : Result (List SafeLine) E) (set reduced : T
 reduced_lines (Ok lines) set reduced mode images is h = h ∙ ap start_lines_of is
 reduced_lines (Err e) set reduced mode images is h = tt
 
-pub lines_by : {E : Type 0} (r : Result (Unit {0}) E) (set : Tree) (c : Course) (m m' : MachineState)
-    (said said' : List SafeLine) → IsAt m said c
-    → OnOk r ((c : Course) → IsAt m said c → IsAt m' said' (phase_played set c))
-    → OnOk r (map line_of said' ≡ (phase_played set c).lines)
-lines_by (Ok u) set c m m' said said' at last = (last c at).lines
-lines_by (Err e) set c m m' said said' at last = tt
+pub lines_by : {E : Type 0} (r : Result (Unit {0}) E) (lists : Lists) (m m' : MachineState) (said said' : List SafeLine)
+    → ((set : Tree) → lists ≡ lists_of set → IsAt m said (phase_played set (phase_played set (course_begun set))))
+    → OnOk r ((set : Tree) → lists ≡ lists_of set → (c : Course) → IsAt m said c → IsAt m' said' (phase_played set c))
+    → OnOk r ((set : Tree) → lists ≡ lists_of set → map line_of said' ≡ start_lines_of set)
+lines_by (Ok u) lists m m' said said' at last =
+    λ set is. (last set is (phase_played set (phase_played set (course_begun set))) (at set is)).lines
+lines_by (Err e) lists m m' said said' at last = tt

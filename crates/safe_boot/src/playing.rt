@@ -1,7 +1,9 @@
 //! A start in which each attempt goes well.
 
 ghost use Rattle.std.specs.Prelude.{◌≡◌, ◌<◌, ◌++◌, [], false, length, map, Some, IfOk, OnOk};
+ghost use Rattle.hive_model.specs.Tree.{Tree};
 ghost use Rattle.hive_model.specs.Valid.{HoldsKeys};
+ghost use Rattle.boot_phases.specs.Lists.{lists_of};
 ghost use Rattle.boot_machine.specs.Steps.{is_at_end};
 ghost use Rattle.start_model.specs.Lines.{UnmetLine};
 ghost use Rattle.start_model.specs.Machine.{off_machine};
@@ -11,7 +13,7 @@ ghost use Rattle.safe_boot.specs.Played.{Course, attempts_of, phase_ended, phase
 use crate::lines::{SafeLine, SafeLines};
 use crate::mode::SafeMode;
 use crate::reducing::reduce;
-use boot_machine::Machine;
+use boot_machine::{Machine, SetLists};
 use boot_phases::Phase;
 use nt_bytes::Units;
 use reg_tree::Key;
@@ -57,48 +59,48 @@ fn reduced_lines(
     start_lines(alloc, &reduced)
 }
 
-/// The lines of the three phases of a start on this set.
+/// The lines of the three phases of a start on this set, of which services and orders are read once.
 fn start_lines(alloc: Global, set: &Key) -> Result<SafeLines, AllocError>
     requires { HoldsKeys set.now }
     ensures { IfOk result (λ lines. map line_of lines ≡ start_lines_of set.now) }
 {
+    let lists = SetLists::read(alloc, set)?;
     let mut machine = Machine::new(alloc);
     let mut lines = SafeLines::new(alloc);
-    play_start(alloc, set, &mut machine, &mut lines)?;
+    play_start(alloc, &lists, &mut machine, &mut lines)?;
     Ok(lines)
 }
 
-/// The three phases of a start, on a machine that is off and has nothing noted.
+/// The three phases of a start on a set of which these are the lists, on a machine that is off and has nothing noted.
 fn play_start(
     alloc: Global,
-    set: &Key,
+    lists: &SetLists,
     machine: &mut Machine,
     lines: &mut SafeLines,
 ) -> Result<(), AllocError>
-    requires keys { HoldsKeys set.now }
     requires off { machine.old ≡ off_machine }
     requires unsaid { lines.old ≡ [] }
-    ensures { OnOk result (map line_of lines.new ≡ start_lines_of set.now) }
+    ensures { OnOk result ((set : Tree) → lists.now ≡ lists_of set → map line_of lines.new ≡ start_lines_of set) }
 {
-    machine.begin_quiet(alloc, set, 0, false)?;
+    machine.begin_listed(alloc, lists, 0, false)?;
     lines.push(SafeLine::Phase(Phase::Boot))?;
-    play_phase(alloc, set, machine, lines)?;
-    play_phase(alloc, set, machine, lines)?;
-    play_phase(alloc, set, machine, lines)
+    play_phase(alloc, lists, machine, lines)?;
+    play_phase(alloc, lists, machine, lines)?;
+    play_phase(alloc, lists, machine, lines)
 }
 
 /// A phase to its end.
 fn play_phase(
     alloc: Global,
-    set: &Key,
+    lists: &SetLists,
     machine: &mut Machine,
     lines: &mut SafeLines,
 ) -> Result<(), AllocError>
-    requires { HoldsKeys set.now }
-    ensures { OnOk result ((c : Course) → IsAt machine.old lines.old c → IsAt machine.new lines.new (phase_played set.now c)) }
+    ensures { OnOk result ((set : Tree) → lists.now ≡ lists_of set
+        → (c : Course) → IsAt machine.old lines.old c → IsAt machine.new lines.new (phase_played set c)) }
 {
     attempt_all(alloc, machine, lines)?;
-    end_phase(alloc, set, machine, lines)
+    end_phase(alloc, lists, machine, lines)
 }
 
 /// Attempts the entries of a phase, until none that waits is ready.
@@ -132,14 +134,14 @@ fn attempt_next(
 /// Says what is unmet, and goes on to the next phase.
 fn end_phase(
     alloc: Global,
-    set: &Key,
+    lists: &SetLists,
     machine: &mut Machine,
     lines: &mut SafeLines,
 ) -> Result<(), AllocError>
-    requires { HoldsKeys set.now }
-    ensures { OnOk result ((c : Course) → IsAt machine.old lines.old c → IsAt machine.new lines.new (phase_ended set.now c)) }
+    ensures { OnOk result ((set : Tree) → lists.now ≡ lists_of set
+        → (c : Course) → IsAt machine.old lines.old c → IsAt machine.new lines.new (phase_ended set c)) }
 {
-    let unmet = machine.next_phase(alloc, set)?;
+    let unmet = machine.next_phase_listed(alloc, lists)?;
     push_unmet(alloc, lines, unmet.as_slice())?;
     lines.push(SafeLine::Phase(machine.phase()))
 }

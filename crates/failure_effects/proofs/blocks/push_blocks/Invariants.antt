@@ -9,4 +9,4 @@ use Rattle.failure_effects.proofs.blocks.push_blocks.Given as goal
 abbrev pub invariant-loop-told : goal.invariant-loop-told
 invariant-loop-told l = l.lines
     ≡ l.initial.lines
-    ++ flat_map (λ (t : Told). cond (is_asked (option_copied l.of) t.name) (blocks_of l.taken l.plain t) []) (take l.told-index l.plain)
+    ++ flat_map (λ (t : Told). cond (is_asked (option_copied l.of) t.name) (blocks_of l.read l.plain t) []) (take l.told-index l.plain)

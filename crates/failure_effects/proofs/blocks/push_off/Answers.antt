@@ -1,6 +1,5 @@
 use Rattle.std.proofs.Common.{◌≡◌, ◌++◌, ℕ, List, None, ap, ◌∙◌, subst}
 use Rattle.std.specs.Prelude.{OnOk}
-use Rattle.hive_model.specs.Tree.{Tree}
 use Rattle.failure_effects.specs.declared.lost.Other.{Other}
 use Rattle.failure_effects.specs.Lost.{other_of, off_block}
 use Rattle.failure_effects.specs.Played.{played}
@@ -9,9 +8,8 @@ use Rattle.failure_effects.proofs.blocks.push_off.Goals as goal
 
 pub returns : goal.returns
 returns c =
-    let name = c.args.name.now in
+    let taken = c.args.read.now in
     let is = c.in_ok-other.ensures ∙ ap other_of (c.as_slice-2.ensures ∙ c.in_ok-told.ensures
-    ∙ ap (λ (s : Tree). played c.args.taken.now s None) (c.in_ok-set.ensures.set
-    ∙ ap (λ (n : List ℕ). off_set n c.args.taken.now.set) c.as_slice.ensures)) in
+    ∙ ap (λ (n : List ℕ). played taken (off_set n taken.set) None) c.as_slice.ensures) in
     subst (λ (o : Other). OnOk c.push_off_block.result (c.push_off_block.new.lines
-    ≡ c.args.lines.now ++ off_block c.args.plain.now o name)) is c.push_off_block.ensures
+    ≡ c.args.lines.now ++ off_block c.args.plain.now o c.args.name.now)) is c.push_off_block.ensures
