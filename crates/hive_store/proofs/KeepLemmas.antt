@@ -1,5 +1,5 @@
 -- What leaves a tree as it is.
-use Rattle.std.proofs.Common.{◌≡◌, ℕ, suc, ◌+◌, ◌<◌, ◌≤◌, Bool, true, false, cond, List, [], ◌∷◌, ◌++◌, length, Option, Some, None, Result, Ok, Err, refl, sym, ap, subst, ◌∙◌, arith}
+use Rattle.std.proofs.Common.{◌≡◌, ℕ, suc, ◌+◌, ◌<◌, ◌≤◌, Bool, true, false, cond, List, [], ◌∷◌, ◌++◌, length, Option, Some, None, Result, Ok, Err, refl, sym, ap, ◌∙◌, arith}
 use Rattle.std.specs.Prelude.{find, nat_lt, is_none, is_some, not, ◌==◌, ◌||◌, ◌↔◌}
 use Rattle.std.specs.Option.{option_and_then, option_map_or}
 use Rattle.std.specs.Ordering.{is_gt}
@@ -10,14 +10,14 @@ use Rattle.nt_bytes.specs.declared.version.HiveVersion.{HiveVersion}
 use Rattle.hive_model.specs.Tree.{Item, Tree, Trees, key, trees, listed, head, children, is_named, is_item, find_key, find_item}
 use Rattle.hive_model.specs.Size.{bulk_of}
 use Rattle.hive_model.specs.Valid.{levels}
-use Rattle.hive_model.specs.Edit.{Step, Refusal, set_value, delete_value, make_key, delete_key, copy_child, add_child, no_key, no_value, bad_name, full, exists, name_too_long, data_too_long, too_deep, unless, at_first, without_first, of_items, of_children, at_key, with_item, value_set, has_item, has_child, placed, is_bad_name, name_tests, new_key, with_key, key_made, without_key, renamed, with_child, after_step, most_bulk, edited}
+use Rattle.hive_model.specs.Edit.{Step, Refusal, set_value, delete_value, make_key, delete_key, copy_child, add_child, no_key, no_value, bad_name, full, exists, name_too_long, data_too_long, too_deep, unless, at_first, without_first, of_items, of_children, at_key, with_item, value_set, has_item, has_child, placed, is_bad_name, name_tests, new_key, with_key, key_made, without_key, renamed, with_child, after_step, after_steps, most_bulk, edited}
 use Rattle.reg_tree.proofs.Trees.{listed_trees, trees_listed}
 use Rattle.hive_edit.specs.Found.{HoldsValue}
 use Rattle.hive_store.specs.Same.{Keep, HasValue}
 use Rattle.std.proofs.lemmas.Option.{same_Some}
 use Rattle.hive_model.specs.Forms.{◌>>=◌}
 
-abbrev made : Tree → Result Tree Refusal
+abbrev pub made : Tree → Result Tree Refusal
 made t = Ok t
 
 -- ---- one step
@@ -26,9 +26,11 @@ made t = Ok t
 abbrev IsKept : HiveVersion → Tree → Step → Type 0
 IsKept version t step = (after_step step t ≡ made t) × (nat_lt most_bulk (bulk_of version t) ≡ false)
 
-pub kept_one : (version : HiveVersion) (t : Tree) (step : Step) → Keep version t (step ∷ []) → IsKept version t step
+-- what keeps a tree is made of it, and the tree is within the greatest bulk
+pub kept_all : (version : HiveVersion) (t : Tree) (steps : List Step) → Keep version t steps
+    → (after_steps t steps ≡ made t) × (nat_lt most_bulk (bulk_of version t) ≡ false)
 unfolding edited
-kept_one version t step e = go (after_step step t) refl e
+kept_all version t steps e = go (after_steps t steps) refl e
   where
     within : (v : Tree) (b : Bool) → nat_lt most_bulk (bulk_of version v) ≡ b → cond b (Err full) (Ok v) ≡ made t
         → (v ≡ t) × (nat_lt most_bulk (bulk_of version t) ≡ false)
@@ -36,12 +38,22 @@ kept_one version t step e = go (after_step step t) refl e
     within v false is e = let same : v ≡ t = cc in
         (same, ap (λ (u : Tree). nat_lt most_bulk (bulk_of version u)) (sym same) ∙ is)
 
-    go : (r : Result Tree Refusal) → after_step step t ≡ r
-        → ((r >>= λ u. Ok u) >>= λ u. cond (nat_lt most_bulk (bulk_of version u)) (Err full) (Ok u))
-        ≡ made t
-        → IsKept version t step
+    go : (r : Result Tree Refusal) → after_steps t steps ≡ r
+        → (r >>= λ u. cond (nat_lt most_bulk (bulk_of version u)) (Err full) (Ok u)) ≡ made t
+        → (after_steps t steps ≡ made t) × (nat_lt most_bulk (bulk_of version t) ≡ false)
     go (Ok v) is e = let p = within v (nat_lt most_bulk (bulk_of version v)) refl e in (is ∙ ap made p.0, p.1)
     go (Err why) is e = absurd cc
+
+-- a step alone
+pub alone : (step : Step) (s t : Tree) → after_steps s (step ∷ []) ≡ made t → after_step step s ≡ made t
+alone step s t e = go (after_step step s) e
+  where
+    go : (r : Result Tree Refusal) → (r >>= λ u. Ok u) ≡ made t → r ≡ made t
+    go (Ok u) e = e
+    go (Err why) e = absurd cc
+
+pub kept_one : (version : HiveVersion) (t : Tree) (step : Step) → Keep version t (step ∷ []) → IsKept version t step
+kept_one version t step e = let p = kept_all version t (step ∷ []) e in (alone step t t p.0, p.1)
 
 pub one_kept : (version : HiveVersion) (t : Tree) (step : Step) → IsKept version t step → Keep version t (step ∷ [])
 unfolding edited
@@ -51,7 +63,7 @@ one_kept version t step is =
     ∙ ap (λ (b : Bool). cond b (Err full) (made t)) is.1
 
 -- what the tests let pass is the result
-passed : (tests : List (Bool × Refusal)) (x y : Tree) → unless tests x ≡ made y → x ≡ y
+pub passed : (tests : List (Bool × Refusal)) (x y : Tree) → unless tests x ≡ made y → x ≡ y
 passed [] x y e = cc
 passed (test ∷ tests) x y e = go test.0 e (λ e. passed tests x y e)
   where
@@ -60,12 +72,12 @@ passed (test ∷ tests) x y e = go test.0 e (λ e. passed tests x y e)
     go false e rest = rest e
 
 -- the first test does not hold, and the others let it pass too
-passed_first : (b : Bool) (why : Refusal) (tests : List (Bool × Refusal)) (x y : Tree)
+pub passed_first : (b : Bool) (why : Refusal) (tests : List (Bool × Refusal)) (x y : Tree)
     → unless ((b, why) ∷ tests) x ≡ made y → (b ≡ false) × (unless tests x ≡ made y)
 passed_first true why tests x y e = absurd cc
 passed_first false why tests x y e = (refl, e)
 
-there : {X : Type 0} (o : Option X) → is_none o ≡ false → (x : X) × (o ≡ Some x)
+pub there : {X : Type 0} (o : Option X) → is_none o ≡ false → (x : X) × (o ≡ Some x)
 there None e = absurd cc
 there (Some x) e = (x, refl)
 
@@ -267,12 +279,6 @@ set_held version t path name kind bytes b n bulk within short few is = (
 -- where it isn't kept, it is said so
 pub false_same : (P : Type 0) → (P → ⊥) → ((false ≡ true) ↔ P)
 false_same P no_p = (λ e. absurd cc, λ p. absurd (no_p p))
-
--- what is said of the one step is said of the steps
-pub one_step : (version : HiveVersion) (t : Tree) (steps : List Step) (one : Step) (b : Bool) → steps ≡ one ∷ []
-    → ((b ≡ true) ↔ Keep version t (one ∷ []))
-    → ((b ≡ true) ↔ Keep version t steps)
-one_step version t steps one b e is = subst (λ (l : List Step). (b ≡ true) ↔ Keep version t l) (sym e) is
 
 -- a value set keeps no tree that is too large, no name and no data that are too long, and no key that is not there
 module _ (version : HiveVersion) (t : Tree) (path : List (List ℕ)) (name : List ℕ) (kind : ℕ) (bytes : List ℕ) where
@@ -516,11 +522,9 @@ may_keep (copy_child from to) = false
 may_keep (add_child name k) = false
 
 -- a step that may not does not
-pub step_changes : (version : HiveVersion) (t : Tree) (steps : List Step) (one : Step) → steps ≡ one ∷ []
-    → may_keep one ≡ false
-    → ((false ≡ true) ↔ Keep version t steps)
-step_changes version t steps one e may =
-    one_step version t steps one false e (false_same (Keep version t (one ∷ [])) (go one may))
+pub step_changes : (version : HiveVersion) (t : Tree) (one : Step) → may_keep one ≡ false
+    → ((false ≡ true) ↔ Keep version t (one ∷ []))
+step_changes version t one may = false_same (Keep version t (one ∷ [])) (go one may)
   where
     go : (s : Step) → may_keep s ≡ false → Keep version t (s ∷ []) → ⊥
     go (set_value path name kind bytes) may kept = absurd cc

@@ -4,4 +4,5 @@ pub mod CommittingLemmas
 pub mod LoadingCalls
 pub mod SizedLemmas
 pub mod KeepLemmas
+pub mod LastLemmas
 pub mod RoomLemmas

@@ -3,6 +3,7 @@
 ghost use Rattle.std.specs.Prelude.{◌≡◌, ◌↔◌, ◌∷◌, [], true, map, IfOk, IfErr};
 ghost use Rattle.hive_model.specs.Edit.{edited, make_key, set_value};
 ghost use Rattle.reg_tree.specs.Makes.{IsRefused, step_of};
+ghost use Rattle.reg_tree.specs.declared.steps.TreeStep.{TreeStep};
 ghost use Rattle.hive_store.specs.Same.{Keep};
 
 use hive_edit::HiveBytes;
@@ -137,15 +138,8 @@ fn make_keeps(
 }
 
 /// Whether one step leaves the tree as it is: setting a value may, and making a key; another step never.
-fn step_keeps(
-    alloc: Global,
-    cells: &HiveBytes,
-    step: &TreeStep,
-    steps: &Steps,
-) -> Result<bool, EditStop>
-    requires { map step_of steps.now ≡ step_of step.now ∷ [] }
-    ensures same { IfOk result (λ b. (b ≡ true) ↔ Keep cells.now.version cells.now.tree (map step_of steps.now)) }
-    ensures refused { IfErr result (IsRefused (edited cells.now.version cells.now.tree (map step_of steps.now))) }
+fn step_keeps(alloc: Global, cells: &HiveBytes, step: &TreeStep) -> Result<bool, AllocError>
+    ensures { IfOk result (λ b. (b ≡ true) ↔ Keep cells.now.version cells.now.tree (step_of step.now ∷ [])) }
 {
     match step {
         TreeStep::SetValue {
@@ -153,14 +147,8 @@ fn step_keeps(
             name,
             kind,
             bytes,
-        } => {
-            let same = set_keeps(alloc, cells, path, name.as_slice(), *kind, bytes.as_slice())?;
-            Ok(same)
-        }
-        TreeStep::MakeKey { parent, name } => {
-            let same = make_keeps(alloc, cells, parent, name)?;
-            Ok(same)
-        }
+        } => set_keeps(alloc, cells, path, name.as_slice(), *kind, bytes.as_slice()),
+        TreeStep::MakeKey { parent, name } => make_keeps(alloc, cells, parent, name),
         TreeStep::DeleteValue { .. } => Ok(false),
         TreeStep::DeleteKey { .. } => Ok(false),
         TreeStep::CopyChild { .. } => Ok(false),
@@ -168,13 +156,70 @@ fn step_keeps(
     }
 }
 
+/// The steps after the first ones that each leave the tree as it is.
+fn after_kept<'s>(
+    alloc: Global,
+    cells: &HiveBytes,
+    steps: &'s [TreeStep],
+) -> Result<&'s [TreeStep], AllocError>
+    ensures same { IfOk result (λ rest. edited cells.now.version cells.now.tree (map step_of steps.now)
+        ≡ edited cells.now.version cells.now.tree (map step_of rest.now)) }
+    ensures changed { IfOk result (λ rest. (step : TreeStep) → rest.now ≡ step ∷ []
+        → Keep cells.now.version cells.now.tree (step_of step ∷ []) → ⊥) }
+{
+    let mut rest = steps;
+    'steps: loop {
+        let [step, more @ ..] = rest else {
+            return Ok(rest);
+        };
+        if !step_keeps(alloc, cells, step)? {
+            return Ok(rest);
+        }
+        rest = more;
+    }
+}
+
+/// Whether the last step sets a value that the tree doesn't hold. Then the tree after the steps is another one, whatever the others do.
+fn ends_in_change(alloc: Global, cells: &HiveBytes, steps: &[TreeStep]) -> Result<bool, AllocError>
+    ensures { IfOk result (λ b. b ≡ true → Keep cells.now.version cells.now.tree (map step_of steps.now) → ⊥) }
+{
+    let [.., last] = steps else {
+        return Ok(false);
+    };
+    match last {
+        TreeStep::SetValue {
+            path,
+            name,
+            kind,
+            bytes,
+        } => {
+            let held = cells.has_value(alloc, path, name.as_slice(), *kind, bytes.as_slice())?;
+            Ok(!held)
+        }
+        _ => Ok(false),
+    }
+}
+
+/// Whether several steps leave the tree as it is. Where the last one tells, no tree is read.
+fn many_keep(alloc: Global, cells: &HiveBytes, steps: &Steps) -> Result<bool, EditStop>
+    ensures same { IfOk result (λ b. (b ≡ true) ↔ Keep cells.now.version cells.now.tree (map step_of steps.now)) }
+    ensures refused { IfErr result (IsRefused (edited cells.now.version cells.now.tree (map step_of steps.now))) }
+{
+    if ends_in_change(alloc, cells, steps.as_slice())? {
+        return Ok(false);
+    }
+    keeps_whole(alloc, cells, steps)
+}
+
 /// Whether the steps leave the tree as it is.
 pub(crate) fn keeps(alloc: Global, cells: &HiveBytes, steps: &Steps) -> Result<bool, EditStop>
     ensures same { IfOk result (λ b. (b ≡ true) ↔ Keep cells.now.version cells.now.tree (map step_of steps.now)) }
     ensures refused { IfErr result (IsRefused (edited cells.now.version cells.now.tree (map step_of steps.now))) }
 {
-    match steps.as_slice() {
-        [step] => step_keeps(alloc, cells, step, steps),
-        _ => keeps_whole(alloc, cells, steps),
+    let rest = after_kept(alloc, cells, steps.as_slice())?;
+    match rest {
+        [] => Ok(cells.bulk() <= MOST_BULK),
+        [_] => Ok(false),
+        _ => many_keep(alloc, cells, steps),
     }
 }
