@@ -20,12 +20,14 @@ ranks_at table orders counts places = filter_map (λ p. option_map (rank_of orde
 pub ranked : (phase : Phase) (tried : List (List ℕ)) (table : List Entry) (orders : List GroupOrder)
     (counts : Bool) (places : List ℕ) (ranks ordered : List Rank)
     → counts ≡ tags_count_in phase → places ≡ taken_of table phase tried
-    → ranks ≡ filter_map (λ p. option_map (rank_of orders counts p) (slice_get table p)) places → ordered ≡ ordered_of ranks
+    → ranks ≡ filter_map (λ p. option_map (rank_of orders counts p) (slice_get table p)) places
+    → ordered ≡ ordered_of ranks
     → ordered ≡ ordered_of (ranks_among (of_both table orders) phase tried)
 ranked phase tried table orders counts places ranks ordered b p k i =
     i ∙ ap ordered_of (k ∙ (λ j. ranks_at table orders (b j) (p j)))
 
-same_lists : (set : Tree) (table : List Entry) (orders : List GroupOrder) → table ≡ entries_of set → orders ≡ orders_of set
+same_lists : (set : Tree) (table : List Entry) (orders : List GroupOrder) → table ≡ entries_of set
+    → orders ≡ orders_of set
     → of_both table orders ≡ lists_of set
 same_lists set table orders t o = λ j. of_both (t j) (o j)
 

@@ -1,7 +1,10 @@
 //! What plans take from a control set, read once.
 
-ghost use Rattle.std.specs.Prelude.{◌≡◌, ◌<◌, ◌^◌, length, IfOk};
+ghost use Rattle.std.specs.Prelude.{◌≡◌, ◌<◌, ◌^◌, length, slice_get, IfOk};
+ghost use Rattle.std.specs.Option.{option_map};
 ghost use Rattle.hive_model.specs.Valid.{HoldsKeys};
+ghost use Rattle.service_entries.specs.Named.{IsOnlyPlace};
+ghost use Rattle.service_entries.specs.Started.{with_start_at};
 ghost use Rattle.boot_phases.specs.Lists.{lists_of, plan_among};
 ghost use Rattle.boot_phases.specs.Phases.{phase_in};
 
@@ -54,5 +57,20 @@ impl SetLists {
                 plan_copied(alloc, &self.table, &self.orders, phase, tried)
             }
         }
+    }
+
+    /// The place of the entry of this name, whatever the case of its letters, or none where no entry has it.
+    pub fn place_of(&self, alloc: Global, name: &[u16]) -> Result<Option<u32>, AllocError>
+        ensures { IfOk result (IsOnlyPlace name.now self.now.entries) }
+    {
+        self.table.place_of(alloc, name)
+    }
+
+    /// Puts another `Start` in the entry at a place, and answers the one that it had; nothing is done where no entry stands there.
+    pub fn put_start(&mut self, place: u32, start: u32) -> Option<u32>
+        ensures before { result ≡ option_map (λ e. e.start) (slice_get self.old.entries place) }
+        ensures after { self.new ≡ record self.old { entries = with_start_at self.old.entries place start } }
+    {
+        self.table.put_start(place, start)
     }
 }

@@ -2,10 +2,11 @@
 
 ghost use Rattle.std.specs.Prelude.{◌≡◌, ◌+◌, ◌<◌, ◌^◌, ◌++◌, ◌∷◌, [], All, length, IfOk, OnOk, false, slice_get};
 ghost use Rattle.std.specs.List.{filter_map};
-ghost use Rattle.std.specs.Option.{option_copied};
+ghost use Rattle.std.specs.Option.{option_copied, option_map};
 ghost use Rattle.nt_bytes.specs.Folding.{folds_same, folded};
 ghost use Rattle.hive_model.specs.Valid.{HoldsKeys, KeysDiffer};
 ghost use Rattle.service_entries.specs.Named.{IsOnlyPlace, NamesDiffer, place_named};
+ghost use Rattle.service_entries.specs.Started.{with_start_at};
 ghost use Rattle.start_model.specs.Entries.{entries_of, entry_of, services_of};
 
 use crate::entry::{Entries, Entry, read_entry};
@@ -77,6 +78,17 @@ impl ServiceTable {
         ensures differ { NamesDiffer self.now }
     {
         self.by_name.get_index_of(folded).map(|at| at as u32)
+    }
+
+    /// Puts another `Start` in the entry at a place, and answers the one that it had; nothing is done where no entry stands there.
+    pub fn put_start(&mut self, place: u32, start: u32) -> Option<u32>
+        ensures before { result ≡ option_map (λ e. e.start) (slice_get self.old place) }
+        ensures after { self.new ≡ with_start_at self.old place start }
+    {
+        let entry = self.by_name.get_index_mut(place as usize)?;
+        let before = entry.start;
+        entry.start = start;
+        Some(before)
     }
 
     /// How many entries there are.

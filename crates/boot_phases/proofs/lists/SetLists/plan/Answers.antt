@@ -9,7 +9,9 @@ pub returns-in-Boot : goal.returns-in-Boot
 returns-in-Boot c =
     let phase = phase_in c.args.phase in
     let tried = c.args.tried.now in
+    let made = c.plan_copied.result in
+    let lists : Lists = record { entries = c.self.inside.table; orders = c.self.inside.orders } in
     record {
-      plan = subst (λ (l : Lists). IfOk c.plan_copied.result (λ p. p ≡ plan_among l phase tried)) c.self.view_is c.plan_copied.ensures;
-      few = few_by c.plan_copied.result (record { entries = c.self.inside.table; orders = c.self.inside.orders }) phase tried c.self.invariant c.plan_copied.ensures;
+      plan = subst (λ (l : Lists). IfOk made (λ p. p ≡ plan_among l phase tried)) c.self.view_is c.plan_copied.ensures;
+      few = few_by made lists phase tried c.self.invariant c.plan_copied.ensures;
     }
