@@ -34,7 +34,8 @@ queue_of waiting started = record { waiting = waiting; started = started }
 pub planned_by : {E : Type 0} (r : Result QueueState E) (lists : Lists) (phase : Phase) (tried : List (List ℕ))
     (started : List Label) (entries items : List Entry) → entries ≡ plan_among lists phase tried → items ≡ entries
     → IfOk r (λ q. q ≡ record { waiting = items; started = started })
-    → IfOk r (λ q. (set : Tree) → lists ≡ lists_of set → q ≡ record { waiting = plan_of set phase tried; started = started })
+    → IfOk r (λ q. (set : Tree) → lists ≡ lists_of set
+    → q ≡ record { waiting = plan_of set phase tried; started = started })
 planned_by (Ok q) lists phase tried started entries items plan same h =
     λ set is. h ∙ ap (λ w. queue_of w started) (same ∙ plan ∙ ap (λ (l : Lists). plan_among l phase tried) is)
 planned_by (Err e) lists phase tried started entries items plan same h = tt

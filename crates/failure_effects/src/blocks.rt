@@ -18,12 +18,13 @@ use std::alloc::{AllocError, Global};
 /// The blocks of each entry that is asked for, in the order of the plain start.
 pub(crate) fn push_blocks(
     alloc: Global,
-    read: &ReadTaken<'_>,
+    read: &mut ReadTaken<'_>,
     plain: &[Told],
     of: Option<&Units>,
     lines: &mut EffectLines,
 ) -> Result<(), AllocError>
-    ensures { OnOk result (lines.new ≡ lines.old ++ blocks_where (is_asked (option_copied of.entry)) read.now plain.now) }
+    ensures lines { OnOk result (lines.new ≡ lines.old ++ blocks_where (is_asked (option_copied of.entry)) read.old plain.now) }
+    ensures same { read.new ≡ read.old }
 {
     for told in plain {
         push_where_asked(alloc, read, plain, told, of, lines)?;
@@ -44,13 +45,14 @@ fn is_asked(of: Option<&Units>, name: &[u16]) -> bool
 /// The blocks of the entry, where it is asked for.
 fn push_where_asked(
     alloc: Global,
-    read: &ReadTaken<'_>,
+    read: &mut ReadTaken<'_>,
     plain: &[Told],
     told: &Told,
     of: Option<&Units>,
     lines: &mut EffectLines,
 ) -> Result<(), AllocError>
-    ensures { OnOk result (lines.new ≡ lines.old ++ (if is_asked (option_copied of.entry) told.now.name then blocks_of read.now plain.now told.now else [])) }
+    ensures lines { OnOk result (lines.new ≡ lines.old ++ (if is_asked (option_copied of.entry) told.now.name then blocks_of read.old plain.now told.now else [])) }
+    ensures same { read.new ≡ read.old }
 {
     if is_asked(of, told.name.as_slice()) {
         push_blocks_of(alloc, read, plain, told, lines)
@@ -62,12 +64,13 @@ fn push_where_asked(
 /// The blocks of the entry.
 fn push_blocks_of(
     alloc: Global,
-    read: &ReadTaken<'_>,
+    read: &mut ReadTaken<'_>,
     plain: &[Told],
     told: &Told,
     lines: &mut EffectLines,
 ) -> Result<(), AllocError>
-    ensures { OnOk result (lines.new ≡ lines.old ++ blocks_of read.now plain.now told.now) }
+    ensures lines { OnOk result (lines.new ≡ lines.old ++ blocks_of read.old plain.now told.now) }
+    ensures same { read.new ≡ read.old }
 {
     push_failed_where(alloc, read, plain, told, lines)?;
     push_off(alloc, read, plain, &told.name, lines)
@@ -76,13 +79,14 @@ fn push_blocks_of(
 /// The block in which it fails, where the plain start started it.
 fn push_failed_where(
     alloc: Global,
-    read: &ReadTaken<'_>,
+    read: &mut ReadTaken<'_>,
     plain: &[Told],
     told: &Told,
     lines: &mut EffectLines,
 ) -> Result<(), AllocError>
-    ensures { OnOk result (lines.new ≡ lines.old
-        ++ (if is_started told.now.fate then fail_block plain.now (other_of (played read.now read.now.set (Some told.now.name))) told.now.name else [])) }
+    ensures lines { OnOk result (lines.new ≡ lines.old
+        ++ (if is_started told.now.fate then fail_block plain.now (other_of (played read.old read.old.set (Some told.now.name))) told.now.name else [])) }
+    ensures same { read.new ≡ read.old }
 {
     if is_started(told.fate) {
         push_failed(alloc, read, plain, &told.name, lines)
@@ -94,12 +98,13 @@ fn push_failed_where(
 /// The block of an entry that fails.
 fn push_failed(
     alloc: Global,
-    read: &ReadTaken<'_>,
+    read: &mut ReadTaken<'_>,
     plain: &[Told],
     name: &Units,
     lines: &mut EffectLines,
 ) -> Result<(), AllocError>
-    ensures { OnOk result (lines.new ≡ lines.old ++ fail_block plain.now (other_of (played read.now read.now.set (Some name.now))) name.now) }
+    ensures lines { OnOk result (lines.new ≡ lines.old ++ fail_block plain.now (other_of (played read.old read.old.set (Some name.now))) name.now) }
+    ensures same { read.new ≡ read.old }
 {
     let told = read.play(alloc, Some(name))?;
     let other = other_of(alloc, told.as_slice())?;
@@ -162,12 +167,13 @@ fn push_lost_where(
 /// The block of an entry that is off.
 fn push_off(
     alloc: Global,
-    read: &ReadTaken<'_>,
+    read: &mut ReadTaken<'_>,
     plain: &[Told],
     name: &Units,
     lines: &mut EffectLines,
 ) -> Result<(), AllocError>
-    ensures { OnOk result (lines.new ≡ lines.old ++ off_block plain.now (other_of (played read.now (off_set name.now read.now.set) None)) name.now) }
+    ensures lines { OnOk result (lines.new ≡ lines.old ++ off_block plain.now (other_of (played read.old (off_set name.now read.old.set) None)) name.now) }
+    ensures same { read.new ≡ read.old }
 {
     let told = read.play_off(alloc, name.as_slice())?;
     let other = other_of(alloc, told.as_slice())?;

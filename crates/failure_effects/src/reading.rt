@@ -1,21 +1,24 @@
 //! The set that the plain start takes, read once for all starts on it.
 
-ghost use Rattle.std.specs.Prelude.{◌≡◌, IfOk};
+ghost use Rattle.std.specs.Prelude.{◌≡◌, None, slice_get, IfOk};
+ghost use Rattle.std.specs.Option.{option_copied, option_map};
+ghost use Rattle.hive_model.specs.Tree.{Tree};
 ghost use Rattle.hive_model.specs.Valid.{HoldsKeys};
-ghost use Rattle.std.specs.Option.{option_copied};
+ghost use Rattle.service_entries.specs.Started.{with_start_at};
+ghost use Rattle.boot_phases.specs.Lists.{Lists, lists_of};
 ghost use Rattle.failure_effects.specs.Played.{played};
 ghost use Rattle.failure_effects.specs.Switching.{off_set};
 
 use crate::course::play;
 use crate::opening::Taken;
-use crate::switching::off_set;
+use crate::switching::{OFF, off_set};
 use crate::told::ToldRow;
 use boot_machine::SetLists;
 use nt_bytes::Units;
 use std::alloc::{AllocError, Global};
 use std::marker::Model;
 
-/// The set that the plain start takes, and its lists, which starts on it are played by. Contracts see the former.
+/// The set that the plain start takes, and its lists, by which starts on it are played. Contracts see the former.
 #[derive(Drop)]
 pub(crate) struct ReadTaken<'a> {
     taken: &'a Taken,
@@ -48,14 +51,6 @@ impl<'a> ReadTaken<'a> {
         Ok(ReadTaken { taken, lists })
     }
 
-    /// What the plain start takes.
-    pub(crate) fn taken(&self) -> &Taken
-        ensures same { result.now ≡ self.now }
-        ensures held { HoldsKeys self.now.set }
-    {
-        self.taken
-    }
-
     /// What a start on the set says, in which the first attempt of this name fails, where there is one.
     pub(crate) fn play(&self, alloc: Global, failing: Option<&Units>) -> Result<ToldRow, AllocError>
         ensures { IfOk result (λ told. told ≡ played self.now self.now.set (option_copied failing.entry)) }
@@ -63,12 +58,51 @@ impl<'a> ReadTaken<'a> {
         play(alloc, self.taken, &self.lists, failing)
     }
 
-    /// What a start says on the set with the entry of this name off.
-    pub(crate) fn play_off(&self, alloc: Global, name: &[u16]) -> Result<ToldRow, AllocError>
-        ensures { IfOk result (λ told. told ≡ played self.now (off_set name.now self.now.set) None) }
+    /// What a start says on the set with the entry of this name off. Where no entry has the name, the set is changed and read anew.
+    pub(crate) fn play_off(&mut self, alloc: Global, name: &[u16]) -> Result<ToldRow, AllocError>
+        ensures told { IfOk result (λ told. told ≡ played self.old (off_set name.now self.old.set) None) }
+        ensures same { self.new ≡ self.old }
     {
-        let set = off_set(alloc, &self.taken.set, name)?;
-        let lists = SetLists::read(alloc, &set)?;
-        play(alloc, self.taken, &lists, None)
+        match self.lists.place_of(alloc, name)? {
+            Some(place) => play_with_off(alloc, self.taken, &mut self.lists, place),
+            None => play_changed(alloc, self.taken, name),
+        }
     }
+}
+
+/// What a start says on lists of which the entry at this place is off. The lists are then as they were.
+fn play_with_off(
+    alloc: Global,
+    taken: &Taken,
+    lists: &mut SetLists,
+    place: u32,
+) -> Result<ToldRow, AllocError>
+    ensures told { IfOk result (λ told. (set : Tree) → record lists.old { entries = with_start_at lists.old.entries place 4 } ≡ lists_of set
+        → told ≡ played taken.now set None) }
+    ensures same { lists.new ≡ lists.old }
+{
+    let before = lists.put_start(place, OFF);
+    let told = play(alloc, taken, lists, None);
+    put_back(lists, place, before);
+    told
+}
+
+/// Puts back the Start of the entry at a place, where one stands there.
+fn put_back(lists: &mut SetLists, place: u32, before: Option<u32>)
+    ensures { (l : Lists) → before ≡ option_map (λ e. e.start) (slice_get l.entries place)
+        → lists.old ≡ record l { entries = with_start_at l.entries place 4 } → lists.new ≡ l }
+{
+    if let Some(start) = before {
+        lists.put_start(place, start);
+    }
+}
+
+/// What a start says on the set with the entry of this name off, of which a copy is changed.
+fn play_changed(alloc: Global, taken: &Taken, name: &[u16]) -> Result<ToldRow, AllocError>
+    requires { HoldsKeys taken.now.set }
+    ensures { IfOk result (λ told. told ≡ played taken.now (off_set name.now taken.now.set) None) }
+{
+    let set = off_set(alloc, &taken.set, name)?;
+    let lists = SetLists::read(alloc, &set)?;
+    play(alloc, taken, &lists, None)
 }

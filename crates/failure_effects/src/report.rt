@@ -84,26 +84,29 @@ fn push_taken(
     ensures { OnOk result (lines.new ≡ lines.old ++ EffectLine.Set taken.now.number taken.now.on_good ∷ EffectLine.Verdict Verdict.Running
         ∷ told_lines taken.now (option_copied of.entry) (plain_told taken.now)) }
 {
-    let read = ReadTaken::new(alloc, taken)?;
+    let mut read = ReadTaken::new(alloc, taken)?;
     let plain = read.play(alloc, None)?;
     push_set(taken.number, taken.on_good, Verdict::Running, lines)?;
-    push_told(alloc, &read, plain.as_slice(), of, lines)
+    push_told(alloc, taken, &mut read, plain.as_slice(), of, lines)
 }
 
 /// What follows the verdict, by what the plain start says.
 fn push_told(
     alloc: Global,
-    read: &ReadTaken<'_>,
+    taken: &Taken,
+    read: &mut ReadTaken<'_>,
     plain: &[Told],
     of: Option<&Units>,
     lines: &mut EffectLines,
 ) -> Result<(), AllocError>
-    ensures { OnOk result (lines.new ≡ lines.old ++ told_lines read.now (option_copied of.entry) plain.now) }
+    requires held { HoldsKeys taken.now.set }
+    requires same { read.old ≡ taken.now }
+    ensures { OnOk result (lines.new ≡ lines.old ++ told_lines taken.now (option_copied of.entry) plain.now) }
 {
     let states = States::new(alloc, plain)?;
-    push_of(alloc, read.taken(), &states, of, lines)?;
+    push_of(alloc, taken, &states, of, lines)?;
     push_blocks(alloc, read, plain, of, lines)?;
-    push_leaning_on(alloc, read.taken(), &states, of, lines)
+    push_leaning_on(alloc, taken, &states, of, lines)
 }
 
 /// What the plain start made of the name that is asked for.

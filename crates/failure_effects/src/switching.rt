@@ -18,7 +18,7 @@ const START: [u16; 5] = [0x53, 0x74, 0x61, 0x72, 0x74];
 const DWORD: u32 = 4;
 
 /// The Start of an entry that is off.
-const OFF: u32 = 4;
+pub(crate) const OFF: u32 = 4;
 
 /// The set with the Start of the entry of this name being 4.
 pub(crate) fn off_set(alloc: Global, set: &Key, name: &[u16]) -> Result<Key, AllocError>

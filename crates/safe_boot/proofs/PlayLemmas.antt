@@ -54,7 +54,8 @@ tried_here s m t place (Some e) p is h =
     }
 
 tried_by : (s : Start) (m : MachineState) (t : machine.Tried) (o : Option ℕ) → next_in s ≡ o
-    → option_and_then (λ place. option_map (attempt_at (running s) (without_clone s) false place) (slice_get s.waiting place)) o
+    → option_and_then (λ place. option_map (attempt_at (running s) (without_clone s) false place)
+    (slice_get s.waiting place)) o
     ≡ Some (m, t) → TriedOne s m t
 tried_by s m t None p h = absurd cc
 tried_by s m t (Some place) p h = tried_here s m t place (slice_get s.waiting place) p refl h
@@ -219,7 +220,8 @@ fewer_by_push (Err e) m m' t h = tt
 
 pub ended_by : {E : Type 0} (r : Result (Unit {0}) E) (lists : Lists) (m m' : MachineState)
     (said more said' : List SafeLine) (unmet : List (List ℕ)) (phase : code_phase.Phase)
-    → ((set : Tree) → lists ≡ lists_of set → m' ≡ on_start (after_phase set) m) → unmet ≡ option_map_or unmet_in m.start []
+    → ((set : Tree) → lists ≡ lists_of set → m' ≡ on_start (after_phase set) m)
+    → unmet ≡ option_map_or unmet_in m.start []
     → map line_of more ≡ map line_of said ++ map UnmetLine unmet
     → phase_in phase ≡ option_map_or (λ (s : Start). s.phase) m'.start Done
     → OnOk r (said' ≡ more ++ code.Phase phase ∷ [])
@@ -231,7 +233,8 @@ ended_by (Err e) lists m m' said more said' unmet phase after names lines word l
 pub played_by : {E : Type 0} (r : Result (Unit {0}) E) (lists : Lists) (m m' m'' : MachineState)
     (said said' said'' : List SafeLine)
     → ((c : Course) → IsAt m said c → IsAt m' said' (attempts_of (length c.start.waiting) c))
-    → OnOk r ((set : Tree) → lists ≡ lists_of set → (c : Course) → IsAt m' said' c → IsAt m'' said'' (phase_ended set c))
+    → OnOk r ((set : Tree) → lists ≡ lists_of set → (c : Course) → IsAt m' said' c
+    → IsAt m'' said'' (phase_ended set c))
     → OnOk r ((set : Tree) → lists ≡ lists_of set → (c : Course) → IsAt m said c → IsAt m'' said'' (phase_played set c))
 unfolding phase_played
 played_by (Ok u) lists m m' m'' said said' said'' tried over =
@@ -241,7 +244,8 @@ played_by (Err e) lists m m' m'' said said' said'' tried over = tt
 -- ---- the whole start
 
 pub begun_at : (set : Tree) (off m : MachineState) (none said : List SafeLine) → off ≡ off_machine
-    → m ≡ with_start (without_clone (begun_with set 0 false)) off → none ≡ [] → said ≡ none ++ code.Phase phases.Boot ∷ []
+    → m ≡ with_start (without_clone (begun_with set 0 false)) off → none ≡ []
+    → said ≡ none ++ code.Phase phases.Boot ∷ []
     → IsAt m said (course_begun set)
 unfolding course_begun
 begun_at set off m none said is begun empty first = record {

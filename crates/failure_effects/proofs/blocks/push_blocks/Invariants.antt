@@ -7,6 +7,9 @@ use Rattle.failure_effects.specs.Effects.{is_asked}
 use Rattle.failure_effects.proofs.blocks.push_blocks.Given as goal
 
 abbrev pub invariant-loop-told : goal.invariant-loop-told
-invariant-loop-told l = l.lines
-    ≡ l.initial.lines
-    ++ flat_map (λ (t : Told). cond (is_asked (option_copied l.of) t.name) (blocks_of l.read l.plain t) []) (take l.told-index l.plain)
+invariant-loop-told l =
+    let asked = λ (t : Told). cond (is_asked (option_copied l.of) t.name) (blocks_of l.initial.read l.plain t) [] in
+    record {
+      read : l.read ≡ l.initial.read;
+      lines : l.lines ≡ l.initial.lines ++ flat_map asked (take l.told-index l.plain);
+    }

@@ -10,8 +10,10 @@ use Rattle.safe_boot.proofs.playing.play_start.Goals as goal
 pub returns : goal.returns
 returns c =
     let two : (set : Tree) → c.args.lists.now ≡ lists_of set
-    → IsAt c.play_phase-2.new.machine c.play_phase-2.new.lines (phase_played set (phase_played set (course_begun set))) = λ set is.
-    c.in_ok-play_phase-2.ensures set is (phase_played set (course_begun set)) (c.in_ok-play_phase.ensures set is (course_begun set)
+    → IsAt c.play_phase-2.new.machine c.play_phase-2.new.lines
+    (phase_played set (phase_played set (course_begun set))) = λ set is.
+    c.in_ok-play_phase-2.ensures set is (phase_played set (course_begun set))
+    (c.in_ok-play_phase.ensures set is (course_begun set)
     (begun_at set c.args.machine.now c.begin_listed.new.self c.args.lines.now c.push.new.self c.requires.off
     (c.in_ok-begin_listed.ensures.ok set is) c.requires.unsaid c.in_ok-push.ensures.ok)) in
     lines_by c.play_phase-3.result c.args.lists.now
