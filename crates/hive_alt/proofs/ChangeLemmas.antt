@@ -17,20 +17,22 @@ use Rattle.hive_model.specs.Image.{Image}
 use Rattle.hive_model.specs.Load.{Holds}
 use Rattle.hive_model.specs.Recovery.{Recovered}
 use Rattle.hive_model.specs.Size.{bulk_of}
+use Rattle.hive_model.specs.State.{HiveState}
 use Rattle.hive_model.specs.Tree.{Tree, find_key}
 use Rattle.hive_model.specs.Valid.{longest_value_name}
 use Rattle.nt_edge.specs.Crash.{EachCrash}
 use Rattle.nt_edge.specs.Disk.{DiskState}
 use Rattle.hive_commit.specs.Stages.{next_number, closed_of}
+use Rattle.hive_commit.proofs.Kept.{only_held}
 use Rattle.hive_store.specs.Checks.{held_state}
 use Rattle.hive_store.specs.Session.{HasTree}
-use Rattle.hive_alt.specs.Changes.{Change, nothing, too_large, changed, select_path, default_name, defaulted, unless_large, change_of, after_change, IsLoaded, IsDone, IsEitherOf, WasLoaded, IsStopped, Answers}
+use Rattle.hive_alt.specs.Changes.{Change, nothing, too_large, changed, select_path, default_name, defaulted, unless_large, change_of, after_change, IsLoaded, IsDone, IsEitherOf, StandsAfter, IsDecided, WasLoaded, IsStopped, Answers}
 use Rattle.hive_alt.specs.Plans.{default_steps, IsFound, ChecksFor, HeldAs, committed_to, IsCommitStop}
 use Rattle.hive_alt.proofs.KeptLemmas.{ok_is}
 use Rattle.hive_alt.specs.declared.change.Changed.{Changed}
 use Rattle.hive_alt.specs.declared.change.ChangeStop.{ChangeStop}
 use Rattle.hive_alt.specs.declared.change.ChangeStop.TheVariants as stops
-use Rattle.hive_alt.specs.Schemes.{Standing, IsKeptAs, IsKeptAsEither, StandsFor}
+use Rattle.hive_alt.specs.Schemes.{Standing, IsKeptAs, IsKeptAsEither, StandsFor, StandsClean}
 use Rattle.hive_model.specs.Forms.{◌>>=◌}
 
 -- ---- the edit
@@ -89,18 +91,20 @@ pub kept_found : (stands : Standing) (image : Image) (found : Recovered) → sta
     → IsKeptAs stands found.base found.bins image
 kept_found stands image found is = record { dirty = found.dirty; kept = is }
 
+-- the image stands for this base block and these bins data, and there is nothing to repair
+abbrev pub IsCleanAs : Standing → Base → List ℕ → Image → Type 0
+IsCleanAs stands base bins image = stands image ≡ Ok (record { base = base; bins = bins; dirty = false })
+
 -- what was loaded is what was found
-pub either_found : (stands : Standing) (image : Image) (found loaded : Recovered) (tree held : Tree) (number : Option ℕ)
-    → IsFound stands image found tree → IsFound stands image loaded held
-    → (s : DiskState) → EachCrash s (IsEitherOf stands loaded held number)
-    → EachCrash s (IsEitherOf stands found tree number)
-either_found stands image found loaded tree held number is other s each =
+pub of_found : (P : Recovered → Tree → Type 0) (stands : Standing) (image : Image) (found loaded : Recovered)
+    (tree held : Tree) → IsFound stands image found tree → IsFound stands image loaded held → P loaded held
+    → P found tree
+of_found P stands image found loaded tree held is other each =
     let one : loaded ≡ found = ok_is {E = HiveFault} loaded found (sym other.read ∙ is.read) in
     let moved : Holds found (held_state found held) =
     subst (λ (r : Recovered). Holds r (held_state r held)) one other.holds in
     let same : held ≡ tree = one_tree found held tree moved is.holds in
-    subst (λ (t : Tree). EachCrash s (IsEitherOf stands found t number)) same
-    (subst (λ (r : Recovered). EachCrash s (IsEitherOf stands r held number)) one each)
+    subst (λ (t : Tree). P found t) same (subst (λ (r : Recovered). P r held) one each)
 
 -- ---- two files
 
@@ -118,7 +122,8 @@ tree_stop stands image found is read.Memory held = tt
 
 module _ (stands : Standing) (found : Recovered) (tree : Tree) (number : Option ℕ)
     (holds : Holds found (held_state found tree)) where
-  kept_state : (c : Image) → IsKeptAs stands found.base found.bins c → StandsFor stands (held_state found tree) c
+  abbrev kept_state : (c : Image) → IsKeptAs stands found.base found.bins c
+      → StandsFor stands (held_state found tree) c
   kept_state c is = record {
     recovered = record { base = found.base; bins = found.bins; dirty = is.dirty };
     read = is.kept;
@@ -130,6 +135,9 @@ module _ (stands : Standing) (found : Recovered) (tree : Tree) (number : Option 
       version = holds.version;
     };
   }
+
+  clean_state : (c : Image) → IsCleanAs stands found.base found.bins c → StandsClean stands (held_state found tree) c
+  clean_state c is = record { stands_for = kept_state c (record { dirty = false; kept = is }); clean = refl }
 
   module _ (loaded : ℕ) (was_mended : Bool) (loaded_is : loaded ≡ found.base.first)
       (mended_is : was_mended ≡ found.dirty) where
@@ -148,21 +156,33 @@ module _ (stands : Standing) (found : Recovered) (tree : Tree) (number : Option 
 
     pub nothing_done : (image after : Image) (version : HiveVersion) → version ≡ version_of found.base.minor
         → stands image ≡ Ok found → change_of version tree number ≡ nothing
-        → IsKeptAs stands found.base found.bins after
+        → IsCleanAs stands found.base found.bins after
         → IsDone stands image after number (record { loaded = loaded; mended = was_mended; committed = None })
-    nothing_done image after version same read is kept =
+    nothing_done image after version same read is clean =
         record {
           change = nothing;
           loaded = loaded_as image nothing version same read is;
           is_done = inl refl;
           committed = refl;
-          stands_for = kept_state after kept;
+          stands_for = clean_state after clean;
         }
 
   pub kept_crash : (s : DiskState) → EachCrash s (IsKeptAs stands found.base found.bins)
       → EachCrash s (IsEitherOf stands found tree number)
   kept_crash s each c crash =
       record { state = held_state found tree; stands_for = kept_state c (each c crash); is_one = inl refl }
+
+  -- a change that leaves the tree, with nothing in flight
+  pub left_mended : (change : Change) (version : HiveVersion) → version ≡ version_of found.base.minor
+      → change_of version tree number ≡ change → after_change found tree change ≡ held_state found tree
+      → (s : DiskState) → s.flight ≡ [] → IsCleanAs stands found.base found.bins s.held
+      → EachCrash s (StandsAfter stands found tree number)
+  left_mended change version same is left s still clean c crash =
+      let change_is : change ≡ change_of (version_of found.base.minor) tree number =
+      sym is ∙ ap (λ (v : HiveVersion). change_of v tree number) same in
+      subst (λ (x : HiveState). StandsClean stands x c) (sym left ∙ ap (after_change found tree) change_is)
+      (subst (λ (i : Image). StandsClean stands (held_state found tree) i) (sym (only_held s c still crash))
+      (clean_state s.held clean))
 
   module _ (u : Tree) (new : List ℕ) (version : HiveVersion) (same : version ≡ version_of found.base.minor)
       (is : change_of version tree number ≡ changed u) (has : HasTree version new 32 u)
@@ -177,7 +197,8 @@ module _ (stands : Standing) (found : Recovered) (tree : Tree) (number : Option 
     change_is : change_of (version_of found.base.minor) tree number ≡ changed u
     change_is = ap (λ (v : HiveVersion). change_of v tree number) (sym same) ∙ is
 
-    new_state : (c : Image) → IsKeptAs stands closed new c → StandsFor stands (after_change found tree (changed u)) c
+    abbrev new_state : (c : Image) → IsKeptAs stands closed new c
+        → StandsFor stands (after_change found tree (changed u)) c
     new_state c kept =
         let has = has_tree in
         record {
@@ -187,23 +208,29 @@ module _ (stands : Standing) (found : Recovered) (tree : Tree) (number : Option 
         }
 
     -- what was given to the commit is what was found and packed
-    kept_new : (c : Image) → IsKeptAs stands (closed_of given packed 32) packed c → IsKeptAs stands closed new c
-    kept_new c kept = subst (λ (b : Base). IsKeptAs stands (closed_of b new 32) new c) given_is
-        (subst (λ (l : List ℕ). IsKeptAs stands (closed_of given l 32) l c) packed_is kept)
+    of_new : (P : Base → List ℕ → Type 0) → P (closed_of given packed 32) packed → P closed new
+    of_new P is = subst (λ (b : Base). P (closed_of b new 32) new) given_is
+        (subst (λ (l : List ℕ). P (closed_of given l 32) l) packed_is is)
+
+    clean_new : (c : Image) → IsCleanAs stands (closed_of given packed 32) packed c
+        → StandsClean stands (after_change found tree (changed u)) c
+    clean_new c is =
+        let kept = of_new (λ (b : Base) (l : List ℕ). IsCleanAs stands b l c) is in
+        record { stands_for = new_state c (record { dirty = false; kept = kept }); clean = refl }
 
     kept_old : (c : Image) → IsKeptAs stands given old c → IsKeptAs stands found.base found.bins c
     kept_old c kept = subst (λ (b : Base). IsKeptAs stands b found.bins c) given_is
         (subst (λ (l : List ℕ). IsKeptAs stands given l c) old_is kept)
 
     pub change_done : (loaded : ℕ) (was_mended : Bool) → loaded ≡ found.base.first → was_mended ≡ found.dirty
-        → (image after : Image) → stands image ≡ Ok found → IsKeptAs stands (closed_of given packed 32) packed after
+        → (image after : Image) → stands image ≡ Ok found → IsCleanAs stands (closed_of given packed 32) packed after
         → IsDone stands image after number (committed_to loaded was_mended given)
-    change_done loaded was_mended loaded_is mended_is image after read kept = record {
+    change_done loaded was_mended loaded_is mended_is image after read clean = record {
       change = changed u;
       loaded = loaded_as loaded was_mended loaded_is mended_is image (changed u) version same read is;
       is_done = inr (u, refl);
       committed = ap (λ (b : Base). Some (next_number b.first)) given_is;
-      stands_for = new_state after (kept_new after kept);
+      stands_for = clean_new after clean;
     }
 
     -- a stop of the commit
@@ -232,7 +259,7 @@ module _ (stands : Standing) (found : Recovered) (tree : Tree) (number : Option 
         })
         (λ kept. record {
           state = after_change found tree (changed u);
-          stands_for = new_state c (kept_new c kept);
+          stands_for = new_state c (of_new (λ (b : Base) (l : List ℕ). IsKeptAs stands b l c) kept);
           is_one = inr (ap (after_change found tree) (sym change_is));
         })
         (each c crash)
@@ -240,12 +267,32 @@ module _ (stands : Standing) (found : Recovered) (tree : Tree) (number : Option 
     -- by what the commit answered
     pub change_answers : (loaded : ℕ) (was_mended : Bool) → loaded ≡ found.base.first → was_mended ≡ found.dirty
         → (image after : Image) → stands image ≡ Ok found
-        → (S : Type 0) → (S → IsKeptAs stands (closed_of given packed 32) packed after)
+        → (S : Type 0) → (S → IsCleanAs stands (closed_of given packed 32) packed after)
         → (r : Result Changed ChangeStop)
         → IfOk r (λ done. done ≡ committed_to loaded was_mended given) → IfErr r (IsCommitStop loaded was_mended)
         → OnOk r S → Answers stands image after number r
-    change_answers loaded was_mended loaded_is mended_is image after read S kept (Ok done) answered refused stays =
+    change_answers loaded was_mended loaded_is mended_is image after read S clean (Ok done) answered refused stays =
         subst (IsDone stands image after number) (sym answered)
-        (change_done loaded was_mended loaded_is mended_is image after read (kept stays))
-    change_answers loaded was_mended loaded_is mended_is image after read S kept (Err stop) answered refused stays =
+        (change_done loaded was_mended loaded_is mended_is image after read (clean stays))
+    change_answers loaded was_mended loaded_is mended_is image after read S clean (Err stop) answered refused stays =
         change_stopped loaded was_mended loaded_is mended_is image read stop refused
+
+    -- what a commit leaves that was done
+    done_mended : (s : DiskState) → s.flight ≡ [] → IsCleanAs stands (closed_of given packed 32) packed s.held
+        → EachCrash s (StandsAfter stands found tree number)
+    done_mended s still clean c crash =
+        subst (λ (x : Change). StandsClean stands (after_change found tree x) c) (sym change_is)
+        (subst (λ (i : Image). StandsClean stands (after_change found tree (changed u)) i)
+        (sym (only_held s c still crash)) (clean_new s.held clean))
+
+    pub change_mended : (loaded : ℕ) (was_mended : Bool) (s : DiskState)
+        → (S : Type 0) → (S → IsCleanAs stands (closed_of given packed 32) packed s.held)
+        → (r : Result Changed ChangeStop) → IfErr r (IsCommitStop loaded was_mended) → OnOk r S
+        → OnOk r (s.flight ≡ []) → IsDecided r → EachCrash s (StandsAfter stands found tree number)
+    change_mended loaded was_mended s S clean (Ok done) refused stays still decided = done_mended s still (clean stays)
+    change_mended loaded was_mended s S clean (Err (stops.Fault f)) refused stays still decided = absurd refused
+    change_mended loaded was_mended s S clean (Err (stops.NoSelect n m)) refused stays still decided = absurd refused
+    change_mended loaded was_mended s S clean (Err (stops.Full n m)) refused stays still decided = absurd refused
+    change_mended loaded was_mended s S clean (Err (stops.PowerLost x)) refused stays still decided = absurd decided
+    change_mended loaded was_mended s S clean (Err (stops.Device x)) refused stays still decided = absurd decided
+    change_mended loaded was_mended s S clean (Err stops.Memory) refused stays still decided = absurd decided

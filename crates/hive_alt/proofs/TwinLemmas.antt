@@ -158,7 +158,7 @@ fields_same a b is =
       rest = same-bytes a.rest b.rest p9.1 i;
     }
 
-has_same : (base : Base) (r : Result Base HiveFault) → has_fields base r ≡ true → r ≡ Ok base
+pub has_same : (base : Base) (r : Result Base HiveFault) → has_fields base r ≡ true → r ≡ Ok base
 has_same base (Ok read) is = ap (λ b. Ok b) (fields_same read base is)
 has_same base (Err f) is = absurd (cc)
 
@@ -167,7 +167,7 @@ bytes_there bytes None is = absurd (cc)
 bytes_there bytes (Some Unreadable) is = absurd (cc)
 bytes_there bytes (Some (Bytes read)) is = ap (λ b. Some (Bytes b)) (same-bytes read bytes is)
 
-second_each : (image : Image) (bins : List ℕ) (n : ℕ) → second_has image bins n ≡ true → (i : ℕ) → i < n
+pub second_each : (image : Image) (bins : List ℕ) (n : ℕ) → second_has image bins n ≡ true → (i : ℕ) → i < n
     → log_in image (8 + i) ≡ Some (Bytes (sector bins i))
 second_each image bins zero is i below = absurd (omega arith)
 second_each image bins (suc n) is i below =
@@ -178,7 +178,7 @@ second_each image bins (suc n) is i below =
     ∙ ap (λ k. Some (Bytes (sector bins k))) (sym same))
     (split i n (omega arith))
 
-each_second : (image : Image) (bins : List ℕ) (n : ℕ)
+pub each_second : (image : Image) (bins : List ℕ) (n : ℕ)
     → ((i : ℕ) → i < n → log_in image (8 + i) ≡ Some (Bytes (sector bins i))) → second_has image bins n ≡ true
 each_second image bins zero each = refl
 each_second image bins (suc n) each =

@@ -15,7 +15,7 @@ use Rattle.hive_store.specs.Checks.{held_state}
 use Rattle.hive_alt.specs.declared.change.Changed.{Changed}
 use Rattle.hive_alt.specs.declared.change.ChangeStop.{ChangeStop}
 use Rattle.hive_alt.specs.declared.change.ChangeStop.TheVariants as stops
-use Rattle.hive_alt.specs.Schemes.{Standing, StandsFor, StandFault}
+use Rattle.hive_alt.specs.Schemes.{Standing, StandsFor, StandsClean, StandFault}
 
 -- the key `Select`, and its value `Default`
 abbrev pub select_path : List (List ℕ)
@@ -79,13 +79,13 @@ pub record IsLoaded (stands : Standing) (image : Image) (number : Option ℕ) (l
   pub mended_is : mended ≡ found.dirty
   pub change_is : change_of (version_of found.base.minor) tree number ≡ change
 
--- nothing was to be done, or a change was committed; the image after it stands for the state then
+-- nothing was to be done, or a change was committed; the image after it stands for the state then, and there is nothing to repair
 pub record IsDone (stands : Standing) (before after : Image) (number : Option ℕ) (done : Changed) : Type 0 where
   pub change : Change
   pub loaded : IsLoaded stands before number done.loaded done.mended change
   pub is_done : (change ≡ nothing) ⊎ ((u : Tree) × (change ≡ changed u))
   pub committed : done.committed ≡ committed_by loaded.found change
-  pub stands_for : StandsFor stands (after_change loaded.found loaded.tree change) after
+  pub stands_for : StandsClean stands (after_change loaded.found loaded.tree change) after
 
 -- a stop after the load has its number and its repair, and a change was to be made
 abbrev pub WasLoaded : Standing → Image → Option ℕ → Option (ℕ × Bool) → Type 0
@@ -111,6 +111,21 @@ pub record IsEitherOf (stands : Standing) (found : Recovered) (tree : Tree) (num
   pub state : HiveState
   pub stands_for : StandsFor stands state image
   pub is_one : (state ≡ held_state found tree) ⊎ (state ≡ after_change found tree (change_of (version_of found.base.minor) tree number))
+
+-- the image stands for the tree as it is to be, and there is nothing to repair
+abbrev pub StandsAfter : Standing → Recovered → Tree → Option ℕ → Image → Type 0
+StandsAfter stands found tree number image =
+    StandsClean stands (after_change found tree (change_of (version_of found.base.minor) tree number)) image
+
+-- an answer by the tree: there was nothing to do, or the change was made or refused
+abbrev pub IsDecided : Result Changed ChangeStop → Type 0
+IsDecided (Ok done) = Unit {0}
+IsDecided (Err (stops.Fault f)) = ⊥
+IsDecided (Err (stops.NoSelect loaded mended)) = Unit {0}
+IsDecided (Err (stops.Full loaded mended)) = Unit {0}
+IsDecided (Err (stops.PowerLost loaded)) = ⊥
+IsDecided (Err (stops.Device loaded)) = ⊥
+IsDecided (Err stops.Memory) = ⊥
 
 -- the power was lost, the device failed, memory was lacking
 abbrev pub IsLost : Result Changed ChangeStop → Type 0

@@ -1,5 +1,5 @@
 -- What a way to keep a hive on a disk promises. (This project's own.)
-use Rattle.std.specs.Prelude.{◌≡◌, ◌⊎◌, Bool, ℕ, List, Result, Ok, Err}
+use Rattle.std.specs.Prelude.{◌≡◌, ◌⊎◌, Bool, false, ℕ, List, Result, Ok, Err}
 use Rattle.nt_bytes.specs.declared.fault.HiveFault.{HiveFault}
 use Rattle.hive_model.specs.Base.{Base}
 use Rattle.hive_model.specs.Image.{Image}
@@ -27,6 +27,11 @@ pub record StandsFor (stands : Standing) (state : HiveState) (image : Image) : T
   pub recovered : Recovered
   pub read : stands image ≡ Ok recovered
   pub holds : Holds recovered state
+
+-- the image stands for this state, and there is nothing to repair
+pub record StandsClean (stands : Standing) (state : HiveState) (image : Image) : Type 0 where
+  pub stands_for : StandsFor stands state image
+  pub clean : stands_for.recovered.dirty ≡ false
 
 -- the first fault of the image
 abbrev pub StandFault : Standing → Image → HiveFault → Type 0

@@ -14,7 +14,7 @@ ghost use Rattle.hive_log.specs.Stops.{IsLoadOn};
 ghost use Rattle.hive_commit.specs.Untouched.{IsUntouched};
 ghost use Rattle.hive_store.specs.Checks.{held_state};
 ghost use Rattle.hive_commit.specs.Stages.{closed_of};
-ghost use Rattle.hive_alt.specs.Changes.{Answers, IsEitherOf, IsLost, IsFailed, IsLacking};
+ghost use Rattle.hive_alt.specs.Changes.{Answers, IsEitherOf, StandsAfter, IsDecided, IsLost, IsFailed, IsLacking};
 ghost use Rattle.hive_alt.specs.Plans.{IsFound, IsStandStop, AfterFault, ChecksFor, committed_to, IsCommitStop};
 ghost use Rattle.hive_alt.specs.Schemes.{IsKeptAs, IsKeptAsEither};
 ghost use Rattle.hive_alt.specs.declared.change.ChangeStop.TheVariants as stops;
@@ -117,6 +117,7 @@ fn change_loaded<S: Scheme, D: Disk>(
         → Answers S.stands image (D.state disk.new).held number result }
     ensures no_fault { (fault : HiveFault) → result ≡ Err (stops.Fault fault) → ⊥ }
     ensures still { D.tells ≡ true → OnOk result ((D.state disk.new).flight ≡ []) }
+    ensures mended { D.tells ≡ true → IsDecided result → EachCrash (D.state disk.new) (StandsAfter S.stands loaded.found loaded.tree number) }
     ensures crash { D.tells ≡ true → EachCrash (D.state disk.new) (IsEitherOf S.stands loaded.found loaded.tree number) }
     ensures goes { GoesOn (D.state disk.old) (D.state disk.new) (IsLost result) (IsFailed result) (IsLacking result) }
 {
@@ -171,6 +172,9 @@ pub fn change_default<S: Scheme, D: Disk>(
     ensures unwritten { D.tells ≡ true → (fault : HiveFault) → result ≡ Err (stops.Fault fault)
         → IsUntouched (D.state disk.old) (D.state disk.new) }
     ensures still { D.tells ≡ true → OnOk result ((D.state disk.new).flight ≡ []) }
+    // After an answer by the tree, whatever a cut leaves stands for the tree as it is to be, and there is nothing to repair.
+    ensures mended { D.tells ≡ true → IsDecided result → (found : RecoveredBook) (tree : Tree) → IsFound S.stands (D.state disk.old).held found tree
+        → EachCrash (D.state disk.new) (StandsAfter S.stands found tree number) }
     // At every exit a cut leaves what stands for the tree as it was, or as it is to be, be sectors in flight torn or not.
     ensures crash { D.tells ≡ true → (found : RecoveredBook) (tree : Tree) → IsFound S.stands (D.state disk.old).held found tree
         → EachCrash (D.state disk.new) (IsEitherOf S.stands found tree number) }

@@ -1,4 +1,8 @@
-use Rattle.hive_alt.proofs.ChangeLemmas.{kept_found, kept_crash, either_found}
+use Rattle.hive_model.specs.Recovery.{Recovered}
+use Rattle.hive_model.specs.Tree.{Tree}
+use Rattle.nt_edge.specs.Crash.{EachCrash}
+use Rattle.hive_alt.specs.Changes.{IsEitherOf, StandsAfter}
+use Rattle.hive_alt.proofs.ChangeLemmas.{kept_found, kept_crash, of_found}
 use Rattle.hive_alt.proofs.changing.change_default.Goals as goal
 
 pub returns-in_err-loaded-clause-crash : goal.returns-in_err-loaded-clause-crash
@@ -8,9 +12,18 @@ returns-in_err-loaded-clause-crash g c = λ tells found tree is.
     (c.in_err-loaded.ensures.crash tells found.base found.bins
     (kept_found g.S.Scheme.stands (g.D.Disk.state c.args.disk.now).held found is.read))
 
+pub returns-clause-mended : goal.returns-clause-mended
+returns-clause-mended g c = λ tells decided found tree is.
+    let s = g.D.Disk.state c.change_loaded.new.disk in
+    of_found (λ (r : Recovered) (t : Tree). EachCrash s (StandsAfter g.S.Scheme.stands r t c.args.number))
+    g.S.Scheme.stands
+    (g.D.Disk.state c.args.disk.now).held found c.in_ok-loaded.loaded.found tree c.in_ok-loaded.loaded.tree
+    is (c.in_ok-loaded.ensures.exact tells) (c.change_loaded.ensures.mended tells decided)
+
 pub returns-clause-crash : goal.returns-clause-crash
 returns-clause-crash g c = λ tells found tree is.
-    either_found g.S.Scheme.stands
+    let s = g.D.Disk.state c.change_loaded.new.disk in
+    of_found (λ (r : Recovered) (t : Tree). EachCrash s (IsEitherOf g.S.Scheme.stands r t c.args.number))
+    g.S.Scheme.stands
     (g.D.Disk.state c.args.disk.now).held found c.in_ok-loaded.loaded.found tree c.in_ok-loaded.loaded.tree
-    c.args.number is (c.in_ok-loaded.ensures.exact tells)
-    (g.D.Disk.state c.change_loaded.new.disk) (c.change_loaded.ensures.crash tells)
+    is (c.in_ok-loaded.ensures.exact tells) (c.change_loaded.ensures.crash tells)

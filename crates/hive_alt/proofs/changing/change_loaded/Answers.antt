@@ -1,81 +1,60 @@
-use Rattle.std.proofs.Common.{false, refl, ◌∙◌, ap, subst, length}
+use Rattle.std.proofs.Common.{◌≡◌, true, false, refl, ◌∙◌, ap, subst, length}
 use Rattle.hive_model.specs.Base.{Base, is_bins_size, version_of}
 use Rattle.hive_model.specs.Recovery.{Recovered}
+use Rattle.nt_edge.specs.Crash.{EachCrash}
 use Rattle.hive_commit.specs.Stages.{closed_of}
-use Rattle.hive_alt.specs.Changes.{change_of}
+use Rattle.hive_store.specs.Checks.{held_state}
+use Rattle.hive_alt.specs.Changes.{Change, nothing, no_select, too_large, change_of, after_change, IsEitherOf, StandsAfter}
 use Rattle.hive_alt.specs.Plans.{IsPlanOf}
-use Rattle.hive_alt.specs.Schemes.{IsKeptAs}
-use Rattle.hive_alt.proofs.ChangeLemmas.{nothing_done, kept_crash, change_answers, change_crash}
+use Rattle.hive_alt.proofs.ChangeLemmas.{IsCleanAs, nothing_done, kept_crash, left_mended, change_answers, change_mended, change_crash}
 use Rattle.hive_alt.proofs.KeptLemmas.{kept_still}
+use Rattle.hive_alt.proofs.changing.change_loaded.Given.{Over}
 use Rattle.hive_alt.proofs.changing.change_loaded.Goals as goal
+use Rattle.hive_alt.proofs.changing.change_loaded.Goals.{After-settled_is_clean, In_ok-next}
+
+-- what was loaded stands with nothing to repair
+clean_here : (g : Over) (c : After-settled_is_clean g) → g.D.Disk.tells ≡ true
+    → IsCleanAs g.S.Scheme.stands c.args.loaded.found.base c.args.loaded.found.bins
+    (g.D.Disk.state c.args.disk.now).held
+clean_here g c tells =
+    c.settled_is_clean.ensures (g.D.Disk.state c.args.disk.now).held c.args.loaded.found.base c.args.loaded.found.bins
+    c.requires.sized (c.requires.settled tells)
+
+-- where nothing more is written a cut leaves it
+cut_here : (g : Over) (c : After-settled_is_clean g) → g.D.Disk.tells ≡ true
+    → EachCrash (g.D.Disk.state c.args.disk.now)
+    (IsEitherOf g.S.Scheme.stands c.args.loaded.found c.args.loaded.tree c.args.number)
+cut_here g c tells =
+    let found = c.args.loaded.found in
+    let s = g.D.Disk.state c.args.disk.now in
+    kept_crash g.S.Scheme.stands found c.args.loaded.tree c.args.number (c.requires.holds tells) s
+    (kept_still g.S.Scheme.stands s s refl (c.requires.still tells) found.base found.bins
+    (record { dirty = false; kept = clean_here g c tells }))
+
+-- and that is the tree as it is to be, where the plan leaves the tree
+left_here : (g : Over) (c : In_ok-next g) → g.D.Disk.tells ≡ true → (change : Change)
+    → change_of c.version.result c.args.loaded.tree c.args.number ≡ change
+    → after_change c.args.loaded.found c.args.loaded.tree change ≡ held_state c.args.loaded.found c.args.loaded.tree
+    → EachCrash (g.D.Disk.state c.args.disk.now)
+    (StandsAfter g.S.Scheme.stands c.args.loaded.found c.args.loaded.tree c.args.number)
+left_here g c tells change is left =
+    left_mended g.S.Scheme.stands c.args.loaded.found c.args.loaded.tree c.args.number (c.requires.holds tells) change
+    c.version.result (c.version.ensures ∙ ap (λ (r : Recovered). version_of r.base.minor) c.found.view_is) is left
+    (g.D.Disk.state c.args.disk.now) (c.requires.still tells)
+    (c.settled_is_clean.ensures (g.D.Disk.state c.args.disk.now).held c.args.loaded.found.base
+    c.args.loaded.found.bins c.requires.sized (c.requires.settled tells))
 
 pub returns-in_err-next-clause-crash : goal.returns-in_err-next-clause-crash
-returns-in_err-next-clause-crash g c = λ tells.
-    let stands = g.S.Scheme.stands in
-    let found = c.args.loaded.found in
-    let tree = c.args.loaded.tree in
-    let number = c.args.number in
-    let holds = c.requires.holds tells in
-    let s = g.D.Disk.state c.args.disk.now in
-    let kept : IsKeptAs stands found.base found.bins s.held =
-    record {
-      dirty = false;
-      kept = c.settled_is_clean.ensures s.held found.base found.bins c.requires.sized
-          (c.requires.settled tells);
-    } in
-    kept_crash stands found tree number holds s
-    (kept_still stands s s refl (c.requires.still tells) found.base found.bins kept)
+returns-in_err-next-clause-crash g c = cut_here g (goal.at.returns-in_err-next-clause-crash g c).After-settled_is_clean
 
 pub returns-in-Nothing-clause-crash : goal.returns-in-Nothing-clause-crash
-returns-in-Nothing-clause-crash g c = λ tells.
-    let stands = g.S.Scheme.stands in
-    let found = c.args.loaded.found in
-    let tree = c.args.loaded.tree in
-    let number = c.args.number in
-    let holds = c.requires.holds tells in
-    let s = g.D.Disk.state c.args.disk.now in
-    let kept : IsKeptAs stands found.base found.bins s.held =
-    record {
-      dirty = false;
-      kept = c.settled_is_clean.ensures s.held found.base found.bins c.requires.sized
-          (c.requires.settled tells);
-    } in
-    kept_crash stands found tree number holds s
-    (kept_still stands s s refl (c.requires.still tells) found.base found.bins kept)
+returns-in-Nothing-clause-crash g c = cut_here g (goal.at.returns-in-Nothing-clause-crash g c).After-settled_is_clean
 
 pub returns-in-NoSelect-clause-crash : goal.returns-in-NoSelect-clause-crash
-returns-in-NoSelect-clause-crash g c = λ tells.
-    let stands = g.S.Scheme.stands in
-    let found = c.args.loaded.found in
-    let tree = c.args.loaded.tree in
-    let number = c.args.number in
-    let holds = c.requires.holds tells in
-    let s = g.D.Disk.state c.args.disk.now in
-    let kept : IsKeptAs stands found.base found.bins s.held =
-    record {
-      dirty = false;
-      kept = c.settled_is_clean.ensures s.held found.base found.bins c.requires.sized
-          (c.requires.settled tells);
-    } in
-    kept_crash stands found tree number holds s
-    (kept_still stands s s refl (c.requires.still tells) found.base found.bins kept)
+returns-in-NoSelect-clause-crash g c = cut_here g (goal.at.returns-in-NoSelect-clause-crash g c).After-settled_is_clean
 
 pub returns-in-Full-clause-crash : goal.returns-in-Full-clause-crash
-returns-in-Full-clause-crash g c = λ tells.
-    let stands = g.S.Scheme.stands in
-    let found = c.args.loaded.found in
-    let tree = c.args.loaded.tree in
-    let number = c.args.number in
-    let holds = c.requires.holds tells in
-    let s = g.D.Disk.state c.args.disk.now in
-    let kept : IsKeptAs stands found.base found.bins s.held =
-    record {
-      dirty = false;
-      kept = c.settled_is_clean.ensures s.held found.base found.bins c.requires.sized
-          (c.requires.settled tells);
-    } in
-    kept_crash stands found tree number holds s
-    (kept_still stands s s refl (c.requires.still tells) found.base found.bins kept)
+returns-in-Full-clause-crash g c = cut_here g (goal.at.returns-in-Full-clause-crash g c).After-settled_is_clean
 
 pub returns-in-Nothing-clause-answers : goal.returns-in-Nothing-clause-answers
 returns-in-Nothing-clause-answers g c = λ tells image read.
@@ -85,19 +64,14 @@ returns-in-Nothing-clause-answers g c = λ tells image read.
     let number = c.args.number in
     let holds = c.requires.holds tells in
     let s = g.D.Disk.state c.args.disk.now in
-    let kept : IsKeptAs stands found.base found.bins s.held =
-    record {
-      dirty = false;
-      kept = c.settled_is_clean.ensures s.held found.base found.bins c.requires.sized
-          (c.requires.settled tells);
-    } in
     let loaded_is = ap (λ (b : Base). b.first) c.base.view_is ∙ ap (λ (r : Recovered). r.base.first) c.found.view_is in
     let mended_is = ap (λ (r : Recovered). r.dirty) c.found.view_is in
     let version_is = c.version.ensures ∙ ap (λ (r : Recovered). version_of r.base.minor) c.found.view_is in
     let plan = subst (IsPlanOf c.version.result (change_of c.version.result tree number))
     c.in-Nothing.is c.in_ok-next.ensures in
     nothing_done stands found tree number holds c.base.inside.first c.found.inside.dirty loaded_is mended_is image
-    s.held c.version.result version_is read plan kept
+    s.held c.version.result version_is read plan
+    (clean_here g (goal.at.returns-in-Nothing-clause-answers g c).After-settled_is_clean tells)
 
 pub returns-clause-answers : goal.returns-clause-answers
 returns-clause-answers g c = λ tells image read.
@@ -106,13 +80,6 @@ returns-clause-answers g c = λ tells image read.
     let tree = c.args.loaded.tree in
     let number = c.args.number in
     let holds = c.requires.holds tells in
-    let s = g.D.Disk.state c.args.disk.now in
-    let kept : IsKeptAs stands found.base found.bins s.held =
-    record {
-      dirty = false;
-      kept = c.settled_is_clean.ensures s.held found.base found.bins c.requires.sized
-          (c.requires.settled tells);
-    } in
     let loaded_is = ap (λ (b : Base). b.first) c.base.view_is ∙ ap (λ (r : Recovered). r.base.first) c.found.view_is in
     let mended_is = ap (λ (r : Recovered). r.dirty) c.found.view_is in
     let version_is = c.version.ensures ∙ ap (λ (r : Recovered). version_of r.base.minor) c.found.view_is in
@@ -126,14 +93,51 @@ returns-clause-answers g c = λ tells image read.
     c.base.inside.first c.found.inside.dirty loaded_is mended_is image t.held read
     (g.S.Scheme.settled t.held (closed_of c.found.inside.base c.as_slice-packed.result.now 32)
     c.as_slice-packed.result.now)
-    (λ settled. record {
-      dirty = false;
-      kept = c.settled_is_clean.ensures t.held (closed_of c.found.inside.base c.as_slice-packed.result.now 32)
-          c.as_slice-packed.result.now (ap (λ l. is_bins_size (length l)) c.as_slice-packed.ensures ∙ x.2.sized)
-          settled;
-    })
+    (λ settled. c.settled_is_clean.ensures t.held (closed_of c.found.inside.base c.as_slice-packed.result.now 32)
+    c.as_slice-packed.result.now (ap (λ l. is_bins_size (length l)) c.as_slice-packed.ensures ∙ x.2.sized) settled)
     c.commit_change.result c.commit_change.ensures.answered c.commit_change.ensures.refused
     (c.commit_change.ensures.settled tells)
+
+pub returns-in-Nothing-clause-mended : goal.returns-in-Nothing-clause-mended
+returns-in-Nothing-clause-mended g c = λ tells decided.
+    left_here g (goal.at.returns-in-Nothing-clause-mended g c).In_ok-next tells nothing
+    (subst (IsPlanOf c.version.result (change_of c.version.result c.args.loaded.tree c.args.number))
+    c.in-Nothing.is c.in_ok-next.ensures) refl
+
+pub returns-in-NoSelect-clause-mended : goal.returns-in-NoSelect-clause-mended
+returns-in-NoSelect-clause-mended g c = λ tells decided.
+    left_here g (goal.at.returns-in-NoSelect-clause-mended g c).In_ok-next tells no_select
+    (subst (IsPlanOf c.version.result (change_of c.version.result c.args.loaded.tree c.args.number))
+    c.in-NoSelect.is c.in_ok-next.ensures) refl
+
+pub returns-in-Full-clause-mended : goal.returns-in-Full-clause-mended
+returns-in-Full-clause-mended g c = λ tells decided.
+    left_here g (goal.at.returns-in-Full-clause-mended g c).In_ok-next tells too_large
+    (subst (IsPlanOf c.version.result (change_of c.version.result c.args.loaded.tree c.args.number))
+    c.in-Full.is c.in_ok-next.ensures) refl
+
+pub returns-clause-mended : goal.returns-clause-mended
+returns-clause-mended g c = λ tells.
+    let stands = g.S.Scheme.stands in
+    let found = c.args.loaded.found in
+    let tree = c.args.loaded.tree in
+    let number = c.args.number in
+    let version_is = c.version.ensures ∙ ap (λ (r : Recovered). version_of r.base.minor) c.found.view_is in
+    let x = subst (IsPlanOf c.version.result (change_of c.version.result tree number))
+    c.in-Pack.is c.in_ok-next.ensures in
+    let given_is = ap (λ (r : Recovered). r.base) c.found.view_is in
+    let old_is = c.as_slice-old.ensures ∙ ap (λ (r : Recovered). r.bins) c.found.view_is in
+    let t = g.D.Disk.state c.commit_change.new.disk in
+    change_mended stands found tree number (c.requires.holds tells) x.0 c.in-Pack.new c.version.result version_is
+    x.1 x.2
+    c.found.inside.base c.as_slice-old.result.now c.as_slice-packed.result.now given_is old_is c.as_slice-packed.ensures
+    c.base.inside.first c.found.inside.dirty t
+    (g.S.Scheme.settled t.held (closed_of c.found.inside.base c.as_slice-packed.result.now 32)
+    c.as_slice-packed.result.now)
+    (λ settled. c.settled_is_clean.ensures t.held (closed_of c.found.inside.base c.as_slice-packed.result.now 32)
+    c.as_slice-packed.result.now (ap (λ l. is_bins_size (length l)) c.as_slice-packed.ensures ∙ x.2.sized) settled)
+    c.commit_change.result c.commit_change.ensures.refused (c.commit_change.ensures.settled tells)
+    (c.commit_change.ensures.still tells)
 
 pub returns-clause-crash : goal.returns-clause-crash
 returns-clause-crash g c = λ tells.
@@ -142,15 +146,6 @@ returns-clause-crash g c = λ tells.
     let tree = c.args.loaded.tree in
     let number = c.args.number in
     let holds = c.requires.holds tells in
-    let s = g.D.Disk.state c.args.disk.now in
-    let kept : IsKeptAs stands found.base found.bins s.held =
-    record {
-      dirty = false;
-      kept = c.settled_is_clean.ensures s.held found.base found.bins c.requires.sized
-          (c.requires.settled tells);
-    } in
-    let loaded_is = ap (λ (b : Base). b.first) c.base.view_is ∙ ap (λ (r : Recovered). r.base.first) c.found.view_is in
-    let mended_is = ap (λ (r : Recovered). r.dirty) c.found.view_is in
     let version_is = c.version.ensures ∙ ap (λ (r : Recovered). version_of r.base.minor) c.found.view_is in
     let x = subst (IsPlanOf c.version.result (change_of c.version.result tree number))
     c.in-Pack.is c.in_ok-next.ensures in
