@@ -1,5 +1,5 @@
 -- A change of the default set on a disk that is on and got no order.
-use Rattle.std.proofs.Common.{◌≡◌, ◌⊎◌, ◌≤◌, inl, inr, ℕ, Bool, List, [], Option, None, Some, Result, Ok, Err, refl, sym, ap, subst, ◌∙◌, ⊎_elim, arith}
+use Rattle.std.proofs.Common.{◌≡◌, ◌⊎◌, ◌≤◌, inl, inr, ℕ, Bool, List, [], Option, None, Some, Result, Ok, Err, refl, sym, ap, subst, ◌∙◌, arith}
 use Rattle.nt_bytes.specs.declared.fault.HiveFault.{HiveFault}
 use Rattle.hive_model.specs.Base.{version_of}
 use Rattle.hive_model.specs.Bins.{Bin, BinsFault, spelled, look_up}
@@ -17,14 +17,13 @@ use Rattle.nt_edge.specs.Disk.{DiskState}
 use Rattle.nt_edge.specs.Frames.{GoesOn}
 use Rattle.nt_bytes.specs.Counts.{Rises}
 use Rattle.nt_bytes.specs.declared.version.HiveVersion.{HiveVersion}
-use Rattle.hive_commit.proofs.Kept.{only_held}
-use Rattle.hive_alt.specs.Changes.{Change, nothing, no_select, too_large, changed, change_of, after_change, committed_by, Answers, IsLoaded, IsDone, IsEitherOf, IsLost, IsFailed, IsLacking}
+use Rattle.hive_alt.specs.Changes.{Change, nothing, no_select, too_large, changed, change_of, committed_by, Answers, IsLoaded, IsDone, StandsAfter, IsDecided, IsLost, IsFailed, IsLacking}
 use Rattle.hive_alt.specs.Plans.{IsFound}
-use Rattle.hive_alt.specs.Schemes.{Standing, StandsFor, StandFault}
+use Rattle.hive_alt.specs.Schemes.{Standing, StandFault}
 use Rattle.hive_alt.specs.declared.change.Changed.{Changed}
 use Rattle.hive_alt.specs.declared.change.ChangeStop.{ChangeStop}
 use Rattle.hive_alt.specs.declared.change.ChangeStop.TheVariants as stops
-use Rattle.std.specs.Prelude.{IfOk, OnOk, OnErr}
+use Rattle.std.specs.Prelude.{IfOk, OnErr}
 use Rattle.std.specs.Result.{IsErr}
 use Rattle.std.specs.declared.alloc.AllocError.{AllocError}
 use Rattle.std.proofs.lemmas.Bool.{false≢true}
@@ -122,70 +121,49 @@ module _ (stands : Standing) (number : Option ℕ) (old new off : DiskState) (of
   told_off : (told : Told) → ToldOf stands number told old (turned_off new) → ToldOf stands number told old off
   told_off told is = (let P : DiskState → Type 0 = ToldOf stands number told old in subst P (sym off_is) is)
 
-  -- a change that was done
-  pub done_told : (done : Changed) (word : Word) → word ≡ done_word number done.committed
-      → IsDone stands old.held new.held number done → new.flight ≡ []
-      → ToldOf stands number (record { loaded = done.loaded; mended = done.mended; word = word }) old off
-  done_told done word word_is is still =
-      let l = is.loaded in
-      let told_word : word ≡ word_of number l.found (change_of (version_of l.found.base.minor) l.tree number) =
-      word_is ∙ ap (done_word number) is.committed ∙ word_done number l.found is.change is.is_done
-      ∙ ap (word_of number l.found) (sym l.change_is) in
-      told_off (record { loaded = done.loaded; mended = done.mended; word = word })
-      (record {
-        found = l.found;
-        tree = l.tree;
-        is_found = record { read = l.read; holds = l.holds };
-        is_told = λ i. record { loaded = l.number_is i; mended = l.mended_is i; word = told_word i };
-        stands_for = λ c left.
-            subst (λ (x : Change). StandsFor stands (after_change l.found l.tree x) c) (sym l.change_is)
-            (subst (λ (i : Image). StandsFor stands (after_change l.found l.tree is.change) i)
-            (sym (only_held new c still left)) is.stands_for);
-        history = history;
-        cuts = cuts;
-        faults = faults;
-      })
-
-  -- a change that was refused leaves what was
-  refused_told : (change : Change) (word : Word) (loaded : ℕ) (mended : Bool)
-      (l : IsLoaded stands old.held number loaded mended change)
-      → word ≡ word_of number l.found change → after_change l.found l.tree change ≡ held_state l.found l.tree
-      → EachCrash new (IsEitherOf stands l.found l.tree number)
+  -- by the word of what was to become of the tree that was found, and what a cut then leaves
+  told_as : (change : Change) (word : Word) (loaded : ℕ) (mended : Bool)
+      (l : IsLoaded stands old.held number loaded mended change) → word ≡ word_of number l.found change
+      → EachCrash new (StandsAfter stands l.found l.tree number)
       → ToldOf stands number (record { loaded = loaded; mended = mended; word = word }) old off
-  refused_told change word loaded mended l word_is after_is crash =
+  told_as change word loaded mended l word_is after =
       let told_word : word ≡ word_of number l.found (change_of (version_of l.found.base.minor) l.tree number) =
       word_is ∙ ap (word_of number l.found) (sym l.change_is) in
-      let state_is : after_change l.found l.tree (change_of (version_of l.found.base.minor) l.tree number)
-      ≡ held_state l.found l.tree = ap (after_change l.found l.tree) l.change_is ∙ after_is in
       told_off (record { loaded = loaded; mended = mended; word = word })
       (record {
         found = l.found;
         tree = l.tree;
         is_found = record { read = l.read; holds = l.holds };
         is_told = λ i. record { loaded = l.number_is i; mended = l.mended_is i; word = told_word i };
-        stands_for = λ c left.
-            let e = crash c left in
-            let one : e.state ≡ after_change l.found l.tree (change_of (version_of l.found.base.minor) l.tree number) =
-            ⊎_elim (λ is. is ∙ sym state_is) (λ is. is) e.is_one in
-            subst (λ (s : HiveState). StandsFor stands s c) one e.stands_for;
+        stands_for = after;
         history = history;
         cuts = cuts;
         faults = faults;
       })
 
+  -- a change that was done
+  pub done_told : (done : Changed) (is : IsDone stands old.held new.held number done)
+      → EachCrash new (StandsAfter stands is.loaded.found is.loaded.tree number)
+      → ToldOf stands number
+      (record { loaded = done.loaded; mended = done.mended; word = done_word number done.committed }) old off
+  done_told done is =
+      told_as is.change (done_word number done.committed) done.loaded done.mended is.loaded
+      (ap (done_word number) is.committed ∙ word_done number is.loaded.found is.change is.is_done)
+
+  -- a change that was refused
   pub no_select_told : (loaded : ℕ) (mended : Bool) (l : IsLoaded stands old.held number loaded mended no_select)
-      → EachCrash new (IsEitherOf stands l.found l.tree number)
+      → EachCrash new (StandsAfter stands l.found l.tree number)
       → ToldOf stands number (record { loaded = loaded; mended = mended; word = words.NoKey }) old off
-  no_select_told loaded mended l crash =
-      refused_told no_select words.NoKey loaded mended l
-      (word_no_select number (version_of l.found.base.minor) l.found l.tree l.change_is) refl crash
+  no_select_told loaded mended l =
+      told_as no_select words.NoKey loaded mended l
+      (word_no_select number (version_of l.found.base.minor) l.found l.tree l.change_is)
 
   pub full_told : (loaded : ℕ) (mended : Bool) (l : IsLoaded stands old.held number loaded mended too_large)
-      → EachCrash new (IsEitherOf stands l.found l.tree number)
+      → EachCrash new (StandsAfter stands l.found l.tree number)
       → ToldOf stands number (record { loaded = loaded; mended = mended; word = words.Full }) old off
-  full_told loaded mended l crash =
-      refused_told too_large words.Full loaded mended l
-      (word_full number (version_of l.found.base.minor) l.found l.tree l.change_is) refl crash
+  full_told loaded mended l =
+      told_as too_large words.Full loaded mended l
+      (word_full number (version_of l.found.base.minor) l.found l.tree l.change_is)
 
 -- ---- by the answer
 
@@ -213,36 +191,38 @@ module _ (stands : Standing) (number : Option ℕ) (old new off : DiskState) (of
   told_part r goes (Ok t) = tt
   told_part r goes (Err e) = ap (λ (d : DiskState). d.history) off_is ∙ goes.history
 
-  module _ (crash : (found : Recovered) (tree : Tree) → IsFound stands old.held found tree
-      → EachCrash new (IsEitherOf stands found tree number)) where
-    told_ok : (t : Result Told AllocError) (told : Told) → t ≡ Ok told → ToldOf stands number told old off
-        → IfOk t (λ x. ToldOf stands number x old off)
-    told_ok (Ok x) told is held = subst (λ (y : Told). ToldOf stands number y old off) (sym (ok_told x told is)) held
-    told_ok (Err e) told is held = tt
+  told_ok : (t : Result Told AllocError) (told : Told) → t ≡ Ok told → ToldOf stands number told old off
+      → IfOk t (λ x. ToldOf stands number x old off)
+  told_ok (Ok x) told is held = subst (λ (y : Told). ToldOf stands number y old off) (sym (ok_told x told is)) held
+  told_ok (Err e) told is held = tt
 
-    told_err : (t : Result Told AllocError) → IsErr t → IfOk t (λ x. ToldOf stands number x old off)
-    told_err (Ok x) is = absurd (false≢true is)
-    told_err (Err e) is = tt
+  told_err : (t : Result Told AllocError) → IsErr t → IfOk t (λ x. ToldOf stands number x old off)
+  told_err (Ok x) is = absurd (false≢true is)
+  told_err (Err e) is = tt
 
-    pub awake_told : (r : Result Changed ChangeStop) → Answers stands old.held new.held number r
-        → GoesOn old new (IsLost r) (IsFailed r) (IsLacking r) → OnOk r (new.flight ≡ [])
-        → (t : Result Told AllocError) → ToldBy number r t → IfOk t (λ x. ToldOf stands number x old off)
-    awake_told (Ok done) answers goes still t by =
-        told_ok t (record { loaded = done.loaded; mended = done.mended; word = done_word number done.committed }) by
-        (done_told stands number old new off off_is goes.history (goes.no_cut (λ n. absurd n))
-        (goes.no_fault (λ n. absurd n) (λ n. absurd n)) done (done_word number done.committed) refl answers still)
-    awake_told (Err (stops.Fault f)) answers goes still t by = absurd (sound (Err (stops.Fault f)) answers f refl)
-    awake_told (Err (stops.NoSelect was mended)) answers goes still t by =
-        told_ok t (record { loaded = was; mended = mended; word = words.NoKey }) by
-        (no_select_told stands number old new off off_is goes.history (goes.no_cut (λ n. absurd n))
-        (goes.no_fault (λ n. absurd n) (λ n. absurd n)) was mended answers
-        (crash answers.found answers.tree (record { read = answers.read; holds = answers.holds })))
-    awake_told (Err (stops.Full was mended)) answers goes still t by =
-        told_ok t (record { loaded = was; mended = mended; word = words.Full }) by
-        (full_told stands number old new off off_is goes.history (goes.no_cut (λ n. absurd n))
-        (goes.no_fault (λ n. absurd n) (λ n. absurd n)) was mended answers
-        (crash answers.found answers.tree (record { read = answers.read; holds = answers.holds })))
-    awake_told (Err (stops.PowerLost was)) answers goes still t by =
-        absurd (lost_never (Err (stops.PowerLost was)) goes tt)
-    awake_told (Err (stops.Device was)) answers goes still t by = absurd (failed_never (Err (stops.Device was)) goes tt)
-    awake_told (Err stops.Memory) answers goes still t by = told_err t by
+  pub awake_told : (r : Result Changed ChangeStop) → Answers stands old.held new.held number r
+      → GoesOn old new (IsLost r) (IsFailed r) (IsLacking r)
+      → (IsDecided r → (found : Recovered) (tree : Tree) → IsFound stands old.held found tree
+      → EachCrash new (StandsAfter stands found tree number))
+      → (t : Result Told AllocError) → ToldBy number r t → IfOk t (λ x. ToldOf stands number x old off)
+  awake_told (Ok done) answers goes after t by =
+      let l = answers.loaded in
+      told_ok t (record { loaded = done.loaded; mended = done.mended; word = done_word number done.committed }) by
+      (done_told stands number old new off off_is goes.history (goes.no_cut (λ n. absurd n))
+      (goes.no_fault (λ n. absurd n) (λ n. absurd n)) done answers
+      (after tt l.found l.tree (record { read = l.read; holds = l.holds })))
+  awake_told (Err (stops.Fault f)) answers goes after t by = absurd (sound (Err (stops.Fault f)) answers f refl)
+  awake_told (Err (stops.NoSelect was mended)) answers goes after t by =
+      told_ok t (record { loaded = was; mended = mended; word = words.NoKey }) by
+      (no_select_told stands number old new off off_is goes.history (goes.no_cut (λ n. absurd n))
+      (goes.no_fault (λ n. absurd n) (λ n. absurd n)) was mended answers
+      (after tt answers.found answers.tree (record { read = answers.read; holds = answers.holds })))
+  awake_told (Err (stops.Full was mended)) answers goes after t by =
+      told_ok t (record { loaded = was; mended = mended; word = words.Full }) by
+      (full_told stands number old new off off_is goes.history (goes.no_cut (λ n. absurd n))
+      (goes.no_fault (λ n. absurd n) (λ n. absurd n)) was mended answers
+      (after tt answers.found answers.tree (record { read = answers.read; holds = answers.holds })))
+  awake_told (Err (stops.PowerLost was)) answers goes after t by =
+      absurd (lost_never (Err (stops.PowerLost was)) goes tt)
+  awake_told (Err (stops.Device was)) answers goes after t by = absurd (failed_never (Err (stops.Device was)) goes tt)
+  awake_told (Err stops.Memory) answers goes after t by = told_err t by

@@ -2,18 +2,17 @@
 use Rattle.std.specs.Prelude.{◌≡◌, ℕ, true, [], Option, Some, None, Result, Ok, Err}
 use Rattle.std.specs.Result.{IsErr}
 use Rattle.std.specs.declared.alloc.AllocError.{AllocError}
-use Rattle.hive_model.specs.Base.{version_of}
 use Rattle.hive_model.specs.Image.{Image}
 use Rattle.hive_model.specs.Recovery.{Recovered}
 use Rattle.hive_model.specs.Tree.{Tree}
 use Rattle.nt_edge.specs.Disk.{DiskState}
 use Rattle.run_parts.specs.Reports.{LeftOf}
-use Rattle.hive_alt.specs.Changes.{change_of, after_change}
+use Rattle.hive_alt.specs.Changes.{StandsAfter}
 use Rattle.hive_alt.specs.Plans.{IsFound}
 use Rattle.hive_alt.specs.declared.change.Changed.{Changed}
 use Rattle.hive_alt.specs.declared.change.ChangeStop.{ChangeStop}
 use Rattle.hive_alt.specs.declared.change.ChangeStop.TheVariants as stops
-use Rattle.hive_alt.specs.Schemes.{Standing, StandsFor}
+use Rattle.hive_alt.specs.Schemes.{Standing}
 use Rattle.twin_command.specs.declared.report.Told.{Told}
 use Rattle.twin_command.specs.declared.report.Word.{Word}
 use Rattle.twin_command.specs.declared.report.Word.TheVariants as words
@@ -28,13 +27,14 @@ pub record IsAwake (disk : DiskState) : Type 0 where
   pub no_cuts : disk.cuts ≡ 0
   pub no_faults : disk.faults ≡ 0
 
--- what is reported is that of what was found on the disk, which then stands for the tree as it is to be; nothing else was done to it
+-- What is reported is that of what was found on the disk, which then stands for the tree as it is to be, with nothing to repair, whatever a
+-- cut leaves of it; nothing else was done to it.
 pub record ToldOf (stands : Standing) (number : Option ℕ) (told : Told) (old new : DiskState) : Type 0 where
   pub found : Recovered
   pub tree : Tree
   pub is_found : IsFound stands old.held found tree
   pub is_told : told ≡ told_of number found tree
-  pub stands_for : (c : Image) → LeftOf new c → StandsFor stands (after_change found tree (change_of (version_of found.base.minor) tree number)) c
+  pub stands_for : (c : Image) → LeftOf new c → StandsAfter stands found tree number c
   pub history : new.history ≡ old.history
   pub cuts : new.cuts ≡ old.cuts
   pub faults : new.faults ≡ old.faults

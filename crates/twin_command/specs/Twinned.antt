@@ -4,16 +4,15 @@
 -- for, and says so.
 use Rattle.std.specs.Prelude.{◌≡◌, ◌⊎◌, ◌+◌, ◌++◌, ℕ, List, [], Option, Result, Ok, Err}
 use Rattle.nt_bytes.specs.declared.fault.HiveFault.{HiveFault}
-use Rattle.hive_model.specs.Base.{version_of}
 use Rattle.hive_model.specs.Image.{Image}
 use Rattle.hive_model.specs.Recovery.{Recovered, recovered_of}
 use Rattle.hive_model.specs.Tree.{Tree}
 use Rattle.nt_edge.specs.Disk.{DiskState, new_state}
 use Rattle.nt_edge.specs.Host.{Files, HostState}
 use Rattle.run_parts.specs.Reports.{LeftOf}
-use Rattle.hive_alt.specs.Changes.{change_of, after_change}
+use Rattle.hive_alt.specs.Changes.{StandsAfter}
 use Rattle.hive_alt.specs.Plans.{IsFound}
-use Rattle.hive_alt.specs.Schemes.{Standing, StandsFor, StandFault}
+use Rattle.hive_alt.specs.Schemes.{Standing, StandFault}
 use Rattle.hive_alt.specs.Twin.{twin_of}
 use Rattle.command_words.specs.Words.{TwinAsked}
 use Rattle.command_words.specs.declared.asked.AskedScheme.{AskedScheme}
@@ -42,10 +41,10 @@ stands_by Log = recovered_of
 abbrev pub SomeFound : Standing → Image → Type 0
 SomeFound stands image = (found : Recovered) × (tree : Tree) × IsFound stands image found tree
 
--- The disk afterwards: each named file was placed and that many taken, no stop was ordered and none came, and it stands for the
--- tree as it is to be.
+-- The disk afterwards: each named file was placed and that many taken, no stop was ordered and none came, and whatever a cut leaves of it
+-- stands for the tree as it is to be, with nothing to repair.
 pub record IsTwinned (stands : Standing) (files : HiveFiles) (number : Option ℕ) (found : Recovered) (tree : Tree) (saved : ℕ) (disk : DiskState) : Type 0 where
-  pub stands_for : (c : Image) → LeftOf disk c → StandsFor stands (after_change found tree (change_of (version_of found.base.minor) tree number)) c
+  pub stands_for : (c : Image) → LeftOf disk c → StandsAfter stands found tree number c
   pub placed : disk.history.placings ≡ 1 + named files.log
   pub taken : disk.history.takings ≡ saved
   pub unordered : disk.history.armings ≡ []

@@ -27,9 +27,8 @@ returns-clause-told g c =
     awake_told g.S.Scheme.stands c.args.number (g.B.Disk.state c.args.bench.now)
     (g.B.Disk.state c.change_default-done.new.disk) (g.B.Disk.state c.power_off.new.self)
     c.power_off.ensures.off c.requires.awake (g.met.B.Bench.ordered c.change_default-done.new.disk) c.requires.some
-    (c.change_default-done.ensures.crash g.met.B.Bench.told)
     c.change_default-done.result (c.change_default-done.ensures.answers g.met.B.Bench.told)
-    c.change_default-done.ensures.goes (c.change_default-done.ensures.still g.met.B.Bench.told)
+    c.change_default-done.ensures.goes (c.change_default-done.ensures.mended g.met.B.Bench.told)
     c.told_by.result c.told_by.ensures
 
 pub returns-clause-part : goal.returns-clause-part
