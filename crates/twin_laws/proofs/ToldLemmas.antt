@@ -12,9 +12,8 @@ use Rattle.hive_model.specs.Tree.{Tree, find_key, find_dword}
 use Rattle.nt_edge.specs.Disk.{DiskState}
 use Rattle.nt_edge.specs.Host.{Files, HostState}
 use Rattle.run_parts.specs.Reports.{LeftOf}
-use Rattle.saved_laws.specs.Saved.{HasUntornBlock}
 use Rattle.hive_alt.specs.Changes.{Change, nothing, no_select, too_large, changed, select_path, default_name, defaulted, is_number, unless_large, change_in, after_change}
-use Rattle.hive_alt.specs.Schemes.{StandsFor}
+use Rattle.hive_alt.specs.Schemes.{StandsClean}
 use Rattle.command_words.specs.Words.{TwinAsked}
 use Rattle.command_parts.specs.declared.inputs.HiveFiles.{HiveFiles}
 use Rattle.command_parts.specs.declared.refusal.Refusal.{Refusal}
@@ -98,15 +97,14 @@ held_left : (disk : DiskState) → LeftOf disk disk.held
 held_left disk = λ a. inl refl
 
 module _ (words : TwinAsked) (old new : HostState) (disk : DiskState) (hive alt : List ℕ)
-    (hive_is : IsFileOf disk.held Primary hive) (alt_is : IsFileOf disk.held Log alt)
-    (untorn : HasUntornBlock disk.held) where
+    (hive_is : IsFileOf disk.held Primary hive) (alt_is : IsFileOf disk.held Log alt) where
   by_found : (files : HiveFiles) → hive_in old.files words.hive words.alt ≡ Ok files
       → EndsFound Text (stands_by words.scheme) files words.default (twin_saves words) disk statuses.Done old.said new.said
       → StandsAsTold words old new (image_of hive alt)
   by_found files named f =
       let state : HiveState = after_change f.found f.tree (becomes words.default f.found f.tree) in
-      let stands : StandsFor (stands_by words.scheme) state (image_of hive alt) =
-      files_stand words.scheme disk.held hive alt state hive_is alt_is untorn
+      let stands : StandsClean (stands_by words.scheme) state (image_of hive alt) =
+      files_stand words.scheme disk.held hive alt state hive_is alt_is
       (f.ends.1.stands_for disk.held (held_left disk)) in
       record {
         files = files;
@@ -116,7 +114,7 @@ module _ (words : TwinAsked) (old new : HostState) (disk : DiskState) (hive alt 
         is_found = f.is_found;
         said = f.ends.0 ∙ ap (λ (text : List ℕ). old.said ++ text) (lines_are words.default f.found f.tree);
         stands_for =
-            subst (λ (s : HiveState). StandsFor (stands_by words.scheme) s (image_of hive alt))
+            subst (λ (s : HiveState). StandsClean (stands_by words.scheme) s (image_of hive alt))
             (as_told words.default f.found f.tree) stands;
       }
 
@@ -145,9 +143,9 @@ file_is file held files name bytes saved has =
 pub saved_stands : (words : TwinAsked) (old new : HostState) (disk : DiskState) (name other hive alt : List ℕ)
     → DecidesTwin Text words statuses.Done old new disk → old.tells ≡ true
     → words.save_hive ≡ Some name → words.save_alt ≡ Some other → (name ≡ other → ⊥)
-    → new.files name ≡ Some hive → new.files other ≡ Some alt → HasUntornBlock disk.held
+    → new.files name ≡ Some hive → new.files other ≡ Some alt
     → StandsAsTold words old new (image_of hive alt)
-saved_stands words old new disk name other hive alt decides tells hive_named alt_named apart has_hive has_alt untorn =
+saved_stands words old new disk name other hive alt decides tells hive_named alt_named apart has_hive has_alt =
     let saved = (decides.files tells).0 in
     let own : words.save_alt ≡ Some name → ⊥ =
     λ e. apart (let both : Some name ≡ Some other = sym e ∙ alt_named in cc) in
@@ -160,4 +158,4 @@ saved_stands words old new disk name other hive alt decides tells hive_named alt
     held_stands words old new disk hive alt
     (file_is Primary disk.held new.files name hive hive_saved has_hive)
     (file_is Log disk.held new.files other alt alt_saved has_alt)
-    untorn decides tells
+    decides tells

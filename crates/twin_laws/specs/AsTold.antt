@@ -11,7 +11,7 @@ use Rattle.nt_edge.specs.Host.{HostState}
 use Rattle.hive_commit.specs.Stages.{next_number}
 use Rattle.hive_alt.specs.Changes.{Change, nothing, no_select, too_large, changed, change_of, defaulted}
 use Rattle.hive_alt.specs.Plans.{IsFound}
-use Rattle.hive_alt.specs.Schemes.{StandsFor}
+use Rattle.hive_alt.specs.Schemes.{StandsClean}
 use Rattle.command_words.specs.Words.{TwinAsked}
 use Rattle.command_parts.specs.declared.inputs.HiveFiles.{HiveFiles}
 use Rattle.command_parts.specs.Inputs.{hive_in}
@@ -50,7 +50,8 @@ told_state number found tree (changed u) =
 abbrev pub becomes : Option ℕ → Recovered → Tree → Change
 becomes number found tree = change_of (version_of found.base.minor) tree number
 
--- The files that the command line names stood for a tree, its lines were printed, and the image stands for the state that they tell.
+-- The files that the command line names stood for a tree, its lines were printed, and the image stands for the state that they tell,
+-- with nothing to repair.
 pub record StandsAsTold (words : TwinAsked) (old new : HostState) (image : Image) : Type 0 where
   pub files : HiveFiles
   pub found : Recovered
@@ -59,4 +60,4 @@ pub record StandsAsTold (words : TwinAsked) (old new : HostState) (image : Image
   pub is_found : IsFound (stands_by words.scheme) (image_in files) found tree
   pub said : new.said ≡ old.said ++ lines_of words.default found (becomes words.default found tree)
   pub stands_for :
-      StandsFor (stands_by words.scheme) (told_state words.default found tree (becomes words.default found tree)) image
+      StandsClean (stands_by words.scheme) (told_state words.default found tree (becomes words.default found tree)) image

@@ -1,7 +1,7 @@
 //! What two files stand for that `twin` saved: what its lines tell.
 //!
-//! A file has zeros for a sector that is absent or can't be read. Where two copies stand for something, nothing hangs on
-//! such a sector, but for the primary's sector 0: one that can't be read leaves the word to the second copy.
+//! A file has zeros for a sector that is absent or can't be read. Where there is nothing to repair, nothing hangs on such a
+//! sector: the primary's sector 0 can be read, too, as one that can't leaves the word to the second copy.
 #![tactic(auto)]
 
 mod saved;

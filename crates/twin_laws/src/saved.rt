@@ -7,7 +7,6 @@ ghost use Rattle.hive_model.specs.Base.{fault_at};
 ghost use Rattle.hive_model.specs.Image.{Image, Primary, Log, Unreadable, IsFileOf, image_of};
 ghost use Rattle.nt_edge.specs.Disk.{DiskState};
 ghost use Rattle.nt_edge.specs.Host.{HostState};
-ghost use Rattle.saved_laws.specs.Saved.{HasUntornBlock};
 ghost use Rattle.hive_alt.specs.Schemes.{StandFault};
 ghost use Rattle.command_words.specs.Words.{TwinAsked};
 ghost use Rattle.command_words.specs.declared.asked.AskedScheme.{AskedScheme};
@@ -17,17 +16,17 @@ ghost use Rattle.twin_command.specs.Twinned.{stands_by, DecidesTwin};
 ghost use Rattle.twin_laws.specs.AsTold.{StandsAsTold};
 
 /// After `twin` that ended as done, the two files that the disk holds stand together for the state that the lines tell, by the
-/// scheme that is asked for (`held`). So do the two files that were saved, where each has its own name (`saved`). The primary's
-/// sector 0 has to be one that can be read.
+/// scheme that is asked for, and there is nothing to repair (`held`). So do the two files that were saved, where each has its own
+/// name (`saved`).
 pub fn what_was_saved_stands_as_told()
     ensures held { (words : TwinAsked) (old new : HostState) (disk : DiskState) (hive alt : List ℕ)
         → DecidesTwin Text words statuses.Done old new disk → old.tells ≡ true
-        → IsFileOf disk.held Primary hive → IsFileOf disk.held Log alt → HasUntornBlock disk.held
+        → IsFileOf disk.held Primary hive → IsFileOf disk.held Log alt
         → StandsAsTold words old new (image_of hive alt) }
     ensures saved { (words : TwinAsked) (old new : HostState) (disk : DiskState) (name other hive alt : List ℕ)
         → DecidesTwin Text words statuses.Done old new disk → old.tells ≡ true
         → words.save_hive ≡ Some name → words.save_alt ≡ Some other → (name ≡ other → ⊥)
-        → new.files name ≡ Some hive → new.files other ≡ Some alt → HasUntornBlock disk.held
+        → new.files name ≡ Some hive → new.files other ≡ Some alt
         → StandsAsTold words old new (image_of hive alt) }
 {}
 
