@@ -1,0 +1,16 @@
+//! The lines that say why a command was refused: texts made of the words of the command line, of a printed line and of numbers.
+//!
+//! `heard_in` is what a printed line says of a fault, `value_of` the file that an option names, `heard_line` and its neighbours are
+//! the lines. Definitions: `specs/`.
+#![tactic(auto)]
+
+mod files;
+mod heard;
+mod kinds;
+mod lines;
+mod words;
+
+pub use files::{file_at, is_option_of, option_for, place_of, value_of};
+pub use heard::{Heard, heard_in};
+pub use kinds::Part;
+pub use lines::{absent_line, heard_line, memory_line, unread_line, unwritten_line};
