@@ -84,9 +84,10 @@ fn obey(rt: &HostRuntime, words: &[String], texts: &[&str]) -> Status {
     let mut host = Noted::new(StandardHost::new(rt, SystemFiles::new(alloc)), texts);
     let mut disk = MemDisk::new(alloc);
     let answered = ntboot(alloc, words, &mut host, &mut disk);
-    let status = settle(alloc, &mut host.host, &mut disk, answered);
-    let notes = host.notes_at(answered, status);
-    explain(alloc, texts, status, &notes, &mut host.host);
+    let (mut host, texts, mut notes) = host.into_parts();
+    let status = settle(alloc, &mut host, &mut disk, answered);
+    notes.end(answered, status);
+    explain(alloc, texts, status, &notes, &mut host);
     status
 }
 

@@ -1,6 +1,6 @@
 -- Which files does the command line name? (this project's own)
-use Rattle.std.specs.Prelude.{ℕ, ◌==◌, ◌+◌, ◌||◌, Bool, false, List, [], ◌∷◌, Option, Some, None, if◌then◌else◌, codes, bytes_eq}
-use Rattle.std.specs.Prelude.{find, position, unwrap_or, slice_get, option_map, drop}
+use Rattle.std.specs.Prelude.{ℕ, ◌==◌, ◌+◌, Bool, false, List, [], ◌∷◌, Option, Some, None, if◌then◌else◌, codes, bytes_eq}
+use Rattle.std.specs.Prelude.{find, position, unwrap_or, slice_get, slice_range, option_map, drop, length, nat_le, ◌&&◌, not}
 use Rattle.std.specs.Option.{option_or}
 use Rattle.std.specs.List.{before_first}
 use Rattle.reason_lines.specs.Texts.{Text}
@@ -46,28 +46,34 @@ read_options =
 abbrev pub option_for : List Text → Text → Option Text
 option_for words file = find (λ option. names words option file) read_options
 
--- the file that a word names: what stands after its first `=`, or the whole word
+-- what stands after the first `=` of a word, or the whole word
 abbrev pub file_in : Text → Text
 file_in word = unwrap_or (after_equals word) word
-
--- the word names this file
-abbrev pub is_named : Text → Text → Bool
-is_named file word = bytes_eq word file || bytes_eq (file_in word) file
-
--- the place of the first word that names this file
-abbrev pub place_of : List Text → Text → Option ℕ
-place_of words file = position (is_named file) words
 
 -- the word begins with two hyphens
 abbrev pub is_long : Text → Bool
 is_long (a ∷ b ∷ rest) = if a == 45 then b == 45 else false
 is_long word = false
 
--- the file that the word names: what stands after the first `=` of an option, or the whole word
+-- the file that a word names: what stands after the first `=` of an option, or the whole word
 abbrev pub named_by : Text → Text
 named_by word = if is_long word then file_in word else word
+
+-- the word names this file
+abbrev pub is_named : Text → Text → Bool
+is_named file word = bytes_eq (named_by word) file
+
+-- the place of the first word that names this file
+abbrev pub place_of : List Text → Text → Option ℕ
+place_of words file = position (is_named file) words
 
 -- the file that the word at a place names
 abbrev pub file_at : List Text → Option ℕ → Option Text
 file_at words None = None
 file_at words (Some place) = option_map named_by (slice_get words place)
+
+-- ---- a hive's file
+
+-- its two sequence numbers, the bytes 4 to 7 and 8 to 11, differ
+abbrev pub is_dirty : Text → Bool
+is_dirty bytes = nat_le 12 (length bytes) && not (bytes_eq (slice_range bytes 4 8) (slice_range bytes 8 12))

@@ -101,7 +101,7 @@ pub fn option_for(words: &[&str], file: &str) -> Option<&'static str>
     None
 }
 
-/// The file that a word names: what stands after its first `=`, or the whole word.
+/// What stands after the first `=` of a word, or the whole word.
 fn file_in<'a>(word: &'a str) -> &'a str
     ensures { result.now ≡ file_in word.now }
 {
@@ -111,11 +111,32 @@ fn file_in<'a>(word: &'a str) -> &'a str
     }
 }
 
+/// Whether the word begins with two hyphens.
+fn is_long(word: &[u8]) -> bool
+    ensures { result ≡ is_long word.now }
+{
+    match word {
+        [b'-', b'-', ..] => true,
+        _ => false,
+    }
+}
+
+/// The file that a word names: what stands after the first `=` of an option, or the whole word.
+fn named_by<'a>(word: &'a str) -> &'a str
+    ensures { result.now ≡ named_by word.now }
+{
+    if is_long(word.as_bytes()) {
+        file_in(word)
+    } else {
+        word
+    }
+}
+
 /// Whether the word names this file.
 fn is_named(file: &str, word: &str) -> bool
     ensures { result ≡ is_named file.now word.now }
 {
-    word == file || file_in(word) == file
+    named_by(word) == file
 }
 
 /// The place of the first word that names this file, or how many words there are.
@@ -143,27 +164,6 @@ pub fn place_of(words: &[&str], file: &str) -> Option<usize>
         Some(place)
     } else {
         None
-    }
-}
-
-/// Whether the word begins with two hyphens.
-fn is_long(word: &[u8]) -> bool
-    ensures { result ≡ is_long word.now }
-{
-    match word {
-        [b'-', b'-', ..] => true,
-        _ => false,
-    }
-}
-
-/// The file that the word names: what stands after the first `=` of an option, or the whole word.
-fn named_by<'a>(word: &'a str) -> &'a str
-    ensures { result.now ≡ named_by word.now }
-{
-    if is_long(word.as_bytes()) {
-        file_in(word)
-    } else {
-        word
     }
 }
 

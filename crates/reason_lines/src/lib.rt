@@ -4,12 +4,14 @@
 //! the lines. Definitions: `specs/`.
 #![tactic(auto)]
 
+mod dirty;
 mod files;
 mod heard;
 mod kinds;
 mod lines;
 mod words;
 
+pub use dirty::is_dirty;
 pub use files::{file_at, is_option_of, option_for, place_of, value_of};
 pub use heard::{Heard, heard_in};
 pub use kinds::Part;

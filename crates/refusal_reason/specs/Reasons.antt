@@ -1,14 +1,18 @@
 -- Which line is printed on standard error of a refusal? (this project's own)
 --
 -- Exactly one where the command line asks for it and the status is no answer, and else none. For words that cannot be parsed it is
--- the first reason from the left.
-use Rattle.std.specs.Prelude.{◌≡◌, ◌⊎◌, ◌++◌, ◌&&◌, Bool, true, false, List, Some, codes}
+-- the first reason from the left, at any other status a line made of the words and of what was noted of the calls of the host.
+use Rattle.std.specs.Prelude.{◌≡◌, ◌⊎◌, ◌&&◌, Bool, true, false, List, Some, codes, unwrap_or}
 use Rattle.nt_edge.specs.Host.{HostState, SaysError}
 use Rattle.command_words.specs.Words.{Text, Reading, refused}
-use Rattle.command_words.specs.Reading.{wants_reason}
+use Rattle.command_words.specs.Reading.{reading_of, wants_reason}
 use Rattle.command_words.specs.Reasons.{reason_text}
 use Rattle.command_parts.specs.declared.status.Status.{Status}
 use Rattle.command_parts.specs.declared.status.Status.TheVariants as statuses
+use Rattle.reason_lines.specs.Files.{file_at}
+use Rattle.reason_lines.specs.Heard.{heard_of}
+use Rattle.reason_lines.specs.Lines.{absent_line, unread_line, unwritten_line, memory_line, heard_line}
+use Rattle.refusal_reason.specs.declared.notes.Notes.{Notes}
 
 -- the status is a refusal or a stop, and no answer
 abbrev pub has_reason : Status → Bool
@@ -20,27 +24,30 @@ has_reason status = true
 abbrev pub explains : List Text → Status → Bool
 explains words status = has_reason status && wants_reason words
 
--- the text is the program's name, a reason and a line end
-pub record IsReasonLine (text : Text) : Type 0 where
-  pub reason : Text
-  pub is : text ≡ codes "ntboot: " ++ reason ++ codes "\n"
-
 -- the line for words that cannot be parsed
 abbrev pub usage_line : Reading → Text
 usage_line (refused (Some reason)) = reason_text reason
 usage_line reading = codes "ntboot: bad usage\n"
 
--- the line where there is no memory for another
-abbrev pub memory_line : Text
-memory_line = codes "ntboot: out of memory\n"
+-- the line for the fault that was printed, in the first bytes that were said
+abbrev pub fault_line : List Text → Notes → Text
+fault_line words notes = heard_line words (heard_of notes.front) (unwrap_or notes.dirty false) (unwrap_or notes.other_dirty false)
+
+-- the line on a status where the words can be parsed
+abbrev pub reason_line : List Text → Status → Notes → Text
+reason_line words statuses.NoFile notes = absent_line words (file_at words notes.absent)
+reason_line words statuses.ReadFault notes = unread_line (file_at words notes.unread)
+reason_line words statuses.WriteFault notes = unwritten_line (file_at words notes.unwritten)
+reason_line words statuses.Memory notes = memory_line
+reason_line words status notes = fault_line words notes
 
 -- the line on a status
-abbrev pub IsLineOn : Reading → Status → Text → Type 0
-IsLineOn reading statuses.Usage line = line ≡ usage_line reading
-IsLineOn reading status line = IsReasonLine line
+abbrev pub line_on : List Text → Status → Notes → Text
+line_on words statuses.Usage notes = usage_line (reading_of words)
+line_on words status notes = reason_line words status notes
 
--- such a line was printed, or could not be; or there was no memory for it, and that was printed; nothing else changed
-pub record IsExplained (reading : Reading) (status : Status) (old new : HostState) : Type 0 where
+-- that line was printed, or could not be; or there was no memory for it, and that was printed; nothing else changed
+pub record IsExplained (words : List Text) (status : Status) (notes : Notes) (old new : HostState) : Type 0 where
   pub line : Text
-  pub is : IsLineOn reading status line ⊎ (line ≡ memory_line)
+  pub is : (line ≡ line_on words status notes) ⊎ (line ≡ memory_line)
   pub said : SaysError old new line

@@ -2,7 +2,7 @@
 
 ghost use Rattle.std.specs.Prelude.{◌≡◌, false, true, map, IfOk};
 ghost use Rattle.command_words.specs.Reading.{reading_of};
-ghost use Rattle.refusal_reason.specs.Reasons.{IsExplained, IsLineOn, explains, has_reason, usage_line};
+ghost use Rattle.refusal_reason.specs.Reasons.{IsExplained, explains, has_reason, line_on, usage_line};
 
 use crate::line::reason_line;
 use crate::notes::Notes;
@@ -41,7 +41,7 @@ fn line_on(
     status: Status,
     notes: &Notes,
 ) -> Result<Vec<u8>, AllocError>
-    ensures { IfOk result (λ l. IsLineOn (reading_of (map (λ w. w.now) words.now)) status l.items) }
+    ensures { IfOk result (λ l. l.items ≡ line_on (map (λ w. w.now) words.now) status notes.now) }
 {
     match status {
         Status::Usage => usage_line(alloc, words),
@@ -52,7 +52,7 @@ fn line_on(
 /// Prints the line on a status that is no answer; where there is no memory for it, that there is none.
 fn explain_now<H: Host>(alloc: Global, words: &[&str], status: Status, notes: &Notes, host: &mut H)
     ensures said { (H.state host.old).tells ≡ true
-        → IsExplained (reading_of (map (λ w. w.now) words.now)) status (H.state host.old) (H.state host.new) }
+        → IsExplained (map (λ w. w.now) words.now) status notes.now (H.state host.old) (H.state host.new) }
     ensures same { H.state host.new ≡ record (H.state host.old) { errors = (H.state host.new).errors } }
 {
     match line_on(alloc, words, status, notes) {
@@ -66,7 +66,7 @@ fn explain_now<H: Host>(alloc: Global, words: &[&str], status: Status, notes: &N
 pub fn explain<H: Host>(alloc: Global, words: &[&str], status: Status, notes: &Notes, host: &mut H)
     ensures quiet { explains (map (λ w. w.now) words.now) status ≡ false → H.state host.new ≡ H.state host.old }
     ensures said { (H.state host.old).tells ≡ true → explains (map (λ w. w.now) words.now) status ≡ true
-        → IsExplained (reading_of (map (λ w. w.now) words.now)) status (H.state host.old) (H.state host.new) }
+        → IsExplained (map (λ w. w.now) words.now) status notes.now (H.state host.old) (H.state host.new) }
     ensures same { H.state host.new ≡ record (H.state host.old) { errors = (H.state host.new).errors } }
 {
     if has_reason(status) && wants_reason(words) {

@@ -6,15 +6,13 @@
 #![tactic(auto)]
 
 mod explaining;
-mod files;
-mod heard;
-mod kinds;
+mod front;
 mod line;
 mod noted;
 mod notes;
 
 pub use explaining::explain;
-pub use heard::{Heard, heard_in};
+pub use front::Front;
 pub use line::reason_line;
 pub use noted::Noted;
 pub use notes::Notes;

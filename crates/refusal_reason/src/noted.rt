@@ -1,26 +1,27 @@
 //! A host that notes what a refusal is about.
 
-ghost use Rattle.std.specs.Prelude.{◌≡◌};
+ghost use Rattle.std.specs.Prelude.{◌≡◌, [], map, true};
+ghost use Rattle.refusal_reason.specs.Notes.{IsNoted};
 
-use crate::files::{names, place_of};
-use crate::heard::heard_in;
 use crate::notes::Notes;
-use command_parts::Status;
 use nt_bytes::Bytes;
 use nt_edge::{Host, HostStop};
 
 /// A host that does what the host in it does, and notes what a refusal is about. It takes no memory.
 #[derive(Drop)]
-pub struct Noted<'w, H> {
-    pub host: H,
+pub struct Noted<'w, H: Host> {
+    host: H,
     words: &'w [&'w str],
     notes: Notes,
+    ghost noted: { IsNoted (map (λ w. w.now) words.now) (H.state host) notes },
 }
 
 impl<'w, H: Host + Drop> Noted<'w, H> {
-    /// The host, for the command line of these words.
+    /// The host, to which nothing was said yet, for the command line of these words.
     pub fn new(host: H, words: &'w [&'w str]) -> Noted<'w, H>
-        ensures { result.host ≡ host }
+        requires { (H.state host).tells ≡ true → (H.state host).said ≡ [] }
+        ensures host { result.host ≡ host }
+        ensures words { result.words.now ≡ words.now }
     {
         Noted {
             host,
@@ -29,46 +30,13 @@ impl<'w, H: Host + Drop> Noted<'w, H> {
         }
     }
 
-    /// What was noted so far, where a command answered the one status and ended with the other once its files were to have their names.
-    pub fn notes_at(&self, answered: Status, ended: Status) -> Notes {
-        let mut notes = self.notes;
-        if ended == Status::WriteFault && answered != Status::WriteFault {
-            notes.unwritten = notes.put;
-        }
-        notes
+    /// The host, the words, and what was noted of the calls so far.
+    pub fn into_parts(self) -> (H, &'w [&'w str], Notes)
+        ensures noted { IsNoted (map (λ w. w.now) result.1.now) (H.state result.0) result.2 }
+        ensures host { result.0 ≡ self.entry.host }
+    {
+        (self.host, self.words, self.notes)
     }
-}
-
-/// Whether the two sequence numbers of a base block differ.
-fn is_dirty(bytes: &[u8]) -> bool {
-    12 <= bytes.len() && bytes[4..8] != bytes[8..12]
-}
-
-/// With what a file is that was asked for.
-fn with_found(words: &[&str], notes: Notes, name: &str, bytes: &[u8]) -> Notes {
-    let mut notes = notes;
-    if names(words, "--hive", name) {
-        notes.dirty = is_dirty(bytes);
-    }
-    if names(words, "--with", name) {
-        notes.other_dirty = is_dirty(bytes);
-    }
-    notes
-}
-
-fn with_got(
-    words: &[&str],
-    notes: Notes,
-    name: &str,
-    found: &Result<Option<Bytes>, HostStop>,
-) -> Notes {
-    let mut notes = notes;
-    match found {
-        Ok(Some(bytes)) => return with_found(words, notes, name, bytes.as_slice()),
-        Ok(None) => notes.absent = place_of(words, name),
-        Err(_) => notes.unread = place_of(words, name),
-    }
-    notes
 }
 
 impl<H: Host + Drop> Host for Noted<'_, H> {
@@ -78,23 +46,20 @@ impl<H: Host + Drop> Host for Noted<'_, H> {
 
     fn get(&mut self, name: &str) -> Result<Option<Bytes>, HostStop> {
         let found = self.host.get(name);
-        self.notes = with_got(self.words, self.notes, name, &found);
+        self.notes.get(self.words, name, &found);
         found
     }
 
     fn put(&mut self, name: &str, bytes: &[u8]) -> Result<(), HostStop> {
         let put = self.host.put(name, bytes);
-        let place = place_of(self.words, name);
-        if put.is_err() {
-            self.notes.unwritten = place;
-        }
-        self.notes.put = place;
+        self.notes.put(self.words, name, put.is_err());
         put
     }
 
     fn say(&mut self, bytes: &[u8]) -> Result<(), HostStop> {
-        self.notes.heard = heard_in(bytes);
-        self.host.say(bytes)
+        let said = self.host.say(bytes);
+        self.notes.say(bytes, said.is_err());
+        said
     }
 
     fn say_error(&mut self, bytes: &[u8]) {

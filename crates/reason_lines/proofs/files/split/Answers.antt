@@ -7,11 +7,13 @@ use Rattle.reason_lines.proofs.files.split.Goals as goal
 
 pub returns-in-Some-clause-name : goal.returns-in-Some-clause-name
 returns-in-Some-clause-name c =
-    (split_once_first 61 c.args.word.now (Some (c.in-Some.name, c.in-Some.value)) c.in-Some.ensures.cases (omega arith)).1
+    (split_once_first 61 c.args.word.now (Some (c.in-Some.name, c.in-Some.value)) c.in-Some.ensures.cases
+    (omega arith)).1
 
 pub returns-in-Some-clause-value : goal.returns-in-Some-clause-value
 returns-in-Some-clause-value c =
-    let parts = split_once_first 61 c.args.word.now (Some (c.in-Some.name, c.in-Some.value)) c.in-Some.ensures.cases (omega arith) in
+    let parts = split_once_first 61 c.args.word.now (Some (c.in-Some.name, c.in-Some.value)) c.in-Some.ensures.cases
+    (omega arith) in
     let inside : position_or_len is_equals c.args.word.now < length c.args.word.now = parts.0 in
     let back : c.in-Some.value.now ≡ drop (position_or_len is_equals c.args.word.now + 1) c.args.word.now = parts.2 in
     grind (arith, nat_tests)

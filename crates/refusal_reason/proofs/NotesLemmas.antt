@@ -1,0 +1,101 @@
+-- What was noted says of the host what it did before the call, and what the call adds.
+use Rattle.std.proofs.Common.{◌≡◌, ◌∙◌, Bool, true, false, List, ◌++◌, take, Option, Some, None, is_some, option_map, Result, Ok, Err, ap, sym, refl}
+use Rattle.std.specs.Prelude.{IfOk, OnOk, is_err, not, ◌&&◌, codes}
+use Rattle.std.proofs.lemmas.Bool.{false≢true}
+use Rattle.nt_edge.specs.Host.{Files, HostState, KeepsHost, KeepsFiles, IsUnsaid}
+use Rattle.nt_edge.specs.declared.host.HostStop.{HostStop}
+use Rattle.reason_lines.specs.Texts.{Text}
+use Rattle.reason_lines.specs.Files.{value_of, names, file_at, is_dirty}
+use Rattle.reason_lines.proofs.FileLemmas.{names-same, file_at-place_of}
+use Rattle.refusal_reason.specs.declared.notes.Notes.{Notes}
+use Rattle.refusal_reason.specs.Notes.{IsNoted, judged, with_found, with_got, with_said, dirty_file, is_absent}
+use Rattle.refusal_reason.proofs.FrontLemmas.{take-front}
+
+-- the host shows what it did before
+pub noted-same : (words : List Text) (old new : HostState) (notes : Notes) → IsNoted words old notes
+    → KeepsHost old new → KeepsFiles old new → IsUnsaid old new → IsNoted words new notes
+noted-same words old new notes h keeps files unsaid = record {
+  said = λ t w. let told : old.tells ≡ true = sym keeps.tells ∙ t in h.said told w ∙ ap (take 128) (sym (unsaid told));
+  hive = λ t p s. let told : old.tells ≡ true = sym keeps.tells ∙ t in
+      ap (λ (f : Files). dirty_file f (value_of words (codes "--hive"))) (files told) ∙ h.hive told p s;
+  other = λ t p s. let told : old.tells ≡ true = sym keeps.tells ∙ t in
+      ap (λ (f : Files). dirty_file f (value_of words (codes "--with"))) (files told) ∙ h.other told p s;
+  lacking = λ t p s. let told : old.tells ≡ true = sym keeps.tells ∙ t in
+      ap (λ (f : Files). is_absent f (file_at words notes.absent)) (files told) ∙ h.lacking told p s;
+}
+
+-- a hive is dirty as its bytes are, or as it was noted
+judged-by : (words : List Text) (option name bytes : Text) (before : Option Bool) (files : Files)
+    → files name ≡ Some bytes
+    → (is_some before ≡ true → dirty_file files (value_of words option) ≡ before)
+    → (is : Bool) → names words option name ≡ is → is_some (judged is bytes before) ≡ true
+    → dirty_file files (value_of words option) ≡ judged is bytes before
+judged-by words option name bytes before files found was true e s =
+    ap (dirty_file files) (names-same words option name e) ∙ ap (option_map is_dirty) found
+judged-by words option name bytes before files found was false e s = was s
+
+-- a file was found
+pub noted-found : (words : List Text) (state : HostState) (notes : Notes) (name bytes : Text)
+    → IsNoted words state notes → (state.tells ≡ true → state.files name ≡ Some bytes)
+    → IsNoted words state (with_found words notes name bytes)
+noted-found words state notes name bytes h found = record {
+  said = h.said;
+  hive = λ t p s. judged-by words (codes "--hive") name bytes notes.dirty state.files (found t) (h.hive t p)
+      (names words (codes "--hive") name) refl s;
+  other = λ t p s. judged-by words (codes "--with") name bytes notes.other_dirty state.files (found t) (h.other t p)
+      (names words (codes "--with") name) refl s;
+  lacking = h.lacking;
+}
+
+-- a file was asked for
+pub noted-asked : (words : List Text) (state : HostState) (notes : Notes) (name : Text)
+    (found : Result (Option Text) HostStop)
+    → IsNoted words state notes → (state.tells ≡ true → IfOk found (λ f. f ≡ state.files name))
+    → IsNoted words state (with_got words notes name found)
+noted-asked words state notes name (Ok (Some bytes)) h found =
+    noted-found words state notes name bytes h (λ t. sym (found t))
+noted-asked words state notes name (Ok None) h found = record {
+  said = h.said;
+  hive = h.hive;
+  other = h.other;
+  lacking = λ t p s. ap (is_absent state.files) (file_at-place_of words name s)
+      ∙ ap (λ (f : Option Text). not (is_some f)) (sym (found t));
+}
+noted-asked words state notes name (Err stop) h found =
+    record { said = h.said; hive = h.hive; other = h.other; lacking = h.lacking }
+
+-- a file was asked for, and the host shows what it did before
+pub noted-got : (words : List Text) (old new : HostState) (notes : Notes) (name : Text)
+    (found : Result (Option Text) HostStop)
+    → IsNoted words old notes → (old.tells ≡ true → IfOk found (λ f. f ≡ old.files name))
+    → KeepsHost old new → KeepsFiles old new → IsUnsaid old new → IsNoted words new (with_got words notes name found)
+noted-got words old new notes name found h is keeps files unsaid =
+    noted-same words old new (with_got words notes name found)
+    (noted-asked words old notes name found h is) keeps files unsaid
+
+-- bytes were said
+pub noted-said : (words : List Text) (old new : HostState) (notes : Notes) (bytes : Text)
+    (answer : Result (Unit {0}) HostStop)
+    → IsNoted words old notes → (old.tells ≡ true → OnOk answer (new.said ≡ old.said ++ bytes))
+    → KeepsHost old new → KeepsFiles old new → IsNoted words new (with_said notes bytes (is_err answer))
+noted-said words old new notes bytes answer h said keeps files = record {
+  said = λ t w. let told : old.tells ≡ true = sym keeps.tells ∙ t in front answer (said told) w told;
+  hive = λ t p s. let told : old.tells ≡ true = sym keeps.tells ∙ t in
+      ap (λ (f : Files). dirty_file f (value_of words (codes "--hive"))) (files told) ∙ h.hive told p s;
+  other = λ t p s. let told : old.tells ≡ true = sym keeps.tells ∙ t in
+      ap (λ (f : Files). dirty_file f (value_of words (codes "--with"))) (files told) ∙ h.other told p s;
+  lacking = λ t p s. let told : old.tells ≡ true = sym keeps.tells ∙ t in
+      ap (λ (f : Files). is_absent f (file_at words notes.absent)) (files told) ∙ h.lacking told p s;
+}
+  where
+    both : (a b : Bool) → (a && b) ≡ true → (a ≡ true) × (b ≡ true)
+    both true b e = (refl, e)
+    both false b e = absurd (false≢true e)
+
+    front : (answer : Result (Unit {0}) HostStop) → OnOk answer (new.said ≡ old.said ++ bytes)
+        → (notes.whole && not (is_err answer)) ≡ true
+        → old.tells ≡ true → take 128 (notes.front ++ bytes) ≡ take 128 new.said
+    front (Ok done) is w told =
+        ap (λ l. take 128 (l ++ bytes)) (h.said told (both notes.whole true w).0)
+        ∙ take-front 128 old.said bytes ∙ ap (take 128) (sym is)
+    front (Err stop) is w told = absurd (false≢true ((both notes.whole false w).1))

@@ -1,0 +1,10 @@
+use Rattle.refusal_reason.proofs.NotesLemmas.{noted-said}
+use Rattle.refusal_reason.proofs.noted.NotedHost.say.Goals as goal
+
+pub invariant_of-self : goal.invariant_of-self
+invariant_of-self g c = record {
+  noted =
+      rw (c.say.ensures, c.is_err.ensures.value) (noted-said _ _ _ _ c.args.bytes.now c.say-said.result
+      c.args.self.now.noted
+      c.say-said.ensures.said c.say-said.ensures.keeps c.say-said.ensures.files);
+}

@@ -1,0 +1,76 @@
+-- What is noted of a command's calls of its host, and what does that say of the host? (this project's own)
+--
+-- A file is known by its place among the words of the command line.
+use Rattle.std.specs.Prelude.{◌≡◌, ◌&&◌, not, ◌++◌, Bool, true, false, List, Option, Some, None, is_some, option_map, codes}
+use Rattle.std.specs.Prelude.{Result, Ok, Err, if◌then◌else◌, take}
+use Rattle.nt_edge.specs.Host.{Files, HostState}
+use Rattle.nt_edge.specs.declared.host.HostStop.{HostStop}
+use Rattle.command_parts.specs.declared.status.Status.{Status}
+use Rattle.command_parts.specs.declared.status.Status.TheVariants as statuses
+use Rattle.reason_lines.specs.Texts.{Text}
+use Rattle.reason_lines.specs.Files.{value_of, names, place_of, file_at, is_dirty}
+use Rattle.refusal_reason.specs.declared.notes.Notes.{Notes}
+
+-- ---- what a call adds
+
+-- whether a hive is dirty, where the bytes are the ones of its file
+abbrev pub judged : Bool → Text → Option Bool → Option Bool
+judged is_its bytes before = if is_its then Some (is_dirty bytes) else before
+
+-- a file that was asked for has these bytes
+abbrev pub with_found : List Text → Notes → Text → Text → Notes
+with_found words notes name bytes = record notes {
+  dirty = judged (names words (codes "--hive") name) bytes notes.dirty;
+  other_dirty = judged (names words (codes "--with") name) bytes notes.other_dirty;
+}
+
+-- a file was asked for
+abbrev pub with_got : List Text → Notes → Text → Result (Option Text) HostStop → Notes
+with_got words notes name (Ok (Some bytes)) = with_found words notes name bytes
+with_got words notes name (Ok None) = record notes { absent = place_of words name }
+with_got words notes name (Err stop) = record notes { unread = place_of words name }
+
+-- a file was put
+abbrev pub with_put : List Text → Notes → Text → Bool → Notes
+with_put words notes name refused = record notes {
+  is_put = true;
+  put = place_of words name;
+  unwritten = if refused then place_of words name else notes.unwritten;
+}
+
+-- bytes were said
+abbrev pub with_said : Notes → Text → Bool → Notes
+with_said notes bytes refused = record notes { front = take 128 (notes.front ++ bytes); whole = notes.whole && not refused }
+
+-- the status is that something could not be written
+abbrev pub is_unwritten : Status → Bool
+is_unwritten statuses.WriteFault = true
+is_unwritten status = false
+
+-- the command answered a status, and ended with another once its files were to have their names
+abbrev pub with_end : Notes → Status → Status → Notes
+with_end notes answered ended =
+    if is_unwritten ended && not (is_unwritten answered) then record notes { unwritten = notes.put } else notes
+
+-- ---- what they say of the host
+
+-- whether the file of this name is dirty, where there is one
+abbrev pub dirty_file : Files → Option Text → Option Bool
+dirty_file files None = None
+dirty_file files (Some name) = option_map is_dirty (files name)
+
+-- there is no file of this name
+abbrev pub is_absent : Files → Option Text → Bool
+is_absent files None = false
+is_absent files (Some name) = not (is_some (files name))
+
+-- Where the host reports: what was noted as said are the first 128 bytes that were printed, if nothing failed to be said. As long as no file
+-- was put, the hives are dirty as it was noted, and the file that was noted as absent is.
+pub record IsNoted (words : List Text) (state : HostState) (notes : Notes) : Type 0 where
+  pub said : state.tells ≡ true → notes.whole ≡ true → notes.front ≡ take 128 state.said
+  pub hive : state.tells ≡ true → notes.is_put ≡ false → is_some notes.dirty ≡ true
+      → dirty_file state.files (value_of words (codes "--hive")) ≡ notes.dirty
+  pub other : state.tells ≡ true → notes.is_put ≡ false → is_some notes.other_dirty ≡ true
+      → dirty_file state.files (value_of words (codes "--with")) ≡ notes.other_dirty
+  pub lacking : state.tells ≡ true → notes.is_put ≡ false → is_some (file_at words notes.absent) ≡ true
+      → is_absent state.files (file_at words notes.absent) ≡ true
