@@ -4,3 +4,4 @@ pub mod Kinds
 pub mod Heard
 pub mod Lines
 pub mod Seen
+pub mod Printed

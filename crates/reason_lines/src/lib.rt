@@ -8,6 +8,7 @@ mod dirty;
 mod files;
 mod heard;
 mod kinds;
+mod laws;
 mod lines;
 mod words;
 
@@ -15,4 +16,5 @@ pub use dirty::is_dirty;
 pub use files::{file_at, is_option_of, option_for, place_of, value_of};
 pub use heard::{Heard, heard_in};
 pub use kinds::Part;
+pub use laws::printed_faults_are_heard;
 pub use lines::{absent_line, heard_line, memory_line, unread_line, unwritten_line};

@@ -7,12 +7,14 @@
 
 mod explaining;
 mod front;
+mod laws;
 mod line;
 mod noted;
 mod notes;
 
 pub use explaining::explain;
 pub use front::Front;
+pub use laws::a_fault_is_explained_by_words_and_files;
 pub use line::reason_line;
 pub use noted::Noted;
 pub use notes::Notes;

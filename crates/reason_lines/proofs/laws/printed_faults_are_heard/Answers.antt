@@ -1,0 +1,11 @@
+use Rattle.reason_lines.proofs.PrintedLemmas.{hive-heard, other-heard, script-heard, reg-heard, boot_ini-heard}
+use Rattle.reason_lines.proofs.laws.printed_faults_are_heard.Goals as goal
+
+pub returns : goal.returns
+returns c = record {
+  hive = hive-heard;
+  other = other-heard;
+  script = script-heard;
+  reg = reg-heard;
+  boot_ini = boot_ini-heard;
+}

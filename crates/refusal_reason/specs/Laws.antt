@@ -1,0 +1,24 @@
+-- What do the lines amount to? (this project's own)
+use Rattle.std.specs.Prelude.{Bool, true, false, List, take, is_some, unwrap_or, codes}
+use Rattle.nt_edge.specs.Host.{HostState}
+use Rattle.reason_lines.specs.Texts.{Text}
+use Rattle.reason_lines.specs.Files.{value_of}
+use Rattle.reason_lines.specs.Heard.{Heard, heard_of, of_hive, of_other}
+use Rattle.reason_lines.specs.Lines.{heard_line}
+use Rattle.refusal_reason.specs.declared.notes.Notes.{Notes}
+use Rattle.refusal_reason.specs.Notes.{dirty_file}
+
+-- whether the file that an option names is dirty; no where there is none
+abbrev pub is_dirty_at : List Text → HostState → Text → Bool
+is_dirty_at words state option = unwrap_or (dirty_file state.files (value_of words option)) false
+
+-- the line for the fault that was printed, by the words, by what was printed and by the files
+abbrev pub fault_line_of : List Text → HostState → Text
+fault_line_of words state =
+    heard_line words (heard_of (take 128 state.said)) (is_dirty_at words state (codes "--hive")) (is_dirty_at words state (codes "--with"))
+
+-- the hive that has the fault was asked for, where one has
+abbrev pub was_asked : Heard → Notes → Bool
+was_asked (of_hive part reason at) notes = is_some notes.dirty
+was_asked (of_other part reason at) notes = is_some notes.other_dirty
+was_asked heard notes = true
