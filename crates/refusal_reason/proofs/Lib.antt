@@ -1,3 +1,4 @@
 pub mod FrontLemmas
 pub mod NotesLemmas
 pub mod LawLemmas
+pub mod RefusalLemmas

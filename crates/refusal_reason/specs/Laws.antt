@@ -1,9 +1,13 @@
 -- What do the lines amount to? (this project's own)
-use Rattle.std.specs.Prelude.{Bool, true, false, List, take, is_some, unwrap_or, codes}
+use Rattle.std.specs.Prelude.{◌≡◌, Bool, true, false, List, Some, take, is_some, unwrap_or, codes}
+use Rattle.nt_bytes.specs.declared.fault.HiveFault.{HiveFault}
 use Rattle.nt_edge.specs.Host.{HostState}
+use Rattle.boot_script.specs.declared.stop.ScriptFault.{ScriptFault}
+use Rattle.command_parts.specs.Kinds.{script_kind_word, hive_kind_word}
 use Rattle.reason_lines.specs.Texts.{Text}
 use Rattle.reason_lines.specs.Files.{value_of}
-use Rattle.reason_lines.specs.Heard.{Heard, heard_of, of_hive, of_other}
+use Rattle.reason_lines.specs.Heard.{Heard, heard_of, of_script, of_hive, of_other}
+use Rattle.reason_lines.specs.Kinds.{PartReason, part_reason, reason_in, script_rows}
 use Rattle.reason_lines.specs.Lines.{heard_line}
 use Rattle.refusal_reason.specs.declared.notes.Notes.{Notes}
 use Rattle.refusal_reason.specs.Notes.{dirty_file}
@@ -22,3 +26,15 @@ abbrev pub was_asked : Heard → Notes → Bool
 was_asked (of_hive part reason at) notes = is_some notes.dirty
 was_asked (of_other part reason at) notes = is_some notes.other_dirty
 was_asked heard notes = true
+
+-- the script's fault is what the text says, with the reason of its word
+pub record SaysScript (text : Text) (fault : ScriptFault) : Type 0 where
+  pub reason : Text
+  pub known : reason_in script_rows (script_kind_word fault.kind) ≡ Some reason
+  pub heard : heard_of (take 128 text) ≡ of_script reason fault.line
+
+-- the hive's fault is what the text says, with the part and the reason of its word
+pub record SaysHive (text : Text) (fault : HiveFault) : Type 0 where
+  pub found : PartReason
+  pub known : part_reason (hive_kind_word fault.kind) ≡ Some found
+  pub heard : heard_of (take 128 text) ≡ of_hive found.part found.reason fault.at

@@ -14,7 +14,7 @@ mod notes;
 
 pub use explaining::explain;
 pub use front::Front;
-pub use laws::a_fault_is_explained_by_words_and_files;
+pub use laws::{a_fault_is_explained_by_words_and_files, a_refusal_says_its_fault};
 pub use line::reason_line;
 pub use noted::Noted;
 pub use notes::Notes;
