@@ -1,5 +1,5 @@
 -- A file is known by its place among the words.
-use Rattle.std.proofs.Common.{◌≡◌, ◌<◌, ◌∙◌, ℕ, Bool, true, false, List, [], length, get_or, Option, Some, None, option_map, is_some, nat_lt, ap, refl, arith}
+use Rattle.std.proofs.Common.{◌≡◌, ◌<◌, ◌∙◌, ℕ, Bool, true, false, List, [], length, get_or, Option, Some, None, option_map, is_some, nat_lt, ap, refl, sym, arith}
 use Rattle.std.specs.Prelude.{bytes_eq}
 use Rattle.std.specs.List.{position_or_len}
 use Rattle.std.proofs.lemmas.Slice.Eq.{bytes_eq-Decides}
@@ -26,16 +26,16 @@ file_at-within : (words : List Text) (place : ℕ) → place < length words
 file_at-within words place h = ap (option_map named_by) (slice_get-get_or words place [] h)
 
 -- the file at the place of a file is that file, where there is one
-pub file_at-place_of : (words : List Text) (file : Text) → is_some (file_at words (place_of words file)) ≡ true
+pub file_at-place_of : (words : List Text) (file : Text) → is_some (place_of words file) ≡ true
     → file_at words (place_of words file) ≡ Some file
 file_at-place_of words file = go (nat_lt (position_or_len (is_named file) words) (length words)) refl
   where
     go : (t : Bool) → nat_lt (position_or_len (is_named file) words) (length words) ≡ t
-        → is_some (file_at words (place_of words file)) ≡ true → file_at words (place_of words file) ≡ Some file
+        → is_some (place_of words file) ≡ true → file_at words (place_of words file) ≡ Some file
     go true e h =
         let place = position_or_len (is_named file) words in
         let inside : place < length words = grind (arith, nat_tests) in
         let word = get_or words place [] in
-        let is : bytes_eq (named_by word) file ≡ true = passes_at_first (is_named file) words [] inside in
-        rw e (file_at-within words place inside ∙ ap Some ((bytes_eq-Decides (named_by word) file).0 is))
+        let is : bytes_eq file (named_by word) ≡ true = passes_at_first (is_named file) words [] inside in
+        rw e (file_at-within words place inside ∙ ap Some (sym ((bytes_eq-Decides file (named_by word)).0 is)))
     go false e h = absurd (false≢true (rw e at h))

@@ -1,21 +1,22 @@
 -- A printed fault is read back.
-use Rattle.std.proofs.Common.{◌≡◌, ◌∙◌, ◌<◌, ◌≤◌, ◌+◌, ◌^◌, ℕ, suc, Bool, true, false, not, ◌&&◌, cond, nat_le, List, [], ◌∷◌, ◌++◌, length, take, drop, Option, Some, None, ap, refl, arith, append_assoc, length-append, lit≤}
-use Rattle.std.specs.Prelude.{codes, bytes_eq, find, option_map, if◌then◌else◌, ◌==◌}
+use Rattle.std.proofs.Common.{◌≡◌, ◌∙◌, ◌<◌, ◌≤◌, ◌+◌, ◌-◌, ◌^◌, ℕ, suc, Bool, true, false, not, ◌&&◌, cond, nat_le, List, [], ◌∷◌, ◌++◌, length, take, drop, get_or, Option, Some, None, ap, refl, arith, append_assoc, length-append, lit≤}
+use Rattle.std.specs.Prelude.{codes, bytes_eq, find, option_map, if◌then◌else◌, ◌==◌, slice_range, slice_index}
 use Rattle.std.specs.Option.{option_or}
 use Rattle.std.specs.List.{list_all, prefix_len, position_or_len}
 use Rattle.std.specs.Char.{is_ascii_digit, digit_value}
 use Rattle.std.specs.Fmt.{decimal}
 use Rattle.std.specs.Str.Parse.{AllDigits, digits_value}
-use Rattle.std.proofs.Math.Seq.{take-append_seam, drop-append-add}
+use Rattle.std.proofs.Math.Seq.{take-append_seam, drop-append-add, get_or-append_seam}
 use Rattle.std.proofs.lemmas.Bool.{false≢true}
 use Rattle.std.proofs.lemmas.Bool.Decides.{nat_tests}
-use Rattle.std.proofs.lemmas.List.{take_all}
+use Rattle.std.proofs.lemmas.List.{take_all, get_or-append-add}
 use Rattle.std.proofs.lemmas.Fmt.{decimal_is_IsNumeral, length-decimal-le}
 use Rattle.std.proofs.lemmas.Slice.Eq.{bytes_eq-Decides}
 use Rattle.reason_lines.specs.Texts.{Text, ends_word, first_word, after_word, is_number, number_of}
+use Rattle.reason_lines.specs.Files.{missing_name}
 use Rattle.reason_lines.specs.Kinds.{Row, PartReason, reason_in, part_reason, of_part, base_rows, bins_rows, log_rows, script_rows, reg_rows, boot_ini_rows}
 use Rattle.reason_lines.specs.Heard.{Heard, at_line, at_byte, line_heard, hive_heard, boot_ini_of, heard_of, of_boot_ini, of_hive, of_other, of_reg, of_script}
-use Rattle.reason_lines.specs.Printed.{boot_ini_fault, hive_fault, other_fault, reg_fault, script_fault}
+use Rattle.reason_lines.specs.Printed.{boot_ini_fault, hive_fault, no_file, other_fault, reg_fault, script_fault}
 use Rattle.reason_lines.specs.declared.kinds.Part.{Part}
 use Rattle.reason_lines.specs.declared.kinds.Part.TheVariants.{Base, Bins, Log}
 
@@ -240,3 +241,42 @@ boot_ini-heard kind reason e =
     ap heard_of (fits-three (codes "boot.ini fault ") kind (codes "\n") (lit≤ tt)
     (short kind (reason-plain boot_ini_rows kind reason refl e)) (lit≤ tt))
     ∙ ap (λ (t : Text). boot_ini_of (reason_in boot_ini_rows t)) word ∙ ap boot_ini_of e
+
+-- ---- a file that is absent
+
+last-at : (name : Text) → get_or (codes "no file " ++ (name ++ codes "\n")) (8 + length name) 0 ≡ 10
+last-at name =
+    get_or-append-add (codes "no file ") (name ++ codes "\n") (length name) 0 ∙ get_or-append_seam name 10 [] 0
+
+named : (b : Bool) (value name : Text) → b ≡ true → value ≡ name → (if b then Some value else None) ≡ Some name
+named true value name e f = ap Some f
+named false value name e f = absurd (false≢true e)
+
+name-part : (name : Text) → take (8 + length name - 8) (name ++ codes "\n") ≡ name
+name-part name =
+    let n : 8 + length name - 8 ≡ length name = omega arith in
+    ap (λ n. take n (name ++ codes "\n")) n ∙ take-append_seam name (codes "\n")
+
+named-by : (name text : Text) → text ≡ codes "no file " ++ (name ++ codes "\n") → missing_name text ≡ Some name
+named-by name text e =
+    let whole_length : length text ≡ length (codes "no file " ++ (name ++ codes "\n")) = ap length e in
+    let front : length (codes "no file " ++ (name ++ codes "\n"))
+    ≡ length (codes "no file ") + length (name ++ codes "\n") =
+    length-append (codes "no file ") (name ++ codes "\n") in
+    let back : length (name ++ codes "\n") ≡ length name + length (codes "\n") = length-append name (codes "\n") in
+    let long : length text ≡ 8 + (length name + 1) = omega arith in
+    let enough : nat_le 9 (length text) ≡ true = grind (arith, nat_tests) in
+    let begins : bytes_eq (slice_range text 0 8) (codes "no file ") ≡ true = rw e refl in
+    let at : length text - 1 ≡ 8 + length name = omega arith in
+    let last : slice_index text (8 + length name) ≡ 10 = rw e (last-at name) in
+    let ends : (slice_index text (length text - 1) == 10) ≡ true =
+    ap (λ n. slice_index text n == 10) at ∙ ap (λ n. n == 10) last in
+    let value : slice_range text 8 (8 + length name) ≡ name = rw e (name-part name) in
+    named
+    (nat_le 9 (length text)
+    && (bytes_eq (slice_range text 0 8) (codes "no file ") && slice_index text (length text - 1) == 10))
+    (slice_range text 8 (length text - 1)) name (both _ _ enough (both _ _ begins ends))
+    (ap (λ n. slice_range text 8 n) at ∙ value)
+
+pub no_file-heard : (name : Text) → missing_name (no_file name) ≡ Some name
+no_file-heard name = named-by name (no_file name) (append_assoc (codes "no file ") name (codes "\n"))

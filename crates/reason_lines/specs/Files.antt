@@ -1,6 +1,6 @@
 -- Which files does the command line name? (this project's own)
-use Rattle.std.specs.Prelude.{ℕ, ◌==◌, ◌+◌, Bool, false, List, [], ◌∷◌, Option, Some, None, if◌then◌else◌, codes, bytes_eq}
-use Rattle.std.specs.Prelude.{find, position, unwrap_or, slice_get, slice_range, option_map, drop, length, nat_le, ◌&&◌, not}
+use Rattle.std.specs.Prelude.{ℕ, ◌==◌, ◌+◌, ◌-◌, Bool, false, List, [], ◌∷◌, Option, Some, None, if◌then◌else◌, codes, bytes_eq}
+use Rattle.std.specs.Prelude.{find, position, unwrap_or, slice_get, slice_index, slice_range, option_map, drop, length, nat_le, ◌&&◌, not}
 use Rattle.std.specs.Option.{option_or}
 use Rattle.std.specs.List.{before_first}
 use Rattle.reason_lines.specs.Texts.{Text}
@@ -61,7 +61,7 @@ named_by word = if is_long word then file_in word else word
 
 -- the word names this file
 abbrev pub is_named : Text → Text → Bool
-is_named file word = bytes_eq (named_by word) file
+is_named file word = bytes_eq file (named_by word)
 
 -- the place of the first word that names this file
 abbrev pub place_of : List Text → Text → Option ℕ
@@ -71,6 +71,23 @@ place_of words file = position (is_named file) words
 abbrev pub file_at : List Text → Option ℕ → Option Text
 file_at words None = None
 file_at words (Some place) = option_map named_by (slice_get words place)
+
+-- ---- a file that is absent
+
+-- the NAME of a line `no file NAME`
+abbrev pub missing_name : Text → Option Text
+missing_name text =
+    if nat_le 9 (length text) && (bytes_eq (slice_range text 0 8) (codes "no file ") && slice_index text (length text - 1) == 10)
+    then Some (slice_range text 8 (length text - 1)) else None
+
+-- the place of the first word that names this file, where there is one
+abbrev pub place_for : List Text → Option Text → Option ℕ
+place_for words None = None
+place_for words (Some name) = place_of words name
+
+-- the place of the first word that names the file of such a line
+abbrev pub missing_in : List Text → Text → Option ℕ
+missing_in words text = place_for words (missing_name text)
 
 -- ---- a hive's file
 

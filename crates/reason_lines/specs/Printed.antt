@@ -3,6 +3,10 @@ use Rattle.std.specs.Prelude.{ℕ, ◌++◌, codes}
 use Rattle.std.specs.Fmt.{decimal}
 use Rattle.reason_lines.specs.Texts.{Text}
 
+-- a file is absent
+abbrev pub no_file : Text → Text
+no_file name = codes "no file " ++ name ++ codes "\n"
+
 -- of a hive and its log
 abbrev pub hive_fault : Text → ℕ → Text
 hive_fault kind at = codes "hive fault " ++ kind ++ codes " at " ++ decimal at ++ codes "\n"

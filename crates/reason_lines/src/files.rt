@@ -2,7 +2,9 @@
 
 ghost use Rattle.std.specs.Prelude.{◌≡◌, map, option_map};
 ghost use Rattle.std.specs.List.{before_first, position_or_len};
-ghost use Rattle.reason_lines.specs.Files.{after_equals, attached, file_at, file_in, first_of, is_equals, is_file, is_long, is_named, named_by, names, option_for, place_of, read_options, value_of};
+ghost use Rattle.reason_lines.specs.Files.{after_equals, attached, file_at, file_in, first_of, is_equals, is_file, is_long, is_named, missing_in, missing_name, named_by, names, option_for, place_of, read_options, value_of};
+
+use crate::words::is_word;
 
 /// The options that name files to read, in the order in which every command asks for them.
 static READ: &[&str] = &[
@@ -111,6 +113,27 @@ fn file_in<'a>(word: &'a str) -> &'a str
     }
 }
 
+/// The NAME of a line `no file NAME`.
+fn missing_name(text: &[u8]) -> Option<&[u8]>
+    ensures { option_map (λ t. t.now) result ≡ missing_name text.now }
+{
+    if 9 <= text.len() && is_word(&text[..8], "no file ") && text[text.len() - 1] == b'\n' {
+        Some(&text[8..text.len() - 1])
+    } else {
+        None
+    }
+}
+
+/// The place of the first word that names the file of a line `no file NAME`.
+pub fn missing_in(words: &[&str], text: &[u8]) -> Option<usize>
+    ensures { result ≡ missing_in (map (λ w. w.now) words.now) text.now }
+{
+    match missing_name(text) {
+        Some(name) => place_of(words, name),
+        None => None,
+    }
+}
+
 /// Whether the word begins with two hyphens.
 fn is_long(word: &[u8]) -> bool
     ensures { result ≡ is_long word.now }
@@ -133,14 +156,14 @@ fn named_by<'a>(word: &'a str) -> &'a str
 }
 
 /// Whether the word names this file.
-fn is_named(file: &str, word: &str) -> bool
+fn is_named(file: &[u8], word: &str) -> bool
     ensures { result ≡ is_named file.now word.now }
 {
-    named_by(word) == file
+    is_word(file, named_by(word))
 }
 
 /// The place of the first word that names this file, or how many words there are.
-fn place_or_len(words: &[&str], file: &str) -> usize
+fn place_or_len(words: &[&str], file: &[u8]) -> usize
     ensures { result ≡ position_or_len (is_named file.now) (map (λ w. w.now) words.now) }
 {
     let mut rest = words;
@@ -156,7 +179,7 @@ fn place_or_len(words: &[&str], file: &str) -> usize
 }
 
 /// The place of the first word that names this file.
-pub fn place_of(words: &[&str], file: &str) -> Option<usize>
+pub fn place_of(words: &[&str], file: &[u8]) -> Option<usize>
     ensures { result ≡ place_of (map (λ w. w.now) words.now) file.now }
 {
     let place = place_or_len(words, file);

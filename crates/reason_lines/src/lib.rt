@@ -13,7 +13,7 @@ mod lines;
 mod words;
 
 pub use dirty::is_dirty;
-pub use files::{file_at, is_option_of, option_for, place_of, value_of};
+pub use files::{file_at, is_option_of, missing_in, option_for, place_of, value_of};
 pub use heard::{Heard, heard_in};
 pub use kinds::Part;
 pub use laws::printed_faults_are_heard;

@@ -1,14 +1,14 @@
 -- What was noted says of the host what it did before the call, and what the call adds.
-use Rattle.std.proofs.Common.{◌≡◌, ◌∙◌, Bool, true, false, List, ◌++◌, take, Option, Some, None, is_some, option_map, Result, Ok, Err, ap, sym, refl}
+use Rattle.std.proofs.Common.{◌≡◌, ◌∙◌, Bool, true, false, List, [], ◌∷◌, ◌++◌, take, Option, Some, None, is_some, option_map, Result, Ok, Err, ap, sym, refl}
 use Rattle.std.specs.Prelude.{IfOk, OnOk, is_err, not, ◌&&◌, codes}
 use Rattle.std.proofs.lemmas.Bool.{false≢true}
 use Rattle.nt_edge.specs.Host.{Files, HostState, KeepsHost, KeepsFiles, IsUnsaid}
 use Rattle.nt_edge.specs.declared.host.HostStop.{HostStop}
 use Rattle.reason_lines.specs.Texts.{Text}
-use Rattle.reason_lines.specs.Files.{value_of, names, file_at, is_dirty}
-use Rattle.reason_lines.proofs.FileLemmas.{names-same, file_at-place_of}
+use Rattle.reason_lines.specs.Files.{value_of, names, missing_in, is_dirty}
+use Rattle.reason_lines.proofs.FileLemmas.{names-same}
 use Rattle.refusal_reason.specs.declared.notes.Notes.{Notes}
-use Rattle.refusal_reason.specs.Notes.{IsNoted, judged, with_found, with_got, with_said, dirty_file, is_absent}
+use Rattle.refusal_reason.specs.Notes.{IsNoted, judged, with_found, with_got, with_said, dirty_file, is_empty}
 use Rattle.refusal_reason.proofs.FrontLemmas.{take-front}
 
 -- the host shows what it did before
@@ -20,8 +20,8 @@ noted-same words old new notes h keeps files unsaid = record {
       ap (λ (f : Files). dirty_file f (value_of words (codes "--hive"))) (files told) ∙ h.hive told p s;
   other = λ t p s. let told : old.tells ≡ true = sym keeps.tells ∙ t in
       ap (λ (f : Files). dirty_file f (value_of words (codes "--with"))) (files told) ∙ h.other told p s;
-  lacking = λ t p s. let told : old.tells ≡ true = sym keeps.tells ∙ t in
-      ap (λ (f : Files). is_absent f (file_at words notes.absent)) (files told) ∙ h.lacking told p s;
+  missing = λ t w o. let told : old.tells ≡ true = sym keeps.tells ∙ t in
+      h.missing told w o ∙ ap (missing_in words) (sym (unsaid told));
 }
 
 -- a hive is dirty as its bytes are, or as it was noted
@@ -44,7 +44,7 @@ noted-found words state notes name bytes h found = record {
       (names words (codes "--hive") name) refl s;
   other = λ t p s. judged-by words (codes "--with") name bytes notes.other_dirty state.files (found t) (h.other t p)
       (names words (codes "--with") name) refl s;
-  lacking = h.lacking;
+  missing = h.missing;
 }
 
 -- a file was asked for
@@ -54,15 +54,9 @@ pub noted-asked : (words : List Text) (state : HostState) (notes : Notes) (name 
     → IsNoted words state (with_got words notes name found)
 noted-asked words state notes name (Ok (Some bytes)) h found =
     noted-found words state notes name bytes h (λ t. sym (found t))
-noted-asked words state notes name (Ok None) h found = record {
-  said = h.said;
-  hive = h.hive;
-  other = h.other;
-  lacking = λ t p s. ap (is_absent state.files) (file_at-place_of words name s)
-      ∙ ap (λ (f : Option Text). not (is_some f)) (sym (found t));
-}
+noted-asked words state notes name (Ok None) h found = h
 noted-asked words state notes name (Err stop) h found =
-    record { said = h.said; hive = h.hive; other = h.other; lacking = h.lacking }
+    record { said = h.said; missing = h.missing; hive = h.hive; other = h.other }
 
 -- a file was asked for, and the host shows what it did before
 pub noted-got : (words : List Text) (old new : HostState) (notes : Notes) (name : Text)
@@ -73,25 +67,45 @@ noted-got words old new notes name found h is keeps files unsaid =
     noted-same words old new (with_got words notes name found)
     (noted-asked words old notes name found h is) keeps files unsaid
 
+-- what begins with nothing is nothing
+none : (text : Text) → take 128 text ≡ [] → text ≡ []
+none [] e = refl
+none (byte ∷ text) e = cc
+
+empty : (text : Text) → is_empty text ≡ true → text ≡ []
+empty [] e = refl
+empty (byte ∷ text) e = absurd (false≢true e)
+
+both : (a b : Bool) → (a && b) ≡ true → (a ≡ true) × (b ≡ true)
+both true b e = (refl, e)
+both false b e = absurd (false≢true e)
+
+-- what was said at once
+at-once : (words : List Text) (old new : HostState) (notes : Notes) (bytes : Text) (answer : Result (Unit {0}) HostStop)
+    → (notes.whole ≡ true → notes.front ≡ take 128 old.said) → OnOk answer (new.said ≡ old.said ++ bytes)
+    → (notes.whole && not (is_err answer)) ≡ true → is_empty notes.front ≡ true
+    → missing_in words bytes ≡ missing_in words new.said
+at-once words old new notes bytes (Ok done) front is w once =
+    let same : notes.front ≡ take 128 old.said = front (both notes.whole true w).0 in
+    let nothing : old.said ≡ [] = none old.said (sym same ∙ empty notes.front once) in
+    ap (missing_in words) (sym (is ∙ ap (λ (l : Text). l ++ bytes) nothing))
+at-once words old new notes bytes (Err stop) front is w once = absurd (false≢true ((both notes.whole false w).1))
+
 -- bytes were said
 pub noted-said : (words : List Text) (old new : HostState) (notes : Notes) (bytes : Text)
     (answer : Result (Unit {0}) HostStop)
     → IsNoted words old notes → (old.tells ≡ true → OnOk answer (new.said ≡ old.said ++ bytes))
-    → KeepsHost old new → KeepsFiles old new → IsNoted words new (with_said notes bytes (is_err answer))
+    → KeepsHost old new → KeepsFiles old new → IsNoted words new (with_said words notes bytes (is_err answer))
 noted-said words old new notes bytes answer h said keeps files = record {
   said = λ t w. let told : old.tells ≡ true = sym keeps.tells ∙ t in front answer (said told) w told;
   hive = λ t p s. let told : old.tells ≡ true = sym keeps.tells ∙ t in
       ap (λ (f : Files). dirty_file f (value_of words (codes "--hive"))) (files told) ∙ h.hive told p s;
   other = λ t p s. let told : old.tells ≡ true = sym keeps.tells ∙ t in
       ap (λ (f : Files). dirty_file f (value_of words (codes "--with"))) (files told) ∙ h.other told p s;
-  lacking = λ t p s. let told : old.tells ≡ true = sym keeps.tells ∙ t in
-      ap (λ (f : Files). is_absent f (file_at words notes.absent)) (files told) ∙ h.lacking told p s;
+  missing = λ t w once. let told : old.tells ≡ true = sym keeps.tells ∙ t in
+      at-once words old new notes bytes answer (h.said told) (said told) w once;
 }
   where
-    both : (a b : Bool) → (a && b) ≡ true → (a ≡ true) × (b ≡ true)
-    both true b e = (refl, e)
-    both false b e = absurd (false≢true e)
-
     front : (answer : Result (Unit {0}) HostStop) → OnOk answer (new.said ≡ old.said ++ bytes)
         → (notes.whole && not (is_err answer)) ≡ true
         → old.tells ≡ true → take 128 (notes.front ++ bytes) ≡ take 128 new.said

@@ -5,10 +5,10 @@ use Rattle.nt_edge.specs.Host.{HostState}
 use Rattle.boot_script.specs.declared.stop.ScriptFault.{ScriptFault}
 use Rattle.command_parts.specs.Kinds.{script_kind_word, hive_kind_word}
 use Rattle.reason_lines.specs.Texts.{Text}
-use Rattle.reason_lines.specs.Files.{value_of}
+use Rattle.reason_lines.specs.Files.{value_of, file_at, missing_in}
 use Rattle.reason_lines.specs.Heard.{Heard, heard_of, of_script, of_hive, of_other}
 use Rattle.reason_lines.specs.Kinds.{PartReason, part_reason, reason_in, script_rows}
-use Rattle.reason_lines.specs.Lines.{heard_line}
+use Rattle.reason_lines.specs.Lines.{absent_line, heard_line}
 use Rattle.refusal_reason.specs.declared.notes.Notes.{Notes}
 use Rattle.refusal_reason.specs.Notes.{dirty_file}
 
@@ -26,6 +26,10 @@ abbrev pub was_asked : Heard → Notes → Bool
 was_asked (of_hive part reason at) notes = is_some notes.dirty
 was_asked (of_other part reason at) notes = is_some notes.other_dirty
 was_asked heard notes = true
+
+-- the line for a file that is absent, by the words and by what was printed
+abbrev pub absent_line_of : List Text → Text → Text
+absent_line_of words said = absent_line words (file_at words (missing_in words said))
 
 -- the script's fault is what the text says, with the reason of its word
 pub record SaysScript (text : Text) (fault : ScriptFault) : Type 0 where

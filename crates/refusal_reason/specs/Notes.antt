@@ -1,17 +1,22 @@
 -- What is noted of a command's calls of its host, and what does that say of the host? (this project's own)
 --
 -- A file is known by its place among the words of the command line.
-use Rattle.std.specs.Prelude.{◌≡◌, ◌&&◌, not, ◌++◌, Bool, true, false, List, Option, Some, None, is_some, option_map, codes}
+use Rattle.std.specs.Prelude.{◌≡◌, ◌&&◌, not, ◌++◌, Bool, true, false, List, [], ◌∷◌, Option, Some, None, is_some, option_map, codes}
 use Rattle.std.specs.Prelude.{Result, Ok, Err, if◌then◌else◌, take}
 use Rattle.nt_edge.specs.Host.{Files, HostState}
 use Rattle.nt_edge.specs.declared.host.HostStop.{HostStop}
 use Rattle.command_parts.specs.declared.status.Status.{Status}
 use Rattle.command_parts.specs.declared.status.Status.TheVariants as statuses
 use Rattle.reason_lines.specs.Texts.{Text}
-use Rattle.reason_lines.specs.Files.{value_of, names, place_of, file_at, is_dirty}
+use Rattle.reason_lines.specs.Files.{value_of, names, place_of, missing_in, is_dirty}
 use Rattle.refusal_reason.specs.declared.notes.Notes.{Notes}
 
 -- ---- what a call adds
+
+-- there is no byte
+abbrev pub is_empty : Text → Bool
+is_empty [] = true
+is_empty (byte ∷ bytes) = false
 
 -- whether a hive is dirty, where the bytes are the ones of its file
 abbrev pub judged : Bool → Text → Option Bool → Option Bool
@@ -27,7 +32,7 @@ with_found words notes name bytes = record notes {
 -- a file was asked for
 abbrev pub with_got : List Text → Notes → Text → Result (Option Text) HostStop → Notes
 with_got words notes name (Ok (Some bytes)) = with_found words notes name bytes
-with_got words notes name (Ok None) = record notes { absent = place_of words name }
+with_got words notes name (Ok None) = notes
 with_got words notes name (Err stop) = record notes { unread = place_of words name }
 
 -- a file was put
@@ -39,8 +44,13 @@ with_put words notes name refused = record notes {
 }
 
 -- bytes were said
-abbrev pub with_said : Notes → Text → Bool → Notes
-with_said notes bytes refused = record notes { front = take 128 (notes.front ++ bytes); whole = notes.whole && not refused }
+abbrev pub with_said : List Text → Notes → Text → Bool → Notes
+with_said words notes bytes refused = record notes {
+  front = take 128 (notes.front ++ bytes);
+  whole = notes.whole && not refused;
+  once = is_empty notes.front;
+  absent = missing_in words bytes;
+}
 
 -- the status is that something could not be written
 abbrev pub is_unwritten : Status → Bool
@@ -59,18 +69,12 @@ abbrev pub dirty_file : Files → Option Text → Option Bool
 dirty_file files None = None
 dirty_file files (Some name) = option_map is_dirty (files name)
 
--- there is no file of this name
-abbrev pub is_absent : Files → Option Text → Bool
-is_absent files None = false
-is_absent files (Some name) = not (is_some (files name))
-
--- Where the host reports: what was noted as said are the first 128 bytes that were printed, if nothing failed to be said. As long as no file
--- was put, the hives are dirty as it was noted, and the file that was noted as absent is.
+-- Where the host reports, and nothing failed to be said: what was noted as said are the first 128 bytes that were printed, and the file that was
+-- noted as absent is the one that was printed as absent, if all was said at once. As long as no file was put, the hives are dirty as it was noted.
 pub record IsNoted (words : List Text) (state : HostState) (notes : Notes) : Type 0 where
   pub said : state.tells ≡ true → notes.whole ≡ true → notes.front ≡ take 128 state.said
+  pub missing : state.tells ≡ true → notes.whole ≡ true → notes.once ≡ true → notes.absent ≡ missing_in words state.said
   pub hive : state.tells ≡ true → notes.is_put ≡ false → is_some notes.dirty ≡ true
       → dirty_file state.files (value_of words (codes "--hive")) ≡ notes.dirty
   pub other : state.tells ≡ true → notes.is_put ≡ false → is_some notes.other_dirty ≡ true
       → dirty_file state.files (value_of words (codes "--with")) ≡ notes.other_dirty
-  pub lacking : state.tells ≡ true → notes.is_put ≡ false → is_some (file_at words notes.absent) ≡ true
-      → is_absent state.files (file_at words notes.absent) ≡ true

@@ -20,6 +20,7 @@ impl Model for Front {
 }
 
 ghost use Rattle.std.specs.Prelude.{◌≡◌, [], ◌∷◌, ◌++◌, take};
+ghost use Rattle.refusal_reason.specs.Notes.{is_empty};
 
 impl Front {
     /// Nothing was said yet.
@@ -49,6 +50,16 @@ impl Front {
         let _ = &self.bytes;
         for byte in bytes {
             self.push(*byte);
+        }
+    }
+
+    /// Whether there is none.
+    pub fn is_empty(&self) -> bool
+        ensures { result ≡ is_empty self.now }
+    {
+        match self.as_slice() {
+            [] => true,
+            [_, ..] => false,
         }
     }
 

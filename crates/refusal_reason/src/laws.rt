@@ -1,23 +1,38 @@
 //! What the definitions amount to.
 
-ghost use Rattle.std.specs.Prelude.{◌≡◌, ◌<◌, ◌^◌, codes, false, List, take, true};
+ghost use Rattle.std.specs.Prelude.{◌≡◌, ◌<◌, ◌^◌, codes, false, is_some, List, take, true};
 ghost use Rattle.nt_bytes.specs.declared.fault.HiveFault.{HiveFault};
 ghost use Rattle.nt_edge.specs.Host.{HostState};
 ghost use Rattle.boot_script.specs.declared.stop.ScriptFault.{ScriptFault};
 ghost use Rattle.command_parts.specs.Refusals.{refusal_text};
 ghost use Rattle.command_parts.specs.declared.refusal.Refusal.TheVariants as refusals;
 ghost use Rattle.reason_lines.specs.Texts.{Text};
+ghost use Rattle.command_parts.specs.declared.status.Status.TheVariants as statuses;
+ghost use Rattle.reason_lines.specs.Files.{option_for, place_of};
+ghost use Rattle.reason_lines.specs.Lines.{absent_for};
 ghost use Rattle.reason_lines.specs.Heard.{heard_of, of_boot_ini, of_script};
 ghost use Rattle.refusal_reason.specs.declared.notes.Notes.{Notes};
-ghost use Rattle.refusal_reason.specs.Laws.{SaysHive, SaysScript, fault_line_of, was_asked};
+ghost use Rattle.refusal_reason.specs.Laws.{SaysHive, SaysScript, absent_line_of, fault_line_of, was_asked};
 ghost use Rattle.refusal_reason.specs.Notes.{IsNoted};
-ghost use Rattle.refusal_reason.specs.Reasons.{fault_line};
+ghost use Rattle.refusal_reason.specs.Reasons.{fault_line, reason_line};
 
 /// The line for a printed fault is one of the words, of what was printed and of the files, where the hive in which it is was asked for and
 /// no file was put since.
 pub fn a_fault_is_explained_by_words_and_files()
     ensures { (words : List Text) (state : HostState) (notes : Notes) → IsNoted words state notes → state.tells ≡ true → notes.whole ≡ true
         → notes.is_put ≡ false → was_asked (heard_of (take 128 state.said)) notes ≡ true → fault_line words notes ≡ fault_line_of words state }
+{}
+
+/// The line for a file that is absent is one of the words and of what was printed, where all was printed at once.
+pub fn an_absent_file_is_explained_by_words()
+    ensures { (words : List Text) (state : HostState) (notes : Notes) → IsNoted words state notes → state.tells ≡ true → notes.whole ≡ true
+        → notes.once ≡ true → reason_line words statuses.NoFile notes ≡ absent_line_of words state.said }
+{}
+
+/// Where the refusal for an absent file was printed, that line has its name, and the first option that names it.
+pub fn an_absent_file_is_named()
+    ensures { (words : List Text) (name : Text) → is_some (place_of words name) ≡ true
+        → absent_line_of words (refusal_text (refusals.NoFile name)) ≡ absent_for (option_for words name) name }
 {}
 
 /// Each refusal for a fault says it, in its first 128 bytes: no fault is without a reason.

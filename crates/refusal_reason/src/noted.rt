@@ -58,7 +58,7 @@ impl<H: Host + Drop> Host for Noted<'_, H> {
 
     fn say(&mut self, bytes: &[u8]) -> Result<(), HostStop> {
         let said = self.host.say(bytes);
-        self.notes.say(bytes, said.is_err());
+        self.notes.say(self.words, bytes, said.is_err());
         said
     }
 

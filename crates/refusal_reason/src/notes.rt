@@ -7,7 +7,7 @@ use crate::front::Front;
 use command_parts::Status;
 use nt_bytes::Bytes;
 use nt_edge::HostStop;
-use reason_lines::{is_dirty, is_option_of, place_of};
+use reason_lines::{is_dirty, is_option_of, missing_in, place_of};
 
 /// What was noted so far. A file is known by its place on the command line.
 #[derive(Drop)]
@@ -16,7 +16,9 @@ pub struct Notes {
     pub front: Front,
     /// Whether nothing failed to be said.
     pub whole: bool,
-    /// The file that was asked for and is not there.
+    /// Whether all was said at once.
+    pub once: bool,
+    /// The file that was said to be absent.
     pub absent: Option<usize>,
     /// The file that could not be read.
     pub unread: Option<usize>,
@@ -61,6 +63,7 @@ impl Notes {
         Notes {
             front: Front::new(),
             whole: true,
+            once: true,
             absent: None,
             unread: None,
             is_put: false,
@@ -85,8 +88,8 @@ impl Notes {
     {
         match found {
             Ok(Some(bytes)) => self.find(words, name, bytes.as_slice()),
-            Ok(None) => self.absent = place_of(words, name),
-            Err(_) => self.unread = place_of(words, name),
+            Ok(None) => {}
+            Err(_) => self.unread = place_of(words, name.as_bytes()),
         }
     }
 
@@ -94,7 +97,7 @@ impl Notes {
     pub fn put(&mut self, words: &[&str], name: &str, refused: bool)
         ensures { self.new ≡ with_put (map (λ w. w.now) words.now) self.old name.now refused }
     {
-        let place = place_of(words, name);
+        let place = place_of(words, name.as_bytes());
         self.is_put = true;
         self.put = place;
         if refused {
@@ -103,9 +106,11 @@ impl Notes {
     }
 
     /// Bytes were said.
-    pub fn say(&mut self, bytes: &[u8], refused: bool)
-        ensures { self.new ≡ with_said self.old bytes.now refused }
+    pub fn say(&mut self, words: &[&str], bytes: &[u8], refused: bool)
+        ensures { self.new ≡ with_said (map (λ w. w.now) words.now) self.old bytes.now refused }
     {
+        self.once = self.front.is_empty();
+        self.absent = missing_in(words, bytes);
         self.front.extend(bytes);
         self.whole = self.whole && !refused;
     }

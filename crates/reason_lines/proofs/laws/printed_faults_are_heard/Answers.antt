@@ -1,4 +1,4 @@
-use Rattle.reason_lines.proofs.PrintedLemmas.{hive-heard, other-heard, script-heard, reg-heard, boot_ini-heard}
+use Rattle.reason_lines.proofs.PrintedLemmas.{hive-heard, other-heard, script-heard, reg-heard, boot_ini-heard, no_file-heard}
 use Rattle.reason_lines.proofs.laws.printed_faults_are_heard.Goals as goal
 
 pub returns : goal.returns
@@ -7,5 +7,6 @@ returns c = record {
   other = other-heard;
   script = script-heard;
   reg = reg-heard;
+  no_file = no_file-heard;
   boot_ini = boot_ini-heard;
 }
