@@ -1,8 +1,11 @@
 //! The first bytes that were said.
 
+ghost use Rattle.std.specs.Prelude.{◌≡◌, [], ◌∷◌, ◌++◌, take};
+ghost use Rattle.refusal_reason.specs.Notes.{is_empty};
+
 use std::marker::Model;
 
-/// The first 128 bytes that were said, which a contract sees as a list. No line of a refusal has more. It takes no memory.
+/// The first 128 bytes that were said, which a contract sees as a list. No line for a fault has more. It takes no memory.
 #[derive(Drop)]
 pub struct Front {
     bytes: [u8; 128],
@@ -18,9 +21,6 @@ impl Model for Front {
 
     ghost invariant = { λ f. f.length ≤ 128 };
 }
-
-ghost use Rattle.std.specs.Prelude.{◌≡◌, [], ◌∷◌, ◌++◌, take};
-ghost use Rattle.refusal_reason.specs.Notes.{is_empty};
 
 impl Front {
     /// Nothing was said yet.

@@ -83,7 +83,12 @@ impl Notes {
     }
 
     /// A file was asked for.
-    pub fn get(&mut self, words: &[&str], name: &str, found: &Result<Option<Bytes>, HostStop>)
+    pub(crate) fn get(
+        &mut self,
+        words: &[&str],
+        name: &str,
+        found: &Result<Option<Bytes>, HostStop>,
+    )
         ensures { self.new ≡ with_got (map (λ w. w.now) words.now) self.old name.now found.now }
     {
         match found {
@@ -94,7 +99,7 @@ impl Notes {
     }
 
     /// A file was put.
-    pub fn put(&mut self, words: &[&str], name: &str, refused: bool)
+    pub(crate) fn put(&mut self, words: &[&str], name: &str, refused: bool)
         ensures { self.new ≡ with_put (map (λ w. w.now) words.now) self.old name.now refused }
     {
         let place = place_of(words, name.as_bytes());
@@ -106,7 +111,7 @@ impl Notes {
     }
 
     /// Bytes were said.
-    pub fn say(&mut self, words: &[&str], bytes: &[u8], refused: bool)
+    pub(crate) fn say(&mut self, words: &[&str], bytes: &[u8], refused: bool)
         ensures { self.new ≡ with_said (map (λ w. w.now) words.now) self.old bytes.now refused }
     {
         self.once = self.front.is_empty();
