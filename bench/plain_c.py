@@ -29,7 +29,7 @@ def memory(room, words):
         process = subprocess.Popen(words, cwd=room, stdout=said)
         _, status, used = os.wait4(process.pid, 0)
         process.returncode = os.waitstatus_to_exitcode(status)
-    if process.returncode:
+    if process.returncode not in (0, 8):
         sys.exit(f"{' '.join(words)}: exit {process.returncode}")
     with open(os.path.join(room, "said"), "rb") as said:
         return used.ru_maxrss / 1024, said.read()
@@ -62,8 +62,8 @@ class Table:
         print(f"| {work} | {(counts[1] - counts[0]) / times:.2f} | | | |", flush=True)
 
     def same(self, words, plain, written=None):
-        """The program writes what plain C writes."""
-        said = memory(self.room, [self.program, *words])[1]
+        """The program writes what plain C writes, into a file or, after its first line, which tells the hive's bulk, on standard output."""
+        said = memory(self.room, [self.program, *words])[1].partition(b"\n")[2]
         if written:
             with open(os.path.join(self.room, written), "rb") as f:
                 said = f.read()
