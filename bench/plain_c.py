@@ -81,8 +81,14 @@ def reading(table, hive):
     table.row("load and check", run(hive, "nothing"), ["judge", hive])
     table.row("`show`", ["show", "--hive", hive], ["show", hive])
     table.row("`export`", ["export", "--hive", hive, "--reg", "reg"], ["export", hive])
-    table.row("`check`", ["check", "--hive", hive], ["judge", hive])
-    table.row("`diff` with itself", ["diff", "--hive", hive, "--with-set", "1"], ["judge", hive])
+
+
+def looking(table, hive):
+    """What looks at the services of a hive with much else in it."""
+    table.row("load and check, few services", run(hive, "nothing"), ["judge", hive])
+    table.row("`key` of one key", ["key", "--hive", hive, "--key", "Select"], ["judge", hive])
+    table.row("`check`, few services", ["check", "--hive", hive], ["judge", hive])
+    table.row("`diff` of a set with itself, few services", ["diff", "--hive", hive, "--set", "1", "--with-set", "1"], ["judge", hive])
 
 
 def starting(table, hive, first):
@@ -117,6 +123,7 @@ def main(words):
         for hive in [large] + ([os.path.abspath(real)] if real else []):
             reading(table, hive)
             starting(table, hive, "")
+        looking(table, put(room, "few", hives.with_a_key(300, 150_000)))
         table.row("`export --key` of one key", ["export", "--hive", large, "--reg", "reg", "--key", "A"], ["judge", large])
         put(room, "reg.one", registry_text(['[HKEY_LOCAL_MACHINE\\SYSTEM\\A]', '"V"=dword:00000007']))
         table.row("`import` of one value", ["import", "--hive", large, "--reg", "reg.one", "--save-hive", "out"], ["judge", large])
