@@ -1,4 +1,4 @@
--- A file is known by its place among the words.
+-- A file is known by its place on the command line.
 use Rattle.std.proofs.Common.{◌≡◌, ◌<◌, ◌∙◌, ℕ, Bool, true, false, List, [], length, get_or, Option, Some, None, option_map, is_some, nat_lt, ap, refl, sym, arith}
 use Rattle.std.specs.Prelude.{bytes_eq}
 use Rattle.std.specs.List.{position_or_len}
@@ -20,7 +20,7 @@ pub names-same : (words : List Text) (option file : Text) → names words option
     → value_of words option ≡ Some file
 names-same words option file h = is_file-same (value_of words option) file h
 
--- the file that the word at a place within the words names
+-- the file that the word at a place of the command line names
 file_at-within : (words : List Text) (place : ℕ) → place < length words
     → file_at words (Some place) ≡ Some (named_by (get_or words place []))
 file_at-within words place h = ap (option_map named_by) (slice_get-get_or words place [] h)

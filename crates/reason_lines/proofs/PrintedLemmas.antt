@@ -89,7 +89,7 @@ number-read n small =
     taken (is_number (decimal n) && nat_le (digits_value 10 (decimal n)) 4294967295) (digits_value 10 (decimal n)) n
     (both _ _ (both _ _ not_empty (both _ _ short digits)) low) same
 
--- ---- the words of faults
+-- ---- the kinds of faults
 
 -- a word with at most 20 bytes, none of which ends it
 abbrev pub plain : Text → Bool

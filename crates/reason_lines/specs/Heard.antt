@@ -37,7 +37,7 @@ abbrev pub hive_heard : (Part → Text → ℕ → Heard) → Text → Heard
 hive_heard make text =
     at_byte make (part_reason (first_word text)) (number_of (first_word (after_word (after_word text))))
 
--- what is said after `SUBJECT fault `
+-- what a line has after `SUBJECT fault `
 abbrev pub fault_heard : Text → Text → Heard
 fault_heard subject rest =
     if bytes_eq subject (codes "hive") then hive_heard of_hive rest

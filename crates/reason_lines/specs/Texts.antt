@@ -1,4 +1,4 @@
--- What are the words and numbers of a printed line? (this project's own)
+-- How is a printed line parted at its blanks, and which numbers are in it? (this project's own)
 use Rattle.std.specs.Prelude.{ℕ, ◌==◌, ◌&&◌, ◌||◌, not, Bool, List, Option, Some, None, if◌then◌else◌, length, nat_le}
 use Rattle.std.specs.List.{list_all, before_first, after_first}
 use Rattle.std.specs.Char.{is_ascii_digit}
@@ -24,6 +24,6 @@ after_word text = after_first ends_word text
 abbrev pub is_number : Text → Bool
 is_number word = not (length word == 0) && (nat_le (length word) 10 && list_all is_ascii_digit word)
 
--- the number that the digits write, where it has no more than 32 bits
+-- the number that the digits write, where it has at most 32 bits
 abbrev pub number_of : Text → Option ℕ
 number_of word = if is_number word && nat_le (digits_value 10 word) 4294967295 then Some (digits_value 10 word) else None

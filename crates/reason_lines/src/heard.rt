@@ -94,7 +94,7 @@ fn other_in(text: &[u8]) -> Heard
     }
 }
 
-/// What is said after `SUBJECT fault `.
+/// What a line has after `SUBJECT fault `.
 fn fault_in(subject: &[u8], text: &[u8]) -> Heard
     ensures { heard_seen result ≡ fault_heard subject.now text.now }
 {

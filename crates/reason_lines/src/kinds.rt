@@ -1,4 +1,4 @@
-//! The reasons by the words of faults.
+//! The reasons by the kinds of faults.
 
 ghost use Rattle.std.specs.Prelude.{◌≡◌, map, option_map};
 ghost use Rattle.std.specs.Option.{option_or};

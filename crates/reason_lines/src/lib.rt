@@ -1,4 +1,4 @@
-//! The lines that say why a command was refused: texts made of the words of the command line, of a printed line and of numbers.
+//! The lines that say why a command was refused: texts made of the command line, of a printed line and of numbers.
 //!
 //! `heard_in` is what a printed line says of a fault, `value_of` the file that an option names, `heard_line` and its neighbours are
 //! the lines. Definitions: `specs/`.

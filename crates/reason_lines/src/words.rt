@@ -1,4 +1,4 @@
-//! The words and numbers of a printed line.
+//! A printed line parted at its blanks, and its numbers.
 
 ghost use Rattle.std.specs.Prelude.{◌≡◌, ◌≤◌, bytes_eq, length, true};
 ghost use Rattle.std.specs.List.{All, list_all, position_or_len};

@@ -80,7 +80,7 @@ both : (a b : Bool) → (a && b) ≡ true → (a ≡ true) × (b ≡ true)
 both true b e = (refl, e)
 both false b e = absurd (false≢true e)
 
--- what was said at once
+-- what was printed at once
 at-once : (words : List Text) (old new : HostState) (notes : Notes) (bytes : Text) (answer : Result (Unit {0}) HostStop)
     → (notes.whole ≡ true → notes.front ≡ take 128 old.said) → OnOk answer (new.said ≡ old.said ++ bytes)
     → (notes.whole && not (is_err answer)) ≡ true → is_empty notes.front ≡ true

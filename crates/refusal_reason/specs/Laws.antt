@@ -16,7 +16,7 @@ use Rattle.refusal_reason.specs.Notes.{dirty_file}
 abbrev pub is_dirty_at : List Text → HostState → Text → Bool
 is_dirty_at words state option = unwrap_or (dirty_file state.files (value_of words option)) false
 
--- the line for the fault that was printed, by the words, by what was printed and by the files
+-- the line for the fault that was printed, by the command line, by what was printed and by the files
 abbrev pub fault_line_of : List Text → HostState → Text
 fault_line_of words state =
     heard_line words (heard_of (take 128 state.said)) (is_dirty_at words state (codes "--hive")) (is_dirty_at words state (codes "--with"))
@@ -27,7 +27,7 @@ was_asked (of_hive part reason at) notes = is_some notes.dirty
 was_asked (of_other part reason at) notes = is_some notes.other_dirty
 was_asked heard notes = true
 
--- the line for a file that is absent, by the words and by what was printed
+-- the line for a file that is absent, by the command line and by what was printed
 abbrev pub absent_line_of : List Text → Text → Text
 absent_line_of words said = absent_line words (file_at words (missing_in words said))
 

@@ -1,6 +1,6 @@
 -- What is noted of a command's calls of its host, and what does that say of the host? (this project's own)
 --
--- A file is known by its place among the words of the command line.
+-- A file is known by its place on the command line.
 use Rattle.std.specs.Prelude.{◌≡◌, ◌&&◌, not, ◌++◌, Bool, true, false, List, [], ◌∷◌, Option, Some, None, is_some, option_map, codes}
 use Rattle.std.specs.Prelude.{Result, Ok, Err, if◌then◌else◌, take}
 use Rattle.nt_edge.specs.Host.{Files, HostState}
@@ -70,7 +70,7 @@ dirty_file files None = None
 dirty_file files (Some name) = option_map is_dirty (files name)
 
 -- Where the host reports, and nothing failed to be said: what was noted as said are the first 128 bytes that were printed, and the file that was
--- noted as absent is the one that was printed as absent, if all was said at once. As long as no file was put, the hives are dirty as it was noted.
+-- noted as absent is the one that was printed as absent, if all was printed at once. As long as no file was put, the hives are dirty as it was noted.
 pub record IsNoted (words : List Text) (state : HostState) (notes : Notes) : Type 0 where
   pub said : state.tells ≡ true → notes.whole ≡ true → notes.front ≡ take 128 state.said
   pub missing : state.tells ≡ true → notes.whole ≡ true → notes.once ≡ true → notes.absent ≡ missing_in words state.said

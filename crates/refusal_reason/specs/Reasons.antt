@@ -1,7 +1,7 @@
 -- Which line is printed on standard error of a refusal? (this project's own)
 --
 -- Exactly one where the command line asks for it and the status is no answer, and else none. For words that cannot be parsed it is
--- the first reason from the left, at any other status a line made of the words and of what was noted of the calls of the host.
+-- the first reason from the left, at any other status a line made of the command line and of what was noted of the calls of the host.
 use Rattle.std.specs.Prelude.{◌≡◌, ◌⊎◌, ◌&&◌, Bool, true, false, List, Some, codes, unwrap_or}
 use Rattle.nt_edge.specs.Host.{HostState, SaysError}
 use Rattle.command_words.specs.Words.{Text, Reading, refused}
@@ -33,7 +33,7 @@ usage_line reading = codes "ntboot: bad usage\n"
 abbrev pub fault_line : List Text → Notes → Text
 fault_line words notes = heard_line words (heard_of notes.front) (unwrap_or notes.dirty false) (unwrap_or notes.other_dirty false)
 
--- the line on a status where the words can be parsed
+-- the line on a status where the command line can be parsed
 abbrev pub reason_line : List Text → Status → Notes → Text
 reason_line words statuses.NoFile notes = absent_line words (file_at words notes.absent)
 reason_line words statuses.ReadFault notes = unread_line (file_at words notes.unread)

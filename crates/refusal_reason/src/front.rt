@@ -23,7 +23,7 @@ impl Model for Front {
 }
 
 impl Front {
-    /// Nothing was said yet.
+    /// Nothing was printed yet.
     pub fn new() -> Front
         ensures { result ≡ [] }
     {
@@ -33,7 +33,7 @@ impl Front {
         }
     }
 
-    /// One more byte was said.
+    /// One more byte was printed.
     fn push(&mut self, byte: u8)
         ensures { self.new ≡ take 128 (self.old ++ byte ∷ []) }
     {

@@ -16,14 +16,14 @@ ghost use Rattle.refusal_reason.specs.Laws.{SaysHive, SaysScript, absent_line_of
 ghost use Rattle.refusal_reason.specs.Notes.{IsNoted};
 ghost use Rattle.refusal_reason.specs.Reasons.{fault_line, reason_line};
 
-/// The line for a printed fault is one of the words, of what was printed and of the files, where the hive in which it is was asked for and
+/// The line for a printed fault is one of the command line, of what was printed and of the files, where the hive in which it is was asked for and
 /// no file was put since.
 pub fn a_fault_is_explained_by_words_and_files()
     ensures { (words : List Text) (state : HostState) (notes : Notes) → IsNoted words state notes → state.tells ≡ true → notes.whole ≡ true
         → notes.is_put ≡ false → was_asked (heard_of (take 128 state.said)) notes ≡ true → fault_line words notes ≡ fault_line_of words state }
 {}
 
-/// The line for a file that is absent is one of the words and of what was printed, where all was printed at once.
+/// The line for a file that is absent is one of the command line and of what was printed, where all was printed at once.
 pub fn an_absent_file_is_explained_by_words()
     ensures { (words : List Text) (state : HostState) (notes : Notes) → IsNoted words state notes → state.tells ≡ true → notes.whole ≡ true
         → notes.once ≡ true → reason_line words statuses.NoFile notes ≡ absent_line_of words state.said }

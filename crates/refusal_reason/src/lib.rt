@@ -2,7 +2,7 @@
 //!
 //! `Noted` is a host that does what another host does, and notes what a refusal was about: the first bytes that were printed, the file that
 //! was printed as absent, the one that could not be read or written, and whether the hives are dirty. After the command `explain` says the
-//! reason on standard error, where the command line asks for that with `--verbose`: a line made of the words and the notes, by
+//! reason on standard error, where the command line asks for that with `--verbose`: a line made of the command line and the notes, by
 //! `reason_lines`.
 #![tactic(auto)]
 

@@ -17,7 +17,7 @@ pub struct Noted<'w, H: Host> {
 }
 
 impl<'w, H: Host + Drop> Noted<'w, H> {
-    /// The host, to which nothing was said yet, for the command line of these words.
+    /// The host, to which nothing was printed yet, for the command line of these words.
     pub fn new(host: H, words: &'w [&'w str]) -> Noted<'w, H>
         requires { (H.state host).tells ≡ true → (H.state host).said ≡ [] }
         ensures host { result.host ≡ host }
@@ -30,7 +30,7 @@ impl<'w, H: Host + Drop> Noted<'w, H> {
         }
     }
 
-    /// The host, the words, and what was noted of the calls so far.
+    /// The host, the command line, and what was noted of the calls so far.
     pub fn into_parts(self) -> (H, &'w [&'w str], Notes)
         ensures noted { IsNoted (map (λ w. w.now) result.1.now) (H.state result.0) result.2 }
         ensures host { result.0 ≡ self.entry.host }

@@ -16,9 +16,9 @@ pub struct Notes {
     pub front: Front,
     /// Whether nothing failed to be said.
     pub whole: bool,
-    /// Whether all was said at once.
+    /// Whether all was printed at once.
     pub once: bool,
-    /// The file that was said to be absent.
+    /// The file that was printed as absent.
     pub absent: Option<usize>,
     /// The file that could not be read.
     pub unread: Option<usize>,
