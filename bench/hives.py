@@ -159,11 +159,12 @@ def machine(sets, numbers):
     return hive(layout((b"SYSTEM", [], [*sets, select(*numbers)]), 32)[0])
 
 
-def system(services, groups=10, tags=20):
-    """A SYSTEM hive of one control set with these services, in that many groups with that many tags each, the greatest tag first."""
+def system(services, groups=10, tags=20, good=0):
+    """A SYSTEM hive of one control set with these services, in that many groups with that many tags each, the greatest tag first; `good` is the
+    number in LastKnownGood."""
     names = [f"G{i}" for i in range(groups)]
     order = list(range(tags, 0, -1))
-    return machine([control_set(b"ControlSet001", services, names, {name: order for name in names})], (1, 1, 0, 0))
+    return machine([control_set(b"ControlSet001", services, names, {name: order for name in names})], (1, 1, 0, good))
 
 
 def service(i, start, group, needs, tag=None):
@@ -175,10 +176,10 @@ def service(i, start, group, needs, tag=None):
     return (b"S%06d" % i, values, [])
 
 
-def with_services(count):
+def with_services(count, good=0):
     """Services of three phases in ten groups, of which each needs the first one of the group before its own."""
     block = count // 30
-    return system([service(i, i // block // 10, i // block % 10, [f"S{(i // block - 1) * block:06d}"] if i // block % 10 else []) for i in range(30 * block)])
+    return system([service(i, i // block // 10, i // block % 10, [f"S{(i // block - 1) * block:06d}"] if i // block % 10 else []) for i in range(30 * block)], good=good)
 
 
 def with_chained_services(count):
