@@ -1,20 +1,9 @@
 -- An attempt of the first ready entry, in its parts.
 use Rattle.std.proofs.Common.{◌≡◌, ℕ, ◌==◌, Bool, List, Option, Some, Result, Ok, Err, subst, refl, ◌∙◌}
 use Rattle.std.specs.Prelude.{if◌then◌else◌, IfOk}
-use Rattle.start_model.specs.Entries.{Entry}
-use Rattle.start_model.specs.Judge.{Judgement, Ignore, judgement_of}
-use Rattle.start_model.specs.Machine.{MachineState, Start, failures_of, one_failure_less, attempt_in, attempt_of}
+use Rattle.start_model.specs.Machine.{MachineState, Start, attempt_in, attempt_of}
 use Rattle.boot_machine.specs.declared.tried.Tried as code
-use Rattle.boot_machine.specs.Steps.{AttemptsNext}
 use Rattle.boot_machine.specs.Views.{tried_in}
-
-pub attempted : (m : MachineState) (s s2 : Start) (old fs : List (List ℕ × ℕ)) (usable : Bool) (e : Entry) (ok : Bool)
-    (word : Judgement)
-    → AttemptsNext s s2 e ok → m.failures ≡ old → ok ≡ (failures_of old e.name == 0) → fs ≡ one_failure_less old e.name
-    → word ≡ (if ok then Ignore else judgement_of e.control s.on_good usable)
-    → attempt_in m s usable ≡ Some
-    (record m { start = Some s2; failures = fs }, record { name = e.name; ok = ok; judgement = word })
-attempted m s s2 old fs usable e ok word t same good l w = rw (t.next, t.entry, t.after, l, w, same, good) refl
 
 attempt_running : (m : MachineState) (s : Start) (usable : Bool) → m.start ≡ Some s
     → attempt_of m usable ≡ attempt_in m s usable

@@ -111,10 +111,6 @@ pub first_at : (w : WaitingState) (entries : List Entry) (at : ℕ) → w.needs 
 first_at w entries at is h =
     by_place w entries at (next_among (queue_with w entries)) refl (sym (next_is w entries is) ∙ sym h)
 
--- the same entry, by the equal places
-first_same : (e f : Entry) (o : Option Entry) → o ≡ Some e → o ≡ Some f → e ≡ f
-first_same e f o a b = let s : Some e ≡ Some f = sym a ∙ b in cc
-
 place_same : (k l : ℕ) (o : Option ℕ) → o ≡ Some k → o ≡ Some l → k ≡ l
 place_same k l o a b = some_is k l (sym a ∙ b)
 

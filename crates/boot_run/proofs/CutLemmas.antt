@@ -1,8 +1,8 @@
 -- What a cut and an order amount to.
-use Rattle.std.proofs.Common.{◌≡◌, ◌⊎◌, ◌≤◌, ◌<◌, ◌+◌, inl, inr, ⊎_elim, ℕ, Bool, true, false, List, [], ◌∷◌, ◌++◌, Option, Some, None, refl, sym, ap, subst, ◌∙◌, append-nil, arith}
+use Rattle.std.proofs.Common.{◌≡◌, ◌⊎◌, ◌≤◌, ◌<◌, ◌+◌, inl, inr, ⊎_elim, ℕ, false, List, [], ◌∷◌, ◌++◌, None, refl, sym, ap, subst, ◌∙◌, append-nil, arith}
 use Rattle.std.proofs.Math.Nat.{eq-or-lt_of_le}
-use Rattle.std.specs.Prelude.{Result, Ok, Err, min}
-use Rattle.hive_model.specs.Image.{Image, Arming}
+use Rattle.std.specs.Prelude.{Result, Ok, Err}
+use Rattle.hive_model.specs.Image.{Arming}
 use Rattle.nt_edge.specs.Disk.{DiskState, IsBounded, next}
 use Rattle.nt_edge.specs.Crash.{EachCrash}
 use Rattle.nt_edge.specs.Bench.{cut_off, turned_off, armed}
@@ -25,8 +25,7 @@ use Rattle.run_parts.proofs.CountLemmas.{still, no_less-same, no_less-bounded, r
 use Rattle.printed_parts.proofs.GoesLemmas.{tells-nothing}
 use Rattle.printed_parts.proofs.BreakLemmas.{breaks-silent, breaks-front}
 use Rattle.boot_run.specs.declared.runner.Runner.{Runner}
-use Rattle.boot_run.specs.Agrees.{IsUp, IsDown, LoadsAny, IsLive, Counts, OffLeft}
-use Rattle.boot_run.proofs.DiskLemmas.{still_leaves}
+use Rattle.boot_run.specs.Agrees.{IsUp, IsLive, Counts, OffLeft}
 use Rattle.boot_run.proofs.PlayLemmas.{live_left, here_turn}
 
 next_rises : (n : ℕ) → n ≤ 18446744073709551615 → Rises n (next n)
@@ -153,8 +152,3 @@ pub armed_breaks : (arming : Arming) (m : RunState) (x : Told) (d e : DiskState)
 armed_breaks arming m x d e is left =
     let P : DiskState → Type 0 = λ t. Breaks (arm_act arming m) x x.said d t in
     subst P (sym is) (breaks-silent (arm_act arming m) x d d (still d) left)
-
-pub cut_down : (s : Session) (d e f : DiskState) → IsUp s d → e ≡ cut_off d → f ≡ turned_off e → IsDown f
-cut_down s d e f up is off =
-    let P : DiskState → Type 0 = λ t. IsDown t in
-    subst P (sym (off ∙ ap turned_off is)) (record { off = refl; loads = still_leaves d LoadsAny up.still up.loads })

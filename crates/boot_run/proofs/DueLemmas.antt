@@ -1,19 +1,18 @@
 -- A save where it is due, and the logon, in the book's run.
-use Rattle.std.proofs.Common.{◌≡◌, ℕ, Bool, true, false, cond, List, [], Option, Some, None, refl, sym, ap, subst, ◌∙◌}
-use Rattle.std.specs.Prelude.{Result, Ok, Err, option_map, option_and_then, IfSome}
+use Rattle.std.proofs.Common.{◌≡◌, Bool, true, false, cond, [], Option, Some, None, refl, sym, ap, subst, ◌∙◌}
+use Rattle.std.specs.Prelude.{Result, Ok, Err, option_map, option_and_then}
 use Rattle.std.specs.Option.{option_map_or}
 use Rattle.hive_model.specs.Image.{Image}
 use Rattle.hive_model.specs.Tree.{Tree}
-use Rattle.hive_model.specs.Valid.{HoldsKeys}
 use Rattle.nt_edge.specs.Disk.{DiskState}
 use Rattle.hive_store.specs.Session.{Session}
 use Rattle.start_model.specs.Lines.{CommitWord, SaveCommit, LogonLine}
-use Rattle.start_model.specs.Machine.{Start, MachineState, save_due, with_start}
+use Rattle.start_model.specs.Machine.{Start, MachineState, save_due}
 use Rattle.start_model.specs.Fits.{MayLoad}
 use Rattle.start_model.specs.Sets.{SetChange, ChangeStop, NoPlan, Full, save_of}
 use Rattle.start_model.specs.Possible.{Outcome, Finished, PowerCut, DeviceFault, open_between}
 use Rattle.start_model.specs.Act.{Act, RunState, Saved, done, say, ask, mark, next_state, with_machine}
-use Rattle.start_model.specs.Commit.{committed, committed_state, commit, saved_by, save, save_where_due}
+use Rattle.start_model.specs.Commit.{committed, commit, saved_by, save, save_where_due}
 use Rattle.start_model.specs.EventActs.{logon_act}
 use Rattle.start_model.specs.Run.{play}
 use Rattle.boot_machine.specs.Steps.{on_start}
@@ -22,9 +21,9 @@ use Rattle.printed_parts.specs.Parts.{Told, Goes}
 use Rattle.run_parts.proofs.CountLemmas.{still}
 use Rattle.printed_parts.proofs.GoesLemmas.{goes-nothing}
 use Rattle.boot_run.specs.declared.runner.Runner.{Runner}
-use Rattle.boot_run.specs.Agrees.{IsUp, IsLive, IsSound, IsOnSet, IsRunningBy, Counts, OnLeft, TurnLeft}
+use Rattle.boot_run.specs.Agrees.{IsLive, IsSound, IsRunningBy, Counts, OnLeft, TurnLeft}
 use Rattle.boot_run.specs.Saves.{HandedOut, noting}
-use Rattle.boot_run.proofs.SaveLemmas.{live_machine, saved_may}
+use Rattle.boot_run.proofs.SaveLemmas.{saved_may}
 
 -- ---- nothing is due
 
@@ -113,11 +112,6 @@ none_taken (Some s) has = ap (λ (c : Option Tree). Some (record s { clone = c }
 pub taken_on : (o : Option Start) (tree : Tree) → IsRunningBy o tree → IsRunningBy (option_map without_clone o) tree
 taken_on None tree h = h
 taken_on (Some s) tree h = record { there = h.there; current = h.current; few = h.few; clone = tt }
-
-pub clone_held : (o : Option Start) (tree clone : Tree) → IsRunningBy o tree
-    → option_and_then (λ (s : Start). s.clone) o ≡ Some clone → HoldsKeys clone
-clone_held None tree clone h has = absurd h
-clone_held (Some s) tree clone h has = let P : Option Tree → Type 0 = λ c. IfSome c HoldsKeys in subst P has h.clone
 
 pub start_by : (change : Start → Start) (r r' : Runner) (d : DiskState) (h : Session)
     → ((o : Option Start) → IsRunningBy o h.tree → IsRunningBy (option_map change o) h.tree)

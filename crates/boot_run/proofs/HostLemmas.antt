@@ -1,8 +1,7 @@
 -- What calls in sequence leave of their host.
-use Rattle.std.proofs.Common.{◌≡◌, ℕ, true, refl, sym, ap, ◌∙◌, subst}
+use Rattle.std.proofs.Common.{◌≡◌, ℕ, refl, ◌∙◌, subst}
 use Rattle.std.specs.Prelude.{Result, Ok, Err}
-use Rattle.std.specs.Result.{IsErrAnd}
-use Rattle.nt_edge.specs.Host.{HostState, KeepsHost, KeepsFiles, KeepsCounts, CountsWrite}
+use Rattle.nt_edge.specs.Host.{HostState, KeepsHost, KeepsFiles, KeepsCounts}
 use Rattle.nt_bytes.specs.Counts.{Rises}
 use Rattle.boot_run.specs.declared.stop.RunStop.{RunStop}
 use Rattle.boot_run.specs.declared.stop.RunStop.TheVariants as stops
@@ -11,9 +10,6 @@ use Rattle.boot_run.specs.Hosts.{LeavesHost, CountsStop, StillHost}
 -- an answer of a call that is done, and of one that was given up
 abbrev as_done : {T : Type 0} → T → Result T RunStop
 as_done x = Ok x
-
-abbrev as_stopped : {T : Type 0} → RunStop → Result T RunStop
-as_stopped stop = Err stop
 
 keeps-then : (a b c : HostState) → KeepsHost a b → KeepsHost b c → KeepsHost a c
 keeps-then a b c p q = record { tells = q.tells ∙ p.tells; quiet = λ e. q.quiet (p.quiet e); errors = q.errors ∙ p.errors }

@@ -1,17 +1,15 @@
 -- What a step of the starter amounts to in the book's run.
-use Rattle.std.proofs.Common.{◌≡◌, ℕ, ◌+◌, ◌<◌, ◌≤◌, ◌^◌, ◌==◌, Bool, true, false, not, cond, List, [], ◌∷◌, ◌++◌, length, map, Option, Some, None, refl, sym, ap, subst, ◌∙◌, arith, append-nil, append_assoc}
+use Rattle.std.proofs.Common.{◌≡◌, ℕ, ◌+◌, ◌<◌, ◌≤◌, ◌^◌, ◌==◌, Bool, true, false, List, [], ◌∷◌, ◌++◌, length, map, Option, Some, None, refl, sym, ap, subst, ◌∙◌, arith, append-nil, append_assoc}
 use Rattle.std.proofs.lemmas.Bool.{false≢true, ne_eqb}
 use Rattle.std.proofs.lemmas.List.Edits.{length-remove}
-use Rattle.std.specs.Prelude.{Result, Ok, Err, IfOk, OnOk, is_err, slice_get, remove, option_map, option_and_then, codes}
-use Rattle.std.specs.Option.{option_map_or, unwrap_or, is_some}
+use Rattle.std.specs.Prelude.{Result, Ok, Err, IfOk, OnOk, is_err, slice_get, remove, option_map, option_and_then}
+use Rattle.std.specs.Option.{option_map_or, is_some}
 use Rattle.hive_model.specs.Image.{Image}
-use Rattle.hive_model.specs.Tree.{Tree, listed, children, find_key}
-use Rattle.hive_model.specs.Valid.{HoldsKeys, IsKey}
-use Rattle.hive_model.proofs.HeldLemmas.{held_key}
+use Rattle.hive_model.specs.Tree.{Tree}
+use Rattle.hive_model.specs.Valid.{HoldsKeys}
 use Rattle.nt_edge.specs.Disk.{DiskState}
 use Rattle.nt_edge.specs.Crash.{EachCrash}
 use Rattle.nt_edge.specs.Bench.{turned_off}
-use Rattle.hive_store.specs.Session.{Session}
 use Rattle.boot_report.specs.declared.words.Verdict.{Verdict as Word}
 use Rattle.boot_report.specs.Report.{verdict_of}
 use Rattle.start_model.specs.Entries.{Entry, Phase, Boot, System, Automatic, Done}
@@ -19,7 +17,7 @@ use Rattle.start_model.specs.Order.{plan_of}
 use Rattle.start_model.specs.Judge.{Judgement, Ignore, Log, FallBack, Stop}
 use Rattle.start_model.specs.Lines as lines
 use Rattle.start_model.specs.Lines.{Line, VerdictLine, UnmetLine, VitalLine, Verdict}
-use Rattle.start_model.specs.Machine.{Start, MachineState, Tried, next_in, attempt_at, attempt_in, attempt_of, after_phase, phase_after, unmet_in, missing_in, is_done, with_start, ended}
+use Rattle.start_model.specs.Machine.{Start, MachineState, Tried, next_in, attempt_at, attempt_in, attempt_of, after_phase, phase_after, unmet_in, missing_in, with_start, ended}
 use Rattle.start_model.specs.Fits.{outcomes_in, MayLoad}
 use Rattle.start_model.specs.Sets.{set_of}
 use Rattle.start_model.specs.Possible.{Possible, Woken, Outcome}
@@ -38,13 +36,13 @@ use Rattle.printed_parts.proofs.GoesLemmas.{outcomes_in-append, tells-nothing, t
 use Rattle.printed_parts.proofs.BreakLemmas.{breaks-line, breaks-then}
 use Rattle.boot_run.specs.declared.stop.RunStop.{RunStop}
 use Rattle.boot_run.specs.declared.runner.Runner.{Runner}
-use Rattle.boot_run.specs.Agrees.{IsUp, IsLive, IsSound, IsOnSet, IsRunningBy, Counts, TurnLeft, OnLeft}
+use Rattle.boot_run.specs.Agrees.{IsOnSet, IsRunningBy, Counts, TurnLeft}
 use Rattle.boot_run.specs.Starts.{EndsBy, NextPhase, phase_lines, phase_gone, stop_lines}
 use Rattle.boot_run.specs.Views.{SaysPart, SaysAll}
 use Rattle.boot_run.proofs.DiskLemmas.{still-off, left-off}
-use Rattle.boot_run.proofs.PlayLemmas.{live_left, plays-as, plays-line, here_turn}
+use Rattle.boot_run.proofs.PlayLemmas.{plays-as, plays-line, here_turn}
 use Rattle.run_laws.proofs.GoLemmas.{slice_get-within}
-use Rattle.start_model.proofs.HeldLemmas.{few_children, services_few}
+use Rattle.start_model.proofs.HeldLemmas.{services_few}
 
 -- ---- what follows from an attempt
 
@@ -131,11 +129,6 @@ unfolding attempt_of
 attempt_keeps m usable one tree e h = attempted m usable m.start one tree e h
 
 -- ---- a change of phase
-
-few_at : (set : Tree) (o : Option Tree) → find_key (codes "Services" ∷ []) set ≡ o → HoldsKeys set
-    → length (option_map_or children o []) < 2 ^ 32
-few_at set None is held = omega arith
-few_at set (Some k) is held = few_children k (held_key (codes "Services" ∷ []) set k held is)
 
 pub phase_keeps : (o : Option Start) (set tree : Tree) → HoldsKeys set → IsRunningBy o tree
     → IsRunningBy (option_map (after_phase set) o) tree

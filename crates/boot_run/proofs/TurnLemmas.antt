@@ -1,11 +1,10 @@
 -- What one event amounts to.
 use Rattle.std.proofs.Common.{◌≡◌, ◌≤◌, ℕ, Bool, true, false, cond, List, [], ◌∷◌, Option, Some, None, refl, sym, ap, subst, ◌∙◌}
-use Rattle.std.specs.Prelude.{Result, Ok, Err, IfOk, IfSome, option_map}
+use Rattle.std.specs.Prelude.{Result, IfSome}
 use Rattle.std.specs.Option.{option_map_or}
 use Rattle.hive_model.specs.Edit.{edited}
 use Rattle.hive_model.specs.Image.{Keep}
 use Rattle.hive_model.specs.Tree.{Tree}
-use Rattle.nt_edge.specs.Bench.{armed}
 use Rattle.nt_edge.specs.Crash.{EachCrash}
 use Rattle.nt_edge.specs.Disk.{DiskState}
 use Rattle.hive_store.specs.Session.{Session}
@@ -14,11 +13,11 @@ use Rattle.reg_tree.specs.declared.steps.TreeStep.{TreeStep}
 use Rattle.start_model.specs.Events as book
 use Rattle.start_model.specs.Events.{Event, Edit, BootNow, Go, Fail, Vital, Edits, Flush, Logon, Off, CutNow, Arm, is_protected}
 use Rattle.start_model.specs.Lines.{RefusedWord, RefusedLine, ProtectedReason}
-use Rattle.start_model.specs.Machine.{Start, MachineState, failing, refusal_in, refusal_of}
+use Rattle.start_model.specs.Machine.{Start, MachineState, refusal_in, refusal_of}
 use Rattle.start_model.specs.Fits.{MayLoad}
-use Rattle.start_model.specs.Act.{Act, RunState, done, say, with_machine}
+use Rattle.start_model.specs.Act.{Act, RunState, done, say}
 use Rattle.start_model.specs.Starter.{go_act}
-use Rattle.start_model.specs.Boot.{Choice, boot_act}
+use Rattle.start_model.specs.Boot.{Choice}
 use Rattle.start_model.specs.EventActs.{edit_done, flush_act, logon_act, off_act, cut_act, idle_act, accepted_act, act_unless, event_step_of, event_word_of}
 use Rattle.start_model.specs.Run.{play}
 use Rattle.start_laws.proofs.UsableLemmas.{usable_parts}
@@ -223,26 +222,6 @@ other_does_nothing (code.ArmCut call n keep) f v a b = absurd (a call n keep ref
 other_does_nothing (code.ArmFault call n) f v a b = absurd (b call n refl)
 
 -- ---- edits
-
--- the set of a start, by its number
-abbrev pub set_taken : Start → ℕ × Bool
-set_taken s = (s.number, s.on_good)
-
-pub step_running : {E : Type 0} → (r : Result TreeStep E) (o : Option Start) (taken : ℕ × Bool) (ev : Event)
-    → Some taken ≡ option_map set_taken o
-    → IfOk r (IsStepOf taken.0 ev) → IfOk r (λ step. IfSome o (λ (s : Start). IsStepOf s.number ev step))
-step_running (Err stop) o taken ev is h = tt
-step_running (Ok step) None taken ev is h = tt
-step_running (Ok step) (Some s) taken ev is h =
-    let e : taken ≡ set_taken s = cc in
-    let P : ℕ × Bool → Type 0 = λ k. IsStepOf k.0 ev step in subst P e h
-
-pub number_most : (o : Option Start) (taken : ℕ × Bool) → Some taken ≡ option_map set_taken o
-    → IfSome o (λ (s : Start). s.number ≤ 999) → taken.0 ≤ 999
-number_most None taken is h = absurd cc
-number_most (Some s) taken is h =
-    let e : set_taken s ≡ taken = cc in
-    let P : ℕ × Bool → Type 0 = λ k. k.0 ≤ 999 in subst P e h
 
 pub edit_of : (ev : Event) → IsEdit ev → (e : Edit) × (ev ≡ Edits e)
 edit_of (BootNow entry good) h = absurd h

@@ -127,9 +127,6 @@ pub data Fits : Stage → Stage → Type 0 where
   fit : {own other : Stage} → is_upto own (Some other) ≡ true → Fits own other
   by_demand : Fits Demand Demand
 
-no_cons : {X : Type 0} (x : X) (xs : List X) → (x ∷ xs) ≡ [] → ⊥
-no_cons x xs e = cc
-
 pub fits_from : (own : Stage) (need : List ℕ) (start : ℕ) (o : Option Stage) → stage_fault own need start o ≡ []
     → (other : Stage) × (o ≡ Some other) × Fits own other
 fits_from own need start None h = absurd cc

@@ -10,11 +10,6 @@ use Rattle.wait_cycles.proofs.CycleLemmas.{comes_from, comes_gives, filter_none}
 pub step_comes : (step : ℕ → ℕ → Bool) (n p q : ℕ) → q < n → step p q ≡ true → comes_to step n p q ≡ true
 step_comes step n p q lq st = comes_from step n p q (λ s by. by.begun q lq st)
 
-pub comes_on : (step : ℕ → ℕ → Bool) (n p q r : ℕ) → q < n → r < n → comes_to step n p q ≡ true → step q r ≡ true
-    → comes_to step n p r ≡ true
-comes_on step n p q r lq lr h st =
-    comes_from step n p r (λ s by. by.closed q r lq lr (comes_gives step n p q h (member s) by lq) st)
-
 pub comes_through : (step : ℕ → ℕ → Bool) (n p q r : ℕ) → q < n → comes_to step n p q ≡ true → r < n
     → comes_to step n q r ≡ true → comes_to step n p r ≡ true
 comes_through step n p q r lq h lr k = comes_from step n p r (λ s by.

@@ -3,7 +3,7 @@ use Rattle.std.proofs.Common.{◌≡◌, inl, inr, ℕ, false, List, Some, refl,
 use Rattle.std.specs.Prelude.{Result, Ok, Err}
 use Rattle.hive_model.specs.Image.{Image}
 use Rattle.nt_edge.specs.Disk.{DiskState, new_state}
-use Rattle.nt_edge.specs.Host.{HostState, Files, KeepsFiles, AsksNone}
+use Rattle.nt_edge.specs.Host.{HostState, Files, KeepsFiles}
 use Rattle.nt_edge.specs.declared.host.HostStop.{HostStop}
 use Rattle.nt_edge.specs.declared.host.HostStop.TheVariants.{Read, Write, Memory}
 use Rattle.command_parts.specs.declared.refusal.Refusal.{Refusal}
@@ -15,7 +15,7 @@ use Rattle.command_parts.specs.Decides.{Decides, DecidesAlone}
 use Rattle.command_parts.specs.Leaves.{Leaves, Looks, stop_in, stopped_as}
 use Rattle.command_parts.specs.Placed.{IsUnrun, IsUntouchedBy}
 use Rattle.command_parts.specs.Refusals.{Ends, IsToldAs, refusal, refusal_status}
-use Rattle.command_parts.specs.Saves.{Saves, no_saves, FilesAs}
+use Rattle.command_parts.specs.Saves.{Saves, FilesAs}
 use Rattle.command_parts.proofs.LeaveLemmas.{keeps_then, counts_by, stop_counts}
 
 -- ---- files and disk after a status
@@ -153,43 +153,6 @@ refusal_decides ends saves why status old new disk fresh leaves files told lift 
       (told_open (refusal_status why) status told (refused_open why)) (files tells);
   off = new_off disk fresh;
   untouched = untouched_by status disk fresh;
-}
-
--- nothing was to be saved
-pub nothing_saved : (status : Status) (held : Image) (old new : Files) → new ≡ old → FilesAs no_saves status held old new
-nothing_saved statuses.Done held old new same =
-    (record { hive = tt; log = tt }, λ q other. ap (λ (f : Files). f q) same)
-nothing_saved statuses.Usage held old new same = same
-nothing_saved statuses.NoFile held old new same = same
-nothing_saved statuses.ScriptFault held old new same = same
-nothing_saved statuses.BootIniFault held old new same = same
-nothing_saved statuses.HiveFault held old new same = same
-nothing_saved statuses.RegFault held old new same = same
-nothing_saved statuses.Found held old new same = same
-nothing_saved statuses.ReadFault held old new same = same
-nothing_saved statuses.WriteFault held old new same = λ q other. ap (λ (f : Files). f q) same
-nothing_saved statuses.Memory held old new same = λ q other. ap (λ (f : Files). f q) same
-
--- a text was printed, and the disk is a new one
-pub told_decides : (ends : Status → List ℕ → List ℕ → Type 0) (text : List ℕ) (status : Status) (old new : HostState)
-    → Leaves (Ends (record { status = statuses.Done; text = text })) status old new → KeepsFiles old new
-    → AsksNone old new → IsToldAs statuses.Done status
-    → ((o n : List ℕ) → Ends (record { status = statuses.Done; text = text }) status o n → ends status o n)
-    → DecidesAlone ends no_saves status old new new_state
-told_decides ends text status old new leaves files unasked told lift = record {
-  decides = record {
-    leaves = record {
-      keeps = leaves.keeps;
-      counts = leaves.counts;
-      said = λ tells. lift old.said new.said (leaves.said tells);
-    };
-    files = λ tells. nothing_saved status new_state.held old.files new.files (files tells);
-    off = refl;
-    untouched = untouched_by status new_state refl;
-  };
-  unasked = unasked;
-  kept = told_unused statuses.Done status told (λ e. absurd cc);
-  unread = told_unread statuses.Done status told (λ e. absurd cc);
 }
 
 -- ---- after a search for inputs

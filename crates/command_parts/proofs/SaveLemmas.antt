@@ -72,28 +72,6 @@ held-stays n d e still s =
 
 -- ---- one file
 
-no_write : (old : HostState) → WritesAlone (Ok tt) old old
-no_write old = record {
-  keeps = record { tells = refl; quiet = λ q. q; errors = refl };
-  unsaid = λ tells. refl;
-  unasked = refl;
-  counts = record { reads = refl; writes = refl };
-  unread = λ e. absurd cc;
-}
-
-pub saves-none : (file : File) (old : HostState) (d : DiskState) → SavesFile file None (Ok tt) old old d d
-saves-none file old d = record {
-  host = no_write old;
-  others = λ tells q other. refl;
-  saved = λ tells. tt;
-  still = tt;
-  taken = 0;
-  few = omega arith;
-  unput = λ tells none q. refl;
-  all = refl;
-  settles = settles-same d;
-}
-
 -- there was no memory to take it
 pub saves-untaken : (file : File) (name : List ℕ) (old : HostState) (d e : DiskState) → e ≡ d
     → SavesFile file (Some name) (Err Memory) old old d e
@@ -193,21 +171,6 @@ hive-stays (Some name) log n mid new d e saved still settles others = λ differ.
     let same : d.held ≡ e.held = sym (held-stays n d e still settles) in
     let P : Image → Type 0 = λ i. IsFileOf i Primary saved.0 in
     (saved.0, others name differ ∙ saved.1, subst P same saved.2)
-
--- saving the hive was stopped
-pub saves-stopped : (saves : Saves) (stop : HostStop) (old new : HostState) (d e : DiskState)
-    → SavesFile Primary saves.hive (Err stop) old new d e
-    → SavesBoth saves (Err stop) old new d e
-saves-stopped saves stop old new d e x = record {
-  host = x.host;
-  others = λ tells q other. x.others tells q (λ is. other (inl is));
-  saved = λ tells. tt;
-  taken = x.taken;
-  few = omega (arith, x.few);
-  unput = x.unput;
-  all = tt;
-  settles = x.settles;
-}
 
 saved-both : (saves : Saves) (r : Result (Unit {0}) HostStop) (old mid new : HostState) (d e f : DiskState)
     → SavesFile Primary saves.hive (Ok tt) old mid d e

@@ -1,12 +1,10 @@
 -- How many files `diff` asked for.
-use Rattle.std.proofs.Common.{◌≡◌, ◌⊎◌, ◌+◌, inl, inr, ℕ, true, Some, None, refl, sym, ap, subst, ◌∙◌, arith}
-use Rattle.std.specs.Prelude.{List, Option, Result, Ok, Err}
-use Rattle.nt_bytes.specs.declared.fault.HiveFault.{HiveFault}
+use Rattle.std.proofs.Common.{◌≡◌, ◌⊎◌, ◌+◌, inl, inr, ℕ, sym, ap, subst, ◌∙◌, arith}
+use Rattle.std.specs.Prelude.{Result, Ok, Err}
 use Rattle.nt_bytes.specs.declared.version.HiveVersion.{HiveVersion}
 use Rattle.nt_edge.specs.Host.{Files, HostState}
-use Rattle.nt_edge.specs.declared.host.HostStop.{HostStop}
 use Rattle.nt_edge.specs.declared.host.HostStop.TheVariants.{Read, Write, Memory}
-use Rattle.hive_model.specs.Load.{LoadFault, state_of}
+use Rattle.hive_model.specs.Load.{state_of}
 use Rattle.hive_model.specs.Tree.{Tree}
 use Rattle.hive_store.specs.Checks.{ChecksAs}
 use Rattle.command_words.specs.Words.{DiffAsked}
@@ -17,9 +15,9 @@ use Rattle.command_parts.specs.declared.refusal.Obstacle.TheVariants.{Refused, S
 use Rattle.command_parts.specs.declared.status.Status.{Status}
 use Rattle.command_parts.specs.declared.status.Status.TheVariants as statuses
 use Rattle.command_parts.specs.Inputs.{hive_in, asks_hive, AsksHive}
-use Rattle.command_parts.specs.Leaves.{Looks, AsksBy, AsksUntil, more, stop_in, stopped_as}
+use Rattle.command_parts.specs.Leaves.{Looks, AsksBy, AsksUntil, more, stop_in}
 use Rattle.command_parts.specs.Placed.{image_in}
-use Rattle.command_parts.proofs.AskLemmas.{asks_on, asks_stop, more_behind, some_behind}
+use Rattle.command_parts.proofs.AskLemmas.{asks_on, more_behind, some_behind}
 use Rattle.command_parts.proofs.DecideLemmas.{not_read}
 use Rattle.diff_command.specs.declared.command.Finding.{Finding}
 use Rattle.diff_command.specs.Asks.{AsksOn, AsksIn, asks_with, AsksDiff, IsHalted, AsksWith, AsksAfter, AsksSearch}
@@ -41,31 +39,6 @@ in_more (Ok files) before more asks bsks stopped halted f g a = on_more files be
 
 -- ---- the second hive
 
--- none is named
-pub none_asked : (asked : DiffAsked) (r : Result Finding Obstacle) (host : HostState) → asked.with ≡ None
-    → AsksUntil 0 r host.gets host.gets → AsksWith asked r host host
-none_asked asked r host none a = λ tells.
-    subst (λ (name : Option (List ℕ)). AsksUntil (asks_with host.files name asked.with_log) r host.gets host.gets) (sym none) a
-
--- nothing more was asked for
-pub still_asked : (r : Result Finding Obstacle) (n g h : ℕ) → h ≡ more n g → (r ≡ Err (Stopped Read) → ⊥) → AsksUntil n r g h
-still_asked (Ok f) n g h asked unread = asked
-still_asked (Err (Refused why)) n g h asked unread = asked
-still_asked (Err (Stopped Read)) n g h asked unread = absurd (unread refl)
-still_asked (Err (Stopped Write)) n g h asked unread = asked
-still_asked (Err (Stopped Memory)) n g h asked unread = record {
-  asked = n;
-  not_less = omega arith;
-  not_more = omega arith;
-  gets = asked;
-}
-
--- it was got
-pub with_asked : (asked : DiffAsked) (name : List ℕ) (r : Result Finding Obstacle) (old new : HostState) → asked.with ≡ Some name
-    → (old.tells ≡ true → AsksUntil (asks_hive old.files name asked.with_log) r old.gets new.gets) → AsksWith asked r old new
-with_asked asked name r old new some a = λ tells.
-    subst (λ (with' : Option (List ℕ)). AsksUntil (asks_with old.files with' asked.with_log) r old.gets new.gets) (sym some) (a tells)
-
 -- ---- the first hive
 
 zero_more : (k : ℕ) → k ≡ 0 + k
@@ -81,16 +54,6 @@ loaded_asked files asked root sequence version r old new loads a = λ tells.
       loads.1,
       subst (λ (n : ℕ). AsksUntil n r old.gets new.gets) (zero_more (asks_with old.files asked.with asked.with_log)) (a tells),
     ))
-
--- it has a fault
-pub fault_asked : (files : HiveFiles) (asked : DiffAsked) (fault : HiveFault) (why : Refusal) (host : HostState)
-    → LoadFault (image_in files) fault → AsksAfter files asked (Err (Refused why)) host host
-fault_asked files asked fault why host at = λ tells. inl (fault, at, refl)
-
--- there was no memory to read it
-pub memory_asked : (files : HiveFiles) (asked : DiffAsked) (host : HostState) → AsksAfter files asked (Err (Stopped Memory)) host host
-memory_asked files asked host = λ tells.
-    inr (inr (tt, record { asked = 0; not_less = omega arith; not_more = omega arith; gets = refl }))
 
 -- ---- both
 
@@ -127,31 +90,6 @@ got_asked asked files r old mid new looks asks after = λ tells.
     (λ a. AsksUntil a r old.gets new.gets) (IsHalted r)) (sym (looks.found tells))
     (behind_on files n (asks_with old.files asked.with asked.with_log) r old.gets mid.gets new.gets (asks tells) later)
 
-never_both : (files : HiveFiles) (why : Refusal) → Ok files ≡ Err why → ⊥
-never_both files why e = absurd cc
-
-unfound_in : (wanted : Result HiveFiles Refusal) (n k : ℕ) (o : Obstacle) (old new : HostState) → old.tells ≡ true
-    → Looks {A = HiveFiles} wanted (Err o) old new → AsksUntil {A = Finding} n (Err o) old.gets new.gets
-    → AsksIn wanted n k (λ a. AsksUntil {A = Finding} a (Err o) old.gets new.gets) (IsHalted (Err o))
-unfound_in (Err why) n k o old new tells looks a = a
-unfound_in (Ok files) n k (Refused why) old new tells looks a = absurd (never_both files why (looks.found tells))
-unfound_in (Ok files) n k (Stopped Read) old new tells looks a = inr (inr (tt, a))
-unfound_in (Ok files) n k (Stopped Write) old new tells looks a = absurd (looks.unwritten refl)
-unfound_in (Ok files) n k (Stopped Memory) old new tells looks a = inr (inr (tt, a))
-
-same_until : (n : ℕ) (o : Obstacle) (g h : ℕ) → AsksUntil {A = HiveFiles} n (Err o) g h → AsksUntil {A = Finding} n (Err o) g h
-same_until n (Refused why) g h a = a
-same_until n (Stopped stop) g h a = a
-
--- it was not got
-pub unfound_asked : (asked : DiffAsked) (o : Obstacle) (old new : HostState)
-    → Looks {A = HiveFiles} (hive_in old.files asked.hive asked.log) (Err o) old new
-    → AsksHive {A = HiveFiles} asked.hive asked.log (Err o) old new → AsksSearch asked (Err o) old new
-unfound_asked asked o old new looks asks = λ tells.
-    let n : ℕ = asks_hive old.files asked.hive asked.log in
-    unfound_in (hive_in old.files asked.hive asked.log) n (asks_with old.files asked.with asked.with_log) o old new tells looks
-    (same_until n o old.gets new.gets (asks tells))
-
 -- ---- the end
 
 -- a text was printed, and no file asked for
@@ -164,19 +102,3 @@ told_asked asked r status old mid new search whole halts same unread = λ tells.
     (λ n. AsksBy n (stop_in status) old.gets new.gets) (IsHalted r) ((status ≡ statuses.Memory) ⊎ (status ≡ statuses.ReadFault))
     (λ n a. asks_on n (stop_in status) old.gets mid.gets new.gets (λ e. unread (not_read status e)) (whole n old.gets mid.gets a) same)
     (λ halted. absurd (halts halted)) (search tells)
-
-halted_kinds : (stop : HostStop) → IsHalted (Err (Stopped stop))
-    → ((stopped_as stop ≡ statuses.Memory) ⊎ (stopped_as stop ≡ statuses.ReadFault))
-halted_kinds Read halted = inr refl
-halted_kinds Write halted = absurd halted
-halted_kinds Memory halted = inl refl
-
--- the environment stopped the search
-pub stopped_asked : (asked : DiffAsked) (stop : HostStop) (old new : HostState) → AsksSearch asked (Err (Stopped stop)) old new
-    → AsksDiff asked (stopped_as stop) old new
-stopped_asked asked stop old new search = λ tells.
-    in_more (hive_in old.files asked.hive asked.log) (asks_hive old.files asked.hive asked.log)
-    (asks_with old.files asked.with asked.with_log) (λ n. AsksUntil {A = Finding} n (Err (Stopped stop)) old.gets new.gets)
-    (λ n. AsksBy n (stop_in (stopped_as stop)) old.gets new.gets) (IsHalted (Err (Stopped stop)))
-    ((stopped_as stop ≡ statuses.Memory) ⊎ (stopped_as stop ≡ statuses.ReadFault))
-    (λ n a. asks_stop n stop old.gets new.gets a) (halted_kinds stop) (search tells)

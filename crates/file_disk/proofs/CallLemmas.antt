@@ -1,7 +1,7 @@
 -- What a call of the disk asks of its files puts it after the calls that were made.
 use Rattle.std.proofs.Common.{◌≡◌, ◌≤◌, ◌+◌, ◌*◌, ◌++◌, ◌∷◌, [], List, ℕ, refl, subst, sym}
 use Rattle.std.proofs.lemmas.List.{append-nil, append_assoc}
-use Rattle.std.proofs.lemmas.List.Elements.{All-nil, All-push}
+use Rattle.std.proofs.lemmas.List.Elements.{All-push}
 use Rattle.hive_model.specs.Image.{Address}
 use Rattle.nt_edge.specs.Book.{file_of}
 use Rattle.nt_edge.specs.declared.disk.HiveFile.{HiveFile}
@@ -55,10 +55,6 @@ pub synced : {p q l m : List Asked → Type 0} → Asks p q (SyncedFile ∷ []) 
 synced asked_p asked_l = puts Synced (SyncedFile ∷ []) (SyncedFile ∷ []) (refl, refl) asked_p asked_l
 
 -- ---- the reads of a sector
-
--- none yet
-pub none_read : {sector : ℕ} {before : List Asked → Type 0} → ReadsSector sector before before
-none_read = record { reads = []; within = All-nil _; asked = unasked _ }
 
 -- one more, of bytes of the sector
 pub reads_on : {sector : ℕ} {before after last : List Asked → Type 0} (place count : ℕ) → ReadsSector sector before after

@@ -114,7 +114,3 @@ list_room n = if n == 0 then 0 else cell (4 * n)
 -- the tree without a value
 abbrev pub unset_tree : List (List ℕ) → List ℕ → Tree → Tree
 unset_tree path name t = at_key path (of_items (without_first (is_item name))) t
-
--- a number is this bulk, or both are over the greatest bulk of an edited tree
-abbrev pub TellsBulk : ℕ → ℕ → Type 0
-TellsBulk n bulk = (n ≡ bulk) ⊎ ((16773120 < n) × (16773120 < bulk))

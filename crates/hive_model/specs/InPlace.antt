@@ -39,10 +39,6 @@ abbrev pub KeepsSecurity : ℕ → (ℕ → List Bool) → Cells → Cells → T
 KeepsSecurity root changes before after =
     (at : ℕ) → Contains (security_used_in (all_checks before root)) at → IsKeptSecurity before after (changes at) at
 
--- a new security cell for a descriptor, which that many keys use, names itself in both links
-abbrev pub new_security : ℕ → ℕ → List ℕ → SecurityCell
-new_security at uses descriptor = record { forward = at; backward = at; uses = uses; descriptor = descriptor }
-
 -- ---- the lists of a key's children, wherever their cells are
 
 -- the payload of the cell at an offset begins with this text

@@ -1,5 +1,5 @@
 -- What is left of steps, one by one.
-use Rattle.std.proofs.Common.{◌≡◌, ℕ, ◌+◌, true, false, cond, List, [], ◌∷◌, ◌++◌, Some, None, refl, sym, ap, subst, ◌∙◌, append_assoc, append-nil, arith}
+use Rattle.std.proofs.Common.{◌≡◌, ℕ, ◌+◌, true, false, cond, List, [], ◌∷◌, ◌++◌, Some, None, refl, sym, ap, subst, ◌∙◌, append_assoc, arith}
 use Rattle.std.specs.Prelude.{Result, Ok, Err, IfOk, map}
 use Rattle.std.specs.List.{All}
 use Rattle.hive_model.specs.Tree.{Tree}
@@ -27,33 +27,13 @@ use Rattle.import_steps.proofs.StepLemmas.{step_shows}
 abbrev pub ahead : List Step → ℕ → LeftSteps → LeftSteps
 ahead steps n left = record { steps = steps ++ left.steps; passed = n + left.passed }
 
-one_more : (n m : ℕ) → (n + 1) + m ≡ n + (m + 1)
-one_more n m = omega arith
-
 zero_before : (n : ℕ) → 0 + n ≡ n
 zero_before n = omega arith
-
-nothing_more : (n : ℕ) → n + 0 ≡ n
-nothing_more n = omega arith
-
-passed_over : (done rest : List Step) (n : ℕ) (step : Step) (t : Tree) → is_void step t ≡ true
-    → ahead done (n + 1) (left_of t rest) ≡ ahead done n (left_of t (step ∷ rest))
-passed_over done rest n step t void =
-    rw void (ap (λ (m : ℕ). record { steps = done ++ (left_of t rest).steps; passed = m })
-    (one_more n (left_of t rest).passed))
 
 kept : (done rest : List Step) (n : ℕ) (step : Step) (t u : Tree) → is_void step t ≡ false
     → tree_after step t ≡ Some u
     → ahead (done ++ step ∷ []) n (left_of u rest) ≡ ahead done n (left_of t (step ∷ rest))
 kept done rest n step t u some made = rw (some, made, append_assoc) refl
-
-stopped : (done rest : List Step) (n : ℕ) (step : Step) (t : Tree) → is_void step t ≡ false
-    → tree_after step t ≡ None
-    → record { steps = done ++ step ∷ rest; passed = n } ≡ ahead done n (left_of t (step ∷ rest))
-stopped done rest n step t some refused = rw (some, refused, nothing_more) refl
-
-all_taken : (done : List Step) (n : ℕ) (t : Tree) → record { steps = done; passed = n } ≡ ahead done n (left_of t [])
-all_taken done n t = rw (append-nil, nothing_more) refl
 
 -- ---- between two steps
 
@@ -77,18 +57,6 @@ going_first b m all fresh held = record {
     nothing_before : (left : LeftSteps) → ahead [] 0 left ≡ left
     nothing_before left = rw (zero_before left.passed) refl
 
-pub going_void : (b : Tree) (m : Marks) (left : List Step) (n : ℕ) (rest all : List Step) (step : Step)
-    (more : List Step)
-    → Going b m left n rest all → rest ≡ step ∷ more → verdict_of step (seen_in m b) ≡ verdicts.Void
-    → Going b m left (n + 1) more all
-going_void b m left n rest all step more g is verdict = record {
-  tree = g.tree;
-  shows = g.shows;
-  same = passed_over left more n step g.tree
-      (subst (λ (v : Verdict). Judged v step g.tree) verdict (judge step (seen_in m b) g.tree g.shows))
-      ∙ subst (λ (r : List Step). Before left n r all b g.tree) is g.same;
-}
-
 pub going_made : (b : Tree) (m n : Marks) (left : List Step) (passed : ℕ) (rest all : List Step) (step : Step)
     (more : List Step)
     → Going b m left passed rest all → rest ≡ step ∷ more → verdict_of step (seen_in m b) ≡ verdicts.Made
@@ -102,21 +70,6 @@ going_made b m n left passed rest all step more g is verdict marked =
       same = kept left more passed step g.tree judged.1.0 judged.0 judged.1.1.0
           ∙ subst (λ (r : List Step). Before left passed r all b g.tree) is g.same;
     }
-
-pub going_ends : (b : Tree) (m : Marks) (left : List Step) (n : ℕ) (rest all : List Step) (step : Step)
-    (more : List Step)
-    → Going b m left n rest all → rest ≡ step ∷ more → verdict_of step (seen_in m b) ≡ verdicts.Ends
-    → record { steps = left ++ step ∷ more; passed = n } ≡ left_of b all
-going_ends b m left n rest all step more g is verdict =
-    let judged : Judged verdicts.Ends step g.tree =
-    subst (λ (v : Verdict). Judged v step g.tree) verdict (judge step (seen_in m b) g.tree g.shows) in
-    stopped left more n step g.tree judged.0 judged.1
-    ∙ subst (λ (r : List Step). Before left n r all b g.tree) is g.same
-
-pub going_done : (b : Tree) (m : Marks) (left : List Step) (n : ℕ) (rest all : List Step) → Going b m left n rest all
-    → rest ≡ [] → record { steps = left; passed = n } ≡ left_of b all
-going_done b m left n rest all g is =
-    all_taken left n g.tree ∙ subst (λ (r : List Step). Before left n r all b g.tree) is g.same
 
 -- ---- the same of the steps of the code
 

@@ -1,5 +1,5 @@
 -- The steps for a set, one by one.
-use Rattle.std.proofs.Common.{◌≡◌, ℕ, true, false, cond, List, [], ◌∷◌, ◌++◌, refl, sym, subst, append_assoc, append-nil}
+use Rattle.std.proofs.Common.{◌≡◌, ℕ, true, false, cond, List, [], ◌∷◌, ◌++◌, sym, subst}
 use Rattle.std.specs.Prelude.{IfOk, Result, Ok, Err, map}
 use Rattle.std.specs.List.{All}
 use Rattle.hive_model.specs.Edit.{Step, set_value, delete_value, make_key, delete_key, copy_child, add_child}
@@ -13,14 +13,6 @@ use Rattle.import_steps.specs.declared.current.SetSteps.{SetSteps as CodeSteps}
 -- steps before those
 abbrev pub ahead : List Step → SetSteps → SetSteps
 ahead steps made = record { steps = steps ++ made.steps; protected = made.protected }
-
-pub step_taken : (set : List ℕ) (done rest : List Step) (step : Step) → deletes_current step ≡ false
-    → ahead (done ++ step_in set step ∷ []) (steps_in set rest) ≡ ahead done (steps_in set (step ∷ rest))
-step_taken set done rest step is = rw (is, append_assoc) refl
-
-pub step_refused : (set : List ℕ) (done rest : List Step) (step : Step) → deletes_current step ≡ true
-    → ahead done (steps_in set (step ∷ rest)) ≡ record { steps = done; protected = true }
-step_refused set done rest step is = rw is (simp append-nil refl)
 
 fits_in : (set : List ℕ) (step : Step) → Fits step → Fits (step_in set step)
 fits_in set (set_value path name kind bytes) fits = tt

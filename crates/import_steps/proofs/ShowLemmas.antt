@@ -5,18 +5,17 @@ use Rattle.std.specs.Option.{is_some}
 use Rattle.nt_bytes.specs.Folding.{folded, folds_same}
 use Rattle.hive_model.specs.Tree.{Item, Head, Tree, Trees, key, trees, listed, head, children, is_named, is_item, find_key, find_item}
 use Rattle.hive_model.specs.Valid.{HoldsKeys}
-use Rattle.hive_model.specs.Edit.{at_first, without_first, of_items, of_children, at_key, with_item, placed, new_key}
+use Rattle.hive_model.specs.Edit.{at_first, without_first, of_items, of_children, with_item, placed, new_key}
 use Rattle.hive_model.proofs.HeldLemmas.{held_child}
 use Rattle.reg_tree.proofs.Sound.{key_name, item_name}
 use Rattle.reg_tree.proofs.Trees.{listed_trees}
-use Rattle.reg_tree.proofs.Edited.{name_kept}
 use Rattle.reg_tree.proofs.Unlike.{Unlike, unlike_from, unlike_first, unlike_gone, unlike_push, none_found, folds_swap}
 use Rattle.import_steps.specs.declared.marks.Life.{Life}
 use Rattle.import_steps.specs.declared.marks.Life.TheVariants.{Kept, Made, Gone}
 use Rattle.import_steps.specs.declared.marks.Mark.{Mark}
 use Rattle.import_steps.specs.declared.marks.Mark.TheVariants as marks
 use Rattle.import_steps.specs.declared.marks.Marks.{Marks}
-use Rattle.import_steps.specs.Marks.{life_of, key_at, value_at, IsFresh, IsStart, PutsKey, PutsValue, IsPut, IsMarked, Seen, living, child_by, marked_child, base_child, below, look, holds}
+use Rattle.import_steps.specs.Marks.{life_of, key_at, value_at, IsFresh, PutsKey, PutsValue, Seen, living, child_by, marked_child, base_child, below, look, holds}
 use Rattle.import_steps.proofs.MapLemmas.{one_folded}
 use Rattle.import_steps.proofs.FindLemmas.{folds_itself, found_alike, found_changed, found_other, found_gone, found_kept, found_last, found_new, found_old, unlike_placed}
 
@@ -159,9 +158,6 @@ below_alike a b s same =
         ∙ ap (child_by (key_at m a)) based
 
 -- ---- one more mark of a key
-
-children_kept : (change : List Item → List Item) (t : Tree) → children (of_items change t) ≡ children t
-children_kept change (key h ts) = refl
 
 values_put : (name : List ℕ) (there : Bool) (m n : Marks) (base : Option Tree) (k : Tree)
     (change : List Item → List Item) → PutsValue name there m n

@@ -8,7 +8,7 @@ use Rattle.start_model.specs.Summary.{with_lines}
 use Rattle.start_model.specs.Causes.{Tally, next_tally, Caused}
 use Rattle.nt_bytes.specs.Counts.{Rises}
 use Rattle.start_model.specs.Events.{Event}
-use Rattle.start_model.specs.Possible.{Woken, Outcome, Finished, PowerCut, DeviceFault}
+use Rattle.start_model.specs.Possible.{Woken, Finished, PowerCut, DeviceFault}
 use Rattle.start_model.specs.Act.{Note, Woke, Held, Saved, Ordered, Cuts, Ended}
 use Rattle.start_model.specs.Boot.{Choice}
 use Rattle.start_model.specs.Run.{run_of}
@@ -17,11 +17,11 @@ use Rattle.start_model.specs.Fits.{outcomes_of, MayLoad}
 use Rattle.run_laws.specs.Quiet.{AllFinished}
 use Rattle.run_laws.specs.Told.{ended_in}
 use Rattle.run_parts.specs.Parts.{Told, Later, NoLess, tallies, tally_now, since_wake}
-use Rattle.run_parts.specs.Reports.{Reports, ReportsFront, LeftOf}
+use Rattle.run_parts.specs.Reports.{Reports, LeftOf}
 use Rattle.run_parts.proofs.CountLemmas.{next-now}
 use Rattle.start_laws.proofs.ReportLemmas.{report-ended, report-quiet, report-quiet_text, report-quiet_loads}
 use Rattle.order_laws.specs.Unordered.{AreUnordered}
-use Rattle.order_laws.proofs.UnorderedLemmas.{AreNoOrders, IsUncounted, run_of-notes, run_of-uncounted, grew-uncounted}
+use Rattle.order_laws.proofs.UnorderedLemmas.{AreNoOrders, IsUncounted, run_of-notes, grew-uncounted}
 
 -- a count that is none in the end never rose
 never_rose : (since at now : ℕ) → NoLess at now → now ≡ 0 → Rises since at → ⊥
@@ -103,13 +103,3 @@ reports-uncounted choice script placed told told' before after none r armings ca
     let notes : List Note = (run_of choice script placed r.report.woken (outcomes_of r.text)).notes in
     let unordered : AreNoOrders notes = run_of-notes choice script placed r.report.woken (outcomes_of r.text) none in
     grew-uncounted notes r.added before after unordered r.grew armings calls keeps
-
--- up to a refusal too
-pub front-uncounted : (choice : Option ℕ → Choice) (script : List Event) (placed : Woken) (said said' : List ℕ)
-    (before after : DiskState)
-    → AreUnordered script → ReportsFront (run_of choice script placed) said said' before after
-    → before.history.armings ≡ [] → before.history.cut_calls ≡ 0 → KeepsOrders after → IsUncounted after
-front-uncounted choice script placed said said' before after none r armings calls keeps =
-    let outcomes : List Outcome = outcomes_of r.text ++ r.report.outcome ∷ [] in
-    run_of-uncounted choice script placed r.report.woken outcomes r.report.notes r.added before after none
-    r.report.noted r.grew armings calls keeps

@@ -1,5 +1,5 @@
 -- What a law over the events of a run says of the whole run.
-use Rattle.std.proofs.Common.{◌≡◌, ◌⊎◌, inl, inr, ℕ, List, [], ◌∷◌, ◌++◌, Option, Some, None, refl, sym, ap, subst, ◌∙◌, append-nil, append_assoc}
+use Rattle.std.proofs.Common.{◌≡◌, ◌⊎◌, inl, inr, ℕ, List, [], ◌∷◌, ◌++◌, Option, Some, None, refl, sym, subst, ◌∙◌, append-nil, append_assoc}
 use Rattle.start_model.specs.Events.{Event}
 use Rattle.start_model.specs.Act as acts
 use Rattle.start_model.specs.Run as run
@@ -24,10 +24,6 @@ AllWakes law h (Saved t ∷ ns) = AllWakes law (push h (Saved t)) ns
 AllWakes law h (Ordered arming ∷ ns) = AllWakes law (push h (Ordered arming)) ns
 AllWakes law h (Cuts ∷ ns) = AllWakes law (push h Cuts) ns
 AllWakes law h (Ended o ∷ ns) = AllWakes law (push h (Ended o)) ns
-
-shifted : (law : Law) (h : List Note) (n : Note) (a b : List Note) → AllWakes law (push h n ++ a) b
-    → AllWakes law (h ++ n ∷ a) b
-shifted law h n a b w = let P : List Note → Type 0 = λ l. AllWakes law l b in subst P (append_assoc h (n ∷ []) a) w
 
 back : (law : Law) (h : List Note) (n : Note) (a b : List Note) → AllWakes law (h ++ n ∷ a) b
     → AllWakes law (push h n ++ a) b

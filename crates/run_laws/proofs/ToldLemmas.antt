@@ -1,11 +1,11 @@
 -- What a wake expects is what was loaded or committed last.
-use Rattle.std.proofs.Common.{◌≡◌, ◌⊎◌, inl, inr, ℕ, Bool, true, false, List, [], ◌∷◌, ◌++◌, Option, Some, None, refl, sym, ap, subst, ◌∙◌}
+use Rattle.std.proofs.Common.{◌≡◌, ◌⊎◌, inl, inr, ℕ, Bool, true, false, List, [], ◌∷◌, ◌++◌, Option, Some, None, refl, sym, subst, ◌∙◌}
 use Rattle.hive_model.specs.Tree.{Tree}
 use Rattle.start_model.specs.Machine.{Start}
 use Rattle.start_model.specs.Events.{Event}
 use Rattle.start_model.specs.Commit as commit_book
 use Rattle.start_model.specs.Possible.{Possible, Woken, Outcome, Finished, PowerCut, DeviceFault}
-use Rattle.start_model.specs.Act.{RunState, Act, Note, Woke, Held, Saved, Ordered, Cuts, Ended}
+use Rattle.start_model.specs.Act.{RunState, Note, Woke, Held, Saved, Ordered, Cuts, Ended}
 use Rattle.start_model.specs.Boot.{Choice}
 use Rattle.start_model.specs.EventActs.{event_step_of}
 use Rattle.start_model.specs.Run.{RunResult, play, then_run, closing_act, run_from, run_of, first_state}
@@ -15,9 +15,6 @@ use Rattle.run_laws.proofs.AlongLemmas.{Along, Waits, wake_split, run_from-along
 use Rattle.run_laws.proofs.PartLemmas.{play-disk}
 
 -- ---- one note more
-
-abbrev pub held_by : Tree → Note → Tree
-held_by t n = last_held t (n ∷ [])
 
 pub held-push : (t : Tree) (h : List Note) (n : Note) → last_held t (push h n) ≡ last_held (last_held t h) (n ∷ [])
 held-push t [] n = refl

@@ -19,10 +19,6 @@ abbrev pub after : List Mark → Result (List Mark) HiveFault → Result (List M
 after marks (Ok more) = Ok (marks ++ more)
 after marks (Err fault) = Err fault
 
-pub after-none : (r : Result (List Mark) HiveFault) → after [] r ≡ r
-after-none (Ok more) = refl
-after-none (Err fault) = refl
-
 after-one : (marks : List Mark) (m : Mark) (r : Result (List Mark) HiveFault)
     → after (marks ++ m ∷ []) r ≡ after marks (r >>= λ more. Ok (m ∷ more))
 after-one marks m (Ok more) = ap (λ xs. Ok xs) (append_assoc marks (m ∷ []) more)

@@ -1,5 +1,5 @@
 -- The tree that is salvaged can be held by a hive, where payloads are bytes.
-use Rattle.std.proofs.Common.{◌≡◌, ℕ, zero, suc, ◌+◌, ◌*◌, ◌<◌, ◌≤◌, Bool, true, false, cond, List, [], ◌∷◌, ◌++◌, length, length-append, Option, Some, None, Result, Ok, Err, refl, sym, ap, subst, ◌∙◌, arith, map, max, append_assoc, append-nil}
+use Rattle.std.proofs.Common.{◌≡◌, ℕ, zero, suc, ◌+◌, ◌*◌, ◌<◌, ◌≤◌, Bool, true, false, cond, List, [], ◌∷◌, ◌++◌, length, length-append, Option, Some, None, Result, Ok, Err, refl, sym, subst, ◌∙◌, arith, map, append_assoc, append-nil}
 use Rattle.std.specs.Prelude.{◌==◌, ◌||◌, ◌&&◌, not}
 use Rattle.std.specs.List.{All, list_any}
 use Rattle.std.proofs.lemmas.List.Elements.{All-append, All-cons, All-nil}
@@ -7,13 +7,11 @@ use Rattle.nt_bytes.specs.Folding.{folds_same}
 use Rattle.nt_bytes.specs.declared.fault.HiveFault.{HiveFault}
 use Rattle.nt_bytes.specs.declared.fault.HiveFaultKind.{HiveFaultKind}
 use Rattle.hive_model.specs.Base.{fault_at}
-use Rattle.hive_model.specs.KeyNode.{KeyNode, key_node_at}
-use Rattle.hive_model.specs.KeyValue.{key_value_at}
+use Rattle.hive_model.specs.KeyNode.{KeyNode}
 use Rattle.hive_model.specs.Security.{SecurityCell, security_at}
-use Rattle.hive_model.specs.Stands.{tree_flags}
-use Rattle.hive_model.specs.Tree.{Item, Head, Tree, Trees, key, none, more, trees, listed, head}
+use Rattle.hive_model.specs.Tree.{Item, Tree, trees, head}
 use Rattle.hive_model.specs.Valid.{IsItem, IsKey, HoldsKeys, AllHoldKeys, IsValid, levels, most_levels}
-use Rattle.hive_model.specs.Walk.{nowhere, is_list_of_lists, reading}
+use Rattle.hive_model.specs.Walk.{nowhere, is_list_of_lists}
 use Rattle.hive_read.proofs.Apart.{Apart, apart-pairs}
 use Rattle.hive_read.proofs.FormFacts.{NodeFacts, own-flags}
 use Rattle.hive_read.proofs.ValidTrees.{AreBytes}
@@ -25,9 +23,9 @@ use Rattle.salvage_walk.specs.Parts.{part, node_form, node_long, security_long}
 use Rattle.salvage_walk.specs.Fronts.{Front, front_part, values_front, list_front, leaf_front}
 use Rattle.salvage_walk.specs.Values.{bytes_part, value_part}
 use Rattle.salvage_walk.specs.Walked.{Walked, say, using}
-use Rattle.salvage_walk.specs.Steps.{class_done, class_step, security_done, security_step, item_names, value_done, value_next, values_next, values_done, said_short, values_step, Entries, list_done, leaf_next, leaves_next, no_entries, entries_below, lists_done, lists_step, counted, entries_step}
-use Rattle.salvage_walk.specs.Keys.{Judge, key_names, with_child, keys_next, head_of, key_below, found_key, key_done, judged_key, least_root, root_below, other_done, other_at, other_root, root_done, root_part, walked_from, salvaged}
-use Rattle.salvage_file.proofs.PartLemmas.{value-so, class-short, security-small, NamedNode, key-so, child-named, front-so, values-few, list-few, leaf-few, done, placed}
+use Rattle.salvage_walk.specs.Steps.{class_done, class_step, security_done, security_step, item_names, value_done, value_next, values_next, values_done, values_step, Entries, list_done, leaf_next, leaves_next, no_entries, entries_below, lists_done, lists_step, counted, entries_step}
+use Rattle.salvage_walk.specs.Keys.{Judge, key_names, with_child, keys_next, head_of, key_below, key_done, judged_key, least_root, root_below, other_done, other_at, other_root, root_done, root_part, salvaged}
+use Rattle.salvage_file.proofs.PartLemmas.{value-so, class-short, security-small, key-so, child-named, front-so, values-few, list-few, leaf-few, done}
 
 -- one more name that is none of those before it
 apart-push : {X : Type 0} (name : X → List ℕ) (names : List (List ℕ)) (xs : List X) (x : X) → Apart name names xs
@@ -71,9 +69,6 @@ security-fits hive above path node w h small = go (node.security == nowhere)
     go false = by (part security_at security_long true hive w.claims node.security) refl
 
 -- ---- values
-
-item_name : Item → List ℕ
-item_name v = v.name
 
 -- values that a key can have, at most that many
 pub record GoodItems (n : ℕ) (items : List Item) : Type 0 where

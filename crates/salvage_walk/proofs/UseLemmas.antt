@@ -2,11 +2,7 @@
 use Rattle.std.proofs.Common.{◌≡◌, ℕ, ◌-◌, ◌<◌, ◌≤◌, List, [], ◌∷◌, ◌++◌, length, take, drop, get_or, Result, Ok, Err, refl, sym, ap, ◌∙◌, arith}
 use Rattle.std.proofs.Math.Seq.{take-length}
 use Rattle.std.proofs.lemmas.List.{take-append-le, take-take, length-take}
-use Rattle.nt_bytes.specs.declared.fault.HiveFault.{HiveFault}
-use Rattle.hive_model.specs.Size.{segment_bytes, segment_part}
-use Rattle.salvage_bins.specs.Ground.{Ground}
 use Rattle.salvage_walk.specs.declared.claims.Claim.{Claim}
-use Rattle.salvage_walk.specs.Values.{bytes_part, segments_part}
 use Rattle.nt_bytes.specs.declared.fault.ReadStop.{ReadStop}
 use Rattle.nt_bytes.specs.declared.fault.ReadStop.TheVariants as stops
 use Rattle.nt_bytes.specs.declared.fault.HiveFaultKind.{HiveFaultKind}
@@ -47,30 +43,7 @@ pub ruleset backs = (before-back)
 
 -- ---- segments
 
-pub segments-end : (hive : Ground) (bytes : List ℕ) (n : ℕ) (offsets : List ℕ) (claims : List Claim) → offsets ≡ []
-    → segments_part hive bytes n offsets claims ≡ Ok (bytes, claims)
-unfolding segments_part
-segments-end hive bytes n offsets claims e = rw e refl
-
-pub segments-on : (hive : Ground) (bytes : List ℕ) (n at : ℕ) (offsets more : List ℕ) (claims after : List Claim) (part : List ℕ)
-    → offsets ≡ at ∷ more → bytes_part (segment_part n) hive claims at ≡ Ok (part, after)
-    → segments_part hive (bytes ++ part) (n - segment_bytes) more after ≡ segments_part hive bytes n offsets claims
-unfolding segments_part
-segments-on hive bytes n at offsets more claims after part e d = rw (e, d) refl
-
-pub segments-off : (hive : Ground) (bytes : List ℕ) (n at : ℕ) (offsets more : List ℕ) (claims : List Claim) (f : HiveFault)
-    → offsets ≡ at ∷ more → bytes_part (segment_part n) hive claims at ≡ Err f
-    → segments_part hive bytes n offsets claims ≡ Err f
-unfolding segments_part
-segments-off hive bytes n at offsets more claims f e d = rw (e, d) refl
-
 -- ---- a step of several cells that failed
-
-pub tries-off : {X Y F G : Type 0} (v : X → F) (u : Y → G) (a b c : List Claim) (e : ReadStop) (x : Result (F × List Claim) HiveFault)
-    (y : Result (G × List Claim) HiveFault) → Before a b → ((f : HiveFault) → x ≡ Err f → y ≡ Err f)
-    → Tries {X = X} v b c (Err e) x → Tries {X = Y} u a c (Err e) y
-tries-off v u a b c stops.Memory x y h k t = tt
-tries-off v u a b c (stops.Fault f) x y h k t = (k f t.0, before-after a b c h t.1)
 
 pub takes-tries : {X F : Type 0} (v : X → F) (a b : List Claim) (at : ℕ) (r : Result X ReadStop) (g : Result (F × List Claim) HiveFaultKind)
     → Gains v at a b r g → Tries v a b r (with_place at g)

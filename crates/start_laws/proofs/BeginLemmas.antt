@@ -6,7 +6,7 @@ use Rattle.std.proofs.lemmas.Bool.{false≢true, or_left, or_right}
 use Rattle.nt_bytes.specs.declared.version.HiveVersion.{HiveVersion}
 use Rattle.hive_model.specs.Tree.{Tree, key}
 use Rattle.hive_model.specs.Edit.{Step, copy_child, delete_key, renamed, with_child, Refusal, after_steps}
-use Rattle.start_model.specs.Sets.{SelectNumbers, SetPlan, SetStop, NoControlSet, NoLastKnownGood, ChangeStop, SetChange, set_name, set_of, numbers_in, select_numbers_of, usable_numbers_of, is_usable, has_number, free_number_of, four_of, deletions_of, written, writes_of, plan_with, taken_number, begun, guarded_plan, begin_plan_of, stepped, changed_by, planned, begin_of}
+use Rattle.start_model.specs.Sets.{SelectNumbers, SetPlan, SetStop, NoControlSet, NoLastKnownGood, SetChange, set_name, set_of, numbers_in, select_numbers_of, usable_numbers_of, is_usable, has_number, free_number_of, four_of, deletions_of, written, writes_of, plan_with, taken_number, begun, guarded_plan, begin_plan_of, stepped, changed_by, planned, begin_of}
 use Rattle.start_model.specs.Fits.{SameSet, good_set_of}
 use Rattle.start_laws.specs.Changes.{IsLowestFree, Begins}
 use Rattle.start_laws.proofs.NumberLemmas.{is_free}
@@ -79,9 +79,6 @@ begin_case old usable on_good plan e =
 pub some_tree : (o : Option Tree) → is_some o ≡ true → (k : Tree) × (o ≡ Some k)
 some_tree None h = absurd (false≢true h)
 some_tree (Some k) h = (k, refl)
-
-some_is_some : (o : Option Tree) (k : Tree) → o ≡ Some k → is_some o ≡ true
-some_is_some o k e = ap is_some e
 
 pub names_current : (s : SelectNumbers) → has_number (four_of s) s.current ≡ true
 names_current s = or_left (s.current == s.current) _ (eq-eqb s.current s.current refl)

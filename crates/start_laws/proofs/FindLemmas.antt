@@ -1,5 +1,5 @@
 -- What is found in a list where one thing changed.
-use Rattle.std.proofs.Common.{◌≡◌, Bool, true, false, cond, List, [], ◌∷◌, ◌++◌, Some, None, refl, sym, ap, ◌∙◌}
+use Rattle.std.proofs.Common.{◌≡◌, Bool, true, false, cond, List, [], ◌∷◌, ◌++◌, Some, None, refl, ap, ◌∙◌}
 use Rattle.std.specs.Prelude.{find}
 use Rattle.std.specs.Option.{option_map}
 use Rattle.std.specs.Ordering.{is_gt}
@@ -78,12 +78,3 @@ find-push {X} p (x ∷ xs) y h e = split (p x) refl e (find-push p xs y h)
         → (find p xs ≡ None → find p (xs ++ y ∷ []) ≡ Some y) → cond b (Some x) (find p (xs ++ y ∷ [])) ≡ Some y
     split true is none deep = absurd cc
     split false is none deep = deep none
-
--- what is found passes
-pub find_passes : {X : Type 0} (p : X → Bool) (xs : List X) (x : X) → find p xs ≡ Some x → p x ≡ true
-find_passes p [] x e = absurd cc
-find_passes {X} p (y ∷ ys) x e = split (p y) refl e (find_passes p ys x)
-  where
-    split : (b : Bool) → p y ≡ b → cond b (Some y) (find p ys) ≡ Some x → (find p ys ≡ Some x → p x ≡ true) → p x ≡ true
-    split true is same deep = let here : y ≡ x = cc in ap p (sym here) ∙ is
-    split false is same deep = deep same

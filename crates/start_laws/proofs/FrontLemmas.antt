@@ -14,9 +14,6 @@ use Rattle.run_laws.specs.Parts.{run_until, part_of, ended}
 use Rattle.run_laws.proofs.PartLemmas.{with_rest, play-more, run_from-until, run_until-append}
 use Rattle.start_laws.specs.Fronts.{IsFrontOfRun}
 
-abbrev Left : Type 0
-Left = RunState × List Woken × List Outcome
-
 all_of : {A : Type 0} (xs : List A) → IsFront xs xs
 all_of xs = record { rest = []; cut = sym (append-nil xs) }
 

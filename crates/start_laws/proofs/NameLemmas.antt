@@ -53,10 +53,6 @@ same_digit c d h g e =
 number_is : (n m : ℕ) → n / 100 ≡ m / 100 → n / 10 % 10 ≡ m / 10 % 10 → n % 10 ≡ m % 10 → n ≡ m
 number_is n m a b c = omega arith
 
--- the last three units of a set's name
-pub digits_of : ℕ → List ℕ
-digits_of n = (48 + n / 100) ∷ (48 + n / 10 % 10) ∷ (48 + n % 10) ∷ []
-
 -- names of sets that fold alike have one number
 pub one_number : (n m : ℕ) → n ≤ 999 → m ≤ 999 → folds_same (set_name n) (set_name m) ≡ true → n ≡ m
 one_number n m h g e =

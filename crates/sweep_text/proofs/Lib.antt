@@ -1,4 +1,3 @@
 pub mod ObjectLemmas
 pub mod LoggedLemmas
-pub mod WriteLemmas
 pub mod SaidLemmas

@@ -1,5 +1,5 @@
 -- Sectors whose bit is on, one bit after the other.
-use Rattle.std.proofs.Common.{◌≡◌, ℕ, zero, suc, ◌+◌, ◌-◌, ◌<◌, ◌≤◌, Bool, true, false, cond, List, [], ◌∷◌, ◌++◌, length, drop, sym, ap, ◌∙◌, append_assoc, append-nil, arith}
+use Rattle.std.proofs.Common.{◌≡◌, ℕ, zero, suc, ◌+◌, ◌-◌, ◌<◌, ◌≤◌, Bool, true, false, cond, List, [], ◌∷◌, ◌++◌, length, drop, sym, ap, ◌∙◌, append_assoc, arith}
 use Rattle.std.proofs.lemmas.List.{length-append}
 use Rattle.std.proofs.Math.ListN.{drop_of_length-le}
 use Rattle.std.specs.List.{range_with_len}
@@ -15,12 +15,6 @@ one_more bits i count old new total lt put so_far =
     ∙ append_assoc old (cond (bits i) ((8 + i) ∷ []) []) (listed bits (i + 1) n)
     ∙ sym (ap (λ (k : ℕ). old ++ listed bits i k) more)
     ∙ so_far
-
-pub all_listed : (bits : ℕ → Bool) (count i : ℕ) (all total : List ℕ) → count ≤ i → all ++ listed bits i (count - i) ≡ total
-    → all ≡ total
-all_listed bits count i all total done so_far =
-    let none : count - i ≡ 0 = omega (arith, done) in
-    sym (append-nil all) ∙ sym (ap (λ (k : ℕ). all ++ listed bits i k) none) ∙ so_far
 
 one_few : (b : Bool) (x : ℕ) → length (cond b (x ∷ []) []) ≤ 1
 one_few true x = omega arith

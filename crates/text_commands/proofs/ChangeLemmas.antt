@@ -33,7 +33,7 @@ use Rattle.text_commands.specs.declared.said.How.{How}
 use Rattle.text_commands.specs.declared.said.ImportStop.{ImportStop}
 use Rattle.text_commands.specs.declared.said.ImportStop.TheVariants as import_stops
 use Rattle.text_commands.specs.declared.said.Said.{Said}
-use Rattle.text_commands.specs.Changed.{Change, as_edited, as_protected, done_by, state_by, said_of, change_left, change_made, change_in, change_for, number_in, change_of}
+use Rattle.text_commands.specs.Changed.{Change, as_edited, as_protected, state_by, said_of, change_left, change_made, change_in, change_for, number_in, change_of}
 use Rattle.text_commands.specs.Imports.{Settles, IsRefusedAs, EndsProtected, IsMade, MakesTree, Makes, MakesSteps, usable_in, MakesIn, SaysOf, Changes, ChangesHeld, ChangesAwake, ImportsOn}
 
 -- with nothing in flight only what is held may be left
@@ -124,43 +124,6 @@ refused_made s edit stop done disk still loads is refused =
     subst P (sym same) (record { done_is = refused.0; loads = still_loads disk s false still loads })
 
 -- ---- where a step after them is refused
-
-protected_ok : (s : HiveState) (edit : Result Tree Refusal) (t : Tree) → edit ≡ Ok t
-    → dones.Refused import_stops.Protected ≡ done_by s (as_protected edit)
-protected_ok s edit t is = ap (λ (r : Result Tree Refusal). done_by s (as_protected r)) (sym is)
-
-protected_full : (s : HiveState) (edit : Result Tree Refusal) → edit ≡ Err full
-    → dones.Refused import_stops.Protected ≡ done_by s (as_protected edit)
-protected_full s edit is = ap (λ (r : Result Tree Refusal). done_by s (as_protected r)) (sym is)
-
-protected_refused : (stop : EditStop) (edit : Result Tree Refusal) → (stop ≡ stops.Memory → ⊥) → (stop ≡ stops.Full → ⊥)
-    → IsRefused edit stop → as_protected edit ≡ Err (import_stops.Edit stop)
-protected_refused stops.NoKey edit kept fits is = ap as_protected is
-protected_refused stops.NoValue edit kept fits is = ap as_protected is
-protected_refused stops.BadName edit kept fits is = ap as_protected is
-protected_refused stops.Exists edit kept fits is = ap as_protected is
-protected_refused stops.NameTooLong edit kept fits is = ap as_protected is
-protected_refused stops.TooDeep edit kept fits is = ap as_protected is
-protected_refused stops.DataTooLong edit kept fits is = ap as_protected is
-protected_refused stops.Full edit kept fits is = absurd (fits refl)
-protected_refused stops.Memory edit kept fits is = absurd (kept refl)
-
--- the edits are refused before it
-pub protected_early : {E : Type 0} (h : Session) (steps : List Step) (stop : EditStop) (result : Result Done E)
-    → (stop ≡ stops.Full → ⊥) → IsRefused (edited (version_of h.base.minor) h.tree steps) stop → IsRefusedAs stop result
-    → IfOk result (EndsProtected (loaded_state h) steps)
-protected_early h steps stop (Ok done) fits is refused =
-    refused.0 ∙ ap (λ (r : Result Tree ImportStop). done_by (loaded_state h) r)
-    (sym (protected_refused stop (edited (version_of h.base.minor) h.tree steps) refused.1 fits is))
-protected_early h steps stop (Err e) fits is refused = tt
-
-pub protected_made : (h : Session) (steps : List Step) (t : Tree) → edited (version_of h.base.minor) h.tree steps ≡ Ok t
-    → EndsProtected (loaded_state h) steps (dones.Refused import_stops.Protected)
-protected_made h steps t is = protected_ok (loaded_state h) (edited (version_of h.base.minor) h.tree steps) t is
-
-pub protected_large : (h : Session) (steps : List Step) → edited (version_of h.base.minor) h.tree steps ≡ Err full
-    → EndsProtected (loaded_state h) steps (dones.Refused import_stops.Protected)
-protected_large h steps is = protected_full (loaded_state h) (edited (version_of h.base.minor) h.tree steps) is
 
 never_made : (s : HiveState) (edit : Result Tree Refusal) → state_by s (as_protected edit) ≡ s
 never_made s (Ok t) = refl

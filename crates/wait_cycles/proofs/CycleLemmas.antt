@@ -306,18 +306,6 @@ no_cycle rows places p lp empty waits lead =
       | inr off ↦ off
     ]
 
-pub cycle_put : (waits : List (List (List ℕ))) (p : ℕ) (cycle : List ℕ) (old : List (List ℕ)) → cycle ≡ cycle_of waits p
-    → begins_with p cycle ≡ true → old ++ cycle ∷ [] ≡ old ++ cycle_from waits p
-cycle_put waits p cycle old e on =
-    ap (λ (cs : List (List ℕ)). old ++ cs)
-    (sym (ap (λ (c : List ℕ). cond (begins_with p c) (c ∷ []) []) (sym e) ∙ ap (λ b. cond b (cycle ∷ []) []) on))
-
-pub cycle_not : (waits : List (List (List ℕ))) (p : ℕ) (cycle : List ℕ) (old : List (List ℕ)) → cycle ≡ cycle_of waits p
-    → begins_with p cycle ≡ false → old ≡ old ++ cycle_from waits p
-cycle_not waits p cycle old e off =
-    sym (append-nil old) ∙ ap (λ (cs : List (List ℕ)). old ++ cs)
-    (sym (ap (λ (c : List ℕ). cond (begins_with p c) (c ∷ []) []) (sym e) ∙ ap (λ b. cond b (cycle ∷ []) []) off))
-
 pub flat_push : {X : Type 0} (f : ℕ → List X) (xs : List ℕ) (x : ℕ) → flat_map f (xs ++ x ∷ []) ≡ flat_map f xs ++ f x
 flat_push f [] x = append-nil (f x)
 flat_push f (y ∷ ys) x =

@@ -9,7 +9,6 @@ use Rattle.std.proofs.lemmas.List.{get_or-set_same, length-set, length-replicate
 use Rattle.std.proofs.lemmas.List.FromFn.{get_or-range_with_len, length-range_with_len}
 use Rattle.std.proofs.lemmas.List.Elements.{Contains-get_or, Contains-push, Contains-push_cases, Contains-append_left, Contains-append_cases}
 use Rattle.start_model.specs.Demand.{member}
-use Rattle.dependencies.proofs.KeptLemmas.{within_waits}
 use Rattle.wait_cycles.specs.Graph.{row_at, HasEdge, AreWaits, IsInverse, is_ripe, IsMet, Settles}
 use Rattle.wait_cycles.specs.Working.{is_done, IsSettling}
 use Rattle.wait_cycles.proofs.InverseLemmas.{none_in, edge_from}
@@ -119,24 +118,6 @@ pub settles_none : (rows : List (List ℕ)) (places : ℕ) (marks : List Bool) (
 settles_none rows places marks work = record {
   len = refl;
   settled = λ u h r. absurd (none_in u h);
-  kept_marks = λ k h. h;
-  only = λ k h. inl h;
-  kept = λ k h. h;
-  noted = λ k h. inl h;
-  least = λ set by sub k h. sub k h;
-  nearer = omega arith;
-}
-
--- a vertex that is marked already, or isn't met
-pub settles_old : (rows : List (List ℕ)) (places at : ℕ) (marks : List Bool) (work : List ℕ)
-    → (is_ripe rows places (member marks) at ≡ true → member marks at ≡ true)
-    → Settles rows places (at ∷ []) marks work marks work
-settles_old rows places at marks work f = record {
-  len = refl;
-  settled = λ u h. elim (Contains-push_cases [] at u h) [
-    | inl none ↦ absurd (none_in u none)
-    | inr e ↦ subst (λ (u : ℕ). is_ripe rows places (member marks) u ≡ true → member marks u ≡ true) e f
-  ];
   kept_marks = λ k h. h;
   only = λ k h. inl h;
   kept = λ k h. h;
@@ -259,16 +240,6 @@ settling_start rows places n marks work us e all is = record {
           | inl old ↦ false≢true (sym (member_none n k) ∙ old)
           | inr new ↦ parts.1 new
         ]
-
-pub settled_marked : (rows : List (List ℕ)) (places : ℕ) (marks : List Bool) (work rest : List ℕ) (at : ℕ)
-    → work ≡ rest ++ at ∷ [] → IsSettling rows places marks work → member marks at ≡ true
-settled_marked rows places marks work rest at e is =
-    is.honest at (subst (λ (xs : List ℕ). Contains xs at) (sym e) (Contains-push rest at))
-
-pub settled_within : (rows : List (List ℕ)) (places : ℕ) (marks : List Bool) (work rest : List ℕ) (at : ℕ)
-    → work ≡ rest ++ at ∷ [] → IsSettling rows places marks work → at < length rows
-settled_within rows places marks work rest at e is =
-    omega (arith, within_waits marks at (settled_marked rows places marks work rest at e is), is.len)
 
 pub settling_more : (rows back : List (List ℕ)) (places : ℕ) (marks : List Bool) (work rest : List ℕ) (at : ℕ)
     (marks' : List Bool) (work' : List ℕ) → IsInverse rows back → work ≡ rest ++ at ∷ [] → IsSettling rows places marks work

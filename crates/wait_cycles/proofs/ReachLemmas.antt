@@ -55,21 +55,6 @@ marks_none marks work = record {
   nearer = omega arith;
 }
 
--- a vertex that is marked already
-pub marks_old : (at : ℕ) (marks : List Bool) (work : List ℕ) → member marks at ≡ true → Marks (at ∷ []) marks work marks work
-marks_old at marks work on = record {
-  len = refl;
-  marked = λ k h. elim (Contains-push_cases [] at k h) [
-    | inl none ↦ absurd (none_in k none)
-    | inr e ↦ ap (member marks) (sym e) ∙ on
-  ];
-  kept_marks = λ k h. h;
-  only = λ k h. inl h;
-  kept = λ k h. h;
-  noted = λ k h. inl h;
-  nearer = omega arith;
-}
-
 -- one that is marked now
 pub marks_new : (at : ℕ) (marks : List Bool) (work : List ℕ) → at < length marks → member marks at ≡ false
     → Marks (at ∷ []) marks work (set marks at true) (work ++ at ∷ [])
@@ -157,11 +142,6 @@ pub popped_marked : (rows : List (List ℕ)) (start : ℕ) (marks : List Bool) (
     → work ≡ rest ++ at ∷ [] → IsReaching rows start marks work → member marks at ≡ true
 popped_marked rows start marks work rest at e is =
     is.honest at (subst (λ (xs : List ℕ). Contains xs at) (sym e) (Contains-push rest at))
-
-pub popped_within : (rows : List (List ℕ)) (start : ℕ) (marks : List Bool) (work rest : List ℕ) (at : ℕ)
-    → work ≡ rest ++ at ∷ [] → IsReaching rows start marks work → at < length rows
-popped_within rows start marks work rest at e is =
-    omega (arith, within_waits marks at (popped_marked rows start marks work rest at e is), is.len)
 
 pub reaching_more : (rows : List (List ℕ)) (start : ℕ) (marks : List Bool) (work rest : List ℕ) (at : ℕ)
     (marks' : List Bool) (work' : List ℕ) → work ≡ rest ++ at ∷ [] → IsReaching rows start marks work

@@ -26,13 +26,6 @@ use Rattle.whatif_laws.proofs.PlayLemmas.{PlanOf, Full, Whole, IsPlay}
 abbrev pub needs : List Entry → List Need
 needs es = map need_of es
 
--- all that were started
-abbrev pub all_new : (name : Option (List ℕ)) (set : Tree) (told : List Told) → IsPlay name set told → List Entry
-all_new name set told p = (p.n1 ++ p.n2) ++ p.n3
-
-abbrev pub all_left : (name : Option (List ℕ)) (set : Tree) (told : List Told) → IsPlay name set told → List Entry
-all_left name set told p = (p.l1 ++ p.l2) ++ p.l3
-
 -- where an entry of three lists is
 pub data InThree (a b c : List Entry) (x : Entry) : Type 0 where
   in1 : Contains a x → InThree a b c x

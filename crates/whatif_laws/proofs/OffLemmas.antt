@@ -22,9 +22,6 @@ same_first {X} p f g (y ∷ ys) x h same = by_case (p y) refl h (λ more. same_f
         ap (λ z. z ∷ ys) (ap f is_x ∙ same ∙ sym (ap g is_x))
     by_case false is here rest = ap (λ zs. y ∷ zs) (rest here)
 
-four : Item → Item
-four v = record v { kind = 4; bytes = to_le_bytes w32 4 }
-
 there : (o : Option Item) (v : Item) → o ≡ Some v → is_some o ≡ true
 there None v h = absurd cc
 there (Some w) v h = refl
