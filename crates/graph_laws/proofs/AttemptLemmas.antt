@@ -28,6 +28,8 @@ use Rattle.why_laws.proofs.StateLemmas.{attempt_reported}
 use Rattle.graph_lines.specs.declared.graph.NodeState.{NodeState}
 use Rattle.graph_lines.specs.declared.graph.NodeState.TheVariants as states
 use Rattle.graph_lines.specs.declared.graph.GraphNode.{GraphNode}
+use Rattle.start_model.specs.Entries.{Entry}
+use Rattle.graph_rule.specs.declared.parts.GraphParts.{GraphParts}
 use Rattle.graph_rule.specs.Entries.{entries_in}
 use Rattle.graph_rule.specs.Nodes.{node_state, node_number, entry_node, missing_node, group_node}
 use Rattle.graph_rule.specs.Rows.{parts_by, group_state, whole_of}
@@ -59,25 +61,31 @@ shown_from r of node c = by (length r.views == 0) c
 
 -- ---- each kind of node
 
+-- of an entry, a missing name or a group
+pub each_node : (P : GraphNode → Type 0) (r : ViewedRun) (of : Option (List ℕ)) → ((e : Entry) → P (entry_node r e))
+    → ((name : List ℕ) → P (missing_node name)) → ((p : GraphParts) (name : List ℕ) → P (group_node (group_state p name) name))
+    → (node : GraphNode) → Contains (graph_of r of).nodes node → P node
+unfolding whole_of
+each_node P r of entry missing group node c =
+    let p = parts_by r of (entries_in r) in
+    let a = map (entry_node r) (entries_in r) in
+    let b = map missing_node p.missing in
+    let g = map (λ (name : List ℕ). group_node (group_state p name) name) p.groups in
+    elim (Contains-append_cases (a ++ b) g node (shown_from r of node c)) [
+      | inl front ↦ elim (Contains-append_cases a b node front) [
+        | inl i ↦ (let e = mapped_from (entry_node r) (entries_in r) node i in subst P e.is (entry e.item))
+        | inr i ↦ (let m = mapped_from missing_node p.missing node i in subst P m.is (missing m.item))
+      ]
+      | inr i ↦ (let m = mapped_from (λ (name : List ℕ). group_node (group_state p name) name) p.groups node i in subst P m.is (group p m.item))
+    ]
+
 by_kind : (P : GraphNode → Type 0) (r : ViewedRun) (of : Option (List ℕ)) → ((name : List ℕ) (s : NameState) → state_of r name ≡ s
     → (node : GraphNode) → is_entry node.kind ≡ true → node.name ≡ name → node.number ≡ node_number s → node.state ≡ node_state s → P node)
     → ((node : GraphNode) → is_entry node.kind ≡ false → node.number ≡ 0 → P node)
     → (node : GraphNode) → Contains (graph_of r of).nodes node → P node
-unfolding whole_of
 by_kind P r of entry other node c =
-    let p = parts_by r of (entries_in r) in
-    let a = map (entry_node r) (entries_in r) in
-    let b = map missing_node p.missing in
-    let g = map (λ (group : List ℕ). group_node (group_state p group) group) p.groups in
-    elim (Contains-append_cases (a ++ b) g node (shown_from r of node c)) [
-      | inl front ↦ elim (Contains-append_cases a b node front) [
-        | inl i ↦ (let e = mapped_from (entry_node r) (entries_in r) node i in
-            subst P e.is (entry e.item.name (state_of r e.item.name) refl (entry_node r e.item) refl refl refl refl))
-        | inr i ↦ (let m = mapped_from missing_node p.missing node i in subst P m.is (other (missing_node m.item) refl refl))
-      ]
-      | inr i ↦ (let m = mapped_from (λ (group : List ℕ). group_node (group_state p group) group) p.groups node i in
-          subst P m.is (other (group_node (group_state p m.item) m.item) refl refl))
-    ]
+    each_node P r of (λ e. entry e.name (state_of r e.name) refl (entry_node r e) refl refl refl refl) (λ name. other (missing_node name) refl refl)
+    (λ p name. other (group_node (group_state p name) name) refl refl) node c
 
 -- ---- attempts
 

@@ -15,7 +15,7 @@ use Rattle.start_model.specs.Order.{first_names}
 use Rattle.boot_phases.proofs.TriedLemmas.{some_place}
 use Rattle.dependencies.proofs.MeetLemmas.{names_flip}
 use Rattle.wait_cycles.specs.Graph.{row_at, HasEdge}
-use Rattle.wait_cycles.proofs.MetLemmas.{any_from}
+use Rattle.wait_cycles.proofs.MetLemmas.{any_from, first_in}
 use Rattle.wait_cycles.proofs.CycleLemmas.{filter_in}
 use Rattle.check_laws.proofs.CycleLaws.{flat_in}
 use Rattle.check_laws.proofs.RowLemmas.{first_sub, first_for}
@@ -24,11 +24,13 @@ use Rattle.service_control.proofs.LeastLemmas.{from}
 use Rattle.why_state.specs.declared.views.ViewedRun.{ViewedRun}
 use Rattle.why_state.specs.States.{place_in}
 use Rattle.graph_lines.specs.declared.graph.GraphNode.{GraphNode}
+use Rattle.graph_rule.specs.declared.parts.GraphParts.{GraphParts}
 use Rattle.graph_rule.specs.Entries.{entries_in}
 use Rattle.graph_rule.specs.Nodes.{entry_node, missing_node, group_node}
 use Rattle.graph_rule.specs.Rows.{parts_by, name_vertex, group_vertex, entry_row, group_row, rows_of, group_state, nodes_of, whole_of}
 use Rattle.graph_rule.specs.Shown.{is_group}
 use Rattle.graph_laws.specs.Needs.{StandsFor, LeadsToNeeds, IsEntryVertex, NeedsAreEdges}
+use Rattle.graph_laws.specs.Shown.{NameHasVertex}
 
 -- ---- places
 
@@ -268,3 +270,29 @@ module _ (r : ViewedRun) (of : Option (List ℕ)) (es : List Entry) where
 pub are_needs : NeedsAreEdges
 unfolding whole_of
 are_needs r of u e is = entry_vertex r of (entries_in r) u e is
+
+-- ---- the name that is asked for
+
+-- a name that is asked for and has no entry is a missing name
+asked_found : (r : ViewedRun) (es : List Entry) (name : List ℕ)
+    → (v : ℕ) × (name_vertex (parts_by r (Some name) es) name ≡ Some v)
+asked_found r es name = by (place_in p.names name) refl
+  where
+    p : GraphParts
+    p = parts_by r (Some name) es
+
+    by : (o : Option ℕ) → place_in p.names name ≡ o → (v : ℕ) × (name_vertex p name ≡ Some v)
+    by (Some k) a = (k, ap (λ (o : Option ℕ). option_or o (option_map (λ k. length p.names + k) (place_in p.missing name))) a)
+    by None a =
+        let lacks : List ℕ → Bool = λ n. not (is_some (place_in p.names n)) in
+        let others = flat_map (λ (x : Entry). x.services) es in
+        let asked : Contains (name ∷ others) name = first_in name others in
+        let k = first_placed (filter lacks (name ∷ others)) name
+        (filter_in lacks (name ∷ others) name asked (ap (λ (o : Option ℕ). not (is_some o)) a)) in
+        (length p.names + k.0, λ i. option_or (a i) (option_map (λ k. length p.names + k) (k.1 i)))
+
+pub has_vertex : NameHasVertex
+unfolding whole_of
+has_vertex r name =
+    let v = asked_found r (entries_in r) name in
+    (v.0, v.1, name_stands r (Some name) (entries_in r) name v.0 v.1)

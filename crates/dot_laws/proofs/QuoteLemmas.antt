@@ -8,7 +8,7 @@ use Rattle.std.proofs.lemmas.Grind.{flat_map-append}
 use Rattle.std.proofs.lemmas.List.Folds.{list_all-append}
 use Rattle.nt_bytes.specs.Text.{is_printable}
 use Rattle.graph_text.specs.Dot.{stand_in, replaced, in_quotes}
-use Rattle.graph_laws.specs.Texts.{is_plain, is_piece, IsQuoted, QuotedIsPieces, QuotedIsPrintable, put_back, out_of_quotes, QuotedIsUndone, QuotedIsOne}
+use Rattle.dot_laws.specs.Texts.{is_plain, is_piece, IsQuoted, QuotedIsPieces, QuotedIsPrintable, put_back, out_of_quotes, QuotedIsUndone, QuotedIsOne}
 
 -- ---- byte by byte
 

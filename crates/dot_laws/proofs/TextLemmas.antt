@@ -24,8 +24,8 @@ use Rattle.graph_lines.specs.declared.graph.NodeState.TheVariants as states
 use Rattle.graph_lines.specs.declared.graph.GraphNode.{GraphNode}
 use Rattle.graph_lines.specs.declared.graph.GraphEdge.{GraphEdge}
 use Rattle.graph_text.specs.Dot.{in_quotes, head_part, head_text, label_text, shape_text, style_text, node_text, stands_in, nodes_text, cluster_front, cluster_text, phase_text, edge_text, opening_text, all_nodes_text, dot_text}
-use Rattle.graph_laws.specs.Texts.{is_text_byte, IsHeadLine, IsNamed, DotIsText}
-use Rattle.graph_laws.proofs.QuoteLemmas.{are_printable}
+use Rattle.dot_laws.specs.Texts.{is_text_byte, IsHeadLine, IsNamed, DotIsText}
+use Rattle.dot_laws.proofs.QuoteLemmas.{are_printable}
 
 -- ---- texts whose bytes all pass
 
