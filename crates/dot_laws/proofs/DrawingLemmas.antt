@@ -1,7 +1,7 @@
 -- The statements of the text of a graph are a graph of the language, with the nodes, edges and settings of the graph.
 use Rattle.std.proofs.Common.{◌≡◌, ℕ, ◌+◌, ◌||◌, Bool, true, false, cond, List, [], ◌∷◌, ◌++◌, map, refl, sym, ap, ◌∙◌, append_assoc, append-nil}
 use Rattle.std.specs.Prelude.{codes, filter, Option, Some, None}
-use Rattle.std.specs.List.{list_any, flat_map, enumerate_from}
+use Rattle.std.specs.List.{flat_map, enumerate_from}
 use Rattle.std.proofs.lemmas.Bool.{false≢true}
 use Rattle.boot_phases.specs.declared.phase.Phase.{Phase}
 use Rattle.boot_phases.specs.declared.phase.Phase.TheVariants as phases
@@ -11,7 +11,7 @@ use Rattle.graph_lines.specs.declared.graph.GraphNode.{GraphNode}
 use Rattle.graph_lines.specs.declared.graph.GraphEdge.{GraphEdge}
 use Rattle.graph_lines.specs.declared.graph.Graph.{Graph}
 use Rattle.graph_text.specs.Dot.{in_quotes, head_text, stands_in}
-use Rattle.dot_laws.specs.Statements.{Statement, Begins, Opens, Closes, DotNode, Setting, is_graph, is_rest, nodes_by, edges_by, settings_by, place_after, said_in}
+use Rattle.dot_laws.specs.Statements.{Statement, Begins, Opens, Closes, Setting, is_graph, is_rest, nodes_by, edges_by, settings_by, place_after, said_in}
 use Rattle.dot_laws.specs.Drawings.{cluster_of, drawn_node, drawn_in, drawn_nodes, drawn_edge, phase_settings, drawn_settings, TextIsDrawn}
 use Rattle.dot_laws.proofs.StatementLemmas.{node_said, nodes_said, label_said, has_some, front_said, cluster_said, phase_said, edge_said, all_said, whole_said, text_said}
 

@@ -1,5 +1,5 @@
 -- The objects of a graph give it back.
-use Rattle.std.proofs.Common.{◌≡◌, ℕ, zero, suc, ◌+◌, ◌≤◌, ◌<◌, ◌^◌, Bool, true, false, cond, List, [], ◌∷◌, ◌++◌, map, length, Option, Some, None, refl, sym, ap, ◌∙◌, append-nil, arith}
+use Rattle.std.proofs.Common.{◌≡◌, ℕ, ◌+◌, ◌≤◌, ◌^◌, cond, List, [], ◌∷◌, ◌++◌, map, length, Option, Some, None, refl, sym, ap, ◌∙◌, append-nil, arith}
 use Rattle.std.specs.Prelude.{bytes_eq, codes}
 use Rattle.std.specs.Option.{option_map}
 use Rattle.std.specs.List.{AllByRecursion, flat_map, enumerate_from}
@@ -11,7 +11,7 @@ use Rattle.boot_report.specs.declared.words.Verdict.{Verdict}
 use Rattle.boot_report.specs.declared.words.Verdict.TheVariants as verdicts
 use Rattle.boot_report.specs.Report.{verdict_of}
 use Rattle.line_text.specs.declared.form.ReportForm.TheVariants as forms
-use Rattle.line_text.specs.Objects.{Value, Number, Text, Numbers, Texts, Flag, Null, object_text}
+use Rattle.line_text.specs.Objects.{Value, Number, Text, object_text}
 use Rattle.json_laws.specs.Objects.{Object, IsObject, IsNumber, AreUnits, json_of, told}
 use Rattle.json_laws.proofs.Units.{word_units}
 use Rattle.json_laws.proofs.LineKinds.{Kind, pick, lines_told}

@@ -1,5 +1,5 @@
 -- The text of a graph is read statement by statement.
-use Rattle.std.proofs.Common.{◌≡◌, ℕ, ◌+◌, ◌==◌, ◌||◌, ◌&&◌, not, Bool, true, false, cond, List, [], ◌∷◌, ◌++◌, map, refl, sym, ap, subst, ◌∙◌, append_assoc, append-nil, arith}
+use Rattle.std.proofs.Common.{◌≡◌, ℕ, ◌+◌, ◌||◌, ◌&&◌, not, Bool, true, false, cond, List, [], ◌∷◌, ◌++◌, map, refl, sym, ap, subst, ◌∙◌, append_assoc, append-nil, arith}
 use Rattle.std.specs.Prelude.{codes, nat_le, nat_eq, bytes_eq, filter, Option, Some, None}
 use Rattle.std.specs.List.{list_all, list_any, flat_map, enumerate_from}
 use Rattle.std.specs.Fmt.{decimal}
@@ -18,10 +18,10 @@ use Rattle.graph_lines.specs.declared.graph.GraphNode.{GraphNode}
 use Rattle.graph_lines.specs.declared.graph.GraphEdge.{GraphEdge}
 use Rattle.graph_lines.specs.declared.graph.Graph.{Graph}
 use Rattle.graph_text.specs.Dot.{in_quotes, head_text, label_text, shape_text, style_text, node_front, node_text, stands_in, nodes_text, cluster_front, cluster_text, phase_text, dotted_text, edge_text, opening_text, all_nodes_text, dot_text}
-use Rattle.dot_laws.specs.Tokens.{Token, Word, OpenBracket, Equals, Arrow, Between, InWord, InQuotes, is_digit}
+use Rattle.dot_laws.specs.Tokens.{Token, Word, OpenBracket, Equals, Arrow, InWord, InQuotes, is_digit}
 use Rattle.dot_laws.specs.Statements.{Attribute, Statement, Begins, Opens, Closes, Sets, Node, Edge, lower, is_keyword, id_of, node_of, edge_of, statements_of}
 use Rattle.dot_laws.specs.Drawings.{node_id, cluster_of, shape_attributes, style_attributes, node_attributes, dotted_attributes}
-use Rattle.dot_laws.proofs.TokenLemmas.{Place, at, start, read_from, Reads, nothing, then, in_word, quoted}
+use Rattle.dot_laws.proofs.TokenLemmas.{at, start, read_from, Reads, nothing, then, in_word, quoted}
 
 -- ---- identifiers of nodes
 

@@ -1,5 +1,5 @@
 -- The text of a graph gives it back, but for names that are printed alike.
-use Rattle.std.proofs.Common.{◌≡◌, ℕ, zero, suc, ◌+◌, ◌≤◌, ◌<◌, ◌^◌, ◌==◌, not, Bool, true, false, cond, List, [], ◌∷◌, ◌++◌, map, length, slice_get, Option, Some, None, refl, sym, ap, subst, ◌∙◌, ◌⊎◌, inl, inr, append_assoc, arith}
+use Rattle.std.proofs.Common.{◌≡◌, ℕ, zero, suc, ◌+◌, ◌<◌, ◌==◌, not, Bool, true, false, cond, List, [], ◌∷◌, ◌++◌, map, length, slice_get, Option, Some, None, refl, sym, ap, subst, ◌∙◌, ◌⊎◌, inl, inr, append_assoc, arith}
 use Rattle.std.specs.Prelude.{codes, filter}
 use Rattle.std.specs.Option.{option_map}
 use Rattle.std.specs.List.{AllByRecursion, flat_map, enumerate_from}
@@ -14,18 +14,16 @@ use Rattle.json_laws.specs.Objects.{IsNumber}
 use Rattle.json_laws.proofs.LineKinds.{pick}
 use Rattle.json_laws.proofs.Values.{parted_number}
 use Rattle.json_laws.proofs.Parts.{rest_of as text_after}
-use Rattle.why_lines.specs.declared.lines.WhyLine.{WhyLine}
 use Rattle.graph_lines.specs.declared.graph.NodeKind.{NodeKind}
 use Rattle.graph_lines.specs.declared.graph.NodeKind.TheVariants as kinds
 use Rattle.graph_lines.specs.declared.graph.NodeState.{NodeState}
 use Rattle.graph_lines.specs.declared.graph.NodeState.TheVariants as states
 use Rattle.graph_lines.specs.declared.graph.GraphNode.{GraphNode}
 use Rattle.graph_lines.specs.declared.graph.GraphEdge.{GraphEdge}
-use Rattle.graph_lines.specs.declared.graph.Graph.{Graph}
-use Rattle.graph_text.specs.Dot.{in_quotes, head_text, number_text, label_text, stands_in, dot_text}
+use Rattle.graph_text.specs.Dot.{head_text, number_text, label_text, stands_in}
 use Rattle.dot_laws.specs.Statements.{Attribute, DotNode, DotEdge, Setting, dot_nodes, dot_edges, dot_settings}
-use Rattle.dot_laws.specs.Drawings.{node_id, cluster_of, shape_attributes, style_attributes, node_attributes, drawn_node, drawn_in, drawn_nodes, dotted_attributes, drawn_edge, drawn_settings}
-use Rattle.dot_laws.specs.Forms.{suits, has_number, is_drawn_in, IsStartNode, IsInRange, FitsTypes, as_printed, TextTellsGraph}
+use Rattle.dot_laws.specs.Drawings.{node_id, cluster_of, shape_attributes, style_attributes, drawn_node, drawn_in, drawn_nodes, dotted_attributes, drawn_edge, drawn_settings}
+use Rattle.dot_laws.specs.Forms.{suits, has_number, is_drawn_in, IsStartNode, IsInRange, as_printed, TextTellsGraph}
 use Rattle.dot_laws.proofs.QuoteLemmas.{are_one}
 use Rattle.dot_laws.proofs.DrawingLemmas.{text_is_drawn}
 use Rattle.dot_laws.proofs.ObjectLemmas.{first_or, rest_of}

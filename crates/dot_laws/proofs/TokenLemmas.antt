@@ -4,8 +4,8 @@ use Rattle.std.specs.Prelude.{nat_le}
 use Rattle.std.specs.List.{list_all, flat_map}
 use Rattle.std.proofs.lemmas.Bool.{false≢true, and_parts, eqb-true}
 use Rattle.graph_text.specs.Dot.{in_quotes}
-use Rattle.dot_laws.specs.Texts.{is_plain, is_piece, IsQuoted}
-use Rattle.dot_laws.specs.Tokens.{Token, Word, Quoted, Other, Reading, Step, Between, InWord, InQuotes, AfterBackslash, is_digit, is_word_byte, ended, tokens_from}
+use Rattle.dot_laws.specs.Texts.{is_piece}
+use Rattle.dot_laws.specs.Tokens.{Token, Word, Quoted, Other, Reading, Step, Between, InWord, InQuotes, AfterBackslash, is_digit, ended, tokens_from}
 use Rattle.dot_laws.specs.Statements.{Statement, statements_from}
 use Rattle.dot_laws.proofs.QuoteLemmas.{are_pieces}
 

@@ -3,9 +3,8 @@
 -- It is the part of the language that the text of a graph uses: a directed graph with a name, and in it settings of it, nodes and edges with their
 -- attributes, and subgraphs, in which are settings and nodes. Each statement ends with `;`, and commas stand between attributes.
 use Rattle.std.specs.Prelude.{ℕ, ◌+◌, nat_le, bytes_eq, codes, Bool, true, false, not, ◌&&◌, List, [], ◌∷◌, ◌++◌, map, Option, None, Some, if◌then◌else◌}
-use Rattle.std.specs.Option.{option_map}
 use Rattle.std.specs.List.{list_any}
-use Rattle.dot_laws.specs.Tokens.{Token, Word, Quoted, OpenBrace, CloseBrace, OpenBracket, CloseBracket, Equals, Comma, Semicolon, Arrow, Other, Between, is_digit, tokens_from}
+use Rattle.dot_laws.specs.Tokens.{Token, Word, Quoted, OpenBrace, CloseBrace, OpenBracket, CloseBracket, Equals, Comma, Semicolon, Arrow, Between, is_digit, tokens_from}
 
 -- ---- identifiers
 
