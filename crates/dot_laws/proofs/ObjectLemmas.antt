@@ -47,7 +47,8 @@ kind_units kinds.Group = word_units (kind_word kinds.Group) refl
 
 abbrev state_from : List ℕ → Option NodeState
 state_from word =
-    pick state_word (states.Started ∷ states.Failed ∷ states.Unmet ∷ states.NotReached ∷ states.Untaken ∷ states.NoEntry ∷ []) word
+    pick state_word (states.Started ∷ states.Failed ∷ states.Unmet ∷ states.NotReached ∷ states.Untaken ∷ states.NoEntry
+    ∷ []) word
 
 state_back : (x : NodeState) → state_from (state_word x) ≡ Some x
 state_back states.Started = refl
@@ -86,8 +87,10 @@ place_units (Some phases.Done) = word_units (place_word (Some phases.Done)) refl
 abbrev verdict_from : List ℕ → Option Verdict
 verdict_from word =
     pick (λ (v : Verdict). verdict_word (verdict_of v))
-    (verdicts.Good ∷ verdicts.GoodUnsaved ∷ verdicts.Running ∷ verdicts.FallBack ∷ verdicts.Stopped ∷ verdicts.Cut ∷ verdicts.Device
-    ∷ verdicts.Full ∷ verdicts.NoNumber ∷ verdicts.NoEntry ∷ verdicts.OtherLoader ∷ verdicts.NoSystem ∷ verdicts.NoControlSet
+    (verdicts.Good ∷ verdicts.GoodUnsaved ∷ verdicts.Running ∷ verdicts.FallBack ∷ verdicts.Stopped ∷ verdicts.Cut
+    ∷ verdicts.Device
+    ∷ verdicts.Full ∷ verdicts.NoNumber ∷ verdicts.NoEntry ∷ verdicts.OtherLoader ∷ verdicts.NoSystem
+    ∷ verdicts.NoControlSet
     ∷ verdicts.NoLastKnownGood ∷ []) word
 
 verdict_back : (x : Verdict) → verdict_from (verdict_word (verdict_of x)) ≡ Some x
@@ -121,7 +124,11 @@ Fields = List (List ℕ × Value)
 abbrev object_of : GraphLine → Object
 object_of (HeadLine line) = record { word = line_word line; fields = line_fields line }
 object_of (NodeLine n node) = record { word = codes "node"; fields = node_fields n node }
-object_of (EdgeLine from to) = record { word = codes "edge"; fields = (codes "from", Number from) ∷ (codes "to", Number to) ∷ [] }
+object_of (EdgeLine from to) = record {
+  word = codes "edge";
+  fields = (codes "from", Number from)
+      ∷ (codes "to", Number to) ∷ [];
+}
 object_of EndLine = record { word = codes "end"; fields = [] }
 
 abbrev IsGraphLine : GraphLine → Type 0
@@ -133,8 +140,16 @@ IsGraphLine EndLine = Unit {0}
 sound_head : (line : WhyLine) → IsStartLine line → IsObject (object_of (HeadLine line))
 sound_head lines.NoBoot is = record { word = refl; fields = tt }
 sound_head (lines.Start number) is = record { word = refl; fields = ((refl, is), tt) }
-sound_head (lines.Set number on_good) is = record { word = refl; fields = ((refl, is), ((refl, set_units on_good), tt)) }
-sound_head (lines.Verdict verdict) is = record { word = refl; fields = ((refl, verdict_units (verdict_of verdict)), tt) }
+sound_head (lines.Set number on_good) is = record {
+  word = refl;
+  fields =
+      ((refl, is), ((refl, set_units on_good), tt));
+}
+sound_head (lines.Verdict verdict) is = record {
+  word = refl;
+  fields =
+      ((refl, verdict_units (verdict_of verdict)), tt);
+}
 sound_head (lines.EndedBy name) is = record { word = refl; fields = ((refl, is), tt) }
 sound_head (lines.Vital name) is = record { word = refl; fields = ((refl, is), tt) }
 sound_head line is = absurd is
@@ -145,7 +160,13 @@ sound_object (NodeLine n node) is = record {
   word = refl;
   fields = (
     (refl, is.0),
-    ((refl, kind_units node.kind), ((refl, place_units node.phase), ((refl, state_units node.state), ((refl, is.1.0), ((refl, is.1.1), tt))))),
+    (
+      (refl, kind_units node.kind),
+      (
+        (refl, place_units node.phase),
+        ((refl, state_units node.state), ((refl, is.1.0), ((refl, is.1.1), tt))),
+      ),
+    ),
   );
 }
 sound_object (EdgeLine from to) is = record { word = refl; fields = ((refl, is.0), ((refl, is.1), tt)) }
@@ -179,7 +200,8 @@ node_with n number name (Some kind) (Some phase) (Some state) =
 node_with n number name kind phase state = None
 
 abbrev node_from : Fields → Option GraphLine
-node_from ((a, Number n) ∷ (b, Text kind) ∷ (c, Text place) ∷ (d, Text state) ∷ (e, Number number) ∷ (f, Text name) ∷ []) =
+node_from ((a, Number n) ∷ (b, Text kind) ∷ (c, Text place) ∷ (d, Text state) ∷ (e, Number number) ∷ (f, Text name)
+    ∷ []) =
     node_with n number name (kind_from kind) (place_from place) (state_from state)
 node_from other = None
 
@@ -239,41 +261,51 @@ abbrev edge_line : GraphEdge → GraphLine
 edge_line edge = EdgeLine edge.from edge.to
 
 abbrev lines_of : List WhyLine → Graph → List GraphLine
-lines_of heads graph = map HeadLine heads ++ map node_line (enumerate_from 1 graph.nodes) ++ map edge_line graph.edges ++ EndLine ∷ []
+lines_of heads graph = map HeadLine heads ++ map node_line (enumerate_from 1 graph.nodes) ++ map edge_line graph.edges
+    ++ EndLine ∷ []
 
-mapped : {X Y Z : Type 0} (f : X → Y) (h : Y → List Z) (xs : List X) → flat_map h (map f xs) ≡ flat_map (λ (x : X). h (f x)) xs
+mapped : {X Y Z : Type 0} (f : X → Y) (h : Y → List Z) (xs : List X) → flat_map h (map f xs)
+    ≡ flat_map (λ (x : X). h (f x)) xs
 mapped f h [] = refl
 mapped f h (x ∷ xs) = ap (λ zs. h (f x) ++ zs) (mapped f h xs)
 
 -- what is made of each line
-of_lines : {Z : Type 0} (h : GraphLine → List Z) (heads : List WhyLine) (graph : Graph) → flat_map h (lines_of heads graph)
-    ≡ flat_map (λ (l : WhyLine). h (HeadLine l)) heads ++ flat_map (λ (n : ℕ × GraphNode). h (node_line n)) (enumerate_from 1 graph.nodes)
+of_lines : {Z : Type 0} (h : GraphLine → List Z) (heads : List WhyLine) (graph : Graph)
+    → flat_map h (lines_of heads graph)
+    ≡ flat_map (λ (l : WhyLine). h (HeadLine l)) heads
+    ++ flat_map (λ (n : ℕ × GraphNode). h (node_line n)) (enumerate_from 1 graph.nodes)
     ++ flat_map (λ (e : GraphEdge). h (edge_line e)) graph.edges ++ flat_map h (EndLine ∷ [])
 of_lines h heads graph =
     let a = map HeadLine heads in
     let b = map node_line (enumerate_from 1 graph.nodes) in
     let c = map edge_line graph.edges in
     flat_map-append h (a ++ b ++ c) (EndLine ∷ [])
-    ∙ ap (λ zs. zs ++ flat_map h (EndLine ∷ [])) (flat_map-append h (a ++ b) c ∙ ap (λ zs. zs ++ flat_map h c) (flat_map-append h a b))
-    ∙ (λ i. mapped HeadLine h heads i ++ mapped node_line h (enumerate_from 1 graph.nodes) i ++ mapped edge_line h graph.edges i
+    ∙ ap (λ zs. zs ++ flat_map h (EndLine ∷ []))
+    (flat_map-append h (a ++ b) c ∙ ap (λ zs. zs ++ flat_map h c) (flat_map-append h a b))
+    ∙ (λ i. mapped HeadLine h heads i ++ mapped node_line h (enumerate_from 1 graph.nodes) i
+    ++ mapped edge_line h graph.edges i
     ++ flat_map h (EndLine ∷ []))
 
-nodes_as : (n : ℕ) (nodes : List GraphNode) → nodes_json n nodes ≡ flat_map (λ (m : ℕ × GraphNode). json_of (object_of (node_line m))) (enumerate_from n nodes)
+nodes_as : (n : ℕ) (nodes : List GraphNode) → nodes_json n nodes
+    ≡ flat_map (λ (m : ℕ × GraphNode). json_of (object_of (node_line m))) (enumerate_from n nodes)
 unfolding node_json
 nodes_as n [] = refl
 nodes_as n (node ∷ nodes) = ap (λ t. json_of (object_of (NodeLine n node)) ++ t) (nodes_as (n + 1) nodes)
 
-heads_as : (heads : List WhyLine) → printed_lines forms.Json heads ≡ flat_map (λ (l : WhyLine). json_of (object_of (HeadLine l))) heads
+heads_as : (heads : List WhyLine) → printed_lines forms.Json heads
+    ≡ flat_map (λ (l : WhyLine). json_of (object_of (HeadLine l))) heads
 unfolding printed_lines
 heads_as [] = refl
 heads_as (line ∷ heads) = ap (λ t. line_json line ++ t) (heads_as heads)
 
-edges_as : (edges : List GraphEdge) → flat_map edge_json edges ≡ flat_map (λ (e : GraphEdge). json_of (object_of (edge_line e))) edges
+edges_as : (edges : List GraphEdge) → flat_map edge_json edges
+    ≡ flat_map (λ (e : GraphEdge). json_of (object_of (edge_line e))) edges
 unfolding edge_json
 edges_as [] = refl
 edges_as (edge ∷ edges) = ap (λ t. json_of (object_of (edge_line edge)) ++ t) (edges_as edges)
 
-json_is : (heads : List WhyLine) (graph : Graph) → json_text heads graph ≡ flat_map (λ l. json_of (object_of l)) (lines_of heads graph)
+json_is : (heads : List WhyLine) (graph : Graph) → json_text heads graph
+    ≡ flat_map (λ l. json_of (object_of l)) (lines_of heads graph)
 unfolding json_text
 json_is heads graph =
     (λ i. heads_as heads i ++ nodes_as 1 graph.nodes i ++ edges_as graph.edges i ++ object_text (codes "end") [])
@@ -303,7 +335,8 @@ alone : {X : Type 0} (xs : List X) → flat_map (λ (x : X). x ∷ []) xs ≡ xs
 alone [] = refl
 alone (x ∷ xs) = ap (λ ys. x ∷ ys) (alone xs)
 
-unnumbered : (n : ℕ) (nodes : List GraphNode) → flat_map (λ (m : ℕ × GraphNode). m.1 ∷ []) (enumerate_from n nodes) ≡ nodes
+unnumbered : (n : ℕ) (nodes : List GraphNode) → flat_map (λ (m : ℕ × GraphNode). m.1 ∷ []) (enumerate_from n nodes)
+    ≡ nodes
 unnumbered n [] = refl
 unnumbered n (node ∷ nodes) = ap (λ ns. node ∷ ns) (unnumbered (n + 1) nodes)
 
@@ -312,31 +345,38 @@ ends_of edge = (edge.from, edge.to)
 
 heads_back : (heads : List WhyLine) (graph : Graph) → flat_map head_in (lines_of heads graph) ≡ heads
 heads_back heads graph =
-    let no_nodes : flat_map (λ (n : ℕ × GraphNode). head_in (node_line n)) (enumerate_from 1 graph.nodes) ≡ [] = none_of (enumerate_from 1 graph.nodes) in
+    let no_nodes : flat_map (λ (n : ℕ × GraphNode). head_in (node_line n)) (enumerate_from 1 graph.nodes)
+    ≡ [] = none_of (enumerate_from 1 graph.nodes) in
     let no_edges : flat_map (λ (e : GraphEdge). head_in (edge_line e)) graph.edges ≡ [] = none_of graph.edges in
-    of_lines head_in heads graph ∙ (λ i. alone heads i ++ no_nodes i ++ no_edges i ++ []) ∙ append-nil (heads ++ [] ++ [])
+    of_lines head_in heads graph ∙ (λ i. alone heads i ++ no_nodes i ++ no_edges i ++ [])
+    ∙ append-nil (heads ++ [] ++ [])
     ∙ append-nil (heads ++ []) ∙ append-nil heads
 
 nodes_back : (heads : List WhyLine) (graph : Graph) → flat_map node_in (lines_of heads graph) ≡ graph.nodes
 nodes_back heads graph =
     let no_heads : flat_map (λ (l : WhyLine). node_in (HeadLine l)) heads ≡ [] = none_of heads in
     let no_edges : flat_map (λ (e : GraphEdge). node_in (edge_line e)) graph.edges ≡ [] = none_of graph.edges in
-    of_lines node_in heads graph ∙ (λ i. no_heads i ++ unnumbered 1 graph.nodes i ++ no_edges i ++ []) ∙ append-nil (graph.nodes ++ [])
+    of_lines node_in heads graph ∙ (λ i. no_heads i ++ unnumbered 1 graph.nodes i ++ no_edges i ++ [])
+    ∙ append-nil (graph.nodes ++ [])
     ∙ append-nil graph.nodes
 
 edges_back : (heads : List WhyLine) (graph : Graph) → flat_map ends_in (lines_of heads graph) ≡ map ends_of graph.edges
 edges_back heads graph =
     let no_heads : flat_map (λ (l : WhyLine). ends_in (HeadLine l)) heads ≡ [] = none_of heads in
-    let no_nodes : flat_map (λ (n : ℕ × GraphNode). ends_in (node_line n)) (enumerate_from 1 graph.nodes) ≡ [] = none_of (enumerate_from 1 graph.nodes) in
-    of_lines ends_in heads graph ∙ (λ i. no_heads i ++ no_nodes i ++ singles ends_of graph.edges i ++ []) ∙ append-nil (map ends_of graph.edges)
+    let no_nodes : flat_map (λ (n : ℕ × GraphNode). ends_in (node_line n)) (enumerate_from 1 graph.nodes)
+    ≡ [] = none_of (enumerate_from 1 graph.nodes) in
+    of_lines ends_in heads graph ∙ (λ i. no_heads i ++ no_nodes i ++ singles ends_of graph.edges i ++ [])
+    ∙ append-nil (map ends_of graph.edges)
 
 -- ---- sound lines
 
-all_both : {X : Type 0} (P : X → Type 0) (xs ys : List X) → AllByRecursion P xs → AllByRecursion P ys → AllByRecursion P (xs ++ ys)
+all_both : {X : Type 0} (P : X → Type 0) (xs ys : List X) → AllByRecursion P xs → AllByRecursion P ys
+    → AllByRecursion P (xs ++ ys)
 all_both P [] ys a b = b
 all_both P (x ∷ xs) ys a b = (a.0, all_both P xs ys a.1 b)
 
-sound_heads : (heads : List WhyLine) → AllByRecursion IsStartLine heads → AllByRecursion IsGraphLine (map HeadLine heads)
+sound_heads : (heads : List WhyLine) → AllByRecursion IsStartLine heads
+    → AllByRecursion IsGraphLine (map HeadLine heads)
 sound_heads [] are = tt
 sound_heads (line ∷ heads) are = (are.0, sound_heads heads are.1)
 
@@ -357,8 +397,10 @@ sound_lines heads graph are fits =
     let b = sound_nodes 1 graph.nodes (omega (arith, fits.count)) fits.nodes in
     let c = sound_edges graph.edges fits.from fits.to in
     let ab = all_both IsGraphLine (map HeadLine heads) (map node_line (enumerate_from 1 graph.nodes)) a b in
-    let abc = all_both IsGraphLine (map HeadLine heads ++ map node_line (enumerate_from 1 graph.nodes)) (map edge_line graph.edges) ab c in
-    all_both IsGraphLine (map HeadLine heads ++ map node_line (enumerate_from 1 graph.nodes) ++ map edge_line graph.edges) (EndLine ∷ []) abc (tt, tt)
+    let abc = all_both IsGraphLine (map HeadLine heads ++ map node_line (enumerate_from 1 graph.nodes))
+    (map edge_line graph.edges) ab c in
+    all_both IsGraphLine (map HeadLine heads ++ map node_line (enumerate_from 1 graph.nodes)
+    ++ map edge_line graph.edges) (EndLine ∷ []) abc (tt, tt)
 
 -- ---- the graph
 
@@ -370,7 +412,8 @@ abbrev pub rest_of : {X : Type 0} → List X → List X
 rest_of [] = []
 rest_of (x ∷ xs) = xs
 
-same_edges : (ns ms : List GraphNode) (es fs : List GraphEdge) → ns ≡ ms → AllByRecursion (IsStartEdge ns) es → AllByRecursion (IsStartEdge ms) fs
+same_edges : (ns ms : List GraphNode) (es fs : List GraphEdge) → ns ≡ ms → AllByRecursion (IsStartEdge ns) es
+    → AllByRecursion (IsStartEdge ms) fs
     → map ends_of es ≡ map ends_of fs → es ≡ fs
 same_edges ns ms [] [] same a b is = refl
 same_edges ns ms [] (f ∷ fs) same a b is = absurd cc
@@ -387,7 +430,8 @@ objects_tell heads more g f is_heads is_more is_g is_f fits_g fits_f same =
     (sound_lines more f is_more fits_f) (sym (json_is heads g) ∙ same ∙ json_is more f) in
     let heads' : heads ≡ more = sym (heads_back heads g) ∙ ap (flat_map head_in) lines ∙ heads_back more f in
     let nodes : g.nodes ≡ f.nodes = sym (nodes_back heads g) ∙ ap (flat_map node_in) lines ∙ nodes_back more f in
-    let ends : map ends_of g.edges ≡ map ends_of f.edges = sym (edges_back heads g) ∙ ap (flat_map ends_in) lines ∙ edges_back more f in
+    let ends : map ends_of g.edges ≡ map ends_of f.edges = sym (edges_back heads g) ∙ ap (flat_map ends_in) lines
+    ∙ edges_back more f in
     let edges = same_edges g.nodes f.nodes g.edges f.edges nodes is_g.edges is_f.edges ends in
     (heads', (λ i. record { nodes = nodes i; edges = edges i }))
 

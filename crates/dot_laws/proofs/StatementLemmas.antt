@@ -97,28 +97,35 @@ node_read : {before : List ℕ} (n : ℕ) (node : GraphNode) → Reads start bef
 unfolding node_text
 node_read {before} n node blank =
     let label = in_quotes (label_text node) in
-    let tail : Reads (at (InQuotes label) (labelled (node_id n))) (tail_text node.kind node.state) (node_said (n, node) ∷ []) start =
+    let tail : Reads (at (InQuotes label) (labelled (node_id n))) (tail_text node.kind node.state)
+    (node_said (n, node) ∷ []) start =
     record {
       all = λ rest. tail_read node.kind node.state (node_id n) label rest
-          ∙ ap (λ (id : Option (List ℕ)). node_of id (Some (attributes_with label node.kind node.state)) ∷ read_from start rest) (node_is n);
+          ∙ ap (λ (id : Option (List ℕ)). node_of id (Some (attributes_with label node.kind node.state))
+          ∷ read_from start rest) (node_is n);
     } in
     subst (λ (t : List ℕ). Reads start t (node_said (n, node) ∷ []) start)
-    (sym (moved (node_front before n ++ label) (codes "\"") (shape_text node.kind) (style_text node.state) (codes "];\n")))
+    (sym (moved (node_front before n ++ label) (codes "\"") (shape_text node.kind) (style_text node.state)
+    (codes "];\n")))
     (then (then (front_read n blank) (quoted (label_text node) (labelled (node_id n)))) tail)
 
 -- ---- nodes
 
 -- the nodes that are in a phase, or in none, numbered on from n
 abbrev pub nodes_said : Option Phase → ℕ → List GraphNode → List Statement
-nodes_said place n nodes = map node_said (filter (λ (m : ℕ × GraphNode). stands_in place m.1.phase) (enumerate_from n nodes))
+nodes_said place n nodes = map node_said (filter (λ (m : ℕ × GraphNode). stands_in place m.1.phase)
+    (enumerate_from n nodes))
 
 nodes_read : {before : List ℕ} (place : Option Phase) (n : ℕ) (nodes : List GraphNode) → Reads start before [] start
     → Reads start (nodes_text place before n nodes) (nodes_said place n nodes) start
 nodes_read place n [] blank = nothing
-nodes_read {before} place n (node ∷ nodes) blank = by (stands_in place node.phase) (nodes_read place (n + 1) nodes blank)
+nodes_read {before} place n (node ∷ nodes) blank = by (stands_in place node.phase)
+    (nodes_read place (n + 1) nodes blank)
   where
-    by : (b : Bool) → Reads start (nodes_text place before (n + 1) nodes) (nodes_said place (n + 1) nodes) start → Reads start (cond b (node_text before n node) [] ++ nodes_text place before (n + 1) nodes)
-        (map node_said (cond b ((n, node) ∷ filter (λ (m : ℕ × GraphNode). stands_in place m.1.phase) (enumerate_from (n + 1) nodes))
+    by : (b : Bool) → Reads start (nodes_text place before (n + 1) nodes) (nodes_said place (n + 1) nodes) start
+        → Reads start (cond b (node_text before n node) [] ++ nodes_text place before (n + 1) nodes)
+        (map node_said (cond b ((n, node) ∷ filter (λ (m : ℕ × GraphNode). stands_in place m.1.phase)
+        (enumerate_from (n + 1) nodes))
         (filter (λ (m : ℕ × GraphNode). stands_in place m.1.phase) (enumerate_from (n + 1) nodes)))) start
     by true rest = then (node_read n node blank) rest
     by false rest = rest
@@ -147,14 +154,17 @@ cluster_read phases.System = record { all = λ rest. refl }
 cluster_read phases.Automatic = record { all = λ rest. refl }
 cluster_read phases.Done = record { all = λ rest. refl }
 
-phase_read : (phase : Phase) (nodes : List GraphNode) → Reads start (phase_text phase nodes) (phase_said phase nodes) start
+phase_read : (phase : Phase) (nodes : List GraphNode)
+    → Reads start (phase_text phase nodes) (phase_said phase nodes) start
 unfolding phase_text cluster_text
 phase_read phase nodes = by (has_some phase nodes)
   where
-    by : (b : Bool) → Reads start (cond b (cluster_front phase ++ nodes_text (Some phase) (codes "    ") 1 nodes ++ codes "  }\n") [])
+    by : (b : Bool) → Reads start (cond b (cluster_front phase ++ nodes_text (Some phase) (codes "    ") 1 nodes
+        ++ codes "  }\n") [])
         (cond b (cluster_said phase nodes) []) start
     by true =
-        then (then (cluster_read phase) (nodes_read (Some phase) 1 nodes (record { all = λ rest. refl }))) (record { all = λ rest. refl })
+        then (then (cluster_read phase) (nodes_read (Some phase) 1 nodes (record { all = λ rest. refl })))
+        (record { all = λ rest. refl })
     by false = nothing
 
 -- ---- edges
@@ -172,18 +182,22 @@ edge_read : (edge : GraphEdge) → Reads start (edge_text edge) (edge_said edge 
 unfolding edge_text
 edge_read edge =
     let word : Reads start (codes "  n") [] (at (InWord (codes "n")) []) = record { all = λ rest. refl } in
-    let arrow : Reads (at (InWord (node_id edge.from)) []) (codes " -> n") [] (at (InWord (codes "n")) (Word (node_id edge.from) ∷ Arrow ∷ [])) =
+    let arrow : Reads (at (InWord (node_id edge.from)) []) (codes " -> n") []
+    (at (InWord (codes "n")) (Word (node_id edge.from) ∷ Arrow ∷ [])) =
     record { all = λ rest. refl } in
     let ends = then (then (then word (in_word (codes "n") (decimal edge.from) [] (all_digits edge.from))) arrow)
     (in_word (codes "n") (decimal edge.to) (Word (node_id edge.from) ∷ Arrow ∷ []) (all_digits edge.to)) in
-    let end : Reads (at (InWord (node_id edge.to)) (Word (node_id edge.from) ∷ Arrow ∷ [])) (dotted_text edge.of_group ++ codes ";\n")
+    let end : Reads (at (InWord (node_id edge.to)) (Word (node_id edge.from) ∷ Arrow ∷ []))
+    (dotted_text edge.of_group ++ codes ";\n")
     (edge_said edge ∷ []) start =
     record {
       all = λ rest. end_read edge.of_group (node_id edge.from) (node_id edge.to) rest
-          ∙ (λ i. edge_of (node_is edge.from i) (node_is edge.to i) (Some (dotted_attributes edge.of_group)) ∷ read_from start rest);
+          ∙ (λ i. edge_of (node_is edge.from i) (node_is edge.to i) (Some (dotted_attributes edge.of_group))
+          ∷ read_from start rest);
     } in
     subst (λ (t : List ℕ). Reads start t (edge_said edge ∷ []) start)
-    (sym (append_assoc (codes "  n" ++ decimal edge.from ++ codes " -> n" ++ decimal edge.to) (dotted_text edge.of_group) (codes ";\n")))
+    (sym (append_assoc (codes "  n" ++ decimal edge.from ++ codes " -> n" ++ decimal edge.to)
+    (dotted_text edge.of_group) (codes ";\n")))
     (then ends end)
 
 edges_read : (edges : List GraphEdge) → Reads start (flat_map edge_text edges) (map edge_said edges) start
@@ -192,10 +206,12 @@ edges_read (edge ∷ edges) = then (edge_read edge) (edges_read edges)
 
 -- ---- the whole
 
-opening_read : (head : List WhyLine) → Reads start (opening_text head) (Begins (codes "ntboot") ∷ label_said (in_quotes (head_text head)) ∷ []) start
+opening_read : (head : List WhyLine) → Reads start (opening_text head)
+    (Begins (codes "ntboot") ∷ label_said (in_quotes (head_text head)) ∷ []) start
 unfolding opening_text
 opening_read head =
-    let front : Reads start (codes "digraph ntboot {\n  label=\"") (Begins (codes "ntboot") ∷ []) (at (InQuotes []) (Word (codes "label") ∷ Equals ∷ [])) =
+    let front : Reads start (codes "digraph ntboot {\n  label=\"") (Begins (codes "ntboot") ∷ [])
+    (at (InQuotes []) (Word (codes "label") ∷ Equals ∷ [])) =
     record { all = λ rest. refl } in
     let end : Reads (at (InQuotes (in_quotes (head_text head))) (Word (codes "label") ∷ Equals ∷ [])) (codes "\";\n")
     (label_said (in_quotes (head_text head)) ∷ []) start =
@@ -203,19 +219,23 @@ opening_read head =
     then (then front (quoted (head_text head) (Word (codes "label") ∷ Equals ∷ []))) end
 
 abbrev pub all_said : List GraphNode → List Statement
-all_said nodes = phase_said phases.Boot nodes ++ phase_said phases.System nodes ++ phase_said phases.Automatic nodes ++ nodes_said None 1 nodes
+all_said nodes = phase_said phases.Boot nodes ++ phase_said phases.System nodes ++ phase_said phases.Automatic nodes
+    ++ nodes_said None 1 nodes
 
 abbrev pub whole_said : List WhyLine → Graph → List Statement
 whole_said head graph =
-    (Begins (codes "ntboot") ∷ label_said (in_quotes (head_text head)) ∷ []) ++ all_said graph.nodes ++ map edge_said graph.edges ++ Closes ∷ []
+    (Begins (codes "ntboot") ∷ label_said (in_quotes (head_text head)) ∷ []) ++ all_said graph.nodes
+    ++ map edge_said graph.edges ++ Closes ∷ []
 
 whole_read : (head : List WhyLine) (graph : Graph) → Reads start (dot_text head graph) (whole_said head graph) start
 unfolding dot_text all_nodes_text
 whole_read head graph =
-    let clusters = then (then (phase_read phases.Boot graph.nodes) (phase_read phases.System graph.nodes)) (phase_read phases.Automatic graph.nodes) in
+    let clusters = then (then (phase_read phases.Boot graph.nodes) (phase_read phases.System graph.nodes))
+    (phase_read phases.Automatic graph.nodes) in
     let all = then clusters (nodes_read None 1 graph.nodes (record { all = λ rest. refl })) in
     then (then (then (opening_read head) all) (edges_read graph.edges)) (record { all = λ rest. refl })
 
 pub text_said : (head : List WhyLine) (graph : Graph) → statements_of (dot_text head graph) ≡ whole_said head graph
 text_said head graph =
-    ap statements_of (sym (append-nil (dot_text head graph))) ∙ (whole_read head graph).all [] ∙ append-nil (whole_said head graph)
+    ap statements_of (sym (append-nil (dot_text head graph))) ∙ (whole_read head graph).all []
+    ∙ append-nil (whole_said head graph)

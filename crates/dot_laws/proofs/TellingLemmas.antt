@@ -63,7 +63,8 @@ mapped_out f (x ∷ xs) y (inr i) = let r = mapped_out f xs y i in (r.0, inr r.1
 
 kept_in : {X : Type 0} (p : X → Bool) (xs : List X) (x : X) → In x xs → p x ≡ true → In x (filter p xs)
 kept_in p [] x i on = absurd i
-kept_in {X} p (y ∷ xs) x (inl e) on = subst (λ (b : Bool). In x (cond b (y ∷ filter p xs) (filter p xs))) (sym (ap p e ∙ on)) (inl e)
+kept_in {X} p (y ∷ xs) x (inl e) on = subst (λ (b : Bool). In x (cond b (y ∷ filter p xs) (filter p xs)))
+    (sym (ap p e ∙ on)) (inl e)
 kept_in {X} p (y ∷ xs) x (inr i) on = by (p y) (kept_in p xs x i on)
   where
     by : (b : Bool) → In x (filter p xs) → In x (cond b (y ∷ filter p xs) (filter p xs))
@@ -74,13 +75,15 @@ kept_out : {X : Type 0} (p : X → Bool) (xs : List X) (x : X) → In x (filter 
 kept_out p [] x i = absurd i
 kept_out {X} p (y ∷ xs) x i = by (p y) refl i (kept_out p xs x)
   where
-    by : (b : Bool) → p y ≡ b → In x (cond b (y ∷ filter p xs) (filter p xs)) → (In x (filter p xs) → In x xs × (p x ≡ true))
+    by : (b : Bool) → p y ≡ b → In x (cond b (y ∷ filter p xs) (filter p xs))
+        → (In x (filter p xs) → In x xs × (p x ≡ true))
         → In x (y ∷ xs) × (p x ≡ true)
     by true is (inl e) rest = (inl e, ap p (sym e) ∙ is)
     by true is (inr j) rest = let r = rest j in (inr r.0, r.1)
     by false is j rest = let r = rest j in (inr r.0, r.1)
 
-numbered_in : {X : Type 0} (m : ℕ) (xs : List X) (k : ℕ) (x : X) → slice_get xs k ≡ Some x → In (m + k, x) (enumerate_from m xs)
+numbered_in : {X : Type 0} (m : ℕ) (xs : List X) (k : ℕ) (x : X) → slice_get xs k ≡ Some x
+    → In (m + k, x) (enumerate_from m xs)
 numbered_in m [] k x is = absurd cc
 numbered_in m (y ∷ xs) zero x is = let e : m ≡ m + 0 = omega arith in inl (λ i. (e i, same_Some y x is i))
 numbered_in {X} m (y ∷ xs) (suc k) x is =
@@ -95,7 +98,8 @@ numbered_out {X} m (y ∷ xs) p (inl e) =
     (0, omega (arith, at), ap (λ (q : ℕ × X). Some q.1) e)
 numbered_out m (y ∷ xs) p (inr i) = let r = numbered_out (m + 1) xs p i in (suc r.0, omega (arith, r.1), r.2)
 
-all_at : {X : Type 0} (P : X → Type 0) (xs : List X) (k : ℕ) (x : X) → AllByRecursion P xs → slice_get xs k ≡ Some x → P x
+all_at : {X : Type 0} (P : X → Type 0) (xs : List X) (k : ℕ) (x : X) → AllByRecursion P xs → slice_get xs k ≡ Some x
+    → P x
 all_at P [] k x all is = absurd cc
 all_at P (y ∷ xs) zero x all is = subst P (same_Some y x is) all.0
 all_at P (y ∷ xs) (suc k) x all is = all_at P xs k x all.1 is
@@ -136,7 +140,8 @@ placed_in place nodes k node at on =
     mapped_in (drawn_node place) (filter stands (enumerate_from 1 nodes)) (1 + k, node)
     (kept_in stands (enumerate_from 1 nodes) (1 + k, node) (numbered_in 1 nodes k node at) on)
 
-placed_out : (place : Option Phase) (nodes : List GraphNode) (x : DotNode) → In x (drawn_in place nodes) → IsDrawnFrom nodes x
+placed_out : (place : Option Phase) (nodes : List GraphNode) (x : DotNode) → In x (drawn_in place nodes)
+    → IsDrawnFrom nodes x
 placed_out place nodes x i =
     let stands : ℕ × GraphNode → Bool = λ n. stands_in place n.1.phase in
     let m = mapped_out (drawn_node place) (filter stands (enumerate_from 1 nodes)) x i in
@@ -157,7 +162,8 @@ record IsDrawnAs (nodes : List GraphNode) (k : ℕ) (node : GraphNode) : Type 0 
   on : stands_in place node.phase ≡ true
   there : In (drawn_node place (1 + k, node)) (drawn_nodes nodes)
 
-node_in : (nodes : List GraphNode) (k : ℕ) (node : GraphNode) → slice_get nodes k ≡ Some node → is_drawn_in node.phase ≡ true
+node_in : (nodes : List GraphNode) (k : ℕ) (node : GraphNode) → slice_get nodes k ≡ Some node → is_drawn_in node.phase
+    ≡ true
     → IsDrawnAs nodes k node
 node_in nodes k node at drawn = by node.phase refl
   where
@@ -180,11 +186,21 @@ node_in nodes k node at drawn = by node.phase refl
     by (Some phases.Boot) is =
         let on : stands_in (Some phases.Boot) node.phase ≡ true = ap (stands_in (Some phases.Boot)) is in
         let i = placed_in (Some phases.Boot) nodes k node at on in
-        record { place = Some phases.Boot; on = on; there = in_left (a ++ b ++ c) d _ (in_left (a ++ b) c _ (in_left a b _ i)) }
+        record {
+          place = Some phases.Boot;
+          on = on;
+          there = in_left (a ++ b ++ c) d _
+              (in_left (a ++ b) c _ (in_left a b _ i));
+        }
     by (Some phases.System) is =
         let on : stands_in (Some phases.System) node.phase ≡ true = ap (stands_in (Some phases.System)) is in
         let i = placed_in (Some phases.System) nodes k node at on in
-        record { place = Some phases.System; on = on; there = in_left (a ++ b ++ c) d _ (in_left (a ++ b) c _ (in_right a b _ i)) }
+        record {
+          place = Some phases.System;
+          on = on;
+          there = in_left (a ++ b ++ c) d _
+              (in_left (a ++ b) c _ (in_right a b _ i));
+        }
     by (Some phases.Automatic) is =
         let on : stands_in (Some phases.Automatic) node.phase ≡ true = ap (stands_in (Some phases.Automatic)) is in
         let i = placed_in (Some phases.Automatic) nodes k node at on in
@@ -235,8 +251,10 @@ stands_same p q is = absurd (false≢true is)
 -- kind and state by the attributes after the label
 abbrev looks : List (NodeKind × NodeState)
 looks =
-    (kinds.Entry, states.Started) ∷ (kinds.Entry, states.Failed) ∷ (kinds.Entry, states.Unmet) ∷ (kinds.Entry, states.NotReached)
-    ∷ (kinds.Entry, states.Untaken) ∷ (kinds.Missing, states.NoEntry) ∷ (kinds.Group, states.Started) ∷ (kinds.Group, states.Unmet) ∷ []
+    (kinds.Entry, states.Started) ∷ (kinds.Entry, states.Failed) ∷ (kinds.Entry, states.Unmet)
+    ∷ (kinds.Entry, states.NotReached)
+    ∷ (kinds.Entry, states.Untaken) ∷ (kinds.Missing, states.NoEntry) ∷ (kinds.Group, states.Started)
+    ∷ (kinds.Group, states.Unmet) ∷ []
 
 abbrev look_of : NodeKind → NodeState → List Attribute
 look_of kind state = shape_attributes kind ++ style_attributes state
@@ -247,7 +265,8 @@ code_of attributes = flat_map (λ (a : Attribute). a.0 ++ a.1) attributes
 abbrev look_from : List Attribute → Option (NodeKind × NodeState)
 look_from attributes = pick (λ (l : NodeKind × NodeState). code_of (look_of l.0 l.1)) looks (code_of attributes)
 
-look_back : (kind : NodeKind) (state : NodeState) → suits kind state ≡ true → look_from (look_of kind state) ≡ Some (kind, state)
+look_back : (kind : NodeKind) (state : NodeState) → suits kind state ≡ true → look_from (look_of kind state)
+    ≡ Some (kind, state)
 look_back kinds.Entry states.Started is = refl
 look_back kinds.Entry states.Failed is = refl
 look_back kinds.Entry states.Unmet is = refl
@@ -265,18 +284,22 @@ label_told a b x y true is_a is_b at_a at_b e =
     let zero_a = eqb-true a 0 at_a in
     let zero_b = eqb-true b 0 at_b in (
       zero_a ∙ sym zero_b,
-      sym (ap (λ (z : Bool). cond z [] (decimal a ++ codes " ") ++ x) at_a) ∙ e ∙ ap (λ (z : Bool). cond z [] (decimal b ++ codes " ") ++ y) at_b,
+      sym (ap (λ (z : Bool). cond z [] (decimal a ++ codes " ") ++ x) at_a) ∙ e
+          ∙ ap (λ (z : Bool). cond z [] (decimal b ++ codes " ") ++ y) at_b,
     )
 label_told a b x y false is_a is_b at_a at_b e =
-    let with_a = ap (λ (z : Bool). cond z [] (decimal a ++ codes " ") ++ x) at_a ∙ append_assoc (decimal a) (codes " ") x in
-    let with_b = ap (λ (z : Bool). cond z [] (decimal b ++ codes " ") ++ y) at_b ∙ append_assoc (decimal b) (codes " ") y in
+    let with_a = ap (λ (z : Bool). cond z [] (decimal a ++ codes " ") ++ x) at_a
+    ∙ append_assoc (decimal a) (codes " ") x in
+    let with_b = ap (λ (z : Bool). cond z [] (decimal b ++ codes " ") ++ y) at_b
+    ∙ append_assoc (decimal b) (codes " ") y in
     let both = parted_number a b (32 ∷ x) (32 ∷ y) is_a is_b refl refl (sym with_a ∙ e ∙ with_b) in
     (both.0, ap text_after both.1)
 
 abbrev value_first : List Attribute → List ℕ
 value_first attributes = (first_or ([], []) attributes).1
 
-module _ (p q : Option Phase) (j k : ℕ) (n m : GraphNode) (is_n : IsStartNode n) (is_m : IsStartNode m) (in_n : IsInRange n) (in_m : IsInRange m)
+module _ (p q : Option Phase) (j k : ℕ) (n m : GraphNode) (is_n : IsStartNode n) (is_m : IsStartNode m)
+    (in_n : IsInRange n) (in_m : IsInRange m)
     (is_j : IsNumber j) (is_k : IsNumber k) (on_n : stands_in p n.phase ≡ true) (on_m : stands_in q m.phase ≡ true)
     (e : drawn_node p (j, n) ≡ drawn_node q (k, m)) where
   same_number : j ≡ k
@@ -290,7 +313,8 @@ module _ (p q : Option Phase) (j k : ℕ) (n m : GraphNode) (is_n : IsStartNode 
   look : ◌≡◌ {A = NodeKind × NodeState} (n.kind, n.state) (m.kind, m.state)
   look =
       same_Some (n.kind, n.state) (m.kind, m.state)
-      (sym (look_back n.kind n.state is_n.suits) ∙ ap (λ (d : DotNode). look_from (rest_of d.attributes)) e ∙ look_back m.kind m.state is_m.suits)
+      (sym (look_back n.kind n.state is_n.suits) ∙ ap (λ (d : DotNode). look_from (rest_of d.attributes)) e
+      ∙ look_back m.kind m.state is_m.suits)
 
   label : (n.number ≡ m.number) × (name_text n.name ≡ name_text m.name)
   label =
@@ -317,7 +341,8 @@ mapped_at f [] k y is = absurd cc
 mapped_at f (x ∷ xs) zero y is = (x, refl, same_Some (f x) y is)
 mapped_at f (x ∷ xs) (suc k) y is = mapped_at f xs k y is
 
-map_at : {X Y : Type 0} (f : X → Y) (xs : List X) (k : ℕ) (x : X) → slice_get xs k ≡ Some x → slice_get (map f xs) k ≡ Some (f x)
+map_at : {X Y : Type 0} (f : X → Y) (xs : List X) (k : ℕ) (x : X) → slice_get xs k ≡ Some x → slice_get (map f xs) k
+    ≡ Some (f x)
 map_at f [] k x is = absurd cc
 map_at f (y ∷ xs) zero x is = ap (λ z. Some (f z)) (same_Some y x is)
 map_at f (y ∷ xs) (suc k) x is = map_at f xs k x is
@@ -329,14 +354,17 @@ nodes_told ns ms is_n is_m in_n in_m count_n count_m e k x at =
     let n = mapped_at as_printed ns k x at in
     let start = all_at IsStartNode ns k n.0 is_n n.1 in
     let drawn = node_in ns k n.0 n.1 start.phase in
-    let from = node_out ms (drawn_node drawn.place (1 + k, n.0)) (subst (In (drawn_node drawn.place (1 + k, n.0))) e drawn.there) in
+    let from = node_out ms (drawn_node drawn.place (1 + k, n.0))
+    (subst (In (drawn_node drawn.place (1 + k, n.0))) e drawn.there) in
     let is_j : IsNumber (1 + from.k) = omega (arith, within ms from.k from.node from.at, count_m) in
     let is_k : IsNumber (1 + k) = omega (arith, within ns k n.0 n.1, count_n) in
     let start' = all_at IsStartNode ms from.k from.node is_m from.at in
     let in_from = all_at IsInRange ms from.k from.node in_m from.at in
     let in_here = all_at IsInRange ns k n.0 in_n n.1 in
-    let number = same_number from.place drawn.place (1 + from.k) (1 + k) from.node n.0 start' start in_from in_here is_j is_k from.on drawn.on from.is in
-    let printed = same_printed from.place drawn.place (1 + from.k) (1 + k) from.node n.0 start' start in_from in_here is_j is_k from.on drawn.on from.is in
+    let number = same_number from.place drawn.place (1 + from.k)
+    (1 + k) from.node n.0 start' start in_from in_here is_j is_k from.on drawn.on from.is in
+    let printed = same_printed from.place drawn.place (1 + from.k)
+    (1 + k) from.node n.0 start' start in_from in_here is_j is_k from.on drawn.on from.is in
     let place : from.k ≡ k = omega (arith, number) in
     subst (λ (j : ℕ). slice_get (map as_printed ms) j ≡ Some x) place
     (map_at as_printed ms from.k from.node from.at ∙ ap (λ (y : GraphNode). Some y) (printed ∙ n.2))
@@ -351,7 +379,8 @@ dotted_back : (b : Bool) → is_dotted (dotted_attributes b) ≡ b
 dotted_back true = refl
 dotted_back false = refl
 
-edges_told : (es fs : List GraphEdge) → AllByRecursion (λ (e : GraphEdge). IsNumber e.from) es → AllByRecursion (λ (e : GraphEdge). IsNumber e.to) es
+edges_told : (es fs : List GraphEdge) → AllByRecursion (λ (e : GraphEdge). IsNumber e.from) es
+    → AllByRecursion (λ (e : GraphEdge). IsNumber e.to) es
     → AllByRecursion (λ (e : GraphEdge). IsNumber e.from) fs → AllByRecursion (λ (e : GraphEdge). IsNumber e.to) fs
     → map drawn_edge es ≡ map drawn_edge fs → es ≡ fs
 edges_told [] [] a b c d is = refl
@@ -361,7 +390,8 @@ edges_told (e ∷ es) (f ∷ fs) a b c d is =
     let first : drawn_edge e ≡ drawn_edge f = ap (first_or (drawn_edge e)) is in
     let from = id_told e.from f.from a.0 c.0 (ap (λ (x : DotEdge). x.from) first) in
     let to = id_told e.to f.to b.0 d.0 (ap (λ (x : DotEdge). x.to) first) in
-    let group = sym (dotted_back e.of_group) ∙ ap (λ (x : DotEdge). is_dotted x.attributes) first ∙ dotted_back f.of_group in
+    let group = sym (dotted_back e.of_group) ∙ ap (λ (x : DotEdge). is_dotted x.attributes) first
+    ∙ dotted_back f.of_group in
     let others = edges_told es fs a.1 b.1 c.1 d.1 (ap rest_of is) in
     (λ i. (record { from = from i; to = to i; of_group = group i }) ∷ others i)
 
@@ -376,11 +406,13 @@ text_tells heads more g f is_g is_f fits_g fits_f same =
     let of_f = text_is_drawn more f in
     let nodes : drawn_nodes g.nodes ≡ drawn_nodes f.nodes = sym of_g.nodes ∙ ap dot_nodes same ∙ of_f.nodes in
     let edges : map drawn_edge g.edges ≡ map drawn_edge f.edges = sym of_g.edges ∙ ap dot_edges same ∙ of_f.edges in
-    let settings : drawn_settings heads g.nodes ≡ drawn_settings more f.nodes = sym of_g.settings ∙ ap dot_settings same ∙ of_f.settings in
+    let settings : drawn_settings heads g.nodes ≡ drawn_settings more f.nodes = sym of_g.settings ∙ ap dot_settings same
+    ∙ of_f.settings in
     record {
       head = are_one (head_text heads) (head_text more) (ap label_first settings);
       nodes = same_lists (map as_printed g.nodes) (map as_printed f.nodes)
           (nodes_told g.nodes f.nodes is_g.nodes is_f.nodes fits_g.nodes fits_f.nodes fits_g.count fits_f.count nodes)
-          (nodes_told f.nodes g.nodes is_f.nodes is_g.nodes fits_f.nodes fits_g.nodes fits_f.count fits_g.count (sym nodes));
+          (nodes_told f.nodes g.nodes is_f.nodes is_g.nodes fits_f.nodes fits_g.nodes fits_f.count fits_g.count
+          (sym nodes));
       edges = edges_told g.edges f.edges fits_g.from fits_g.to fits_f.from fits_f.to edges;
     }

@@ -33,9 +33,11 @@ pub record Reads (p : Place) (text : List ℕ) (said : List Statement) (q : Plac
 pub nothing : {p : Place} → Reads p [] [] p
 nothing = record { all = λ rest. refl }
 
-pub then : {p q r : Place} {a b : List ℕ} {x y : List Statement} → Reads p a x q → Reads q b y r → Reads p (a ++ b) (x ++ y) r
+pub then : {p q r : Place} {a b : List ℕ} {x y : List Statement} → Reads p a x q → Reads q b y r
+    → Reads p (a ++ b) (x ++ y) r
 then {p} {q} {r} {a} {b} {x} {y} one two = record {
-  all = λ rest. ap (read_from p) (append_assoc a b rest) ∙ one.all (b ++ rest) ∙ ap (λ (s : List Statement). x ++ s) (two.all rest)
+  all = λ rest. ap (read_from p) (append_assoc a b rest) ∙ one.all (b ++ rest)
+      ∙ ap (λ (s : List Statement). x ++ s) (two.all rest)
       ∙ sym (append_assoc x y (read_from r rest));
 }
 
@@ -52,7 +54,8 @@ in_word word [] before all =
 in_word word (c ∷ digits) before all =
     let parts = and_parts (is_digit c) (list_all is_digit digits) all in
     let on = in_word (word ++ c ∷ []) digits before parts.1 in
-    subst (λ (w : List ℕ). Reads (at (InWord word) before) (c ∷ digits) [] (at (InWord w) before)) (append_assoc word (c ∷ []) digits)
+    subst (λ (w : List ℕ). Reads (at (InWord word) before) (c ∷ digits) [] (at (InWord w) before))
+    (append_assoc word (c ∷ []) digits)
     (record {
       all = λ rest.
           ap (λ (b : Bool). after before (digits ++ rest)
@@ -76,14 +79,16 @@ in_piece text (c ∷ []) before is =
     let slash = not_true (c == 92) parts.1 in
     record {
       all = λ rest. (λ i. after before rest
-          (cond (quote i) (Quoted text ∷ [], Between) (cond (slash i) ([], AfterBackslash text) ([], InQuotes (text ++ c ∷ [])))));
+          (cond (quote i) (Quoted text ∷ [], Between)
+          (cond (slash i) ([], AfterBackslash text) ([], InQuotes (text ++ c ∷ [])))));
     }
 in_piece text (c ∷ d ∷ []) before is =
     let parts = and_parts (c == 92) ((d == 92) || (d == 34)) is in
     subst (λ (x : ℕ). Reads (at (InQuotes text) before) (x ∷ d ∷ []) [] (at (InQuotes (text ++ x ∷ d ∷ [])) before))
     (sym (eqb-true c 92 parts.0)) (record {
       all = λ rest.
-          ap (λ (b : Bool). after before rest (cond b ([], InQuotes (text ++ 92 ∷ d ∷ [])) (Other ∷ [], Between))) parts.1;
+          ap (λ (b : Bool). after before rest (cond b ([], InQuotes (text ++ 92 ∷ d ∷ []))
+          (Other ∷ [], Between))) parts.1;
     })
 in_piece text (c ∷ d ∷ e ∷ piece) before is = absurd (false≢true is)
 
@@ -91,14 +96,18 @@ in_pieces : (text : List ℕ) (pieces : List (List ℕ)) (before : List Token) �
     → Reads (at (InQuotes text) before) (flat_map (λ (piece : List ℕ). piece) pieces) []
     (at (InQuotes (text ++ flat_map (λ (piece : List ℕ). piece) pieces)) before)
 in_pieces text [] before all =
-    subst (λ (t : List ℕ). Reads (at (InQuotes text) before) [] [] (at (InQuotes t) before)) (sym (append-nil text)) nothing
+    subst (λ (t : List ℕ). Reads (at (InQuotes text) before) [] [] (at (InQuotes t) before))
+    (sym (append-nil text)) nothing
 in_pieces text (piece ∷ pieces) before all =
     let parts = and_parts (is_piece piece) (list_all is_piece pieces) all in
     let whole = flat_map (λ (piece : List ℕ). piece) pieces in
-    subst (λ (t : List ℕ). Reads (at (InQuotes text) before) (piece ++ whole) [] (at (InQuotes t) before)) (append_assoc text piece whole)
+    subst (λ (t : List ℕ). Reads (at (InQuotes text) before) (piece ++ whole) [] (at (InQuotes t) before))
+    (append_assoc text piece whole)
     (then (in_piece text piece before parts.0) (in_pieces (text ++ piece) pieces before parts.1))
 
-pub quoted : (text : List ℕ) (before : List Token) → Reads (at (InQuotes []) before) (in_quotes text) [] (at (InQuotes (in_quotes text)) before)
+pub quoted : (text : List ℕ) (before : List Token)
+    → Reads (at (InQuotes []) before) (in_quotes text) [] (at (InQuotes (in_quotes text)) before)
 quoted text before =
     let is = are_pieces text in
-    subst (λ (t : List ℕ). Reads (at (InQuotes []) before) t [] (at (InQuotes t) before)) (sym is.whole) (in_pieces [] is.pieces before is.each)
+    subst (λ (t : List ℕ). Reads (at (InQuotes []) before) t [] (at (InQuotes t) before)) (sym is.whole)
+    (in_pieces [] is.pieces before is.each)
