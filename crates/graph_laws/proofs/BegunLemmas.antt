@@ -52,7 +52,8 @@ not_done System is = refl
 not_done Automatic is = refl
 not_done Done is = is
 
-phase_begun : (m : RunState) (phase : Phase) (number : ℕ) (l : LastStart) → AreBegun l → AreBegun (phase_noted m phase number l)
+phase_begun : (m : RunState) (phase : Phase) (number : ℕ) (l : LastStart) → AreBegun l
+    → AreBegun (phase_noted m phase number l)
 phase_begun m phase number l are = by (is_new l phase) refl
   where
     new : LastStart
@@ -71,7 +72,8 @@ phase_begun m phase number l are = by (is_new l phase) refl
 noted_begun : (w : Watched) → AreBegun w.last → AreBegun (noted w).last
 noted_begun w are = by w.state.machine.start
   where
-    by : (o : Option Start) → AreBegun (option_map_or (λ (s : Start). phase_noted w.state s.phase s.number w.last) o w.last)
+    by : (o : Option Start) → AreBegun (option_map_or
+        (λ (s : Start). phase_noted w.state s.phase s.number w.last) o w.last)
     by None = are
     by (Some s) = phase_begun w.state s.phase s.number w.last are
 
@@ -82,7 +84,8 @@ steps_begun (suc n) w are =
     let act = stepping w.state.machine.start w.state done in
     steps_begun n (stepped w) (noted_begun (watch act w.last) (watch_begun act w.last are))
 
-gone_begun : (steps : Option ℕ) (w : Watched) (why : Option RefusedWord) → AreBegun w.last → AreBegun (gone_unless steps w why).last
+gone_begun : (steps : Option ℕ) (w : Watched) (why : Option RefusedWord) → AreBegun w.last
+    → AreBegun (gone_unless steps w why).last
 gone_begun steps w (Some reason) are = are
 gone_begun (Some n) w None are = steps_begun n w are
 gone_begun None w None are = steps_begun (enough_steps w.state.machine.start w.state) w are
@@ -94,11 +97,13 @@ act_begun choice e w are =
     let act = act_unless choice e w.state (refusal_of w.state.machine e) in
     noted_begun (watch act w.last) (watch_begun act w.last are)
 
-turned_begun : (choice : Option ℕ → Choice) (e : Event) (w : Watched) → AreBegun w.last → AreBegun (turned choice e w).last
+turned_begun : (choice : Option ℕ → Choice) (e : Event) (w : Watched) → AreBegun w.last
+    → AreBegun (turned choice e w).last
 turned_begun choice (Go steps) w are = gone_begun steps w (refusal_of w.state.machine (Go steps)) are
 turned_begun choice e w are = act_begun choice e w are
 
-watched_begun : (choice : Option ℕ → Choice) (es : List Event) (w : Watched) → AreBegun w.last → AreBegun (watched_from choice es w).last
+watched_begun : (choice : Option ℕ → Choice) (es : List Event) (w : Watched) → AreBegun w.last
+    → AreBegun (watched_from choice es w).last
 watched_begun choice [] w are = watch_begun (closing_act w.state) w.last are
 watched_begun choice (e ∷ es) w are = watched_begun choice es (turned choice e w) (turned_begun choice e w are)
 
@@ -106,7 +111,8 @@ run_begun : (choice : Option ℕ → Choice) (script : List Event) (placed : Wok
     → AreBegun (quiet_run_of choice script placed.state.version placed.state.tree).start
 unfolding quiet_run_of
 run_begun choice script placed =
-    watched_begun choice script (unplayed placed.state.version placed.state.tree) (record { each = λ p c. absurd (none_in p c) })
+    watched_begun choice script (unplayed placed.state.version placed.state.tree)
+    (record { each = λ p c. absurd (none_in p c) })
 
 -- each phase that is looked at is one of the three
 pub views_begun : (choice : Option ℕ → Choice) (script : List Event) (placed : Woken) (at : ℕ) (v : PhaseView)
@@ -115,13 +121,14 @@ unfolding viewed_of
 views_begun choice script placed at v is =
     let look : ℕ → Option PhaseView = λ k. option_map (view_of l k) (slice_get l.phases k) in
     let f = from look (range_with_len 0 (length l.phases)) v (item_here (views_of l) at v is) in
-    by (slice_get l.phases f.item) refl f.is
+    by f.item (slice_get l.phases f.item) refl f.is
   where
     l : LastStart
     l = (quiet_run_of choice script placed.state.version placed.state.tree).start
 
-    by : {k : ℕ} (o : Option BegunPhase) → slice_get l.phases k ≡ o → option_map (view_of l k) o ≡ Some v → is_drawn_in (Some v.phase) ≡ true
-    by None at is = absurd cc
-    by {k} (Some p) at is =
+    by : (k : ℕ) (o : Option BegunPhase) → slice_get l.phases k ≡ o → option_map (view_of l k) o ≡ Some v
+        → is_drawn_in (Some v.phase) ≡ true
+    by k None at is = absurd cc
+    by k (Some p) at is =
         ap (λ (x : PhaseView). is_drawn_in (Some x.phase)) (sym (same_Some (view_of l k p) v is))
         ∙ (run_begun choice script placed).each p (item_here l.phases k p at)

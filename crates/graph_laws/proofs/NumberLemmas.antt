@@ -15,7 +15,6 @@ use Rattle.check_laws.proofs.ProperLaws.{flat_from, only_in}
 use Rattle.why_state.specs.declared.views.ViewedRun.{ViewedRun}
 use Rattle.graph_lines.specs.declared.graph.GraphNode.{GraphNode}
 use Rattle.graph_lines.specs.declared.graph.GraphEdge.{GraphEdge}
-use Rattle.graph_rule.specs.declared.whole.WholeGraph.{WholeGraph}
 use Rattle.graph_rule.specs.Rows.{whole_of}
 use Rattle.graph_rule.specs.Shown.{marks_of, is_shown_of_all, is_shown_about, next_if, numbers_from, number_at, node_at, edge_to, is_group_at, edges_at, drawn}
 use Rattle.graph_laws.specs.Shown.{shown_in, NodesAreShown, IsShownEdge, EdgesAreShown}
@@ -48,7 +47,8 @@ AgreeFrom on a marks = (i : ℕ) → on (a + i) ≡ member marks i
 agree_first : (on : ℕ → Bool) (a : ℕ) (b : Bool) (marks : List Bool) → AgreeFrom on a (b ∷ marks) → on a ≡ b
 agree_first on a b marks agree = let e : a ≡ a + 0 = omega arith in ap on e ∙ agree 0
 
-agree_rest : (on : ℕ → Bool) (a : ℕ) (b : Bool) (marks : List Bool) → AgreeFrom on a (b ∷ marks) → AgreeFrom on (a + 1) marks
+agree_rest : (on : ℕ → Bool) (a : ℕ) (b : Bool) (marks : List Bool) → AgreeFrom on a (b ∷ marks)
+    → AgreeFrom on (a + 1) marks
 agree_rest on a b marks agree i = let e : a + 1 + i ≡ a + suc i = omega arith in ap on e ∙ agree (suc i)
 
 -- the marked place at place k is the one with the k-th number
@@ -62,11 +62,14 @@ place_number : (on : ℕ → Bool) (marks : List Bool) (a n k v : ℕ) → Agree
     → slice_get (marked_from on a (length marks)) k ≡ Some v → IsAt marks a n k v
 place_number on [] a n k v agree is = absurd cc
 place_number on (b ∷ marks) a n k v agree is =
-    by b k refl (subst (λ (c : Bool). slice_get (cond c (a ∷ marked_from on (a + 1) (length marks)) (marked_from on (a + 1) (length marks))) k ≡ Some v)
-    (agree_first on a b marks agree) is) (λ m k is. place_number on marks (a + 1) m k v (agree_rest on a b marks agree) is)
+    by b k refl (subst (λ (c : Bool). slice_get
+    (cond c (a ∷ marked_from on (a + 1) (length marks)) (marked_from on (a + 1) (length marks))) k ≡ Some v)
+    (agree_first on a b marks agree) is) (λ m k is. place_number on marks (a + 1) m k v
+    (agree_rest on a b marks agree) is)
   where
     by : (c : Bool) (k : ℕ) → c ≡ b
-        → slice_get (cond c (a ∷ marked_from on (a + 1) (length marks)) (marked_from on (a + 1) (length marks))) k ≡ Some v
+        → slice_get (cond c (a ∷ marked_from on (a + 1) (length marks)) (marked_from on (a + 1) (length marks))) k
+        ≡ Some v
         → ((m k : ℕ) → slice_get (marked_from on (a + 1) (length marks)) k ≡ Some v → IsAt marks (a + 1) m k v)
         → IsAt (b ∷ marks) a n k v
     by true zero e is rest = record {
@@ -81,7 +84,8 @@ place_number on (b ∷ marks) a n k v agree is =
           i = suc r.i;
           is = omega (arith, r.is);
           marked = r.marked;
-          number = ap (λ (c : Bool). number_at (numbers_from (next_if c n) marks) r.i) (sym e) ∙ omega (arith, r.number);
+          number = ap (λ (c : Bool). number_at (numbers_from (next_if c n) marks) r.i) (sym e)
+              ∙ omega (arith, r.number);
         }
     by false k e is rest =
         let r = rest n k is in
@@ -98,16 +102,19 @@ record HasPlace (on : ℕ → Bool) (marks : List Bool) (a n i : ℕ) : Type 0 w
   at : slice_get (marked_from on a (length marks)) k ≡ Some (a + i)
   number : number_at (numbers_from n marks) i ≡ n + k
 
-number_place : (on : ℕ → Bool) (marks : List Bool) (a n i : ℕ) → AgreeFrom on a marks → member marks i ≡ true → HasPlace on marks a n i
+number_place : (on : ℕ → Bool) (marks : List Bool) (a n i : ℕ) → AgreeFrom on a marks → member marks i ≡ true
+    → HasPlace on marks a n i
 number_place on [] a n i agree m = absurd (false≢true m)
 number_place on (b ∷ marks) a n zero agree m = record {
   k = 0;
-  at = ap (λ (c : Bool). slice_get (cond c (a ∷ marked_from on (a + 1) (length marks)) (marked_from on (a + 1) (length marks))) 0)
+  at = ap (λ (c : Bool). slice_get (cond c (a ∷ marked_from on (a + 1) (length marks))
+      (marked_from on (a + 1) (length marks))) 0)
       (agree_first on a b marks agree ∙ m)
       ∙ (let e : a ≡ a + 0 = omega arith in ap (λ (x : ℕ). Some x) e);
   number = ap (λ (c : Bool). cond c n 0) m ∙ omega arith;
 }
-number_place on (b ∷ marks) a n (suc i) agree m = by b refl (λ first. number_place on marks (a + 1) first i (agree_rest on a b marks agree) m)
+number_place on (b ∷ marks) a n (suc i) agree m = by b refl
+    (λ first. number_place on marks (a + 1) first i (agree_rest on a b marks agree) m)
   where
     far : a + 1 + i ≡ a + suc i
     far = omega arith
@@ -117,7 +124,8 @@ number_place on (b ∷ marks) a n (suc i) agree m = by b refl (λ first. number_
         let r = rest (n + 1) in
         record {
           k = suc r.k;
-          at = ap (λ (c : Bool). slice_get (cond c (a ∷ marked_from on (a + 1) (length marks)) (marked_from on (a + 1) (length marks))) (suc r.k))
+          at = ap (λ (c : Bool). slice_get (cond c (a ∷ marked_from on (a + 1) (length marks))
+              (marked_from on (a + 1) (length marks))) (suc r.k))
               (agree_first on a b marks agree ∙ sym e)
               ∙ r.at ∙ ap (λ (x : ℕ). Some x) far;
           number = ap (λ (c : Bool). number_at (numbers_from (next_if c n) marks) i) (sym e) ∙ omega (arith, r.number);
@@ -126,7 +134,8 @@ number_place on (b ∷ marks) a n (suc i) agree m = by b refl (λ first. number_
         let r = rest n in
         record {
           k = r.k;
-          at = ap (λ (c : Bool). slice_get (cond c (a ∷ marked_from on (a + 1) (length marks)) (marked_from on (a + 1) (length marks))) r.k)
+          at = ap (λ (c : Bool). slice_get (cond c (a ∷ marked_from on (a + 1) (length marks))
+              (marked_from on (a + 1) (length marks))) r.k)
               (agree_first on a b marks agree ∙ sym e)
               ∙ r.at ∙ ap (λ (x : ℕ). Some x) far;
           number = ap (λ (c : Bool). number_at (numbers_from (next_if c n) marks) i) (sym e) ∙ r.number;
@@ -134,9 +143,12 @@ number_place on (b ∷ marks) a n (suc i) agree m = by b refl (λ first. number_
 
 -- ---- a graph
 
-counted : (w : WholeGraph) (o : Option ℕ) → length (marks_of w o) ≡ length w.rows
-counted w None = length-map-range_with_len (is_shown_of_all w.nodes w.rows) 0 (length w.rows)
-counted w (Some s) = length-map-range_with_len (is_shown_about w.rows s) 0 (length w.rows)
+counted : (r : ViewedRun) (of : Option (List ℕ)) (o : Option ℕ) → length (marks_of (whole_of r of) o)
+    ≡ length (whole_of r of).rows
+counted r of None = length-map-range_with_len (is_shown_of_all (whole_of r of).nodes (whole_of r of).rows) 0
+    (length (whole_of r of).rows)
+counted r of (Some s) = length-map-range_with_len (is_shown_about (whole_of r of).rows s) 0
+    (length (whole_of r of).rows)
 
 has_item : {X : Type 0} (xs : List X) (k : ℕ) → k < length xs → (x : X) × (slice_get xs k ≡ Some x)
 has_item [] k lt = absurd (omega (arith, lt))
@@ -147,9 +159,15 @@ not_false : (b : Bool) → not b ≡ false → b ≡ true
 not_false true is = refl
 not_false false is = sym is
 
-module _ (w : WholeGraph) where
+module _ (r : ViewedRun) (of : Option (List ℕ)) where
+  abbrev ns : List GraphNode
+  ns = (whole_of r of).nodes
+
+  abbrev rows : List (List ℕ)
+  rows = (whole_of r of).rows
+
   abbrev marks : List Bool
-  marks = marks_of w w.start
+  marks = marks_of (whole_of r of) (whole_of r of).start
 
   abbrev numbers : List ℕ
   numbers = numbers_from 1 marks
@@ -160,85 +178,91 @@ module _ (w : WholeGraph) where
   none_if : (v : ℕ) → (number_at numbers v == 0) ≡ not (member marks v)
   none_if v = unmarked marks 1 v (omega arith)
 
-  rows_long : length marks ≡ length w.rows
-  rows_long = counted w w.start
+  rows_long : length marks ≡ length rows
+  rows_long = counted r of (whole_of r of).start
 
-  numbers_long : length numbers ≡ length w.rows
+  numbers_long : length numbers ≡ length rows
   numbers_long = length-numbers 1 marks ∙ rows_long
 
   -- ---- nodes
 
-  nodes_of_marked : (vs : List ℕ) → ((v : ℕ) → Contains vs v → v < length w.nodes)
-      → map (λ (node : GraphNode). Some node) (flat_map (node_at w.nodes numbers) vs) ≡ map (slice_get w.nodes) (filter (member marks) vs)
+  nodes_of_marked : (vs : List ℕ) → ((v : ℕ) → Contains vs v → v < length ns)
+      → map (λ (node : GraphNode). Some node) (flat_map (node_at ns numbers) vs)
+      ≡ map (slice_get ns) (filter (member marks) vs)
   nodes_of_marked [] within = refl
   nodes_of_marked (v ∷ vs) within = by (member marks v) refl (nodes_of_marked vs (λ u i. within u (later_in v vs u i)))
     where
-      abbrev some : List GraphNode → List (Option GraphNode)
+      some : List GraphNode → List (Option GraphNode)
       some nodes = map (λ (node : GraphNode). Some node) nodes
 
       later : List GraphNode
-      later = flat_map (node_at w.nodes numbers) vs
+      later = flat_map (node_at ns numbers) vs
 
-      item : (n : GraphNode) × (slice_get w.nodes v ≡ Some n)
-      item = has_item w.nodes v (within v (first_in v vs))
+      item : (n : GraphNode) × (slice_get ns v ≡ Some n)
+      item = has_item ns v (within v (first_in v vs))
 
-      one : some (option_to_list (slice_get w.nodes v) ++ later) ≡ slice_get w.nodes v ∷ some later
+      one : some (option_to_list (slice_get ns v) ++ later) ≡ slice_get ns v ∷ some later
       one =
           ap (λ (o : Option GraphNode). some (option_to_list o ++ later)) item.1
           ∙ ap (λ (o : Option GraphNode). o ∷ some later) (sym item.1)
 
-      by : (b : Bool) → member marks v ≡ b → some later ≡ map (slice_get w.nodes) (filter (member marks) vs)
-          → some (cond (number_at numbers v == 0) [] (option_to_list (slice_get w.nodes v)) ++ later)
-          ≡ map (slice_get w.nodes) (cond (member marks v) (v ∷ filter (member marks) vs) (filter (member marks) vs))
+      by : (b : Bool) → member marks v ≡ b → some later ≡ map (slice_get ns) (filter (member marks) vs)
+          → some (cond (number_at numbers v == 0) [] (option_to_list (slice_get ns v)) ++ later)
+          ≡ map (slice_get ns) (cond (member marks v) (v ∷ filter (member marks) vs) (filter (member marks) vs))
       by true is rest =
-          ap (λ (z : Bool). some (cond z [] (option_to_list (slice_get w.nodes v)) ++ later)) (none_if v ∙ ap not is)
-          ∙ one ∙ ap (λ os. slice_get w.nodes v ∷ os) rest
-          ∙ ap (λ (z : Bool). map (slice_get w.nodes) (cond z (v ∷ filter (member marks) vs) (filter (member marks) vs))) (sym is)
+          ap (λ (z : Bool). some (cond z [] (option_to_list (slice_get ns v)) ++ later)) (none_if v ∙ ap not is)
+          ∙ one ∙ ap (λ os. slice_get ns v ∷ os) rest
+          ∙ ap (λ (z : Bool). map (slice_get ns) (cond z (v ∷ filter (member marks) vs) (filter (member marks) vs)))
+          (sym is)
       by false is rest =
-          ap (λ (z : Bool). some (cond z [] (option_to_list (slice_get w.nodes v)) ++ later)) (none_if v ∙ ap not is)
+          ap (λ (z : Bool). some (cond z [] (option_to_list (slice_get ns v)) ++ later)) (none_if v ∙ ap not is)
           ∙ rest
-          ∙ ap (λ (z : Bool). map (slice_get w.nodes) (cond z (v ∷ filter (member marks) vs) (filter (member marks) vs))) (sym is)
+          ∙ ap (λ (z : Bool). map (slice_get ns) (cond z (v ∷ filter (member marks) vs) (filter (member marks) vs)))
+          (sym is)
 
-  nodes_shown : length w.nodes ≡ length w.rows
-      → map (λ (node : GraphNode). Some node) (drawn w).nodes ≡ map (slice_get w.nodes) (shown_in w)
+  nodes_shown : length ns ≡ length rows
+      → map (λ (node : GraphNode). Some node) (drawn (whole_of r of)).nodes ≡ map (slice_get ns) (shown_in r of)
   nodes_shown same =
-      nodes_of_marked (range_with_len 0 (length numbers)) (λ v i. omega (arith, range_in (length numbers) v i, numbers_long, same))
-      ∙ ap (λ (n : ℕ). map (slice_get w.nodes) (filter (member marks) (range_with_len 0 n))) numbers_long
+      nodes_of_marked (range_with_len 0 (length numbers))
+      (λ v i. omega (arith, range_in (length numbers) v i, numbers_long, same))
+      ∙ ap (λ (n : ℕ). map (slice_get ns) (filter (member marks) (range_with_len 0 n))) numbers_long
 
   -- ---- places
 
   record HasNumber (v : ℕ) : Type 0 where
     k : ℕ
-    at : slice_get (shown_in w) k ≡ Some v
+    at : slice_get (shown_in r of) k ≡ Some v
     number : number_at numbers v ≡ k + 1
 
   numbered : (v : ℕ) → (number_at numbers v == 0) ≡ false → HasNumber v
   numbered v is =
-      let r = number_place (member marks) marks 0 1 v agree (not_false (member marks v) (sym (none_if v) ∙ is)) in
+      let p = number_place (member marks) marks 0 1 v agree (not_false (member marks v) (sym (none_if v) ∙ is)) in
       let e : 0 + v ≡ v = omega arith in
       record {
-        k = r.k;
-        at = ap (λ (n : ℕ). slice_get (marked_from (member marks) 0 n) r.k) (sym rows_long) ∙ r.at ∙ ap (λ (x : ℕ). Some x) e;
-        number = omega (arith, r.number);
+        k = p.k;
+        at = ap (λ (n : ℕ). slice_get (marked_from (member marks) 0 n) p.k) (sym rows_long) ∙ p.at
+            ∙ ap (λ (x : ℕ). Some x) e;
+        number = omega (arith, p.number);
       }
 
-  number_of : (k v : ℕ) → slice_get (shown_in w) k ≡ Some v → number_at numbers v ≡ k + 1
+  number_of : (k v : ℕ) → slice_get (shown_in r of) k ≡ Some v → number_at numbers v ≡ k + 1
   number_of k v is =
-      let r = place_number (member marks) marks 0 1 k v agree
+      let p = place_number (member marks) marks 0 1 k v agree
       (ap (λ (n : ℕ). slice_get (marked_from (member marks) 0 n) k) rows_long ∙ is) in
-      let e : v ≡ r.i = omega (arith, r.is) in
-      ap (number_at numbers) e ∙ omega (arith, r.number)
+      let e : v ≡ p.i = omega (arith, p.is) in
+      ap (number_at numbers) e ∙ omega (arith, p.number)
 
   -- ---- edges
 
-  edge_shown : (e : GraphEdge) → Contains (drawn w).edges e → IsShownEdge w e
+  edge_shown : (e : GraphEdge) → Contains (drawn (whole_of r of)).edges e → IsShownEdge r of e
   edge_shown e c =
-      let at_u = flat_from (edges_at w numbers) (range_with_len 0 (length numbers)) e c in
+      let at_u = flat_from (edges_at (whole_of r of) numbers) (range_with_len 0 (length numbers)) e c in
       by_u at_u.0 (number_at numbers at_u.0 == 0) refl at_u.2
     where
-      by_v : (u v : ℕ) → HasNumber u → HasEdge w.rows u v → (b : Bool) → (number_at numbers v == 0) ≡ b
-          → Contains (cond b [] (record { from = number_at numbers u; to = number_at numbers v; of_group = is_group_at w.nodes u } ∷ [])) e
-          → IsShownEdge w e
+      by_v : (u v : ℕ) → HasNumber u → HasEdge rows u v → (b : Bool) → (number_at numbers v == 0) ≡ b
+          → Contains (cond b []
+          (record { from = number_at numbers u; to = number_at numbers v; of_group = is_group_at ns u } ∷ [])) e
+          → IsShownEdge r of e
       by_v u v at edge true is c = absurd (none_in e c)
       by_v u v at edge false is c =
           let to = numbered v is in
@@ -250,37 +274,43 @@ module _ (w : WholeGraph) where
             first = at.at;
             second = to.at;
             edge = edge;
-            is = sym (only_in _ e c) ∙ (λ i. record { from = at.number i; to = to.number i; of_group = is_group_at w.nodes u });
+            is = sym (only_in _ e c)
+                ∙ (λ i. record { from = at.number i; to = to.number i; of_group = is_group_at ns u });
           }
 
       by_u : (u : ℕ) (b : Bool) → (number_at numbers u == 0) ≡ b
-          → Contains (cond b [] (flat_map (edge_to numbers (number_at numbers u) (is_group_at w.nodes u)) (row_at w.rows u))) e → IsShownEdge w e
+          → Contains (cond b [] (flat_map (edge_to numbers (number_at numbers u) (is_group_at ns u)) (row_at rows u))) e
+          → IsShownEdge r of e
       by_u u true is c = absurd (none_in e c)
       by_u u false is c =
-          let at_v = flat_from (edge_to numbers (number_at numbers u) (is_group_at w.nodes u)) (row_at w.rows u) e c in
+          let at_v = flat_from (edge_to numbers (number_at numbers u) (is_group_at ns u)) (row_at rows u) e c in
           by_v u at_v.0 (numbered u is) at_v.1 (number_at numbers at_v.0 == 0) refl at_v.2
 
-  shown_edge : (u v : ℕ) → HasEdge w.rows u v → u < length w.rows → (i j : ℕ) → number_at numbers u ≡ i + 1 → number_at numbers v ≡ j + 1
-      → Contains (drawn w).edges (record { from = i + 1; to = j + 1; of_group = is_group_at w.nodes u })
+  shown_edge : (u v : ℕ) → HasEdge rows u v → u < length rows → (i j : ℕ) → number_at numbers u ≡ i + 1
+      → number_at numbers v ≡ j + 1
+      → Contains (drawn (whole_of r of)).edges (record { from = i + 1; to = j + 1; of_group = is_group_at ns u })
   shown_edge u v edge lt i j from to =
-      let e : GraphEdge = record { from = number_at numbers u; to = number_at numbers v; of_group = is_group_at w.nodes u } in
+      let e : GraphEdge = record { from = number_at numbers u; to = number_at numbers v; of_group = is_group_at ns u } in
       let is_u : (number_at numbers u == 0) ≡ false = ne_eqb (number_at numbers u) 0 (λ z. omega (arith, z, from)) in
       let is_v : (number_at numbers v == 0) ≡ false = ne_eqb (number_at numbers v) 0 (λ z. omega (arith, z, to)) in
-      let put : ℕ → List GraphEdge = edge_to numbers (number_at numbers u) (is_group_at w.nodes u) in
+      let put : ℕ → List GraphEdge = edge_to numbers (number_at numbers u) (is_group_at ns u) in
       let one : Contains (put v) e = subst (λ (b : Bool). Contains (cond b [] (e ∷ [])) e) (sym is_v) (first_in e []) in
-      let all : Contains (edges_at w numbers u) e =
-      subst (λ (b : Bool). Contains (cond b [] (flat_map put (row_at w.rows u))) e) (sym is_u) (flat_in put (row_at w.rows u) v e edge one) in
-      let whole = flat_in (edges_at w numbers) (range_with_len 0 (length numbers)) u e
+      let all : Contains (edges_at (whole_of r of) numbers u) e =
+      subst (λ (b : Bool). Contains (cond b [] (flat_map put (row_at rows u))) e) (sym is_u)
+      (flat_in put (row_at rows u) v e edge one) in
+      let whole = flat_in (edges_at (whole_of r of) numbers) (range_with_len 0 (length numbers)) u e
       (in_range (length numbers) u (omega (arith, lt, numbers_long))) all in
-      subst (λ (x : GraphEdge). Contains (drawn w).edges x) (λ k. record { from = from k; to = to k; of_group = is_group_at w.nodes u }) whole
+      subst (λ (x : GraphEdge). Contains (drawn (whole_of r of)).edges x)
+      (λ k. record { from = from k; to = to k; of_group = is_group_at ns u }) whole
 
-  edge_back : (e : GraphEdge) → IsShownEdge w e → Contains (drawn w).edges e
+  edge_back : (e : GraphEdge) → IsShownEdge r of e → Contains (drawn (whole_of r of)).edges e
   edge_back e s =
-      subst (λ (x : GraphEdge). Contains (drawn w).edges x) (sym s.is)
-      (shown_edge s.u s.v s.edge (edge_from w.rows s.u s.v s.edge) s.i s.j (number_of s.i s.u s.first) (number_of s.j s.v s.second))
+      subst (λ (x : GraphEdge). Contains (drawn (whole_of r of)).edges x) (sym s.is)
+      (shown_edge s.u s.v s.edge (edge_from rows s.u s.v s.edge) s.i s.j (number_of s.i s.u s.first)
+      (number_of s.j s.v s.second))
 
 pub nodes_are_shown : NodesAreShown
-nodes_are_shown r of = nodes_shown (whole_of r of) (same_count r of)
+nodes_are_shown r of = nodes_shown r of (same_count r of)
 
 pub edges_are_shown : EdgesAreShown
-edges_are_shown r of e = (edge_shown (whole_of r of) e, edge_back (whole_of r of) e)
+edges_are_shown r of e = (edge_shown r of e, edge_back r of e)

@@ -19,13 +19,12 @@ use Rattle.wait_cycles.proofs.ReachLemmas.{member_none, one_fewer, set_mark}
 use Rattle.wait_cycles.proofs.MetLemmas.{any_gives, range_in}
 use Rattle.wait_cycles.proofs.CycleLemmas.{IsClosedBy, comes_from, not_all}
 use Rattle.why_state.specs.declared.views.ViewedRun.{ViewedRun}
-use Rattle.graph_rule.specs.declared.whole.WholeGraph.{WholeGraph}
 use Rattle.graph_rule.specs.Entries.{entries_in}
 use Rattle.graph_rule.specs.Nodes.{entry_node, missing_node, group_node}
 use Rattle.graph_rule.specs.Rows.{parts_by, entry_row, is_untaken, group_row, group_state, whole_by, whole_of}
 use Rattle.graph_lines.specs.declared.graph.GraphNode.{GraphNode}
 use Rattle.graph_rule.specs.Shown.{is_entry, is_taken, leads, is_shown_of_all, is_shown_about, marks_of}
-use Rattle.graph_rule.proofs.EdgeLemmas.{whole_is, edges_whole, start_whole}
+use Rattle.graph_rule.proofs.EdgeLemmas.{edges_whole, start_whole}
 use Rattle.graph_laws.specs.Shown.{IsShown, AreLed, Reaches, NameShowsReach, AllShowsTaken}
 
 leads_edge : (rows : List (List ℕ)) (u v : ℕ) → leads rows u v ≡ true → HasEdge rows u v
@@ -49,15 +48,16 @@ module _ (rows : List (List ℕ)) (s : ℕ) where
     len : length marks ≡ length rows
     led : (v : ℕ) → member marks v ≡ true → IsLed v
 
-  next_led : (marks : List Bool) → IsHonest marks → (q : ℕ) → is_next (leads rows) (length rows) s (member marks) q ≡ true → IsLed q
+  next_led : (marks : List Bool) → IsHonest marks → (q : ℕ) → is_next (leads rows) (length rows) s (member marks) q
+      ≡ true → IsLed q
   next_led marks honest q next =
       let on : ℕ → Bool = λ m. member marks m && leads rows m q in
       elim (or_cases (leads rows s q) (list_any on (range_with_len 0 (length rows))) next) [
-        | inl st ↦ (0, s, refl, leads_edge rows s q st)
+        | inl st ↦ (0, (s, refl, leads_edge rows s q st))
         | inr any ↦ (let m = any_gives on (range_with_len 0 (length rows)) any in
             let both = and_parts (member marks m.0) (leads rows m.0 q) m.2 in
             let far = honest.led m.0 both.0 in
-            (suc far.0, m.0, far.1, leads_edge rows m.0 q both.1))
+            (suc far.0, (m.0, far.1, leads_edge rows m.0 q both.1)))
       ]
 
   -- with one more mark
@@ -77,7 +77,8 @@ module _ (rows : List (List ℕ)) (s : ℕ) where
   closing zero marks honest lt = absurd (omega (arith, lt))
   closing (suc k) marks honest lt = elim (cases_Bool (is_closed_from (leads rows) (length rows) s (member marks))) [
     | inl on ↦ (marks, honest, on)
-    | inr off ↦ (let kept : ℕ → Bool = λ q. not (is_next (leads rows) (length rows) s (member marks) q) || member marks q in
+    | inr off ↦ (let kept : ℕ → Bool = λ q. not
+        (is_next (leads rows) (length rows) s (member marks) q) || member marks q in
         let q = not_all kept (range_with_len 0 (length rows)) off in
         let both = not_then (is_next (leads rows) (length rows) s (member marks) q.0) (member marks q.0) q.2 in
         let within : q.0 < length marks = omega (arith, range_in (length rows) q.0 q.1, honest.len) in
@@ -96,7 +97,8 @@ module _ (rows : List (List ℕ)) (s : ℕ) where
   comes_led : (v : ℕ) → comes_to (leads rows) (length rows) s v ≡ true → IsLed v
   unfolding comes_to
   comes_led v comes =
-      let test : List Bool → Bool = λ marks. not (is_closed_from (leads rows) (length rows) s (member marks)) || member marks v in
+      let test : List Bool → Bool = λ marks. not
+      (is_closed_from (leads rows) (length rows) s (member marks)) || member marks v in
       let all = ap (λ (n : ℕ). list_all test (all_sets n)) closed.1.len ∙ comes in
       closed.1.led v (then_gives (is_closed_from (leads rows) (length rows) s (member closed.0)) (member closed.0 v)
       (sets_have test closed.0 all) closed.2)
@@ -104,7 +106,8 @@ module _ (rows : List (List ℕ)) (s : ℕ) where
   led_comes : AreEdges rows → (k v : ℕ) → AreLed rows (suc k) s v → comes_to (leads rows) (length rows) s v ≡ true
   led_comes edges k v led = comes_from (leads rows) (length rows) s v (λ marks by. inside marks by k v led)
     where
-      inside : (marks : List Bool) → IsClosedBy (leads rows) (length rows) s (member marks) → (k v : ℕ) → AreLed rows (suc k) s v
+      inside : (marks : List Bool) → IsClosedBy (leads rows) (length rows) s (member marks) → (k v : ℕ)
+          → AreLed rows (suc k) s v
           → member marks v ≡ true
       inside marks by zero v (w, e, edge) =
           by.begun v (edges w v edge) (ap (λ (u : ℕ). leads rows u v) e ∙ edge_leads rows w v edge)
@@ -148,7 +151,8 @@ module _ (rows : List (List ℕ)) (edges : AreEdges rows) (s : ℕ) (within : s 
   itself : (v : ℕ) → s ≡ v → Shown v
   itself v e =
       mark_of v (omega (arith, within, e))
-      (or_left (nat_eq s v) (comes_to (leads rows) (length rows) s v || comes_to (leads rows) (length rows) v s) (eq-eqb s v e))
+      (or_left (nat_eq s v) (comes_to (leads rows) (length rows) s v || comes_to (leads rows) (length rows) v s)
+      (eq-eqb s v e))
 
   reaching_shown : (v : ℕ) → Reaches rows s v ⊎ Reaches rows v s → Shown v
   reaching_shown v (inl (zero, e)) = itself v e
@@ -166,18 +170,16 @@ module _ (rows : List (List ℕ)) (edges : AreEdges rows) (s : ℕ) (within : s 
 
 -- ---- graphs of starts
 
-pub edges_are : (r : ViewedRun) (of : Option (List ℕ)) → AreEdges (whole_of r of).rows
-edges_are r of =
-    let es = entries_in r in
-    let w = whole_by (parts_by r of es) of in
-    subst (λ (x : WholeGraph). AreEdges x.rows) (whole_is r of es w refl refl) (edges_whole r of es w refl)
+edges_are : (r : ViewedRun) (of : Option (List ℕ)) → AreEdges (whole_of r of).rows
+unfolding whole_of
+edges_are r of = edges_whole r of (entries_in r) (whole_by (parts_by r of (entries_in r)) of) refl
 
-start_within : (r : ViewedRun) (of : Option (List ℕ)) (s : ℕ) → (whole_of r of).start ≡ Some s → s < length (whole_of r of).rows
+start_within : (r : ViewedRun) (of : Option (List ℕ)) (s : ℕ) → (whole_of r of).start ≡ Some s
+    → s < length (whole_of r of).rows
+unfolding whole_of
 start_within r of s is =
-    let es = entries_in r in
-    let w = whole_by (parts_by r of es) of in
-    let all = subst (λ (x : WholeGraph). IfSome x.start (λ v. v < length x.rows)) (whole_is r of es w refl refl) (start_whole r of es w refl) in
-    subst (λ (o : Option ℕ). IfSome o (λ v. v < length (whole_of r of).rows)) is all
+    let w = whole_by (parts_by r of (entries_in r)) of in
+    subst (λ (o : Option ℕ). IfSome o (λ v. v < length w.rows)) is (start_whole r of (entries_in r) w refl)
 
 pub name_shows : NameShowsReach
 name_shows r name s is v =
@@ -221,7 +223,8 @@ taken_within : (nodes : List GraphNode) (v : ℕ) → is_taken nodes v ≡ true 
 taken_within nodes v on = by (slice_get nodes v) refl on
   where
     by : (o : Option GraphNode) → slice_get nodes v ≡ o
-        → option_map_or (λ (n : GraphNode). is_entry n.kind && not (is_untaken n.state)) o false ≡ true → v < length nodes
+        → option_map_or (λ (n : GraphNode). is_entry n.kind && not (is_untaken n.state)) o false ≡ true
+        → v < length nodes
     by None is on = absurd (false≢true on)
     by (Some n) is on = slice_get_within nodes v n is
 
@@ -246,7 +249,8 @@ all_shows r v =
                 inr (u.0, both.0, leads_edge w.rows u.0 v both.1))
           ],
       λ either. marks ∙ elim either [
-        | inl taken ↦ listed_member test (length w.rows) v (omega (arith, taken_within w.nodes v taken, same_count r None))
+        | inl taken ↦ listed_member test (length w.rows) v
+            (omega (arith, taken_within w.nodes v taken, same_count r None))
             ∙ or_left (is_taken w.nodes v) (list_any by (range_with_len 0 (length w.rows))) taken
         | inr u ↦ listed_member test (length w.rows) v (edges_are r None u.0 v u.2)
             ∙ or_right (is_taken w.nodes v) (list_any by (range_with_len 0 (length w.rows)))
