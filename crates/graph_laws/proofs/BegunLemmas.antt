@@ -1,8 +1,8 @@
 -- No phase that begins in a start is the end of its phases.
-use Rattle.std.proofs.Common.{◌≡◌, ℕ, zero, suc, ◌==◌, ◌&&◌, not, Bool, true, false, cond, List, [], ◌∷◌, ◌++◌, length, slice_get, Option, Some, None, refl, sym, ap, subst, ◌∙◌, inl, inr}
+use Rattle.std.proofs.Common.{◌≡◌, ℕ, zero, suc, ◌==◌, not, Bool, true, false, cond, List, [], ◌∷◌, length, slice_get, Option, Some, None, refl, sym, ap, subst, ◌∙◌, inl, inr}
 use Rattle.std.specs.Prelude.{Contains}
 use Rattle.std.specs.Option.{option_map, option_map_or}
-use Rattle.std.specs.List.{filter_map, range_with_len}
+use Rattle.std.specs.List.{range_with_len}
 use Rattle.std.proofs.lemmas.Bool.{and_parts}
 use Rattle.std.proofs.lemmas.Option.{same_Some}
 use Rattle.std.proofs.lemmas.List.Elements.{Contains-append_cases}
@@ -21,7 +21,7 @@ use Rattle.boot_machine.specs.Codes.{phase_number}
 use Rattle.quiet_run.specs.declared.last.BegunPhase.{BegunPhase}
 use Rattle.quiet_run.specs.declared.last.LastStart.{LastStart}
 use Rattle.quiet_run.specs.Words.{phase_as}
-use Rattle.quiet_run.specs.Watch.{Watched, seen, watch, is_new, with_phase, phase_noted, noted, stepped, steps_of, gone, gone_unless, turned, watched_from, unplayed, quiet_run_of}
+use Rattle.quiet_run.specs.Watch.{Watched, seen, watch, is_new, with_phase, phase_noted, noted, stepped, steps_of, gone_unless, turned, watched_from, unplayed, quiet_run_of}
 use Rattle.wait_cycles.proofs.InverseLemmas.{none_in}
 use Rattle.check_laws.proofs.ProperLaws.{only_in}
 use Rattle.check_laws.proofs.TakenLemmas.{item_here}

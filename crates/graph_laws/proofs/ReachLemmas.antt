@@ -25,7 +25,7 @@ use Rattle.graph_rule.specs.Rows.{parts_by, entry_row, is_untaken, group_row, gr
 use Rattle.graph_lines.specs.declared.graph.GraphNode.{GraphNode}
 use Rattle.graph_rule.specs.Shown.{is_entry, is_taken, leads, is_shown_of_all, is_shown_about, marks_of}
 use Rattle.graph_rule.proofs.EdgeLemmas.{edges_whole, start_whole}
-use Rattle.graph_laws.specs.Shown.{IsShown, AreLed, Reaches, NameShowsReach, AllShowsTaken}
+use Rattle.graph_laws.specs.Shown.{AreLed, Reaches, NameShowsReach, AllShowsTaken}
 
 leads_edge : (rows : List (List ℕ)) (u v : ℕ) → leads rows u v ≡ true → HasEdge rows u v
 leads_edge rows u v h = Contains-from_any eqb-true v (row_at rows u) h

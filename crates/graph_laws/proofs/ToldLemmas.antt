@@ -1,5 +1,5 @@
 -- The graph of a start is one that its text tells.
-use Rattle.std.proofs.Common.{◌≡◌, ℕ, zero, suc, ◌+◌, ◌<◌, ◌==◌, not, Bool, true, false, cond, List, [], ◌∷◌, length, map, slice_get, Option, Some, None, refl, sym, ap, subst, ◌∙◌, arith}
+use Rattle.std.proofs.Common.{◌≡◌, ℕ, suc, ◌+◌, ◌==◌, not, Bool, true, false, cond, List, [], ◌∷◌, length, slice_get, Option, Some, None, refl, sym, ap, subst, ◌∙◌, arith}
 use Rattle.std.specs.Prelude.{Contains, nat_lt}
 use Rattle.std.specs.Option.{option_map, option_map_or, is_some}
 use Rattle.std.specs.List.{AllByRecursion}
@@ -9,9 +9,6 @@ use Rattle.boot_phases.specs.declared.phase.Phase.{Phase}
 use Rattle.boot_phases.specs.declared.phase.Phase.TheVariants as phases
 use Rattle.boot_report.specs.declared.words.TryWord.{TryWord}
 use Rattle.boot_report.specs.declared.words.TryWord.TheVariants as tries
-use Rattle.start_model.specs.Events.{Event}
-use Rattle.start_model.specs.Possible.{Woken}
-use Rattle.start_model.specs.Boot.{Choice}
 use Rattle.wait_cycles.proofs.MetLemmas.{first_in, later_in}
 use Rattle.why_lines.specs.declared.lines.NameState.{NameState}
 use Rattle.why_lines.specs.declared.lines.NameState.TheVariants as names
@@ -23,14 +20,13 @@ use Rattle.why_state.specs.States.{reason_of, place_in, first_coming, placed_of,
 use Rattle.why_laws.specs.States.{view_from}
 use Rattle.graph_lines.specs.declared.graph.NodeKind.{NodeKind}
 use Rattle.graph_lines.specs.declared.graph.NodeKind.TheVariants as kinds
-use Rattle.graph_lines.specs.declared.graph.NodeState.{NodeState}
 use Rattle.graph_lines.specs.declared.graph.NodeState.TheVariants as states
 use Rattle.graph_lines.specs.declared.graph.GraphNode.{GraphNode}
 use Rattle.graph_lines.specs.declared.graph.GraphEdge.{GraphEdge}
-use Rattle.graph_rule.specs.Nodes.{node_state, node_number, coming_phase, node_phase, entry_node, missing_node, group_node}
+use Rattle.graph_rule.specs.Nodes.{node_state, node_number, coming_phase, node_phase, group_node}
 use Rattle.graph_rule.specs.Rows.{whole_of}
 use Rattle.graph_rule.specs.Shown.{is_group, drawn, no_graph, graph_of}
-use Rattle.dot_laws.specs.Forms.{suits, has_number, is_drawn_in, IsStartNode, is_group as is_group_kind, is_group_numbered, IsStartEdge, IsStartGraph}
+use Rattle.dot_laws.specs.Forms.{suits, has_number, is_drawn_in, IsStartNode, is_group as is_group_kind, is_group_numbered, IsStartEdge}
 use Rattle.graph_laws.specs.Shown.{shown_in}
 use Rattle.graph_laws.specs.Told.{GraphIsOfStart}
 use Rattle.graph_laws.proofs.AttemptLemmas.{each_node}
