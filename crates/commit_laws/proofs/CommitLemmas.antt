@@ -7,7 +7,7 @@ use Rattle.hive_model.specs.State.{HiveState}
 use Rattle.hive_model.specs.Tree.{Tree}
 use Rattle.hive_model.specs.Edit.{Refusal, edited}
 use Rattle.start_model.specs.Lines as lines
-use Rattle.start_model.specs.Lines.{Line, Verdict, CommitWord, StartLine, EntryLine, LoadLine, SetLine, CommitLine, SelectLine, PhaseLine, TryLine, UnmetLine, VitalLine, LogonLine, SaveRefusedLine, EditOkLine, FlushNothingLine, RefusedLine, VerdictLine, EndLine}
+use Rattle.start_model.specs.Lines.{Line, Verdict, CommitWord, LoadLine, CommitLine, UnmetLine, VitalLine, VerdictLine}
 use Rattle.start_model.specs.Entries as entries
 use Rattle.start_model.specs.Entries.{Phase}
 use Rattle.start_model.specs.Judge.{Judgement, Ignore, Log, FallBack, Stop}

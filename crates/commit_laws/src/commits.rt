@@ -1,6 +1,6 @@
 //! The last commit in a report is on the disk.
 
-ghost use Rattle.std.specs.Prelude.{◌≡◌, ℕ, List, [], ◌∷◌, ◌++◌, Option, None, Some, false};
+ghost use Rattle.std.specs.Prelude.{◌≡◌, ℕ, List, [], ◌∷◌, ◌++◌, Option, Some, false};
 ghost use Rattle.hive_model.specs.Image.{Image, Write, IsCrashImage};
 ghost use Rattle.hive_model.specs.Load.{Loads};
 ghost use Rattle.start_model.specs.Events as events;
