@@ -1,4 +1,4 @@
--- The quiet run is a run whose operations are all done, so it leaves nothing open; and what `make` saves is its last state.
+-- The quiet run is a run whose operations are all done, so it leaves nothing open; what `make` saves is its last state.
 use Rattle.std.proofs.Common.{◌≡◌, inl, inr, ℕ, Bool, true, false, List, [], ◌∷◌, ◌++◌, Option, Some, None, Result, Ok, refl, sym, ap, subst, ◌∙◌}
 use Rattle.std.specs.Prelude.{IfSome}
 use Rattle.hive_model.specs.Image.{Primary, IsFileOf, image_of}
@@ -48,19 +48,19 @@ marked (Ordered arming) ns mark f = f
 marked Cuts ns mark f = f
 marked (Ended o) ns mark f = absurd mark
 
-takes : (act : Act) (h : List Note) → Keeps nothing h act → Takes act
-takes (acts.done m) h k = record { wakes = []; outcomes = []; taken = λ ws os. refl; finished = λ ws os. tt }
-takes (acts.say l act) h k =
-    let t = takes act h k in
+quiet_taken : (act : Act) (h : List Note) → Keeps nothing h act → Takes act
+quiet_taken (acts.done m) h k = record { wakes = []; outcomes = []; taken = λ ws os. refl; finished = λ ws os. tt }
+quiet_taken (acts.say l act) h k =
+    let t = quiet_taken act h k in
     record { wakes = t.wakes; outcomes = t.outcomes; taken = t.taken; finished = t.finished }
-takes (acts.ask disk next) h k =
-    let t = takes (next Finished) (push h (Ended Finished)) (k.1 Finished) in
+quiet_taken (acts.ask disk next) h k =
+    let t = quiet_taken (next Finished) (push h (Ended Finished)) (k.1 Finished) in
     record { wakes = t.wakes; outcomes = Finished ∷ t.outcomes; taken = t.taken; finished = t.finished }
-takes (acts.wake disk next) h k =
-    let t = takes (next (quiet_wake disk)) (push h (Woke disk)) (k.1 (quiet_wake disk)) in
+quiet_taken (acts.wake disk next) h k =
+    let t = quiet_taken (next (quiet_wake disk)) (push h (Woke disk)) (k.1 (quiet_wake disk)) in
     record { wakes = quiet_wake disk ∷ t.wakes; outcomes = t.outcomes; taken = t.taken; finished = t.finished }
-takes (acts.mark note act) h k =
-    let t = takes act (push h note) k.1 in
+quiet_taken (acts.mark note act) h k =
+    let t = quiet_taken act (push h note) k.1 in
     record {
       wakes = t.wakes;
       outcomes = t.outcomes;
@@ -84,11 +84,11 @@ all_append (DeviceFault ∷ a) b f g = absurd f
 
 run_takes : (choice : Option ℕ → Choice) (es : List Event) (m : RunState) → RunTakes choice es m
 run_takes choice [] m =
-    let t = takes (closing_act m) [] (closing-marks m) in
+    let t = quiet_taken (closing_act m) [] (closing-marks m) in
     record { wakes = t.wakes ++ []; outcomes = t.outcomes ++ []; taken = t.taken [] []; finished = t.finished [] [] }
 run_takes choice (e ∷ es) m =
     let act : Act = event_step_of choice e m in
-    let t = takes act [] (event_step_of-marks choice e m) in
+    let t = quiet_taken act [] (event_step_of-marks choice e m) in
     let r = run_takes choice es (quiet_play act).state in
     let first : RunResult = play act (t.wakes ++ r.wakes) (t.outcomes ++ r.outcomes) in
     let later : RunResult = run_from choice es (quiet_play act).state r.wakes r.outcomes in
@@ -110,7 +110,8 @@ pub quiet_rests : (choice : Option ℕ → Choice) (script : List Event) (placed
 unfolding run_of quiet_run_of
 quiet_rests choice script placed =
     let t = run_takes choice script (first_state placed) in
-    run_of-rests choice script placed t.wakes t.outcomes (quiet_run_of choice script placed).state [] [] t.taken t.finished
+    run_of-rests choice script placed t.wakes t.outcomes (quiet_run_of choice script placed).state [] [] t.taken
+    t.finished
 
 -- ---- what `make` saves
 
@@ -137,7 +138,8 @@ same_file held hive e = cc
 pub file_saved : (words : MakeAsked) (json : Bool) (old new : HostState) (disk : DiskState) (name hive log : List ℕ)
     → TopDecides (asks (make words) json) statuses.Done old new disk → old.tells ≡ true
     → words.save_hive ≡ Some name → new.files name ≡ Some hive
-    → (usual : Usual) × ((usual_in ≡ Ok usual) × Loads (image_of hive log) (made_run usual words.count).state.disk.settled false)
+    → (usual : Usual) × ((usual_in ≡ Ok usual)
+    × Loads (image_of hive log) (made_run usual words.count).state.disk.settled false)
 file_saved words json old new disk name hive log top tells saves is =
     let usual = usual_is in
     let wanted : Saves = record { hive = words.save_hive; log = None } in

@@ -22,9 +22,9 @@ pub fn a_quiet_run_leaves_nothing_open()
 {}
 
 /// The hive's file after `make`, alone or with any log, loads as the state that the run of the made hive ends with, without a log
-/// (`disk`). So does the file that `make --save-hive` saved, where `ntboot` answers that all is done and the host reports its files (`file`).
+/// (`held`). So does the file that `make --save-hive` saved, where `ntboot` answers that all is done and the host reports its files (`file`).
 pub fn a_made_hive_is_saved_as_its_run_leaves_it()
-    ensures disk { (usual : Usual) (count saved : ℕ) (disk : DiskState) (hive log : List ℕ)
+    ensures held { (usual : Usual) (count saved : ℕ) (disk : DiskState) (hive log : List ℕ)
         → IsMade usual count saved disk → IsFileOf disk.held Primary hive
         → Loads (image_of hive log) (made_run usual count).state.disk.settled false }
     ensures file { (words : MakeAsked) (json : Bool) (old : HostState) (new : HostState) (disk : DiskState) (name hive log : List ℕ)
