@@ -9,3 +9,4 @@ mod Words
 mod StartLines
 mod TreeKind
 mod TreeCounts
+pub mod ReportLemmas

@@ -2,6 +2,7 @@ pub mod CountLemmas
 pub mod WriteLemmas
 pub mod StageLemmas
 pub mod CutLemmas
+mod DiskCountLemmas
 pub mod TreeLemmas
 pub mod RecoveryLemmas
 pub mod ListingLemmas

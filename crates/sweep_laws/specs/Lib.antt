@@ -3,3 +3,4 @@ pub mod Leaving
 pub mod Listing
 pub mod Truth
 pub mod Columns
+pub mod Counting

@@ -1,0 +1,4 @@
+mod ControlLines
+mod SafeLines
+mod TextsLines
+mod TwinLines

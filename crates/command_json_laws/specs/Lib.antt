@@ -1,0 +1,4 @@
+pub mod Control
+pub mod Safe
+pub mod Texts
+pub mod Twin
