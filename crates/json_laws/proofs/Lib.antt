@@ -1,10 +1,10 @@
 mod Parts
 mod Values
 mod Lists
-mod Told
+pub mod Told
 mod Printable
 mod Units
-mod LineKinds
+pub mod LineKinds
 mod Words
 mod StartLines
 mod TreeKind

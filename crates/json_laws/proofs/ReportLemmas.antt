@@ -17,10 +17,10 @@ sound_fields (f ∷ fields) words values =
     let both = and_parts (is_word f.0) (list_all (λ (g : Field). is_word g.0) fields) words in
     ((both.0, values.0), sound_fields fields both.1 values.1)
 
-sound : (reader : Reader) (s : Said) → IsRead reader s → HasValues s → IsObject s.object
-sound reader s is values =
-    let both = and_parts (is_word s.object.word) (list_all (λ (f : Field). is_word f.0) s.object.fields) is.words in
-    record { word = both.0; fields = sound_fields s.object.fields both.1 values }
+pub sound_object : (o : Object) → has_words o ≡ true → HasValues o → IsObject o
+sound_object o words values =
+    let both = and_parts (is_word o.word) (list_all (λ (f : Field). is_word f.0) o.fields) words in
+    record { word = both.0; fields = sound_fields o.fields both.1 values }
 
 abbrev object_of : Said → Object
 object_of s = s.object
@@ -32,7 +32,7 @@ sounds : (reader : Reader) (lines : List Said) → AllByRecursion (IsRead reader
     → AllByRecursion IsObject (objects lines)
 unfolding objects
 sounds reader [] read values = tt
-sounds reader (s ∷ lines) read values = (sound reader s read.0 values.0, sounds reader lines read.1 values.1)
+sounds reader (s ∷ lines) read values = (sound_object s.object read.0.words values.0, sounds reader lines read.1 values.1)
 
 jsons : (lines : List Said) → flat_map (printed forms.Json) lines ≡ jsons_of (objects lines)
 unfolding objects
@@ -61,7 +61,7 @@ pub lines_print : (reader : Reader) (lines : List Said) → AllByRecursion (IsRe
     → AllByRecursion (λ (s : Said). IsPrintableLine (printed forms.Json s)) lines
 lines_print reader [] read values = tt
 lines_print reader (s ∷ lines) read values =
-    (object_prints s.object (sound reader s read.0 values.0), lines_print reader lines read.1 values.1)
+    (object_prints s.object (sound_object s.object read.0.words values.0), lines_print reader lines read.1 values.1)
 
 -- ---- parts of a report
 
@@ -87,7 +87,7 @@ pub one : (reader : Reader) (line : ReportForm → List ℕ) (s : Said) → ((fo
 one reader line s whole read =
     record { whole = λ form. whole form ∙ sym (append-nil (printed form s)); read = (read, tt) }
 
-all_of : {A : Type 0} (P : A → Type 0) (ks ls : List A) → AllByRecursion P ks → AllByRecursion P ls
+pub all_of : {A : Type 0} (P : A → Type 0) (ks ls : List A) → AllByRecursion P ks → AllByRecursion P ls
     → AllByRecursion P (ks ++ ls)
 all_of P [] ls of_k of_l = of_l
 all_of P (k ∷ ks) ls of_k of_l = (of_k.0, all_of P ks ls of_k.1 of_l)

@@ -43,10 +43,10 @@ pub record IsReport (reader : Reader) (report : ReportForm → List ℕ) (lines 
   pub whole : (form : ReportForm) → report form ≡ flat_map (printed form) lines
   pub read : AllByRecursion (IsRead reader) lines
 
--- the numbers in the object of a line are of 64 bits, and its texts of UTF-16 units
-abbrev pub HasValues : Said → Type 0
-HasValues s = AllByRecursion (λ (f : Field). IsValue f.1) s.object.fields
+-- the numbers in an object are of 64 bits, and its texts of UTF-16 units
+abbrev pub HasValues : Object → Type 0
+HasValues o = AllByRecursion (λ (f : Field). IsValue f.1) o.fields
 
 -- so are those of each line
 abbrev pub HaveValues : List Said → Type 0
-HaveValues lines = AllByRecursion HasValues lines
+HaveValues lines = AllByRecursion (λ s. HasValues s.object) lines

@@ -1,6 +1,7 @@
 mod CheckLines
 mod DataLemmas
 mod DiffLines
+mod GraphLines
 mod KeyLines
 mod ReplayLines
 mod SalvageLines

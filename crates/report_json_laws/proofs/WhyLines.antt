@@ -17,7 +17,7 @@ whole : (form : ReportForm) (line : WhyLine) → printed form line ≡ reports.p
 whole forms.Text line = refl
 whole forms.Json line = refl
 
-read : (line : WhyLine) → IsRead why_reader (said_of line)
+pub read : (line : WhyLine) → IsRead why_reader (said_of line)
 read lines.NoBoot = record { words = refl; back = refl }
 read (lines.Start number) = record { words = refl; back = refl }
 read (lines.Set number on_good) = record { words = refl; back = refl }

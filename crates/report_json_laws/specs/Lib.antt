@@ -1,6 +1,7 @@
 pub mod Check
 pub mod Data
 pub mod Diff
+pub mod Graph
 pub mod Key
 pub mod Replay
 pub mod Salvage

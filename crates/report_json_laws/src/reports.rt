@@ -1,12 +1,18 @@
 //! A law for each command: the object of each line of its report tells the line's text.
 
-ghost use Rattle.std.specs.Prelude.{ℕ, ◌≤◌, List, map};
+ghost use Rattle.std.specs.Prelude.{◌≡◌, ℕ, ◌≤◌, List, map};
+ghost use Rattle.std.specs.List.{AllByRecursion};
 ghost use Rattle.hive_model.specs.Tree.{Tree};
 ghost use Rattle.line_text.specs.declared.form.ReportForm.{ReportForm};
 ghost use Rattle.json_laws.specs.Reports.{IsReport};
 ghost use Rattle.tree_text.specs.TreeObjects.{shown_lines, shown_in};
 ghost use Rattle.sweep_text.specs.declared.logged.Logged.{Logged};
 ghost use Rattle.sweep_text.specs.Report.{sweep_report};
+ghost use Rattle.why_lines.specs.declared.lines.WhyLine.{WhyLine};
+ghost use Rattle.graph_lines.specs.declared.graph.Graph.{Graph as GraphModel};
+ghost use Rattle.graph_text.specs.Objects.{json_text};
+ghost use Rattle.json_laws.specs.Reports.{HasValues};
+ghost use Rattle.report_json_laws.specs.Graph.{graph_objects, AreOneGraph};
 ghost use Rattle.report_json_laws.specs.Show as show;
 ghost use Rattle.report_json_laws.specs.Sweep as sweep;
 ghost use Rattle.check_lines.specs.declared.lines.CheckLine.{CheckLine};
@@ -21,7 +27,6 @@ ghost use Rattle.report_json_laws.specs.Key as key;
 ghost use Rattle.failure_effects.specs.declared.lines.EffectLine.{EffectLine};
 ghost use Rattle.whatif_text.specs.Lines as whatif_text;
 ghost use Rattle.report_json_laws.specs.Whatif as whatif;
-ghost use Rattle.why_lines.specs.declared.lines.WhyLine.{WhyLine};
 ghost use Rattle.why_text.specs.Lines as why_text;
 ghost use Rattle.report_json_laws.specs.Why as why;
 ghost use Rattle.salvage_text.specs.Lines.{SalvageLine};
@@ -85,4 +90,12 @@ pub fn a_report_of_sweep_is_read()
     ensures { (event : List ℕ) (lines : List Line) (recovery commit : Logged)
         → IsReport sweep.sweep_reader (λ (form : ReportForm). sweep_report form event lines recovery commit)
         (sweep.sweep_said event lines recovery commit) }
+{}
+
+/// The objects of `graph`, which says another text without `--json`: the first lines have their text back, and the nodes are the same, and what the
+/// edges join.
+pub fn the_objects_of_a_graph_tell_it()
+    ensures { (head top : List WhyLine) (graph other : GraphModel) → AllByRecursion HasValues (graph_objects head graph)
+        → AllByRecursion HasValues (graph_objects top other) → json_text head graph ≡ json_text top other
+        → AreOneGraph head top graph other }
 {}
