@@ -133,7 +133,8 @@ answers_report c (command ∷ more) =
     let next : ControlState = (answer_to c command).state in
     same control_reader (λ form. (answer_in form c command).text ++ answers_in form next more)
     (λ form. answers_in form c (command ∷ more)) (answer_said c command ++ answers_said next more)
-    (λ form. ap (λ (s : ControlState). (answer_in form c command).text ++ answers_in form s more) (answer_state c command form))
+    (λ form. ap (λ (s : ControlState). (answer_in form c command).text ++ answers_in form s more)
+    (answer_state c command form))
     (both control_reader (λ form. (answer_in form c command).text) (λ form. answers_in form next more)
     (answer_said c command) (answers_said next more) (answer_report c command) (answers_report next more))
 
@@ -149,7 +150,8 @@ no_set_report = record {
 
 by_set : {S : Type 0} (found : Option S) (report : ReportForm → S → List ℕ) (lines : S → List Said)
     → ((set : S) → Reported (λ form. report form set) (lines set))
-    → Reported (λ form. option_map_or (report form) found (no_set_lines_in form)) (option_map_or lines found no_set_said)
+    → Reported (λ form. option_map_or (report form) found (no_set_lines_in form))
+    (option_map_or lines found no_set_said)
 by_set None report lines each = no_set_report
 by_set (Some set) report lines each = each set
 

@@ -29,9 +29,11 @@ by_choice named images ini tree (chosen.Entry n) =
     let mode : Option SafeMode = mode_at named ini n in
     both start_reader (λ form. printed_lines form (EntryLine n (path_at ini n) ∷ []) ++ mode_text form mode)
     (λ form. printed_lines form (default_lines tree mode images))
-    (lines_said (EntryLine n (path_at ini n) ∷ []) ++ (mode_said mode ∷ [])) (lines_said (default_lines tree mode images))
+    (lines_said (EntryLine n (path_at ini n) ∷ []) ++ (mode_said mode ∷ []))
+    (lines_said (default_lines tree mode images))
     (both start_reader (λ form. printed_lines form (EntryLine n (path_at ini n) ∷ [])) (λ form. mode_text form mode)
-    (lines_said (EntryLine n (path_at ini n) ∷ [])) (mode_said mode ∷ []) (start_report (EntryLine n (path_at ini n) ∷ []))
+    (lines_said (EntryLine n (path_at ini n) ∷ [])) (mode_said mode ∷ [])
+    (start_report (EntryLine n (path_at ini n) ∷ []))
     (one start_reader (λ form. mode_text form mode) (mode_said mode) (mode_whole mode)
     (record { words = refl; back = refl })))
     (start_report (default_lines tree mode images))
@@ -42,6 +44,7 @@ by_choice named images ini tree (chosen.NoSystem n) =
     start_report (EntryLine n (path_at ini n) ∷ verdict_lines NoSystem)
 
 pub safe_report : (named : Option SafeMode) (images : Bool) (ini : BootIni) (system : Arc) (tree : Tree)
-    → IsReport start_reader (λ form. report_of form named images ini system tree) (safe_said named images ini system tree)
+    → IsReport start_reader (λ form. report_of form named images ini system tree)
+    (safe_said named images ini system tree)
 unfolding report_of
 safe_report named images ini system tree = by_choice named images ini tree (choice_of ini None system)

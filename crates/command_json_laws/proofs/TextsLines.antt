@@ -47,7 +47,8 @@ pub import_report : (told : Said) → IsReport texts_reader (λ form. said_text 
 import_report told =
     both texts_reader (λ form. option_line form (codes "current") (codes "number") told.current
     ++ option_line form (codes "passed") (codes "count") told.passed) (λ form. done_line form told.done)
-    (option_said (codes "current") (codes "number") told.current ++ option_said (codes "passed") (codes "count") told.passed)
+    (option_said (codes "current") (codes "number") told.current
+    ++ option_said (codes "passed") (codes "count") told.passed)
     (done_said told.done ∷ [])
     (both texts_reader (λ form. option_line form (codes "current") (codes "number") told.current)
     (λ form. option_line form (codes "passed") (codes "count") told.passed)

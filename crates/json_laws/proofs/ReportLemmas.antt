@@ -32,7 +32,8 @@ sounds : (reader : Reader) (lines : List Said) → AllByRecursion (IsRead reader
     → AllByRecursion IsObject (objects lines)
 unfolding objects
 sounds reader [] read values = tt
-sounds reader (s ∷ lines) read values = (sound_object s.object read.0.words values.0, sounds reader lines read.1 values.1)
+sounds reader (s ∷ lines) read values =
+    (sound_object s.object read.0.words values.0, sounds reader lines read.1 values.1)
 
 jsons : (lines : List Said) → flat_map (printed forms.Json) lines ≡ jsons_of (objects lines)
 unfolding objects

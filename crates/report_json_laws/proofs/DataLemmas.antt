@@ -77,7 +77,8 @@ qword_read kind e n = subst (λ k. Reads k (Qword n)) (sym e) refl
 
 pub data_read : (kind : ℕ) (bytes : List ℕ) → Reads kind (form_of kind bytes)
 data_read kind bytes =
-    by_form (Reads kind) (λ items. refl) (λ units. refl) (λ units. refl) kind bytes (dword_read kind) (qword_read kind) refl
+    by_form (Reads kind) (λ items. refl) (λ units. refl) (λ units. refl) kind bytes (dword_read kind) (qword_read kind)
+    refl
 
 -- ---- as `diff` has them
 
@@ -91,7 +92,8 @@ unfolding encode_with
 first_digits zero bytes = refl
 first_digits (suc n) [] = refl
 first_digits (suc n) (b ∷ bytes) =
-    ap (λ (t : List ℕ). slice_index lower_digits (b / 16) ∷ slice_index lower_digits (b % 16) ∷ t) (first_digits n bytes)
+    ap (λ (t : List ℕ). slice_index lower_digits (b / 16) ∷ slice_index lower_digits (b % 16) ∷ t)
+    (first_digits n bytes)
 
 abbrev Cuts : ℕ → DataForm → Type 0
 Cuts kind form = cut_text (kind_text kind) (map told_field (form_fields form)) ≡ diff_lines.cut_text form

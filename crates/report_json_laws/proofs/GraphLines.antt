@@ -41,7 +41,8 @@ kind_back kinds.Group = refl
 
 abbrev state_from : List ℕ → Option NodeState
 state_from word =
-    pick state_word (states.Started ∷ states.Failed ∷ states.Unmet ∷ states.NotReached ∷ states.Untaken ∷ states.NoEntry ∷ []) word
+    pick state_word (states.Started ∷ states.Failed ∷ states.Unmet ∷ states.NotReached ∷ states.Untaken
+    ∷ states.NoEntry ∷ []) word
 
 state_back : (state : NodeState) → state_from (state_word state) ≡ Some state
 state_back states.Started = refl
@@ -68,7 +69,8 @@ by_words (Some kind) (Some phase) (Some state) number name =
 by_words kind phase state number name = None
 
 abbrev by_fields : Fields → Option GraphNode
-by_fields ((a, Number n) ∷ (b, Text kind) ∷ (c, Text phase) ∷ (d, Text state) ∷ (e, Number number) ∷ (f, Text name) ∷ []) =
+by_fields ((a, Number n) ∷ (b, Text kind) ∷ (c, Text phase) ∷ (d, Text state) ∷ (e, Number number)
+    ∷ (f, Text name) ∷ []) =
     by_words (kind_from kind) (place_from phase) (state_from state) number name
 by_fields other = None
 
@@ -95,7 +97,8 @@ text_from o =
     if bytes_eq o.word (codes "node") || bytes_eq o.word (codes "edge") then [] else why_reader o.word o.fields
 
 -- a line about the start is neither a node nor an edge
-head_apart : (line : WhyLine) → (node_from (told (head_object line)) ≡ None) × (edge_from (told (head_object line)) ≡ None)
+head_apart : (line : WhyLine) → (node_from (told (head_object line)) ≡ None)
+    × (edge_from (told (head_object line)) ≡ None)
     × (text_from (told (head_object line)) ≡ why_reader (line_word line) (told (head_object line)).fields)
 head_apart lines.NoBoot = (refl, refl, refl)
 head_apart (lines.Start number) = (refl, refl, refl)
@@ -150,7 +153,8 @@ module _ {A : Type 0} (from : Object → Option A) where
   seen_head : (head : List WhyLine) (os : List Object) → ((line : WhyLine) → from (told (head_object line)) ≡ None)
       → seen (map head_object head ++ os) ≡ seen os
   seen_head [] os none = refl
-  seen_head (line ∷ head) os none = seen_none (head_object line) (map head_object head ++ os) (none line) ∙ seen_head head os none
+  seen_head (line ∷ head) os none =
+      seen_none (head_object line) (map head_object head ++ os) (none line) ∙ seen_head head os none
 
 nodes_seen : (n : ℕ) (nodes : List GraphNode) (os : List Object)
     → seen node_from (nodes_objects n nodes ++ os) ≡ nodes ++ seen node_from os
@@ -205,7 +209,8 @@ all_edges head graph =
 abbrev texts : List Object → List ℕ
 texts os = flat_map text_from (map told os)
 
-head_texts : (head : List WhyLine) (os : List Object) → texts (map head_object head ++ os) ≡ flat_map line_text head ++ texts os
+head_texts : (head : List WhyLine) (os : List Object)
+    → texts (map head_object head ++ os) ≡ flat_map line_text head ++ texts os
 head_texts [] os = refl
 head_texts (line ∷ head) os =
     (λ i. ((head_apart line).2 ∙ (why.read line).back) i ++ head_texts head os i)
@@ -219,7 +224,8 @@ no_text_in_edges : (edges : List GraphEdge) (os : List Object) → texts (map ed
 no_text_in_edges [] os = refl
 no_text_in_edges (edge ∷ more) os = no_text_in_edges more os
 
-all_texts : (head : List WhyLine) (graph : Graph) → texts (graph_objects head graph) ≡ flat_map line_text head ++ codes "end\n"
+all_texts : (head : List WhyLine) (graph : Graph)
+    → texts (graph_objects head graph) ≡ flat_map line_text head ++ codes "end\n"
 all_texts head graph =
     let rest : List Object = map edge_object graph.edges ++ end_object ∷ [] in
     head_texts head (nodes_objects 1 graph.nodes ++ rest)

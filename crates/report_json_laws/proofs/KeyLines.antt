@@ -33,7 +33,8 @@ value_read : (v : Item) → IsRead key_reader (said_of (ValueLine v))
 unfolding value_text
 value_read v = record {
   words = data_words (form_of v.kind v.bytes);
-  back = ap (λ (t : List ℕ). codes "value " ++ quoted v.name ++ codes " " ++ kind_text v.kind ++ codes " " ++ t ++ codes "\n")
+  back = ap (λ (t : List ℕ). codes "value " ++ quoted v.name ++ codes " " ++ kind_text v.kind ++ codes " " ++ t
+      ++ codes "\n")
       (data_read v.kind v.bytes);
 }
 

@@ -29,5 +29,6 @@ read (lines.Saved sequence bytes) = record { words = refl; back = refl }
 read lines.SaveRefused = record { words = refl; back = refl }
 read lines.End = record { words = refl; back = refl }
 
-pub replay_report : (said : List ReplayLine) → IsReport replay_reader (λ form. printed_lines form said) (map said_of said)
+pub replay_report : (said : List ReplayLine)
+    → IsReport replay_reader (λ form. printed_lines form said) (map said_of said)
 replay_report said = report_of_lines printed said_of replay_reader whole read said

@@ -44,5 +44,6 @@ read (SavedLine number bytes) = record { words = refl; back = refl }
 read (RefusedLine word) = record { words = refl; back = refl }
 read EndLine = record { words = refl; back = refl }
 
-pub salvage_report : (said : List SalvageLine) → IsReport salvage_reader (λ form. printed_lines form said) (map said_of said)
+pub salvage_report : (said : List SalvageLine)
+    → IsReport salvage_reader (λ form. printed_lines form said) (map said_of said)
 salvage_report said = report_of_lines printed said_of salvage_reader whole read said

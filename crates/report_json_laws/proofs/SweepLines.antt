@@ -91,7 +91,8 @@ stage_report : (writes syncs : ℕ) (s : Stage)
     → IsReport sweep_reader (λ form. stage_text form writes syncs s) (stage_said writes syncs s)
 stage_report writes syncs s =
     first sweep_reader (λ form. stage_line form s.name)
-    (λ form. writes_text form writes s.file s.leaves.written s.sectors ++ sync_line form syncs s.leaves.none s.leaves.others)
+    (λ form. writes_text form writes s.file s.leaves.written s.sectors
+    ++ sync_line form syncs s.leaves.none s.leaves.others)
     (word_said (stage_line forms.Text s.name) (codes "stage") (codes "name") s.name)
     (writes_said writes s.file s.leaves.written s.sectors ++ (sync_said syncs s.leaves.none s.leaves.others ∷ []))
     (stage_whole s.name) (record { words = refl; back = refl })
@@ -150,7 +151,8 @@ head_whole event forms.Text = refl
 head_whole event forms.Json = refl
 
 pub swept_report : (event : List ℕ) (lines : List Line) (recovery commit : Logged)
-    → IsReport sweep_reader (λ form. sweep_report form event lines recovery commit) (sweep_said event lines recovery commit)
+    → IsReport sweep_reader (λ form. sweep_report form event lines recovery commit)
+    (sweep_said event lines recovery commit)
 swept_report event lines recovery commit =
     let stages : List Stage = stages_by (recovers lines) (commits lines) recovery commit in
     first sweep_reader (λ form. head_line form event)

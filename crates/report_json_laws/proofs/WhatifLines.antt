@@ -35,5 +35,6 @@ read (lines.Untaken name) = record { words = refl; back = refl }
 read (lines.Leans steps by state name) = record { words = refl; back = refl }
 read lines.End = record { words = refl; back = refl }
 
-pub whatif_report : (said : List EffectLine) → IsReport whatif_reader (λ form. printed_lines form said) (map said_of said)
+pub whatif_report : (said : List EffectLine)
+    → IsReport whatif_reader (λ form. printed_lines form said) (map said_of said)
 whatif_report said = report_of_lines printed said_of whatif_reader whole read said

@@ -41,42 +41,50 @@ ghost use Rattle.report_json_laws.specs.Starts as run;
 
 /// The lines of `check`.
 pub fn a_report_of_check_is_read()
-    ensures { (lines : List CheckLine) → IsReport check.check_reader (λ (form : ReportForm). check_text.printed_lines form lines) (map check.said_of lines) }
+    ensures { (lines : List CheckLine)
+        → IsReport check.check_reader (λ (form : ReportForm). check_text.printed_lines form lines) (map check.said_of lines) }
 {}
 
 /// The lines of `diff`.
 pub fn a_report_of_diff_is_read()
-    ensures { (lines : List DiffLine) → IsReport diff.diff_reader (λ (form : ReportForm). diff_text.printed_lines form lines) (map diff.said_of lines) }
+    ensures { (lines : List DiffLine)
+        → IsReport diff.diff_reader (λ (form : ReportForm). diff_text.printed_lines form lines) (map diff.said_of lines) }
 {}
 
 /// The lines of `key`.
 pub fn a_report_of_key_is_read()
-    ensures { (lines : List KeyLine) → IsReport key.key_reader (λ (form : ReportForm). key_text.printed_lines form lines) (map key.said_of lines) }
+    ensures { (lines : List KeyLine)
+        → IsReport key.key_reader (λ (form : ReportForm). key_text.printed_lines form lines) (map key.said_of lines) }
 {}
 
 /// The lines of `whatif`.
 pub fn a_report_of_whatif_is_read()
-    ensures { (lines : List EffectLine) → IsReport whatif.whatif_reader (λ (form : ReportForm). whatif_text.printed_lines form lines) (map whatif.said_of lines) }
+    ensures { (lines : List EffectLine)
+        → IsReport whatif.whatif_reader (λ (form : ReportForm). whatif_text.printed_lines form lines) (map whatif.said_of lines) }
 {}
 
 /// The lines of `why`.
 pub fn a_report_of_why_is_read()
-    ensures { (lines : List WhyLine) → IsReport why.why_reader (λ (form : ReportForm). why_text.printed_lines form lines) (map why.said_of lines) }
+    ensures { (lines : List WhyLine)
+        → IsReport why.why_reader (λ (form : ReportForm). why_text.printed_lines form lines) (map why.said_of lines) }
 {}
 
 /// The lines of `salvage`.
 pub fn a_report_of_salvage_is_read()
-    ensures { (lines : List SalvageLine) → IsReport salvage.salvage_reader (λ (form : ReportForm). salvage_text.printed_lines form lines) (map salvage.said_of lines) }
+    ensures { (lines : List SalvageLine)
+        → IsReport salvage.salvage_reader (λ (form : ReportForm). salvage_text.printed_lines form lines) (map salvage.said_of lines) }
 {}
 
 /// The lines of `replay`.
 pub fn a_report_of_replay_is_read()
-    ensures { (lines : List ReplayLine) → IsReport replay.replay_reader (λ (form : ReportForm). replay_text.printed_lines form lines) (map replay.said_of lines) }
+    ensures { (lines : List ReplayLine)
+        → IsReport replay.replay_reader (λ (form : ReportForm). replay_text.printed_lines form lines) (map replay.said_of lines) }
 {}
 
 /// The lines of `run`, and of `safe` without its mode.
 pub fn a_report_of_run_is_read()
-    ensures { (lines : List Line) → IsReport run.start_reader (λ (form : ReportForm). run_text.printed_lines form lines) (map run.said_of lines) }
+    ensures { (lines : List Line)
+        → IsReport run.start_reader (λ (form : ReportForm). run_text.printed_lines form lines) (map run.said_of lines) }
 {}
 
 /// The lines of `show`, of a tree that has fewer levels than 64 bits count.

@@ -126,9 +126,9 @@ pub commit_counts : (disk : DiskState) (base : Base) (old new log : List ℕ) (r
     → WereMade first last earlier (reads_of sectors ++ change_calls base old new root)
     → CountsMore first last (calls_in (stages_by false true given (logged_of log)))
 commit_counts disk base old new log root given sectors first last earlier still is file are =
-    by_table _ disk.held (stages_by false true given (logged_of log)) (commit_writes base (dirty old new) new root) sectors
-    first last earlier (change_calls base old new root) (commit_table disk base old new log root given still is file)
-    (commit_calls base old new root) are
+    by_table _ disk.held (stages_by false true given (logged_of log)) (commit_writes base (dirty old new) new root)
+    sectors first last earlier (change_calls base old new root)
+    (commit_table disk base old new log root given still is file) (commit_calls base old new root) are
 
 pub recovery_counts : (disk : DiskState) (base : Base) (bitmap bins log : List ℕ) (written : Logged)
     (sectors : List Address) (first last : MemDisk) (earlier : List Made) → Found disk.held base bitmap bins
@@ -141,14 +141,14 @@ recovery_counts disk base bitmap bins log written sectors first last earlier fou
 
 pub both_counts : (disk : DiskState) (base : Base) (bitmap old new log left : List ℕ) (root : ℕ)
     (sectors : List Address) (first last : MemDisk) (earlier : List Made) → disk.flight ≡ []
-    → Found disk.held base bitmap old → NumbersFit base → TextsFit base → is_bins_size (length new) ≡ true → root < 2 ^ 32
-    → IsFileOf disk.held Log log
+    → Found disk.held base bitmap old → NumbersFit base → TextsFit base → is_bins_size (length new) ≡ true
+    → root < 2 ^ 32 → IsFileOf disk.held Log log
     → IsFileOf (after_calls disk (closing_calls base (bit bitmap) old ++ change_calls base old new root)).held Log left
     → WereMade first last earlier
     (reads_of sectors ++ (closing_calls base (bit bitmap) old ++ change_calls base old new root))
     → CountsMore first last (calls_in (stages_by true true (logged_of log) (logged_of left)))
-both_counts disk base bitmap old new log left root sectors first last earlier still found numbers texts sized fits file is
-    are =
+both_counts disk base bitmap old new log left root sectors first last earlier still found numbers texts sized fits file
+    is are =
     by_table _ disk.held (stages_by true true (logged_of log) (logged_of left))
     (recovery_writes base (bit bitmap) old ++ commit_writes base (dirty old new) new root) sectors first last earlier
     (closing_calls base (bit bitmap) old ++ change_calls base old new root)

@@ -1,6 +1,6 @@
 //! How many calls and words there are.
 
-ghost use Rattle.std.specs.Prelude.{◌≡◌, ◌<◌, ◌+◌, ◌-◌, ◌*◌, ◌^◌, ◌++◌, ℕ, List, [], length, not, true, false};
+ghost use Rattle.std.specs.Prelude.{◌≡◌, ◌↔◌, ◌<◌, ◌+◌, ◌-◌, ◌*◌, ◌^◌, ◌++◌, ℕ, Bool, List, [], length, not, true, false};
 ghost use Rattle.std.specs.List.{count_by};
 ghost use Rattle.hive_model.specs.Base.{Base, is_bins_size};
 ghost use Rattle.hive_model.specs.Image.{Address, Log, IsFileOf};
@@ -34,6 +34,12 @@ pub fn the_calls_of_a_commit_are_counted()
 pub fn the_calls_of_a_recovery_are_counted()
     ensures calls { (sectors : List ℕ) → calls_in (recovery_stages sectors) ≡ length sectors + 3 }
     ensures after { (sectors : List ℕ) → afters_in (recovery_stages sectors) ≡ 0 }
+{}
+
+/// The line `calls` counts none exactly where the event neither recovered the hive nor committed it.
+pub fn no_calls_are_counted_exactly_where_nothing_is_written()
+    ensures { (recovered committed : Bool) (recovery commit : LoggedModel)
+        → (calls_in (stages_by recovered committed recovery commit) ≡ 0) ↔ ((recovered ≡ false) × (committed ≡ false)) }
 {}
 
 /// Any stages have four words for each call. Those that count as `after` are `after`, and all others are `before`.
