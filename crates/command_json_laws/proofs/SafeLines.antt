@@ -1,19 +1,18 @@
 -- The lines of `safe`, read from their objects.
-use Rattle.std.proofs.Common.{◌≡◌, ℕ, Bool, List, [], ◌∷◌, ◌++◌, Option, Some, None, refl}
+use Rattle.std.proofs.Common.{◌≡◌, Bool, [], ◌∷◌, ◌++◌, Option, None, refl}
 use Rattle.arc_path.specs.declared.arc.Arc.{Arc}
 use Rattle.boot_ini.specs.declared.ini.BootIni.{BootIni}
 use Rattle.boot_ini.specs.declared.choosing.Chosen.{Chosen}
 use Rattle.boot_ini.specs.declared.choosing.Chosen.TheVariants as chosen
 use Rattle.boot_ini.specs.Choice.{path_at, choice_of}
 use Rattle.hive_model.specs.Tree.{Tree}
-use Rattle.start_model.specs.Lines.{Line, EntryLine, NoEntry, OtherLoader, NoSystem}
+use Rattle.start_model.specs.Lines.{EntryLine, NoEntry, OtherLoader, NoSystem}
 use Rattle.line_text.specs.declared.form.ReportForm.{ReportForm}
 use Rattle.line_text.specs.declared.form.ReportForm.TheVariants as forms
 use Rattle.line_objects.specs.Objects.{printed_lines}
 use Rattle.safe_boot.specs.declared.mode.SafeMode.{SafeMode}
-use Rattle.safe_boot.specs.declared.mode.SafeMode.TheVariants.{Minimal, Network}
-use Rattle.safe_command.specs.Report.{mode_at, mode_word, mode_text, verdict_lines, default_lines, report_by, report_of}
-use Rattle.json_laws.specs.Reports.{IsRead, IsReport, printed}
+use Rattle.safe_command.specs.Report.{mode_at, mode_text, verdict_lines, default_lines, report_by, report_of}
+use Rattle.json_laws.specs.Reports.{IsReport, printed}
 use Rattle.json_laws.proofs.ReportLemmas.{one, both}
 use Rattle.report_json_laws.specs.Starts.{start_reader}
 use Rattle.report_json_laws.proofs.StartLines.{start_report}

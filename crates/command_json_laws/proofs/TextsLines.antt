@@ -6,7 +6,6 @@ use Rattle.hive_model.specs.Tree.{Tree}
 use Rattle.line_text.specs.declared.form.ReportForm.{ReportForm}
 use Rattle.line_text.specs.declared.form.ReportForm.TheVariants as forms
 use Rattle.json_laws.specs.Objects.{is_word}
-use Rattle.json_laws.specs.Reports as reports
 use Rattle.json_laws.specs.Reports.{IsRead, IsReport, printed}
 use Rattle.json_laws.proofs.ReportLemmas.{nothing, one, both}
 use Rattle.text_commands.specs.declared.said.Done.{Done}

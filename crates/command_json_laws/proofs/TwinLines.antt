@@ -11,7 +11,7 @@ use Rattle.json_laws.proofs.ReportLemmas.{in_forms, one, both, same}
 use Rattle.twin_command.specs.declared.report.Word.{Word}
 use Rattle.twin_command.specs.declared.report.Word.TheVariants as words
 use Rattle.twin_command.specs.declared.report.Told.{Told}
-use Rattle.twin_command.specs.Told.{load_text, load_end, word_text, word_json, refused_fields, commit_fields, told_in}
+use Rattle.twin_command.specs.Told.{load_text, word_text, word_json, refused_fields, commit_fields, told_in}
 use Rattle.command_json_laws.specs.Twin.{load_said, word_said, twin_said, twin_reader}
 
 -- the parts in one of the two forms

@@ -6,7 +6,7 @@ use Rattle.boot_ini.specs.declared.choosing.Chosen.{Chosen}
 use Rattle.boot_ini.specs.declared.choosing.Chosen.TheVariants as chosen
 use Rattle.boot_ini.specs.Choice.{path_at, choice_of}
 use Rattle.hive_model.specs.Tree.{Tree}
-use Rattle.start_model.specs.Lines.{Line, Verdict, EntryLine, NoEntry, OtherLoader, NoSystem}
+use Rattle.start_model.specs.Lines.{Line, EntryLine, NoEntry, OtherLoader, NoSystem}
 use Rattle.line_text.specs.declared.form.ReportForm.TheVariants as forms
 use Rattle.line_text.specs.Objects.{Text}
 use Rattle.safe_boot.specs.declared.mode.SafeMode.{SafeMode}

@@ -1,14 +1,13 @@
 -- Which lines have the reports of `import` and `export`, and how is one read from its object? (this project's own)
-use Rattle.std.specs.Prelude.{ℕ, if◌then◌else◌, List, [], ◌∷◌, ◌++◌, Option, codes}
+use Rattle.std.specs.Prelude.{ℕ, List, [], ◌∷◌, ◌++◌, Option, codes}
 use Rattle.std.specs.Option.{option_map_or}
-use Rattle.std.specs.Str.{bytes_eq}
 use Rattle.std.specs.Fmt.{decimal}
 use Rattle.nt_bytes.specs.Counts.{capped}
 use Rattle.hive_model.specs.Tree.{Tree, key_count, item_count}
 use Rattle.line_text.specs.declared.form.ReportForm.TheVariants as forms
 use Rattle.line_text.specs.Objects.{Value, Number, Text, Numbers, Texts, Flag, Null}
 use Rattle.json_laws.specs.Reports as reports
-use Rattle.json_laws.specs.Reports.{Fields, Reader, said}
+use Rattle.json_laws.specs.Reports.{Reader, said}
 use Rattle.text_commands.specs.declared.said.Done.{Done}
 use Rattle.text_commands.specs.declared.said.Done.TheVariants as dones
 use Rattle.text_commands.specs.declared.said.Said.{Said}

@@ -4,7 +4,7 @@ use Rattle.std.specs.Str.{bytes_eq}
 use Rattle.std.specs.Fmt.{decimal}
 use Rattle.start_model.specs.Lines.{load_word}
 use Rattle.line_text.specs.Objects.{Value, Number, Text, Numbers, Texts, Flag, Null}
-use Rattle.json_laws.specs.Reports.{Fields, Reader, Said, said}
+use Rattle.json_laws.specs.Reports.{Reader, Said, said}
 use Rattle.twin_command.specs.declared.report.Word.{Word}
 use Rattle.twin_command.specs.declared.report.Word.TheVariants as words
 use Rattle.twin_command.specs.declared.report.Told.{Told}

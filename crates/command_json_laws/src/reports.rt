@@ -1,6 +1,6 @@
 //! A law for each command: the object of each line of its report tells the line's text.
 
-ghost use Rattle.std.specs.Prelude.{ℕ, Bool, List, [], ◌∷◌, Option};
+ghost use Rattle.std.specs.Prelude.{Bool, List, [], ◌∷◌, Option};
 ghost use Rattle.arc_path.specs.declared.arc.Arc.{Arc as ArcModel};
 ghost use Rattle.boot_ini.specs.declared.ini.BootIni.{BootIni as BootIniModel};
 ghost use Rattle.hive_model.specs.Tree.{Tree};

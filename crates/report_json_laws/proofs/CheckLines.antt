@@ -1,5 +1,5 @@
 -- The lines of `check`, read from their objects.
-use Rattle.std.proofs.Common.{◌≡◌, List, [], ◌∷◌, map, refl}
+use Rattle.std.proofs.Common.{◌≡◌, List, map, refl}
 use Rattle.line_text.specs.declared.form.ReportForm.{ReportForm}
 use Rattle.line_text.specs.declared.form.ReportForm.TheVariants as forms
 use Rattle.json_laws.specs.Reports as reports
@@ -7,7 +7,6 @@ use Rattle.json_laws.specs.Reports.{IsRead, IsReport}
 use Rattle.json_laws.proofs.ReportLemmas.{report_of_lines}
 use Rattle.check_lines.specs.declared.lines.CheckLine.{CheckLine}
 use Rattle.check_lines.specs.declared.lines.CheckLine.TheVariants as lines
-use Rattle.check_lines.specs.declared.lines.Fault.{Fault}
 use Rattle.check_lines.specs.declared.lines.Fault.TheVariants as faults
 use Rattle.check_text.specs.Lines.{printed, printed_lines}
 use Rattle.report_json_laws.specs.Check.{said_of, check_reader}

@@ -16,7 +16,7 @@ use Rattle.json_laws.proofs.ReportLemmas.{all_of, sound_object}
 use Rattle.json_laws.proofs.Told.{parted_objects}
 use Rattle.why_lines.specs.declared.lines.WhyLine.{WhyLine}
 use Rattle.why_lines.specs.declared.lines.WhyLine.TheVariants as lines
-use Rattle.why_text.specs.Lines.{line_text, line_word, line_fields, printed_lines}
+use Rattle.why_text.specs.Lines.{line_text, line_word, printed_lines}
 use Rattle.graph_lines.specs.declared.graph.NodeKind.{NodeKind}
 use Rattle.graph_lines.specs.declared.graph.NodeKind.TheVariants as kinds
 use Rattle.graph_lines.specs.declared.graph.NodeState.{NodeState}

@@ -1,5 +1,5 @@
 -- The lines of `replay`, read from their objects.
-use Rattle.std.proofs.Common.{◌≡◌, List, [], ◌∷◌, map, refl}
+use Rattle.std.proofs.Common.{◌≡◌, List, map, refl}
 use Rattle.line_text.specs.declared.form.ReportForm.{ReportForm}
 use Rattle.line_text.specs.declared.form.ReportForm.TheVariants as forms
 use Rattle.json_laws.specs.Reports as reports

@@ -1,18 +1,16 @@
 -- The lines of `show`, read from their objects.
-use Rattle.std.proofs.Common.{◌≡◌, ℕ, suc, ◌+◌, ◌≤◌, min, max, List, [], ◌∷◌, ◌++◌, map, length, refl, sym, ap, subst, ◌∙◌, append_assoc, arith}
+use Rattle.std.proofs.Common.{◌≡◌, ℕ, suc, ◌+◌, ◌≤◌, List, ◌++◌, map, refl, sym, ap, ◌∙◌, append_assoc, arith}
 use Rattle.std.specs.Prelude.{codes}
-use Rattle.std.specs.Fmt.{decimal}
 use Rattle.std.specs.List.{flat_map}
 use Rattle.std.proofs.lemmas.Grind.{flat_map-append}
 use Rattle.std.proofs.lemmas.List.Folds.{flat_map-map}
-use Rattle.nt_bytes.specs.Counts.{capped}
 use Rattle.hive_model.specs.Tree.{Item, Tree, Trees, key, none, more}
 use Rattle.start_model.specs.Lines.{name_text}
 use Rattle.line_text.specs.declared.form.ReportForm.{ReportForm}
 use Rattle.line_text.specs.declared.form.ReportForm.TheVariants as forms
 use Rattle.json_laws.specs.Reports.{IsRead, IsReport, printed}
 use Rattle.json_laws.proofs.ReportLemmas.{report_of_lines, same}
-use Rattle.tree_text.specs.TreeText.{deeper, value_text, values_text, key_text, keys_text, tree_text, shown_text}
+use Rattle.tree_text.specs.TreeText.{deeper, value_text, values_text, key_text, keys_text, shown_text}
 use Rattle.tree_text.specs.TreeObjects.{TreeLine, HiveLine, KeyLine, ValueLine, line_json, level_below, value_lines, key_lines, keys_lines, shown_lines, shown_in}
 use Rattle.report_json_laws.specs.Show.{levels, levels_in, margin, hive_text, name_line, text_of, said_of, show_reader}
 

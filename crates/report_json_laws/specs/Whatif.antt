@@ -1,5 +1,5 @@
 -- How is a line of `whatif` read from its object? (this project's own)
-use Rattle.std.specs.Prelude.{ℕ, ◌||◌, if◌then◌else◌, List, [], ◌∷◌, ◌++◌, codes}
+use Rattle.std.specs.Prelude.{ℕ, if◌then◌else◌, List, [], ◌∷◌, ◌++◌, codes}
 use Rattle.std.specs.Str.{bytes_eq}
 use Rattle.std.specs.Fmt.{decimal}
 use Rattle.line_text.specs.Objects.{Value, Number, Text, Numbers, Texts, Flag, Null}

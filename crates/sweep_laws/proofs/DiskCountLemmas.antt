@@ -7,7 +7,7 @@ use Rattle.hive_model.specs.Base.{Base, is_bins_size}
 use Rattle.hive_model.specs.Image.{Image, Address, Write, Log, IsFileOf}
 use Rattle.hive_model.specs.Log.{dirty}
 use Rattle.hive_model.specs.Recovery.{bit}
-use Rattle.nt_edge.specs.Calls.{Made, Wrote, Synced, writes_of, reads_of}
+use Rattle.nt_edge.specs.Calls.{Made, Synced, writes_of, reads_of}
 use Rattle.nt_edge.specs.Disk.{DiskState}
 use Rattle.nt_edge.specs.declared.disk.DiskCall.{DiskCall}
 use Rattle.nt_edge.specs.declared.disk.DiskCall.TheVariants as kinds
