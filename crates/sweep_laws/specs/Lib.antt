@@ -4,3 +4,4 @@ pub mod Listing
 pub mod Truth
 pub mod Columns
 pub mod Counting
+pub mod Turning
