@@ -69,9 +69,8 @@ by_words (Some kind) (Some phase) (Some state) number name =
 by_words kind phase state number name = None
 
 abbrev by_fields : Fields → Option GraphNode
-by_fields ((a, Number n) ∷ (b, Text kind) ∷ (c, Text phase) ∷ (d, Text state) ∷ (e, Number number)
-    ∷ (f, Text name) ∷ []) =
-    by_words (kind_from kind) (place_from phase) (state_from state) number name
+by_fields ((a, Number n) ∷ (b, Text k) ∷ (c, Text p) ∷ (d, Text s) ∷ (e, Number number) ∷ (f, Text name) ∷ []) =
+    by_words (kind_from k) (place_from p) (state_from s) number name
 by_fields other = None
 
 abbrev node_from : Object → Option GraphNode
@@ -303,7 +302,7 @@ graph_told head top graph other values_a values_b e =
     (all_sound (graph_objects top other) (graph_words top other) values_b)
     (sym (graph_jsons head graph) ∙ e ∙ graph_jsons top other) in
     record {
-      head = append_cancel_right (flat_map line_text head) (flat_map line_text top) (codes "end\n")
+      first = append_cancel_right (flat_map line_text head) (flat_map line_text top) (codes "end\n")
           (sym (all_texts head graph) ∙ ap (flat_map text_from) same ∙ all_texts top other);
       nodes = sym (all_nodes head graph) ∙ ap (kept node_from) same ∙ all_nodes top other;
       edges = sym (all_edges head graph) ∙ ap (kept edge_from) same ∙ all_edges top other;

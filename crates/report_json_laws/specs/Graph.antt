@@ -41,6 +41,6 @@ joined edge = (edge.from, edge.to)
 
 -- the first lines have one text, and the nodes are the same, and what the edges join
 pub record AreOneGraph (head top : List WhyLine) (graph other : Graph) : Type 0 where
-  pub head : printed_lines forms.Text head ≡ printed_lines forms.Text top
+  pub first : printed_lines forms.Text head ≡ printed_lines forms.Text top
   pub nodes : graph.nodes ≡ other.nodes
   pub edges : map joined graph.edges ≡ map joined other.edges

@@ -104,18 +104,18 @@ module _ (disk : DiskState) (still : disk.flight ≡ []) (writes : List Write) w
 -- ---- stages
 
 -- the table has a sector for each write, in each stage
-abbrev AsMany : List Stage → List (List Write) → Type 0
+abbrev pub AsMany : List Stage → List (List Write) → Type 0
 AsMany [] writes = Unit {0}
 AsMany (s ∷ stages) [] = Unit {0}
 AsMany (s ∷ stages) (writes ∷ more) = (length s.sectors ≡ length writes) × AsMany stages more
 
-pub heads : (x y : List Address) (xs ys : List (List Address)) → x ∷ xs ≡ y ∷ ys → x ≡ y
+heads : (x y : List Address) (xs ys : List (List Address)) → x ∷ xs ≡ y ∷ ys → x ≡ y
 heads x y xs ys e = cc
 
 pub tails : (x y : List Address) (xs ys : List (List Address)) → x ∷ xs ≡ y ∷ ys → xs ≡ ys
 tails x y xs ys e = cc
 
-as_many : (stages : List Stage) (writes : List (List Write)) → listed_in stages ≡ written_in writes → AsMany stages writes
+pub as_many : (stages : List Stage) (writes : List (List Write)) → listed_in stages ≡ written_in writes → AsMany stages writes
 as_many [] writes same = tt
 as_many (s ∷ stages) [] same = tt
 as_many (s ∷ stages) (writes ∷ more) same = (

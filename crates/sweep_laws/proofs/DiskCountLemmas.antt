@@ -1,13 +1,12 @@
 -- The calls of a table are those that the disk counts.
-use Rattle.std.proofs.Common.{◌≡◌, ◌<◌, ◌+◌, ◌^◌, ℕ, Bool, true, List, [], ◌∷◌, ◌++◌, length, refl, sym, ap, ◌∙◌, arith, length-append}
+use Rattle.std.proofs.Common.{◌≡◌, ◌<◌, ◌+◌, ◌^◌, ℕ, Bool, true, false, cond, List, [], ◌∷◌, ◌++◌, length, refl, sym, ap, ◌∙◌, arith, length-append}
 use Rattle.std.specs.List.{count_by}
-use Rattle.std.proofs.lemmas.List.{length-map}
-use Rattle.std.proofs.lemmas.List.Sums.{sum_by-append, count_by-le-length}
+use Rattle.std.proofs.lemmas.List.Sums.{sum_by-append, sum_by-cons, count_by-le-length}
 use Rattle.hive_model.specs.Base.{Base, is_bins_size}
 use Rattle.hive_model.specs.Image.{Image, Address, Write, Log, IsFileOf}
 use Rattle.hive_model.specs.Log.{dirty}
 use Rattle.hive_model.specs.Recovery.{bit}
-use Rattle.nt_edge.specs.Calls.{Made, Synced, writes_of, reads_of}
+use Rattle.nt_edge.specs.Calls.{Made, ReadAt, Wrote, Synced, writes_of, reads_of}
 use Rattle.nt_edge.specs.Disk.{DiskState}
 use Rattle.nt_edge.specs.declared.disk.DiskCall.{DiskCall}
 use Rattle.nt_edge.specs.declared.disk.DiskCall.TheVariants as kinds
@@ -27,10 +26,14 @@ use Rattle.sweep_laws.specs.Counting.{written_and_synced, WereMade, CountsMore}
 use Rattle.sweep_laws.specs.Leaving.{commit_writes, recovery_writes, calls_of}
 use Rattle.sweep_laws.specs.Listing.{listed_in, written_in}
 use Rattle.sweep_laws.specs.Truth.{IsTrueOf}
-use Rattle.sweep_laws.proofs.ColumnLemmas.{commit_calls, both_calls, commit_table, both_table, heads, tails}
+use Rattle.sweep_laws.proofs.ColumnLemmas.{commit_calls, both_calls, commit_table, both_table, as_many, tails}
 use Rattle.sweep_laws.proofs.TruthLemmas.{recovery_true}
 
 -- ---- writes and syncs among calls
+
+-- 1 for a call of the kind
+abbrev one : DiskCall → Made → ℕ
+one kind call = cond (is_of kind call) 1 0
 
 abbrev of : DiskCall → List Made → ℕ
 of kind calls = count_by (is_of kind) calls
@@ -39,41 +42,44 @@ abbrev both_of : List Made → ℕ
 both_of calls = of kinds.Write calls + of kinds.Sync calls
 
 of-append : (kind : DiskCall) (a b : List Made) → of kind (a ++ b) ≡ of kind a + of kind b
-of-append kind a b = sum_by-append _ a b
+of-append kind a b = sum_by-append (one kind) a b
 
 both-append : (a b : List Made) → both_of (a ++ b) ≡ both_of a + both_of b
 both-append a b = omega (arith, of-append kinds.Write a b, of-append kinds.Sync a b)
 
+both-cons : (call : Made) (calls : List Made)
+    → both_of (call ∷ calls) ≡ (one kinds.Write call + one kinds.Sync call) + both_of calls
+both-cons call calls =
+    omega (arith, sum_by-cons (one kinds.Write) call calls, sum_by-cons (one kinds.Sync) call calls)
+
 both_of_reads : (sectors : List Address) → both_of (reads_of sectors) ≡ 0
-both_of_reads [] = refl
-both_of_reads (at ∷ more) = both_of_reads more
+both_of_reads [] = omega arith
+both_of_reads (at ∷ more) = omega (arith, both-cons (ReadAt at) (reads_of more), both_of_reads more)
 
 both_of_writes : (writes : List Write) → both_of (writes_of writes) ≡ length writes
-both_of_writes [] = refl
-both_of_writes (w ∷ more) = omega (arith, both_of_writes more)
+both_of_writes [] = omega arith
+both_of_writes (w ∷ more) = omega (arith, both-cons (Wrote w) (writes_of more), both_of_writes more)
 
 -- ---- the calls of a table
 
 both_of_stages : (stages : List Stage) (writes : List (List Write)) → listed_in stages ≡ written_in writes
     → calls_in stages ≡ both_of (calls_of writes)
-both_of_stages [] [] same = refl
-both_of_stages [] (writes ∷ more) same = absurd (omega (arith, ap length same))
-both_of_stages (s ∷ stages) [] same = absurd (omega (arith, ap length same))
+both_of_stages [] [] same = omega arith
+both_of_stages [] (writes ∷ more) same = absurd (omega (arith, ap (λ (l : List (List Address)). length l) same))
+both_of_stages (s ∷ stages) [] same = absurd (omega (arith, ap (λ (l : List (List Address)). length l) same))
 both_of_stages (s ∷ stages) (writes ∷ more) same =
-    let here = ap length (heads _ _ (listed_in stages) (written_in more) same) in
     omega (
       arith,
-      here,
-      length-map s.sectors _,
-      length-map writes _,
+      (as_many (s ∷ stages) (writes ∷ more) same).0,
       both-append (writes_of writes) (Synced ∷ calls_of more),
+      both-cons Synced (calls_of more),
       both_of_writes writes,
       both_of_stages stages more (tails _ _ (listed_in stages) (written_in more) same),
     )
 
 -- ---- the disk's own counts
 
-module _ {first last : MemDisk} {earlier calls : List Made} (are : WereMade first last earlier calls) where
+module _ (first last : MemDisk) (earlier calls : List Made) (are : WereMade first last earlier calls) where
   -- no count is cut off at its end
   was : (kind : DiskCall) → state.calls_of first kind ≡ of kind earlier
   was kind =
@@ -114,10 +120,9 @@ by_table : (P : Bool → Image → Type 0) (held : Image) (stages : List Stage) 
     → calls ≡ calls_of writes → WereMade first last earlier (reads_of sectors ++ calls)
     → CountsMore first last (calls_in stages)
 by_table P held stages writes sectors first last earlier calls table same are =
-    let count : both_of (reads_of sectors ++ calls) ≡ calls_in stages =
-    both-append (reads_of sectors) calls ∙ ap (λ n. n + both_of calls) (both_of_reads sectors)
-    ∙ ap both_of same ∙ sym (both_of_stages stages writes table.lists) in
-    counts_more are ∙ ap (λ n. written_and_synced first + n) count
+    let counted : both_of calls ≡ calls_in stages =
+    ap both_of same ∙ sym (both_of_stages stages writes table.lists) in
+    omega (arith, counts_more first last earlier (reads_of sectors ++ calls) are, both-append (reads_of sectors) calls, both_of_reads sectors, counted)
 
 pub commit_counts : (disk : DiskState) (base : Base) (old new log : List ℕ) (root : ℕ) (given : Logged)
     (sectors : List Address) (first last : MemDisk) (earlier : List Made) → disk.flight ≡ []
