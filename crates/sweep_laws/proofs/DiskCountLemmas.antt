@@ -122,7 +122,13 @@ by_table : (P : Bool → Image → Type 0) (held : Image) (stages : List Stage) 
 by_table P held stages writes sectors first last earlier calls table same are =
     let counted : both_of calls ≡ calls_in stages =
     ap both_of same ∙ sym (both_of_stages stages writes table.lists) in
-    omega (arith, counts_more first last earlier (reads_of sectors ++ calls) are, both-append (reads_of sectors) calls, both_of_reads sectors, counted)
+    omega (
+      arith,
+      counts_more first last earlier (reads_of sectors ++ calls) are,
+      both-append (reads_of sectors) calls,
+      both_of_reads sectors,
+      counted,
+    )
 
 pub commit_counts : (disk : DiskState) (base : Base) (old new log : List ℕ) (root : ℕ) (given : Logged)
     (sectors : List Address) (first last : MemDisk) (earlier : List Made) → disk.flight ≡ []
