@@ -22,7 +22,7 @@ use Rattle.sweep_text.specs.Logged.{logged_of}
 use Rattle.sweep_text.specs.Report.{stages_by}
 use Rattle.sweep_text.specs.Stages.{Stage, calls_in}
 use Rattle.sweep_laws.specs.Columns.{after_calls}
-use Rattle.sweep_laws.specs.Counting.{written_and_synced, WereMade, CountsMore}
+use Rattle.sweep_laws.specs.Counting.{WereMade, CountsMore}
 use Rattle.sweep_laws.specs.Leaving.{commit_writes, recovery_writes, calls_of}
 use Rattle.sweep_laws.specs.Listing.{listed_in, written_in}
 use Rattle.sweep_laws.specs.Truth.{IsTrueOf}

@@ -33,19 +33,23 @@ turned are = record { before = 0; after = are.count; is = are.is }
 no_words : TurnsOnce []
 no_words = record { before = 0; after = 0; is = refl }
 
+-- the words of the writes to the log, all `before`
+abbrev logged : ℕ → List ℕ → ℕ
+logged bitmap sectors = length (range_with_len 0 (1 + bitmap + length sectors))
+
 -- the last two stages of a commit
 last_stages : (sectors : List ℕ) → AreAfter (replicate (length sectors) true ++ true ∷ true ∷ true ∷ [])
 last_stages sectors = more_after (length sectors) (record { count = 3; is = refl })
 
 commit_turns : (keep : Keep) (bitmap : ℕ) (sectors : List ℕ) → TurnsOnce (column keep (commit_stages bitmap sectors))
 commit_turns Nothing bitmap sectors =
-    more_before (length (range_with_len 0 (1 + bitmap + length sectors))) (more_before 3 (turned (last_stages sectors)))
+    more_before (logged bitmap sectors) (more_before 3 (turned (last_stages sectors)))
 commit_turns Everything bitmap sectors =
-    more_before (length (range_with_len 0 (1 + bitmap + length sectors))) (more_before 2 (turned (more_after 1 (last_stages sectors))))
+    more_before (logged bitmap sectors) (more_before 2 (turned (more_after 1 (last_stages sectors))))
 commit_turns OddOnes bitmap sectors =
-    more_before (length (range_with_len 0 (1 + bitmap + length sectors))) (more_before 2 (turned (more_after 1 (last_stages sectors))))
+    more_before (logged bitmap sectors) (more_before 2 (turned (more_after 1 (last_stages sectors))))
 commit_turns Torn bitmap sectors =
-    more_before (length (range_with_len 0 (1 + bitmap + length sectors))) (more_before 2 (turned (more_after 1 (last_stages sectors))))
+    more_before (logged bitmap sectors) (more_before 2 (turned (more_after 1 (last_stages sectors))))
 
 recovery_turns : (keep : Keep) (sectors : List ℕ) (stages : List Stage) → TurnsOnce (column keep stages)
     → TurnsOnce (column keep (recovery_stages sectors ++ stages))
