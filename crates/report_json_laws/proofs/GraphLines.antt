@@ -8,7 +8,7 @@ use Rattle.std.proofs.lemmas.List.{append_cancel_right}
 use Rattle.boot_phases.specs.declared.phase.Phase.{Phase}
 use Rattle.boot_phases.specs.declared.phase.Phase.TheVariants as phases
 use Rattle.line_text.specs.declared.form.ReportForm.TheVariants as forms
-use Rattle.line_text.specs.Objects.{Value, Number, Text, Numbers, Texts, Flag, Null}
+use Rattle.line_text.specs.Objects.{Number, Text}
 use Rattle.json_laws.specs.Objects.{Object, IsObject, json_of, jsons_of, told}
 use Rattle.json_laws.specs.Reports.{Fields, HasValues, has_words}
 use Rattle.json_laws.proofs.LineKinds.{pick}

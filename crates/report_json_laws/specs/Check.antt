@@ -1,7 +1,7 @@
 -- How is a line of `check` read from its object? (this project's own)
 use Rattle.std.specs.Prelude.{ℕ, if◌then◌else◌, List, [], ◌∷◌, ◌++◌, codes}
 use Rattle.std.specs.Str.{bytes_eq}
-use Rattle.line_text.specs.Objects.{Value, Number, Text, Numbers, Texts, Flag, Null}
+use Rattle.line_text.specs.Objects.{Number, Text}
 use Rattle.json_laws.specs.Reports.{Fields, Reader, Said, said}
 use Rattle.check_lines.specs.declared.lines.CheckLine.{CheckLine}
 use Rattle.check_text.specs.Lines.{line_text, line_word, line_fields, word_part, number_part, name_part, quoted_part}

@@ -2,7 +2,7 @@
 use Rattle.std.specs.Prelude.{ℕ, ◌==◌, true, false, if◌then◌else◌, List, [], ◌∷◌, ◌++◌, codes}
 use Rattle.std.specs.Str.{bytes_eq}
 use Rattle.std.specs.Fmt.{decimal}
-use Rattle.line_text.specs.Objects.{Value, Number, Text, Numbers, Texts, Flag, Null}
+use Rattle.line_text.specs.Objects.{Number, Text, Texts, Flag}
 use Rattle.json_laws.specs.Reports.{Fields}
 use Rattle.key_text.specs.declared.data.DataForm.TheVariants.{Dword, Qword, Strings, Ended, Unended}
 use Rattle.key_text.specs.Data.{form_text}

@@ -5,7 +5,7 @@ use Rattle.std.specs.Fmt.{decimal}
 use Rattle.std.specs.Int.{w16, to_be_bytes}
 use Rattle.hex.specs.Hex.{encode_lower}
 use Rattle.start_model.specs.Lines.{name_text}
-use Rattle.line_text.specs.Objects.{Value, Number, Text, Numbers, Texts, Flag, Null}
+use Rattle.line_text.specs.Objects.{Number, Text, Texts}
 use Rattle.line_text.specs.Paths.{written, written_path}
 use Rattle.line_text.specs.Quoted.{quoted}
 use Rattle.json_laws.specs.Reports.{Fields, Reader, Said, said}

@@ -2,7 +2,7 @@
 use Rattle.std.specs.Prelude.{ℕ, if◌then◌else◌, List, [], ◌∷◌, ◌++◌, codes}
 use Rattle.std.specs.Str.{bytes_eq}
 use Rattle.std.specs.Fmt.{decimal}
-use Rattle.line_text.specs.Objects.{Value, Number, Text, Numbers, Texts, Flag, Null}
+use Rattle.line_text.specs.Objects.{Number, Text, Texts}
 use Rattle.line_text.specs.Quoted.{quoted}
 use Rattle.json_laws.specs.Reports.{Fields, Reader, Said, said}
 use Rattle.salvage_file.specs.Saving.{minor_of}

@@ -3,7 +3,7 @@ use Rattle.std.specs.Prelude.{ℕ, zero, suc, ◌==◌, max, if◌then◌else◌
 use Rattle.std.specs.Fmt.{decimal}
 use Rattle.hive_model.specs.Tree.{Tree, Trees, key, none, more}
 use Rattle.start_model.specs.Lines.{name_text}
-use Rattle.line_text.specs.Objects.{Value, Number, Text, Numbers, Texts, Flag, Null}
+use Rattle.line_text.specs.Objects.{Number, Text}
 use Rattle.json_laws.specs.Reports.{Fields, Reader, Said, said}
 use Rattle.tree_text.specs.TreeText.{deeper, value_text}
 use Rattle.tree_text.specs.TreeObjects.{TreeLine, HiveLine, KeyLine, ValueLine, value_fields}

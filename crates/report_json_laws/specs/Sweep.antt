@@ -1,11 +1,11 @@
 -- Which lines has the report of a sweep, and how is one read from its object? (this project's own)
-use Rattle.std.specs.Prelude.{ℕ, ◌+◌, ◌-◌, Bool, if◌then◌else◌, List, [], ◌∷◌, ◌++◌, length, codes}
+use Rattle.std.specs.Prelude.{ℕ, ◌+◌, Bool, if◌then◌else◌, List, [], ◌∷◌, ◌++◌, length, codes}
 use Rattle.std.specs.Str.{bytes_eq}
 use Rattle.std.specs.List.{flat_map}
 use Rattle.std.specs.Fmt.{decimal}
 use Rattle.start_model.specs.Lines.{Line}
 use Rattle.line_text.specs.declared.form.ReportForm.TheVariants as forms
-use Rattle.line_text.specs.Objects.{Value, Number, Text, Numbers, Texts, Flag, Null}
+use Rattle.line_text.specs.Objects.{Number, Text}
 use Rattle.json_laws.specs.Reports.{Fields, Reader, Said, said}
 use Rattle.sweep_text.specs.declared.logged.Logged.{Logged}
 use Rattle.sweep_text.specs.Stages.{Stage, calls_in, afters_in}
