@@ -1,4 +1,0 @@
-mod ControlLines
-mod SafeLines
-mod TextsLines
-mod TwinLines

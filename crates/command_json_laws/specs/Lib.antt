@@ -1,4 +1,0 @@
-pub mod Control
-pub mod Safe
-pub mod Texts
-pub mod Twin
