@@ -1,5 +1,5 @@
 -- What a flush and the end of a start amount to.
-use Rattle.std.proofs.Common.{◌≡◌, ℕ, Bool, true, false, cond, List, [], ◌∷◌, ◌++◌, Option, Some, None, refl, sym, ap, subst, ◌∙◌}
+use Rattle.std.proofs.Common.{◌≡◌, Bool, true, false, cond, [], ◌∷◌, ◌++◌, Option, Some, None, refl, sym, ap, subst, ◌∙◌}
 use Rattle.std.specs.Prelude.{Result, Ok, Err, OnOk, option_map}
 use Rattle.std.specs.Option.{option_map_or}
 use Rattle.hive_model.specs.Tree.{Tree}
@@ -17,10 +17,10 @@ use Rattle.start_model.specs.EventActs.{flush_act, off_act}
 use Rattle.start_model.specs.Run.{play}
 use Rattle.boot_machine.specs.Steps.{is_there, falls_back}
 use Rattle.printed_parts.specs.Parts.{Told, Tells, Goes, PlaysOr, TellsOr}
-use Rattle.run_parts.proofs.CountLemmas.{Still, still}
+use Rattle.run_parts.proofs.CountLemmas.{still}
 use Rattle.printed_parts.proofs.GoesLemmas.{goes-nothing, goes-line}
 use Rattle.boot_run.specs.declared.runner.Runner.{Runner}
-use Rattle.boot_run.specs.Agrees.{IsUp, IsLive, IsSound, IsOnSet, IsRunningBy, Counts, CommitLeft, TurnLeft, OffLeft, IsEnding}
+use Rattle.boot_run.specs.Agrees.{IsUp, IsLive, IsSound, IsRunningBy, Counts, CommitLeft, TurnLeft, OffLeft, IsEnding}
 use Rattle.boot_run.proofs.DiskLemmas.{still-off, left-off}
 use Rattle.boot_run.proofs.CommitLemmas.{loads_down}
 use Rattle.boot_run.proofs.PlayLemmas.{plays-as, plays-line, live_left, here_turn}

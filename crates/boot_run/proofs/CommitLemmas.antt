@@ -1,9 +1,7 @@
 -- What a commit of the session amounts to in the book's run.
-use Rattle.std.proofs.Common.{◌≡◌, ◌⊎◌, ◌+◌, ◌%◌, inl, inr, ⊎_elim, ℕ, Bool, true, false, List, [], ◌∷◌, ◌++◌, Option, Some, None, refl, sym, ap, subst, ◌∙◌}
-use Rattle.nt_bytes.specs.declared.version.HiveVersion.{HiveVersion}
+use Rattle.std.proofs.Common.{◌≡◌, ◌⊎◌, ◌+◌, ◌%◌, inl, inr, ℕ, Bool, false, List, [], ◌∷◌, ◌++◌, refl, sym, ap, subst, ◌∙◌}
 use Rattle.hive_model.specs.Base.{version_of}
 use Rattle.hive_model.specs.Image.{Image}
-use Rattle.hive_model.specs.Tree.{Tree}
 use Rattle.hive_model.specs.State.{HiveState}
 use Rattle.hive_model.specs.Load.{Loads}
 use Rattle.nt_edge.specs.Disk.{DiskState, CountsGrow}
@@ -29,7 +27,7 @@ use Rattle.printed_parts.specs.Parts.{Told, Tells, Goes, Breaks}
 use Rattle.run_parts.proofs.CountLemmas.{Alone, alone-by}
 use Rattle.printed_parts.proofs.GoesLemmas.{goes-then, goes-told, goes-held}
 use Rattle.printed_parts.proofs.BreakLemmas.{breaks-silent, breaks-told}
-use Rattle.boot_run.specs.Agrees.{IsUp, IsDown, LoadsAny, IsStored, IsLive, Counts}
+use Rattle.boot_run.specs.Agrees.{IsDown, LoadsAny, IsStored, IsLive, Counts}
 use Rattle.boot_run.specs.declared.runner.Runner.{Runner}
 use Rattle.boot_run.proofs.DiskLemmas.{still_leaves, settled_loads, open_loads, alone-off, counted-off, left-off}
 

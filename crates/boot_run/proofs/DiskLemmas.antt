@@ -1,5 +1,5 @@
 -- What a disk with nothing in flight may be left as, and what remains when it is turned off.
-use Rattle.std.proofs.Common.{◌≡◌, ◌⊎◌, inl, inr, ⊎_elim, ℕ, Bool, true, false, List, [], ◌∷◌, ◌++◌, refl, sym, ap, subst, ◌∙◌, append-nil}
+use Rattle.std.proofs.Common.{◌≡◌, ◌⊎◌, inl, inr, ⊎_elim, false, List, [], ◌∷◌, ◌++◌, refl, sym, ap, subst, ◌∙◌}
 use Rattle.std.specs.Prelude.{Result, Ok, Err, IsErrOf}
 use Rattle.hive_model.specs.Image.{Image, Write, Address, IsCrashImage}
 use Rattle.hive_model.specs.State.{HiveState}
@@ -19,11 +19,11 @@ use Rattle.start_model.specs.Causes.{Tally, HasCause}
 use Rattle.start_model.specs.Act.{Note}
 use Rattle.start_model.specs.Report.{Going}
 use Rattle.start_model.specs.Fits.{MayLoad}
-use Rattle.start_model.specs.Possible.{Possible, Outcome, PowerCut, DeviceFault, settled_at, open_between}
+use Rattle.start_model.specs.Possible.{Outcome, PowerCut, DeviceFault, settled_at, open_between}
 use Rattle.run_parts.specs.Counted.{CountedIn}
-use Rattle.run_parts.specs.Parts.{Grew, Later, IsMarked, NoLess, since_wake, tally_now, tallies, tally_at}
+use Rattle.run_parts.specs.Parts.{Grew, Later, IsMarked, since_wake, tally_now, tally_at}
 use Rattle.printed_parts.specs.Parts.{Told, GoesBut}
-use Rattle.run_parts.proofs.CountLemmas.{Alone, Still, still, later-then, later-same, no_less-then, no_less-bounded, rises-since, since-grown}
+use Rattle.run_parts.proofs.CountLemmas.{Alone, Still, still, later-same, no_less-then, no_less-bounded, rises-since, since-grown}
 
 -- with nothing in flight a cut leaves what is held
 pub still_leaves : (d : DiskState) (P : Image → Type 0) → d.flight ≡ [] → P d.held → EachCrash d P

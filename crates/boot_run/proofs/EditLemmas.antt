@@ -1,5 +1,5 @@
 -- What an edit of the live tree amounts to in the book's run.
-use Rattle.std.proofs.Common.{◌≡◌, ◌<◌, ◌⊎◌, inl, inr, ⊎_elim, ℕ, zero, suc, Bool, true, false, not, ◌||◌, List, [], ◌∷◌, length, get_or, Option, Some, None, refl, sym, ap, subst, ◌∙◌, arith}
+use Rattle.std.proofs.Common.{◌≡◌, ◌<◌, ◌⊎◌, inl, inr, ⊎_elim, ℕ, zero, suc, Bool, true, false, not, ◌||◌, List, [], ◌∷◌, get_or, Option, Some, None, refl, sym, ap, subst, ◌∙◌, arith}
 use Rattle.std.proofs.lemmas.Bool.{false≢true}
 use Rattle.std.specs.Prelude.{◌↔◌, Result, Ok, Err, OnOk, OnErr, IfSome}
 use Rattle.std.specs.Bool.{Decides}
@@ -12,21 +12,21 @@ use Rattle.nt_bytes.specs.declared.version.HiveVersion.{HiveVersion}
 use Rattle.nt_edge.specs.Disk.{DiskState}
 use Rattle.hive_store.specs.Session.{Session}
 use Rattle.reg_tree.specs.Fitting.{Fits}
-use Rattle.reg_tree.specs.Makes.{Makes, IsRefused, refusal_of}
+use Rattle.reg_tree.specs.Makes.{Makes, refusal_of}
 use Rattle.reg_tree.specs.declared.stop.EditStop.{EditStop}
 use Rattle.start_model.specs.Events.{Edit, Edits, is_protected, step_of}
-use Rattle.start_model.specs.Lines.{Line, EditOkLine, RefusedLine}
+use Rattle.start_model.specs.Lines.{EditOkLine, RefusedLine}
 use Rattle.start_model.specs.Machine.{Start, MachineState}
 use Rattle.start_model.specs.Fits.{MayLoad}
-use Rattle.start_model.specs.Sets.{numbers_in, set_of, select_numbers_of, SelectNumbers}
-use Rattle.start_model.specs.Act.{Act, RunState, done, say}
+use Rattle.start_model.specs.Sets.{numbers_in, SelectNumbers}
+use Rattle.start_model.specs.Act.{Act, RunState, done}
 use Rattle.start_model.specs.EventActs.{event_word_of, reason_of, edit_done}
 use Rattle.start_model.specs.Run.{play}
 use Rattle.start_laws.proofs.StepLemmas.{select_key}
 use Rattle.start_laws.proofs.UsableLemmas.{usable_parts, usable_from}
 use Rattle.good_laws.proofs.EditLemmas.{KeepsSets, edited_keeps}
 use Rattle.run_laws.proofs.SameLemmas.{same-Decides}
-use Rattle.printed_parts.specs.Parts.{Told, PlaysOr, TellsOr}
+use Rattle.printed_parts.specs.Parts.{Told, PlaysOr}
 use Rattle.run_parts.proofs.CountLemmas.{still}
 use Rattle.printed_parts.proofs.BreakLemmas.{breaks-silent}
 use Rattle.printed_parts.specs.Parts.{Breaks}

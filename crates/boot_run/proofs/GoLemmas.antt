@@ -1,5 +1,5 @@
 -- What steps of the starter amount to, in sequence.
-use Rattle.std.proofs.Common.{◌≡◌, ℕ, zero, suc, ◌-◌, ◌<◌, ◌≤◌, ◌^◌, Bool, true, false, ◌+◌, List, [], ◌∷◌, length, Option, Some, None, refl, sym, ap, subst, ◌∙◌, arith}
+use Rattle.std.proofs.Common.{◌≡◌, ℕ, suc, ◌-◌, ◌<◌, ◌≤◌, ◌^◌, Bool, false, ◌+◌, List, [], ◌∷◌, length, Option, Some, None, refl, sym, ap, subst, ◌∙◌, arith}
 use Rattle.std.specs.Prelude.{Result, Ok, Err, IfOk, option_map}
 use Rattle.std.specs.Option.{unwrap_or}
 use Rattle.hive_model.specs.Tree.{Tree}
@@ -8,7 +8,7 @@ use Rattle.hive_store.specs.Session.{Session}
 use Rattle.start_model.specs.Entries.{services_of}
 use Rattle.start_model.specs.Machine.{Start, MachineState}
 use Rattle.start_model.specs.Sets.{set_of}
-use Rattle.start_model.specs.Act.{Act, RunState, done}
+use Rattle.start_model.specs.Act.{Act, RunState}
 use Rattle.start_model.specs.Starter.{no_set, live_set, stepping, go_steps, enough_steps}
 use Rattle.start_model.specs.Run.{play}
 use Rattle.printed_parts.specs.Parts.{Told, Goes, Breaks}
@@ -16,7 +16,7 @@ use Rattle.run_parts.proofs.CountLemmas.{still}
 use Rattle.printed_parts.proofs.GoesLemmas.{goes-nothing, goes-then}
 use Rattle.printed_parts.proofs.BreakLemmas.{breaks-then}
 use Rattle.boot_run.specs.declared.runner.Runner.{Runner}
-use Rattle.boot_run.specs.Agrees.{IsLive, IsRunningBy, Counts, Agrees, TurnLeft, OnLeft}
+use Rattle.boot_run.specs.Agrees.{IsLive, IsRunningBy, Counts, TurnLeft, OnLeft}
 use Rattle.boot_run.specs.Starts.{is_under_way, StepsTo}
 use Rattle.boot_run.proofs.StepLemmas.{go_none, go_zero, go_next}
 

@@ -1,5 +1,5 @@
 -- A line that is printed first, and what follows.
-use Rattle.std.proofs.Common.{◌≡◌, ℕ, List, [], ◌∷◌, true, sym}
+use Rattle.std.proofs.Common.{◌≡◌, [], ◌∷◌, true}
 use Rattle.std.specs.Prelude.{Result}
 use Rattle.std.specs.Result.{is_err}
 use Rattle.nt_edge.specs.Disk.{DiskState}

@@ -1,9 +1,8 @@
 -- What a load amounts to in the book's run.
-use Rattle.std.proofs.Common.{◌≡◌, ◌⊎◌, inl, inr, ℕ, Bool, true, false, List, [], ◌∷◌, ◌++◌, Option, Some, None, refl, sym, ap, subst, ◌∙◌, append-nil}
+use Rattle.std.proofs.Common.{◌≡◌, ◌⊎◌, inl, ℕ, Bool, false, List, [], ◌∷◌, ◌++◌, refl, sym, ap, subst, ◌∙◌, append-nil}
 use Rattle.nt_bytes.specs.declared.fault.HiveFault.{HiveFault}
-use Rattle.nt_bytes.specs.declared.version.HiveVersion.{HiveVersion}
 use Rattle.hive_model.specs.Bins.{spelled}
-use Rattle.hive_model.specs.Image.{Image, IsCrashImage}
+use Rattle.hive_model.specs.Image.{Image}
 use Rattle.hive_model.specs.State.{HiveState}
 use Rattle.hive_model.specs.Load.{Loads, LoadsAs, LoadFault}
 use Rattle.hive_cells.proofs.Again.{one_list, not_both}
@@ -20,10 +19,10 @@ use Rattle.start_model.specs.Causes.{HasCause}
 use Rattle.line_objects.specs.Objects.{printed}
 use Rattle.run_parts.specs.Counted.{CountedIn}
 use Rattle.start_model.specs.Possible.{Possible, Woken, Outcome, Finished, settled_at, woken_at}
-use Rattle.start_model.specs.Act.{Act, done, ask, mark, wake, Woke, Held, Note, RunState, start_over, end_with}
+use Rattle.start_model.specs.Act.{Act, done, ask, wake, Woke, RunState, start_over, end_with}
 use Rattle.start_model.specs.Boot.{woken_state, loaded_state}
 use Rattle.start_model.specs.Run.{play}
-use Rattle.run_parts.specs.Parts.{Stays, Grew, since_wake, tally_now}
+use Rattle.run_parts.specs.Parts.{Stays, since_wake, tally_now}
 use Rattle.printed_parts.specs.Parts.{Told, Tells, Goes, Breaks}
 use Rattle.run_parts.proofs.CountLemmas.{Alone, alone-by, none_fell-same}
 use Rattle.printed_parts.proofs.GoesLemmas.{tells-nothing, goes-then, goes-told, goes-held}

@@ -1,5 +1,5 @@
 -- The events of a run in order.
-use Rattle.std.proofs.Common.{◌≡◌, ◌≤◌, ◌<◌, ◌-◌, length, map, take, drop, get_or, arith, ℕ, Bool, true, false, List, [], ◌∷◌, ◌++◌, Option, Some, None, inl, refl, sym, ap, subst, ◌∙◌, append-nil, append_assoc}
+use Rattle.std.proofs.Common.{◌≡◌, ◌≤◌, ◌<◌, ◌-◌, length, map, take, drop, get_or, arith, ℕ, true, false, List, [], ◌∷◌, ◌++◌, Option, Some, None, inl, refl, sym, ap, subst, ◌∙◌, append_assoc}
 use Rattle.std.specs.Prelude.{Result, Ok, Err, option_map, IfSome}
 use Rattle.reg_tree.proofs.Outcomes.{uncons}
 use Rattle.nt_bytes.specs.Front.{IsFront}
@@ -12,7 +12,6 @@ use Rattle.nt_edge.specs.Disk.{DiskState}
 use Rattle.nt_edge.specs.Crash.{EachCrash}
 use Rattle.nt_edge.specs.Bench.{turned_off}
 use Rattle.start_model.specs.Lines as lines
-use Rattle.start_model.specs.Lines.{Line}
 use Rattle.start_model.specs.Machine.{Start, MachineState, ending_of}
 use Rattle.start_model.specs.Fits.{outcomes_in, MayLoad}
 use Rattle.start_model.specs.Events.{Event}
@@ -28,9 +27,9 @@ use Rattle.run_laws.proofs.PartLemmas.{then-behind}
 use Rattle.run_laws.proofs.StillLemmas.{run-may, event-closed}
 use Rattle.line_text.specs.declared.form.ReportForm.{ReportForm}
 use Rattle.line_objects.specs.Objects.{printed_lines}
-use Rattle.printed_parts.specs.Parts.{Told, Tells, Goes, GoesBut, Breaks, RunBreaks, PlaysOr, TellsOr}
+use Rattle.printed_parts.specs.Parts.{Told, Goes, GoesBut, Breaks, RunBreaks, PlaysOr, TellsOr}
 use Rattle.printed_parts.specs.Reports.{Reports, ReportsFront}
-use Rattle.run_parts.proofs.CountLemmas.{Still, still}
+use Rattle.run_parts.proofs.CountLemmas.{still}
 use Rattle.printed_parts.proofs.GoesLemmas.{goes-nothing, goes-then, goes-but, printed-append}
 use Rattle.printed_parts.proofs.ReportLemmas.{reports_of, reports_front_of}
 use Rattle.boot_run.specs.Agrees.{IsSound, Agrees, AgreesBy, Counts, TurnLeft}

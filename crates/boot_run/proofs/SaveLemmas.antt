@@ -16,7 +16,7 @@ use Rattle.start_model.specs.Lines.{Line, SaveCommit}
 use Rattle.start_model.specs.Machine.{Start, MachineState}
 use Rattle.start_model.specs.Fits.{outcomes_in, MayLoad}
 use Rattle.start_model.specs.Sets.{SelectNumbers, SetPlan, SetChange, ChangeStop, NoPlan, Full, set_of, select_numbers_of, usable_numbers_of, stepped, changed_by, planned, save_of}
-use Rattle.start_model.specs.Act.{Act, RunState, Saved, done, say, mark, next_state, start_over}
+use Rattle.start_model.specs.Act.{Act, RunState, Saved, say, mark, next_state, start_over}
 use Rattle.start_model.specs.Commit.{commit, select_line, save_refused, saved_by, committed_state, opened_state, noted_saved}
 use Rattle.start_model.specs.EventActs.{reason_of}
 use Rattle.start_model.specs.Run.{play}
@@ -36,7 +36,7 @@ use Rattle.run_parts.proofs.CountLemmas.{still}
 use Rattle.printed_parts.proofs.GoesLemmas.{goes-nothing, goes-line, goes-saved}
 use Rattle.printed_parts.proofs.BreakLemmas.{breaks-line}
 use Rattle.boot_run.specs.declared.runner.Runner.{Runner}
-use Rattle.boot_run.specs.Agrees.{IsUp, IsLive, IsStored, IsSound, IsOnSet, IsRunningBy, Counts, LeavesUp, CommitLeft, OnLeft, TurnLeft}
+use Rattle.boot_run.specs.Agrees.{IsUp, IsLive, IsStored, IsSound, IsOnSet, IsRunningBy, Counts, LeavesUp, CommitLeft, OnLeft}
 use Rattle.boot_run.specs.Saves.{HandedOut, IsSavePlan, noting}
 use Rattle.boot_run.proofs.PlayLemmas.{live_left, plays-as, plays-then}
 use Rattle.boot_run.proofs.BeginLemmas.{none_open}

@@ -1,19 +1,16 @@
 -- Which act a step of the starter is.
-use Rattle.std.proofs.Common.{◌≡◌, ℕ, zero, suc, ◌<◌, Bool, true, false, not, cond, List, [], ◌∷◌, length, map, Option, Some, None, refl, sym, ap, subst, ◌∙◌, arith}
+use Rattle.std.proofs.Common.{◌≡◌, ℕ, zero, suc, ◌<◌, Bool, true, false, not, cond, List, [], ◌∷◌, length, map, Option, Some, None, refl, sym, ap, ◌∙◌, arith}
 use Rattle.std.proofs.lemmas.Bool.{false≢true}
-use Rattle.std.specs.Prelude.{Result, Ok, Err, slice_get, option_map, option_and_then}
+use Rattle.std.specs.Prelude.{slice_get, option_map, option_and_then}
 use Rattle.std.specs.Option.{unwrap_or}
 use Rattle.hive_model.specs.Image.{Image}
 use Rattle.hive_model.specs.Tree.{Tree}
-use Rattle.nt_edge.specs.Disk.{DiskState}
-use Rattle.hive_store.specs.Session.{Session}
 use Rattle.start_model.specs.Entries.{Entry, need_of}
 use Rattle.start_model.specs.Machine.{Start, MachineState, Tried, next_in, attempt_at, attempt_in, attempt_of, after_phase, is_done, with_start}
 use Rattle.start_model.specs.Fits.{MayLoad}
 use Rattle.start_model.specs.Sets.{set_of}
 use Rattle.start_model.specs.Act.{Act, RunState, done, with_machine}
-use Rattle.start_model.specs.Commit.{save_where_due}
-use Rattle.start_model.specs.Starter.{no_set, live_set, good_is_usable, judged, starter_step, phase_step, stepping, go_steps, go_act, enough_steps}
+use Rattle.start_model.specs.Starter.{no_set, live_set, good_is_usable, starter_step, stepping, go_steps, go_act, enough_steps}
 use Rattle.start_model.specs.Run.{play}
 use Rattle.start_laws.proofs.NextLemmas.{next_is}
 use Rattle.run_laws.proofs.StillLemmas.{may_load, next-may}
@@ -21,7 +18,7 @@ use Rattle.run_laws.proofs.KeptLemmas.{go_steps-keeps, up_rests}
 use Rattle.boot_machine.specs.Steps.{is_there, is_at_end}
 use Rattle.run_parts.specs.Parts.{Stays}
 use Rattle.boot_run.specs.declared.runner.Runner.{Runner}
-use Rattle.boot_run.specs.Agrees.{IsLive, IsSound, IsRunningBy, Counts, TurnLeft, OnLeft}
+use Rattle.boot_run.specs.Agrees.{Counts}
 use Rattle.boot_run.specs.Starts.{is_under_way, NextPhase}
 use Rattle.boot_run.proofs.DueLemmas.{due_may}
 use Rattle.boot_run.proofs.StartLemmas.{judged_may, all_may}

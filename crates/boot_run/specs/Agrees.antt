@@ -1,5 +1,5 @@
 -- When do a runner, a session and a disk stand for a state of the book's run? (this project's own)
-use Rattle.std.specs.Prelude.{◌≡◌, ◌<◌, ◌^◌, Bool, true, false, ℕ, [], ◌∷◌, length, Option, Some, None, IfSome}
+use Rattle.std.specs.Prelude.{◌≡◌, ◌<◌, ◌^◌, true, false, ℕ, [], ◌∷◌, length, Option, Some, None, IfSome}
 use Rattle.hive_model.specs.Base.{version_of}
 use Rattle.hive_model.specs.Image.{Image}
 use Rattle.hive_model.specs.Carries.{Carries}
@@ -17,7 +17,7 @@ use Rattle.start_model.specs.Possible.{Woken, settled_at, woken_at}
 use Rattle.start_model.specs.Act.{RunState, Act, done, start_over}
 use Rattle.start_model.specs.Commit.{committed_state, opened_state}
 use Rattle.start_model.specs.Boot.{woken_state, loaded_state}
-use Rattle.boot_machine.specs.Steps.{is_there, falls_back}
+use Rattle.boot_machine.specs.Steps.{falls_back}
 use Rattle.run_parts.specs.Parts.{IsMarked}
 use Rattle.boot_run.specs.declared.runner.Runner.{Runner}
 

@@ -1,5 +1,5 @@
 -- How does a start begin that has a plan, what do events do that leave the session alone, and what does a run amount to? (this project's own)
-use Rattle.std.specs.Prelude.{◌≡◌, not, ◌==◌, Bool, true, false, ℕ, List, length, Option, Some, None, Result, Ok, Err, IfSome}
+use Rattle.std.specs.Prelude.{◌≡◌, not, ◌==◌, Bool, true, false, ℕ, length, Option, Some, None, Result, Ok, Err}
 use Rattle.hive_model.specs.Tree.{Tree}
 use Rattle.hive_model.specs.Edit.{Refusal}
 use Rattle.nt_edge.specs.Bench.{armed}
@@ -14,7 +14,7 @@ use Rattle.reg_tree.specs.Makes.{step_of}
 use Rattle.select_keys.specs.declared.stop.SelectStop.{SelectStop}
 use Rattle.select_keys.specs.declared.stop.SelectStop.TheVariants as stops
 use Rattle.start_model.specs.Lines as lines
-use Rattle.start_model.specs.Sets.{SetPlan, SetStop, SetChange, NoControlSet, NoLastKnownGood, NoFreeNumber, is_usable, select_numbers_of}
+use Rattle.start_model.specs.Sets.{SetPlan, SetStop, NoControlSet, NoLastKnownGood, NoFreeNumber, is_usable, select_numbers_of}
 use Rattle.start_model.specs.Events as book
 use Rattle.start_model.specs.Events.{Event, Fail, Vital, Edits, Arm}
 use Rattle.start_model.specs.Machine.{MachineState, failing, requiring}

@@ -1,8 +1,8 @@
 -- The sectors of a log, in sequence.
-use Rattle.std.proofs.Common.{◌≡◌, ◌<◌, ◌≤◌, ◌+◌, ◌-◌, ◌*◌, ◌/◌, ℕ, Bool, true, false, cond, List, [], ◌∷◌, length, refl, sym, ap, ◌∙◌, add-one, arith}
+use Rattle.std.proofs.Common.{◌≡◌, ◌<◌, ◌≤◌, ◌+◌, ◌-◌, ◌*◌, ◌/◌, ℕ, Bool, true, false, cond, List, [], ◌∷◌, length, refl, ap, ◌∙◌, add-one, arith}
 use Rattle.hive_model.specs.Recovery.{sector, rank, first_dirty}
 use Rattle.hive_log.proofs.Ranks.{rank_below}
-use Rattle.log_parts.specs.Pages.{Page, put_at, put_pages}
+use Rattle.log_parts.specs.Pages.{put_at, put_pages}
 use Rattle.dirt_log.specs.Dirt.{bits_of, needed, marked_pages}
 
 module _ (bits : ℕ → Bool) (log : List ℕ) (next i n m : ℕ) (more : n ≡ m + 1) where

@@ -3,7 +3,7 @@
 --
 -- Sector 0 is its base block. From sector 1 on stand `DIRT` and a bit for each sector of the bins data; then the sectors
 -- whose bit is on, in rising order. (The bitmap is that of hive_model's `Recovery`.)
-use Rattle.std.specs.Prelude.{◌≤◌, ◌+◌, ◌-◌, ◌*◌, ◌/◌, ◌==◌, ◌&&◌, ◌||◌, Bool, true, nat_eq, nat_le, nat_lt, if◌then◌else◌, ℕ, zero, suc, List, [], ◌∷◌, length, take, drop, codes, Option, Some, None}
+use Rattle.std.specs.Prelude.{◌≤◌, ◌+◌, ◌-◌, ◌*◌, ◌/◌, ◌==◌, ◌&&◌, ◌||◌, Bool, true, nat_eq, nat_le, nat_lt, if◌then◌else◌, ℕ, zero, suc, List, [], ◌∷◌, length, drop, codes, Option, Some, None}
 use Rattle.std.specs.List.{starts_with}
 use Rattle.hive_model.specs.Base.{Base}
 use Rattle.hive_model.specs.Recovery.{sector, bit, rank, first_dirty}

@@ -8,7 +8,7 @@ use Rattle.hive_model.specs.Tree.{Tree}
 use Rattle.hive_model.specs.Edit.{Refusal}
 use Rattle.hive_model.specs.Valid.{HoldsKeys}
 use Rattle.start_model.specs.Sets as sets
-use Rattle.start_model.specs.Sets.{SetChange, ChangeStop, NoPlan, NoControlSet, NoLastKnownGood, NoFreeNumber, select_numbers_of, taken_number, begin_of, is_usable}
+use Rattle.start_model.specs.Sets.{SetChange, ChangeStop, NoPlan, NoControlSet, NoLastKnownGood, NoFreeNumber, select_numbers_of, taken_number, begin_of}
 use Rattle.start_model.specs.Starter.{no_set, good_is_usable}
 use Rattle.select_keys.specs.Sets.{usable_set}
 use Rattle.select_keys.specs.declared.stop.SelectStop.{SelectStop}

@@ -6,7 +6,7 @@ use Rattle.nt_bytes.specs.declared.fault.ReadStop.{ReadStop}
 use Rattle.nt_bytes.specs.declared.fault.ReadStop.TheVariants.{Fault, Memory}
 use Rattle.nt_bytes.specs.Fields.{u32_in}
 use Rattle.hive_model.specs.Forms.{◌>>=◌}
-use Rattle.hive_model.specs.Bins.{Cell, Bin, cell_size, cells_size, bin_size, bins_size, head_bytes, cell_bytes, bin_bytes, spelled, IsCell, IsBin, IsHeap, header_at, size_at, with_place}
+use Rattle.hive_model.specs.Bins.{Cell, Bin, cell_size, cells_size, bin_size, bins_size, head_bytes, cell_bytes, bin_bytes, spelled, IsCell, IsBin, IsHeap, IsBins, BinsFault, header_at, size_at, with_place}
 
 -- is the cell allocated, and its size
 abbrev pub head_of : Cell → Bool × ℕ
@@ -75,9 +75,14 @@ pub record BinMarked (at : ℕ) (bytes : List ℕ) (old new : List Bool) (size :
   pub read : BinRead at bytes (take (at / 8) old) (take ((at + size) / 8) new) size
   pub off : drop ((at + size) / 8) new ≡ replicate ((length bytes - size) / 8) false
 
-abbrev pub Stops : (HiveFault → Type 0) → ReadStop → Type 0
-Stops Fails Memory = Unit {0}
-Stops Fails (Fault f) = Fails f
+-- and with no table, for each that it may stand behind
+abbrev pub IsBinRead : ℕ → List ℕ → ℕ → Type 0
+IsBinRead at bytes size = (old : List Bool) → (new : List Bool) × BinRead at bytes old new size
+
+-- why bytes gave no heap: the first check that fails, or out of memory, where none does
+abbrev pub Stops : List ℕ → ReadStop → Type 0
+Stops text Memory = (bins : List Bin) × IsBins text bins
+Stops text (Fault f) = BinsFault text f
 
 -- the cells of a bin so far
 pub record CellsRead (at : ℕ) (bytes : List ℕ) (old new : List Bool) (size cell : ℕ) : Type 0 where

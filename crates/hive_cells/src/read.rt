@@ -1,8 +1,8 @@
 //! Bins and cells checked.
 
-ghost use Rattle.std.specs.Prelude.{◌≡◌, ◌+◌, ◌/◌, ◌%◌, ◌<◌, ◌≤◌, false, length, drop, replicate, IfOk, MatchResult};
-ghost use Rattle.hive_model.specs.Bins.{header_at, size_at, with_place, Sees, BinFails, BinsFault, IsBins};
-ghost use Rattle.hive_cells.specs.Reading.{BinMarked, Stops};
+ghost use Rattle.std.specs.Prelude.{◌≡◌, ◌+◌, ◌/◌, ◌%◌, ◌<◌, ◌≤◌, List, false, length, drop, replicate, IfOk, MatchResult};
+ghost use Rattle.hive_model.specs.Bins.{Bin, header_at, size_at, with_place, Sees, BinFails, BinsFault, IsBins};
+ghost use Rattle.hive_cells.specs.Reading.{BinMarked, IsBinRead, Stops};
 
 use crate::heap::CellHeap;
 use nt_bytes::{Bytes, HiveFault, HiveFaultKind, ReadStop, u32_at};
@@ -119,6 +119,35 @@ fn read_bin(rest: &[u8], at: u32, starts: &mut Vec<bool>) -> Result<usize, HiveF
     Ok(total)
 }
 
+/// The size of the bin at the front, whose cells fill it, or the first check that fails. No memory is taken.
+fn check_bin(rest: &[u8], at: u32) -> Result<usize, HiveFault>
+    requires small { at + length rest.now ≤ 16777216 }
+    requires some { 0 < length rest.now }
+    ensures exact { MatchResult result (IsBinRead at rest.now) (BinFails at rest.now) }
+    ensures within { IfOk result (λ size. (0 < size) × (size ≤ length rest.now)) }
+{
+    let total = header(rest, at)? as usize;
+    let mut cell = 32;
+    'cells: while cell < total {
+        let found = size(&rest[cell..], total - cell, at + cell as u32)?;
+        cell += found;
+    }
+    Ok(total)
+}
+
+/// Checks that bytes are bins. No memory is taken.
+fn check_bins(all: &[u8]) -> Result<(), HiveFault>
+    requires { length all.now ≤ 16777216 }
+    ensures { MatchResult result (λ done. (bins : List Bin) × IsBins all.now bins) (BinsFault all.now) }
+{
+    let mut at = 0;
+    'reading: while at < all.len() {
+        let size = check_bin(&all[at..], at as u32)?;
+        at += size;
+    }
+    Ok(())
+}
+
 /// That many flags, each off.
 fn flags_off(alloc: Global, count: usize) -> Result<Vec<bool>, AllocError>
     ensures { IfOk result (λ starts. starts.items ≡ replicate count false) }
@@ -128,14 +157,17 @@ fn flags_off(alloc: Global, count: usize) -> Result<Vec<bool>, AllocError>
     Ok(starts)
 }
 
-/// The heap that these bytes are, or the first check that fails.
+/// The heap that these bytes are, or the first check that fails. `Memory` comes only where none fails.
 pub fn read_cells(alloc: Global, bins: Bytes) -> Result<CellHeap, ReadStop>
     requires { length bins ≤ 16777216 }
-    ensures { MatchResult result (IsBins bins) (Stops (BinsFault bins)) }
+    ensures { MatchResult result (IsBins bins) (Stops bins) }
 {
     let bytes = bins.into_vec();
     let all = bytes.as_slice();
-    let mut starts = flags_off(alloc, all.len() / 8)?;
+    let Ok(mut starts) = flags_off(alloc, all.len() / 8) else {
+        check_bins(all)?;
+        return Err(ReadStop::Memory);
+    };
     let mut at = 0;
     'reading: while at < all.len() {
         let size = read_bin(&all[at..], at as u32, &mut starts)?;

@@ -12,7 +12,6 @@ use Rattle.reg_tree.proofs.Trees.{listed_trees}
 use Rattle.reg_tree.proofs.Unlike.{Unlike, unlike_from, unlike_first, unlike_gone, unlike_push, none_found, folds_swap}
 use Rattle.import_steps.specs.declared.marks.Life.{Life}
 use Rattle.import_steps.specs.declared.marks.Life.TheVariants.{Kept, Made, Gone}
-use Rattle.import_steps.specs.declared.marks.Mark.{Mark}
 use Rattle.import_steps.specs.declared.marks.Mark.TheVariants as marks
 use Rattle.import_steps.specs.declared.marks.Marks.{Marks}
 use Rattle.import_steps.specs.Marks.{life_of, key_at, value_at, IsFresh, PutsKey, PutsValue, Seen, living, child_by, marked_child, base_child, below, look, holds}

@@ -19,13 +19,13 @@ use Rattle.start_model.specs.Machine.{Start, MachineState, Tried, attempt_at, at
 use Rattle.start_model.specs.Act as acts
 use Rattle.start_model.specs.Commit as commit_book
 use Rattle.start_model.specs.Boot as boot_book
-use Rattle.start_model.specs.Possible.{Possible, Woken, Outcome, Finished, PowerCut, DeviceFault}
-use Rattle.start_model.specs.Act.{RunState, Act, Note, Woke, Held, Saved, Ordered, Cuts, Ended, say_all, end_with, with_machine}
+use Rattle.start_model.specs.Possible.{Woken, Outcome, Finished, PowerCut, DeviceFault}
+use Rattle.start_model.specs.Act.{RunState, Act, Woke, Held, Saved, Ordered, Cuts, Ended, say_all, end_with, with_machine}
 use Rattle.start_model.specs.Commit.{committed_state, commit, committed, noted_saved, saved_by, save, save_where_due}
 use Rattle.start_model.specs.Starter.{live_set, good_is_usable, phase_line, judged, phase_begun, phase_passed, phase_step, starter_step, stepping, go_steps, enough_steps, go_act}
-use Rattle.start_model.specs.Boot.{Choice, loaded_state, accepted_state, begin_start, begin_with, begin_by, loaded, woken, chosen, boot_act}
+use Rattle.start_model.specs.Boot.{Choice, loaded_state, accepted_state, begin_start, begin_with, begin_by, loaded, woken, chosen}
 use Rattle.start_model.specs.EventActs.{edit_done, flush_act, off_act, logon_act, running_act, idle_act, accepted_act, act_unless, event_step_of}
-use Rattle.start_model.specs.Run.{RunResult, play}
+use Rattle.start_model.specs.Run.{play}
 use Rattle.start_model.specs.Fits.{saved_in}
 use Rattle.logon_laws.specs.Saves.{BecomesGood, IsSavedAfterLogon}
 

@@ -8,7 +8,7 @@ use Rattle.command_words.specs.declared.asked.CommandName.{CommandName}
 use Rattle.command_words.specs.declared.asked.CommandName.TheVariants as names
 use Rattle.command_words.specs.declared.asked.Page.{Page}
 use Rattle.command_words.specs.declared.asked.Page.TheVariants as pages
-use Rattle.command_words.specs.Words.{Text, Asked, Reading, Reason, asks, help, version, refused}
+use Rattle.command_words.specs.Words.{Text, Asked, Reading, Reason, asks, help, version}
 use Rattle.command_words.specs.Words.{run, show, make, safe, control, twin, export, import, key, replay, check, whatif, salvage, diff, why, graph, sweep}
 use Rattle.command_words.specs.Table.{count_of, mode_of}
 use Rattle.command_words.specs.Walk.{Values, and_then, no_values, value_named, walked}

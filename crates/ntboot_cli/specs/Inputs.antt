@@ -3,7 +3,7 @@
 -- The command line comes first. Of `run` then: the system's path, without a reading; the script, absent or without a reading; boot.ini,
 -- absent, too long or with too many entries; the hive, absent; its log, absent. Of `show`: the hive and its log. What is in hive
 -- and log is judged after all of them.
-use Rattle.std.specs.Prelude.{◌≡◌, ◌+◌, ℕ, true, List, Option, Some, None, Result, Ok, Err}
+use Rattle.std.specs.Prelude.{◌≡◌, ◌+◌, ℕ, true, List, Result, Ok, Err}
 use Rattle.nt_edge.specs.Host.{Files, HostState}
 use Rattle.arc_path.specs.Reading.{arc_of}
 use Rattle.boot_script.specs.declared.event.Event.{Event}

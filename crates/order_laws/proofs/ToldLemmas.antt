@@ -1,9 +1,9 @@
 -- Where the notes tell no stop, the counts are as they were.
-use Rattle.std.proofs.Common.{◌≡◌, ℕ, List, [], ◌∷◌, map, Option, refl, sym, subst, ◌∙◌}
+use Rattle.std.proofs.Common.{◌≡◌, ℕ, List, [], ◌∷◌, map, Option, sym, subst, ◌∙◌}
 use Rattle.nt_edge.specs.Disk.{DiskState}
 use Rattle.start_model.specs.Causes.{Tally}
 use Rattle.start_model.specs.Events.{Event}
-use Rattle.start_model.specs.Possible.{Woken, Outcome, Finished, PowerCut, DeviceFault}
+use Rattle.start_model.specs.Possible.{Woken, Finished, PowerCut, DeviceFault}
 use Rattle.start_model.specs.Act.{Note, Woke, Held, Saved, Ordered, Cuts, Ended}
 use Rattle.start_model.specs.Boot.{Choice}
 use Rattle.start_model.specs.Run.{run_of}

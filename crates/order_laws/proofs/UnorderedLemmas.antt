@@ -7,10 +7,10 @@ use Rattle.hive_model.specs.Edit.{Refusal, edited}
 use Rattle.nt_edge.specs.Bench.{KeepsOrders}
 use Rattle.nt_edge.specs.Disk.{DiskState, Wake}
 use Rattle.start_model.specs.Lines as lines
-use Rattle.start_model.specs.Lines.{Line, Verdict, CommitWord, RefusedWord, UnmetLine, VitalLine}
+use Rattle.start_model.specs.Lines.{Line, CommitWord, RefusedWord, UnmetLine, VitalLine}
 use Rattle.start_model.specs.Judge.{Judgement, Ignore, Log, FallBack, Stop}
 use Rattle.start_model.specs.Sets as sets
-use Rattle.start_model.specs.Sets.{SelectNumbers, SetChange, ChangeStop, NoPlan, begin_of, save_of}
+use Rattle.start_model.specs.Sets.{SetChange, ChangeStop, NoPlan, begin_of, save_of}
 use Rattle.start_model.specs.Events as events
 use Rattle.start_model.specs.Events.{Event, step_of}
 use Rattle.start_model.specs.Machine.{Start, MachineState, Tried, attempt_of, after_phase, unmet_in, missing_in, is_done, save_due, with_start, ending_of, refusal_of}
@@ -19,7 +19,7 @@ use Rattle.start_model.specs.Act as acts
 use Rattle.start_model.specs.Commit as commit_book
 use Rattle.start_model.specs.Boot as boot_book
 use Rattle.start_model.specs.Possible.{Woken, Outcome, Finished, PowerCut, DeviceFault}
-use Rattle.start_model.specs.Act.{RunState, Act, Note, Woke, Held, Saved, Ordered, Cuts, Ended, next_state, say_all, end_with, with_machine}
+use Rattle.start_model.specs.Act.{RunState, Act, Note, Woke, Held, Saved, Ordered, Cuts, Ended, say_all, end_with, with_machine}
 use Rattle.start_model.specs.Commit.{committed_state, commit, committed, noted_saved, saved_by, save, save_where_due}
 use Rattle.start_model.specs.Starter.{live_set, good_is_usable, judged, phase_begun, phase_passed, phase_step, starter_step, stepping, go_steps, enough_steps, go_act}
 use Rattle.start_model.specs.Boot.{Choice, loaded_state, accepted_state, begin_start, begin_with, begin_by, loaded, woken, chosen, boot_act}

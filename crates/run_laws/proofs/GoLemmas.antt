@@ -13,7 +13,7 @@ use Rattle.start_model.specs.Entries.{Entry, Phase, Boot, System, Automatic, Don
 use Rattle.start_model.specs.Machine.{Start, MachineState, Tried, next_in, attempt_at, attempt_in, attempt_of, after_phase, unmet_in, missing_in, is_done, save_due, with_start}
 use Rattle.start_model.specs.Possible.{Outcome, Finished, PowerCut, DeviceFault, open_between}
 use Rattle.start_model.specs.Act.{RunState, Act, say, ask, mark, Held, Saved, say_all, next_state, with_machine}
-use Rattle.start_model.specs.Commit.{committed_state, committed, commit, noted_saved, save_refused, saved_by, save, save_where_due, select_line}
+use Rattle.start_model.specs.Commit.{committed_state, committed, commit, noted_saved, saved_by, save, select_line}
 use Rattle.start_model.specs.Starter.{live_set, good_is_usable, phase_line, judged, phase_begun, phase_passed, phase_step, starter_step, stepping, go_steps, enough_steps, go_act, try_line}
 use Rattle.start_model.specs.Act as acts
 use Rattle.run_laws.proofs.CountLemmas.{system_count, late_count, system_plan, automatic_plan, all_counts}

@@ -19,7 +19,7 @@ use Rattle.start_model.specs.Possible.{Possible, Woken, Outcome, Finished, Power
 use Rattle.start_model.specs.Act.{RunState, Act, Note, Woke, Held, Saved, Ordered, Cuts, Ended, next_state, start_over, say_all, end_with, with_machine}
 use Rattle.start_model.specs.Commit.{committed_state, opened_state, commit, committed, noted_saved, saved_by, save, save_where_due}
 use Rattle.start_model.specs.Starter.{live_set, good_is_usable, judged, phase_begun, phase_passed, phase_step, starter_step, stepping, go_steps, enough_steps, go_act}
-use Rattle.start_model.specs.Boot.{Choice, loaded_state, woken_state, accepted_state, begin_start, begin_with, begin_by, take_set, loaded, woken, chosen, boot_act}
+use Rattle.start_model.specs.Boot.{Choice, loaded_state, woken_state, accepted_state, begin_start, begin_with, begin_by, loaded, woken, chosen, boot_act}
 use Rattle.start_model.specs.EventActs.{edit_done, flush_act, off_act, logon_act, running_act, idle_act, accepted_act, act_unless, event_step_of}
 use Rattle.start_model.specs.Run.{verdict_first, closing_act}
 

@@ -11,9 +11,8 @@ use Rattle.start_model.specs.Possible.{Possible, Woken, Outcome, Finished, Power
 use Rattle.start_model.specs.Act.{RunState, Act, Note, Woke, Held, Saved, Ordered, Cuts, Ended}
 use Rattle.start_model.specs.Boot.{Choice}
 use Rattle.start_model.specs.EventActs.{event_step_of}
-use Rattle.start_model.specs.Run.{RunResult, play, then_run, run_from, run_of, first_state, closing_act, verdict_first}
-use Rattle.start_model.specs.Quiet.{Quiet, quiet_wake, quiet_behind, quiet_play, quiet_from, quiet_run_of}
-use Rattle.start_model.specs.Machine.{Start}
+use Rattle.start_model.specs.Run.{RunResult, play, then_run, run_from, run_of, first_state, closing_act}
+use Rattle.start_model.specs.Quiet.{quiet_wake, quiet_behind, quiet_play, quiet_from, quiet_run_of}
 use Rattle.start_model.specs.Fits.{IsPossible, ArePossible, woke_in}
 use Rattle.run_laws.specs.Quiet.{AllFinished}
 use Rattle.run_laws.proofs.NoteLemmas.{woke_in-append}

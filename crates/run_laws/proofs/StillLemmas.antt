@@ -12,7 +12,7 @@ use Rattle.start_model.specs.Act.{RunState, Act, Note, Woke, Held, Saved, Ordere
 use Rattle.start_model.specs.Boot.{Choice}
 use Rattle.start_model.specs.EventActs.{event_step_of}
 use Rattle.start_model.specs.Run.{RunResult, play, then_run, run_from, closing_act}
-use Rattle.start_model.specs.Fits.{IsPossible, MayLoad}
+use Rattle.start_model.specs.Fits.{MayLoad}
 use Rattle.run_laws.specs.Open.{IsClosed}
 use Rattle.run_laws.specs.Told.{IsStill}
 use Rattle.run_laws.proofs.KeptLemmas.{Law, AtRest, IsMark, Keeps, Next, push, with_wake, event_step_of-keeps, closing-keeps}

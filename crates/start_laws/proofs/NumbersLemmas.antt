@@ -1,9 +1,9 @@
 -- The numbers of a plan are those of `Select` in the tree that its steps lead to.
-use Rattle.std.proofs.Common.{◌≡◌, ℕ, ◌<◌, ◌^◌, Bool, true, Ok, refl, sym, ap, subst, ◌∙◌}
+use Rattle.std.proofs.Common.{◌≡◌, ◌<◌, ◌^◌, Bool, true, Ok, sym, ap, ◌∙◌}
 use Rattle.nt_bytes.specs.declared.version.HiveVersion.{HiveVersion}
 use Rattle.hive_model.specs.Tree.{Tree}
 use Rattle.hive_model.specs.Edit.{after_steps}
-use Rattle.start_model.specs.Sets.{SelectNumbers, SetPlan, SetChange, select_numbers_of, usable_numbers_of, has_number, taken_number, begun, begin_plan_of, save_plan_of, stepped, begin_of, save_of}
+use Rattle.start_model.specs.Sets.{SetPlan, SetChange, select_numbers_of, usable_numbers_of, has_number, taken_number, begun, begin_plan_of, save_plan_of, stepped, begin_of, save_of}
 use Rattle.start_laws.specs.Changes.{Begins}
 use Rattle.start_laws.proofs.StepLemmas.{steps_made}
 use Rattle.start_laws.proofs.BeginLemmas.{BeginCase, guarded, plain, begin_case, begins, begins_guarded, by_plan}

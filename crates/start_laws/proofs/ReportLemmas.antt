@@ -1,10 +1,10 @@
 -- What a report says of its run.
-use Rattle.std.proofs.Common.{◌≡◌, ◌≤◌, ℕ, suc, List, [], ◌∷◌, ◌++◌, length, Option, Some, refl, sym, ap, subst, ◌∙◌, append-nil, arith}
+use Rattle.std.proofs.Common.{◌≡◌, ◌≤◌, ℕ, suc, List, [], ◌∷◌, ◌++◌, length, Option, refl, sym, ap, subst, ◌∙◌, append-nil, arith}
 use Rattle.std.proofs.lemmas.List.{length-append}
 use Rattle.hive_model.specs.Image.{Image}
 use Rattle.start_model.specs.Lines.{text_of}
 use Rattle.start_model.specs.Events.{Event}
-use Rattle.start_model.specs.Possible.{Possible, Woken, Outcome}
+use Rattle.start_model.specs.Possible.{Possible, Woken}
 use Rattle.start_model.specs.Act.{RunState}
 use Rattle.start_model.specs.Boot.{Choice}
 use Rattle.start_model.specs.Run.{RunResult, run_of}

@@ -1,8 +1,7 @@
 use Rattle.std.proofs.Common.{◌≡◌, Some, None, sym, subst}
 use Rattle.std.specs.Prelude.{Option}
 use Rattle.hive_store.specs.Session.{Session}
-use Rattle.start_model.specs.Act.{start_over}
-use Rattle.start_model.specs.Commit.{committed_state, opened_state}
+use Rattle.start_model.specs.Commit.{committed_state}
 use Rattle.start_model.specs.Boot.{begin_start}
 use Rattle.run_parts.proofs.CountLemmas.{still}
 use Rattle.printed_parts.proofs.GoesLemmas.{goes-nothing}

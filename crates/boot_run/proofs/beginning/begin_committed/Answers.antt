@@ -1,13 +1,11 @@
 use Rattle.std.proofs.Common.{◌≡◌, ◌∙◌}
-use Rattle.std.specs.Prelude.{Option, Result, Ok, Err}
-use Rattle.hive_store.specs.Session.{Session}
+use Rattle.std.specs.Prelude.{Ok, Err}
 use Rattle.start_model.specs.Lines as book
 use Rattle.start_model.specs.Commit.{commit}
 use Rattle.start_model.specs.Boot.{begin_start}
 use Rattle.printed_parts.proofs.BreakLemmas.{or-breaks, breaks-then}
 use Rattle.printed_parts.proofs.GoesLemmas.{goes-then}
 use Rattle.boot_run.specs.Views.{told_in}
-use Rattle.boot_run.proofs.PlayLemmas.{plays-then}
 use Rattle.boot_run.proofs.BeginLemmas.{stays_begin, up_or_down, still_off, still_taken}
 use Rattle.boot_run.proofs.beginning.begin_committed.Goals as goal
 

@@ -3,7 +3,6 @@ use Rattle.std.specs.List.{All}
 use Rattle.hive_model.specs.Base.{version_of}
 use Rattle.hive_model.specs.Edit.{Step, edited}
 use Rattle.reg_tree.specs.Fitting.{Fits}
-use Rattle.reg_tree.specs.Makes.{refusal_of}
 use Rattle.start_model.specs.Lines as lines
 use Rattle.start_model.specs.Lines.{BeginCommit}
 use Rattle.start_model.specs.Sets.{SetPlan, stepped}

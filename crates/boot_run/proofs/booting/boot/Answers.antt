@@ -2,12 +2,10 @@ use Rattle.std.proofs.Common.{rules, ◌≡◌, ◌+◌, ◌∷◌, [], ◌∙�
 use Rattle.std.specs.Prelude.{◌||◌}
 use Rattle.nt_edge.specs.Host.{SaysFront}
 use Rattle.boot_ini.specs.declared.choosing.Chosen.{Chosen}
-use Rattle.start_model.specs.Lines.{Line, StartLine}
+use Rattle.start_model.specs.Lines.{StartLine}
 use Rattle.start_model.specs.Machine.{MachineState}
-use Rattle.start_model.specs.Possible.{Possible}
 use Rattle.start_model.specs.Act.{Act}
-use Rattle.start_model.specs.Boot.{Choice, chosen, accepted_state, boot_act}
-use Rattle.start_model.specs.Fits.{MayLoad}
+use Rattle.start_model.specs.Boot.{chosen, accepted_state, boot_act}
 use Rattle.line_objects.specs.Objects.{printed}
 use Rattle.printed_parts.specs.Parts.{Tells}
 use Rattle.run_parts.proofs.CountLemmas.{still}

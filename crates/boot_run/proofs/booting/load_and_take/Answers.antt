@@ -1,6 +1,5 @@
-use Rattle.std.proofs.Common.{◌≡◌, ◌∙◌, Option, Some, None, sym, ap, subst, refl}
+use Rattle.std.proofs.Common.{◌≡◌, ◌∙◌, Option, Some, None, sym, subst}
 use Rattle.hive_store.specs.Session.{Session}
-use Rattle.start_model.specs.Machine.{MachineState}
 use Rattle.start_model.specs.Act.{wake}
 use Rattle.start_model.specs.Boot.{take_set, woken, loaded_state}
 use Rattle.start_model.specs.Act as book

@@ -1,4 +1,4 @@
-use Rattle.std.proofs.Common.{◌≡◌, ◌∙◌, true, false, sym, refl, Some}
+use Rattle.std.proofs.Common.{◌≡◌, ◌∙◌, true, false, sym, refl}
 use Rattle.start_model.specs.Lines as book
 use Rattle.start_model.specs.Act.{done, say}
 use Rattle.start_model.specs.Commit.{commit}

@@ -1,4 +1,4 @@
-use Rattle.std.proofs.Common.{◌≡◌, ◌∙◌, true, false, sym, ap, refl, Some, None}
+use Rattle.std.proofs.Common.{◌≡◌, ◌∙◌, true, false, sym, ap, Some}
 use Rattle.std.specs.Prelude.{option_map}
 use Rattle.std.specs.Option.{option_map_or}
 use Rattle.boot_machine.specs.Steps.{is_there}
@@ -9,7 +9,7 @@ use Rattle.start_model.specs.Act.{done, end_with}
 use Rattle.start_model.specs.Commit.{commit}
 use Rattle.start_model.specs.EventActs.{off_act}
 use Rattle.printed_parts.proofs.BreakLemmas.{or-breaks}
-use Rattle.boot_run.specs.Agrees.{CommitLeft, OffLeft, IsEnding}
+use Rattle.boot_run.specs.Agrees.{OffLeft, IsEnding}
 use Rattle.boot_run.specs.Views.{told_in}
 use Rattle.boot_run.proofs.PlayLemmas.{plays-as, plays-then, live_left, stored, stays_end}
 use Rattle.boot_run.proofs.CloseLemmas.{runs_there, end_plays, end_sound, ending, off_changed, off_same}

@@ -2,7 +2,6 @@ use Rattle.std.proofs.Common.{◌≡◌, true, false, refl, rules, ap, sym, subs
 use Rattle.std.specs.Prelude.{IsErrOf}
 use Rattle.boot_report.specs.Report.{commit_of}
 use Rattle.hive_model.specs.Carries.{Carries}
-use Rattle.nt_edge.specs.Disk.{DiskState}
 use Rattle.hive_commit.specs.declared.stops.CommitStop.TheVariants as stops
 use Rattle.hive_store.specs.Session.{Session}
 use Rattle.hive_store.specs.Commits as store

@@ -1,6 +1,5 @@
-use Rattle.std.proofs.Common.{rules}
 use Rattle.boot_run.specs.Views.{told_in}
-use Rattle.boot_run.proofs.CutLemmas.{cut_plays, cut_down}
+use Rattle.boot_run.proofs.CutLemmas.{cut_plays}
 use Rattle.boot_run.proofs.cutting.cut.Goals as goal
 
 pub returns-clause-plays : goal.returns-clause-plays

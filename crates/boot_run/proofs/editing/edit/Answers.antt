@@ -10,7 +10,6 @@ use Rattle.start_model.specs.Events as book
 use Rattle.start_model.specs.EventActs.{edit_done}
 use Rattle.run_parts.proofs.CountLemmas.{still}
 use Rattle.printed_parts.proofs.BreakLemmas.{breaks-silent, or-breaks}
-use Rattle.boot_machine.specs.Views.{event_in}
 use Rattle.boot_run.specs.Edits.{edit_line, TellsLine}
 use Rattle.boot_run.specs.declared.stop.RunStop.{RunStop}
 use Rattle.boot_run.specs.Views.{told_in}

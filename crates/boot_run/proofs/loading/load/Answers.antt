@@ -1,4 +1,4 @@
-use Rattle.std.proofs.Common.{◌≡◌, Bool, true, false, refl, rules, ap, sym, subst}
+use Rattle.std.proofs.Common.{◌≡◌, true, false, refl, rules, ap, sym, subst}
 use Rattle.std.specs.Prelude.{IsErrOf}
 use Rattle.hive_model.specs.Image.{Image}
 use Rattle.hive_model.specs.Load.{Loads}

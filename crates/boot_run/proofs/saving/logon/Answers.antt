@@ -1,7 +1,7 @@
 use Rattle.std.proofs.Common.{◌≡◌, ◌∙◌, refl, sym, ap, subst}
 use Rattle.std.specs.Option.{option_map_or}
 use Rattle.start_model.specs.Lines.{LogonLine}
-use Rattle.start_model.specs.Machine.{MachineState, Start}
+use Rattle.start_model.specs.Machine.{MachineState}
 use Rattle.start_model.specs.Act.{say, done}
 use Rattle.start_model.specs.Commit.{save_where_due}
 use Rattle.start_model.specs.EventActs.{logon_act}

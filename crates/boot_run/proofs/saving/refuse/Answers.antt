@@ -1,4 +1,4 @@
-use Rattle.std.proofs.Common.{refl, Some}
+use Rattle.std.proofs.Common.{refl}
 use Rattle.start_model.specs.Lines.{SaveRefusedLine}
 use Rattle.start_model.specs.Commit.{save_refused, noted_saved}
 use Rattle.std.proofs.Common.{false}

@@ -1,5 +1,5 @@
 use Rattle.std.proofs.Common.{◌≡◌, refl}
-use Rattle.start_model.specs.Starter.{go_steps, go_act}
+use Rattle.start_model.specs.Starter.{go_act}
 use Rattle.run_parts.proofs.CountLemmas.{still}
 use Rattle.printed_parts.proofs.BreakLemmas.{breaks-silent, or-breaks}
 use Rattle.printed_parts.specs.Parts.{Breaks, Goes}

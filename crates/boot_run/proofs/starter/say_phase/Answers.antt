@@ -4,7 +4,7 @@ use Rattle.start_model.specs.Entries.{Done}
 use Rattle.start_model.specs.Lines.{UnmetLine}
 use Rattle.start_model.specs.Machine.{Start, MachineState, unmet_in, phase_after}
 use Rattle.start_model.specs.Starter.{phase_line}
-use Rattle.printed_parts.specs.Parts.{Told, Tells}
+use Rattle.printed_parts.specs.Parts.{Tells}
 use Rattle.boot_run.specs.declared.summary.Summary.{Summary}
 use Rattle.boot_run.specs.Starts.{phase_lines}
 use Rattle.boot_run.specs.Views.{told_in, told_by, SaysPart}

@@ -1,5 +1,5 @@
-use Rattle.std.proofs.Common.{◌≡◌, ◌∙◌, ap, sym, subst, refl, Option, Some}
-use Rattle.start_model.specs.Machine.{Start, MachineState, Tried, attempt_of}
+use Rattle.std.proofs.Common.{◌≡◌, ◌∙◌, ap, sym, subst, refl, Option}
+use Rattle.start_model.specs.Machine.{MachineState, Tried, attempt_of}
 use Rattle.start_model.specs.Act.{say, with_machine}
 use Rattle.start_model.specs.Starter.{judged, starter_step, good_is_usable, try_line}
 use Rattle.printed_parts.specs.Parts.{Breaks}

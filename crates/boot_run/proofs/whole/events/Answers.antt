@@ -1,8 +1,7 @@
-use Rattle.std.proofs.Common.{◌≡◌, ◌∙◌, map, length, ◌-◌, take, drop, get_or, sym, subst, refl, arith}
+use Rattle.std.proofs.Common.{◌≡◌, ◌∙◌, map, length, ◌-◌, take, drop, refl}
 use Rattle.std.specs.Prelude.{Result, Ok, Err}
 use Rattle.std.proofs.lemmas.List.Elements.{All-take, All-drop}
 use Rattle.boot_machine.specs.Views.{event_in}
-use Rattle.boot_script.specs.declared.event.Event.{Event}
 use Rattle.boot_script.specs.Script.{HasCounts}
 use Rattle.start_model.specs.Run.{run_from}
 use Rattle.boot_run.specs.Choices.{choices}

@@ -1,4 +1,4 @@
-use Rattle.std.proofs.Common.{◌≡◌, true, map, length, None}
+use Rattle.std.proofs.Common.{◌≡◌, true, map, length}
 use Rattle.std.specs.List.{All}
 use Rattle.nt_edge.specs.Crash.{EachCrash}
 use Rattle.boot_machine.specs.Views.{event_in}

@@ -1,12 +1,6 @@
-use Rattle.std.proofs.Common.{◌≡◌, ◌∙◌, map, sym, ap, subst, refl}
-use Rattle.hive_model.specs.Image.{Image}
-use Rattle.start_model.specs.Summary.{Summary}
-use Rattle.start_model.specs.Run.{first_state, run_of}
-use Rattle.start_model.specs.Fits.{MayLoad}
+use Rattle.std.proofs.Common.{◌≡◌, ◌∙◌, map, sym, refl}
+use Rattle.start_model.specs.Run.{first_state}
 use Rattle.boot_machine.specs.Views.{event_in}
-use Rattle.nt_edge.specs.Crash.{EachCrash}
-use Rattle.printed_parts.proofs.ReportLemmas.{reports_front_of}
-use Rattle.boot_run.specs.Begins.{untold}
 use Rattle.boot_run.specs.Choices.{choices}
 use Rattle.boot_run.specs.Views.{told_in}
 use Rattle.boot_run.proofs.RunLemmas.{placed_loads, whole_report, whole_front}

@@ -1,5 +1,5 @@
-use Rattle.std.proofs.Common.{◌≡◌, ◌≤◌, ◌+◌, ◌-◌, ◌*◌, ◌/◌, length, true, false, arith, sym, ap, ◌∙◌, List, ℕ}
-use Rattle.hive_model.specs.Recovery.{sector, bit, rank, first_dirty}
+use Rattle.std.proofs.Common.{◌≡◌, ◌≤◌, ◌+◌, ◌-◌, ◌*◌, ◌/◌, length, true, false, arith, sym, ap, ◌∙◌}
+use Rattle.hive_model.specs.Recovery.{sector, bit, first_dirty}
 use Rattle.hive_log.proofs.Ranks.{rank_on, rank_off}
 use Rattle.log_parts.specs.Pages.{put_at, put_pages}
 use Rattle.log_parts.proofs.Puts.{put_long}

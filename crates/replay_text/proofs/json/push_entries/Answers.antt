@@ -1,6 +1,6 @@
 use Rattle.std.proofs.Common.{◌≡◌, ℕ, [], ◌∷◌, ◌++◌, ap, ◌∙◌, subst}
 use Rattle.std.specs.Prelude.{OnOk, codes}
-use Rattle.line_text.specs.Objects.{Number, Text, field_text, fields_text}
+use Rattle.line_text.specs.Objects.{Number, field_text}
 use Rattle.replay_text.specs.Lines.{log_fields}
 use Rattle.replay_text.proofs.Fields.{more_fields, last_field}
 use Rattle.replay_text.proofs.json.push_entries.Goals as goal

@@ -1,8 +1,8 @@
 use Rattle.std.proofs.Common.{◌≡◌, [], ◌∷◌, ◌++◌}
 use Rattle.std.specs.Prelude.{codes}
-use Rattle.line_text.specs.Objects.{Number, Text, fields_text}
+use Rattle.line_text.specs.Objects.{Number}
 use Rattle.replay_text.specs.Lines.{log_fields}
-use Rattle.replay_text.proofs.Fields.{more_fields, last_field}
+use Rattle.replay_text.proofs.Fields.{last_field}
 use Rattle.replay_text.proofs.json.push_none.Goals as goal
 
 pub returns : goal.returns
