@@ -5,4 +5,3 @@ pub mod LackLemmas
 pub mod RoundLemmas
 pub mod GrownLemmas
 pub mod FreedLemmas
-mod ReachedLemmas

@@ -1,4 +1,3 @@
 pub mod Cycles
 pub mod Lacks
 pub mod Freed
-pub mod Reached
