@@ -1,6 +1,6 @@
 //! The last commit in a report is on the disk.
 
-ghost use Rattle.std.specs.Prelude.{◌≡◌, ℕ, List, [], ◌∷◌, ◌++◌, Option, None, Some, false};
+ghost use Rattle.std.specs.Prelude.{◌≡◌, ℕ, List, [], ◌∷◌, ◌++◌, Option, Some, false};
 ghost use Rattle.hive_model.specs.Image.{Image, Write, IsCrashImage};
 ghost use Rattle.hive_model.specs.Load.{Loads};
 ghost use Rattle.start_model.specs.Events as events;
@@ -21,7 +21,8 @@ pub fn the_last_commit_in_a_report_is_on_the_disk()
         → (run_of choice script placed wakes outcomes).lines ≡ before ++ CommitLine what number ∷ after → outcomes_in after ≡ []
         → (last.disk ≡ settled_at last.disk.settled) × (last.disk.settled.sequence ≡ number) }
     ensures loads { (choice : Option ℕ → Choice) (script : List events.Event) (placed : Woken) (images : List Image) (held : Image)
-        (flight : List Write) (text : List ℕ) (r : Report (run_of choice script placed) images (IsCrashImage held flight) text) (before : List Line) (after : List Line) (what : CommitWord) (number : ℕ)
+        (flight : List Write) (text : List ℕ) (r : Report (run_of choice script placed) images (IsCrashImage held flight) text)
+        (before : List Line) (after : List Line) (what : CommitWord) (number : ℕ)
         → (run_of choice script placed r.woken (outcomes_of text)).lines ≡ before ++ CommitLine what number ∷ after → outcomes_in after ≡ []
         → (c : Image) → IsCrashImage held flight c → Loads c r.last.disk.settled false × (r.last.disk.settled.sequence ≡ number) }
 {}

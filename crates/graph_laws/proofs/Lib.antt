@@ -1,4 +1,6 @@
-pub mod QuoteLemmas
-pub mod TextLemmas
-pub mod NeedLemmas
-pub mod AttemptLemmas
+mod NeedLemmas
+mod AttemptLemmas
+mod ReachLemmas
+mod NumberLemmas
+mod BegunLemmas
+mod ToldLemmas

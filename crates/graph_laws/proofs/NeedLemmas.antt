@@ -15,7 +15,7 @@ use Rattle.start_model.specs.Order.{first_names}
 use Rattle.boot_phases.proofs.TriedLemmas.{some_place}
 use Rattle.dependencies.proofs.MeetLemmas.{names_flip}
 use Rattle.wait_cycles.specs.Graph.{row_at, HasEdge}
-use Rattle.wait_cycles.proofs.MetLemmas.{any_from}
+use Rattle.wait_cycles.proofs.MetLemmas.{any_from, first_in}
 use Rattle.wait_cycles.proofs.CycleLemmas.{filter_in}
 use Rattle.check_laws.proofs.CycleLaws.{flat_in}
 use Rattle.check_laws.proofs.RowLemmas.{first_sub, first_for}
@@ -29,6 +29,7 @@ use Rattle.graph_rule.specs.Nodes.{entry_node, missing_node, group_node}
 use Rattle.graph_rule.specs.Rows.{parts_by, name_vertex, group_vertex, entry_row, group_row, rows_of, group_state, nodes_of, whole_of}
 use Rattle.graph_rule.specs.Shown.{is_group}
 use Rattle.graph_laws.specs.Needs.{StandsFor, LeadsToNeeds, IsEntryVertex, NeedsAreEdges}
+use Rattle.graph_laws.specs.Shown.{NameHasVertex}
 
 -- ---- places
 
@@ -49,7 +50,8 @@ mapped f [] k y is = absurd cc
 mapped f (x ∷ xs) zero y is = (x, refl, same_Some (f x) y is)
 mapped f (x ∷ xs) (suc k) y is = mapped f xs k y is
 
-map_at : {X Y : Type 0} (f : X → Y) (xs : List X) (k : ℕ) (x : X) → slice_get xs k ≡ Some x → slice_get (map f xs) k ≡ Some (f x)
+map_at : {X Y : Type 0} (f : X → Y) (xs : List X) (k : ℕ) (x : X) → slice_get xs k ≡ Some x → slice_get (map f xs) k
+    ≡ Some (f x)
 map_at f xs k x is = slice_get-map f xs k ∙ ap (option_map f) is
 
 -- ---- places of names
@@ -71,16 +73,20 @@ placed names name other c same =
     some_is (place_in names name)
     (some_place (folds_same name) names ∙ any_from (folds_same name) names other c (names_flip name other ∙ same))
 
-first_placed : (names : List (List ℕ)) (name : List ℕ) → Contains names name → (k : ℕ) × (place_in (first_names names) name ≡ Some k)
-first_placed names name c = let first = first_for names name c in placed (first_names names) name first.0 first.1 first.2
+first_placed : (names : List (List ℕ)) (name : List ℕ) → Contains names name
+    → (k : ℕ) × (place_in (first_names names) name ≡ Some k)
+first_placed names name c = let first = first_for names name c in placed
+    (first_names names) name first.0 first.1 first.2
 
 -- ---- the needs of a kind
 
-module _ (nodes : List GraphNode) (rows : List (List ℕ)) (u : ℕ) (of_group : Bool) (vertex : List ℕ → Option ℕ) (needs : List (List ℕ))
+module _ (nodes : List GraphNode) (rows : List (List ℕ)) (u : ℕ) (of_group : Bool) (vertex : List ℕ → Option ℕ)
+    (needs : List (List ℕ))
     (stands : (name : List ℕ) (v : ℕ) → vertex name ≡ Some v → StandsFor nodes v of_group name)
     (found : (name : List ℕ) → Contains needs name → (v : ℕ) × (vertex name ≡ Some v))
     (leads : (v : ℕ) → Contains (filter_map vertex (first_names needs)) v → HasEdge rows u v)
-    (led : (v : ℕ) → HasEdge rows u v → Contains (filter_map vertex (first_names needs)) v ⊎ ((name : List ℕ) × StandsFor nodes v (not of_group) name)) where
+    (led : (v : ℕ) → HasEdge rows u v → Contains (filter_map vertex (first_names needs)) v ⊎
+    ((name : List ℕ) × StandsFor nodes v (not of_group) name)) where
   each_need : (name : List ℕ) → Contains needs name → (v : ℕ) × HasEdge rows u v × StandsFor nodes v of_group name
   each_need name c =
       let first = first_for needs name c in
@@ -96,7 +102,8 @@ module _ (nodes : List GraphNode) (rows : List (List ℕ)) (u : ℕ) (of_group :
         },
       )
 
-  only_need : (v : ℕ) (node : GraphNode) → HasEdge rows u v → slice_get nodes v ≡ Some node → is_group node.kind ≡ of_group
+  only_need : (v : ℕ) (node : GraphNode) → HasEdge rows u v → slice_get nodes v ≡ Some node → is_group node.kind
+      ≡ of_group
       → (name : List ℕ) × Contains needs name × (folds_same name node.name ≡ true)
   only_need v node edge at kind = elim (led v edge) [
     | inl c ↦ (let f = from vertex (first_names needs) v c in
@@ -129,15 +136,19 @@ module _ (r : ViewedRun) (of : Option (List ℕ)) (es : List Entry) where
   counts : length (parts_by r of es).names ≡ length entries
   counts = length-map es (λ (e : Entry). e.name) ∙ sym (length-map es (entry_node r))
 
-  name_stands : (name : List ℕ) (v : ℕ) → name_vertex (parts_by r of es) name ≡ Some v → StandsFor (nodes_of (parts_by r of es)) v false name
-  name_stands name v is = by (place_in (parts_by r of es).names name) (place_in (parts_by r of es).missing name) refl refl is
+  name_stands : (name : List ℕ) (v : ℕ) → name_vertex (parts_by r of es) name ≡ Some v
+      → StandsFor (nodes_of (parts_by r of es)) v false name
+  name_stands name v is = by (place_in (parts_by r of es).names name)
+      (place_in (parts_by r of es).missing name) refl refl is
     where
       by : (o q : Option ℕ) → place_in (parts_by r of es).names name ≡ o → place_in (parts_by r of es).missing name ≡ q
-          → option_or o (option_map (λ k. length (parts_by r of es).names + k) q) ≡ Some v → StandsFor (nodes_of (parts_by r of es)) v false name
+          → option_or o (option_map (λ k. length (parts_by r of es).names + k) q) ≡ Some v
+          → StandsFor (nodes_of (parts_by r of es)) v false name
       by None None a b is = absurd cc
       by None (Some k) a b is =
           let p = place_is (parts_by r of es).missing name k b in
-          let at : v ≡ length entries + k = sym (same_Some (length (parts_by r of es).names + k) v is) ∙ ap (λ (n : ℕ). n + k) counts in
+          let at : v ≡ length entries + k = sym (same_Some (length (parts_by r of es).names + k) v is)
+          ∙ ap (λ (n : ℕ). n + k) counts in
           record {
             node = missing_node p.0;
             at = at_left (entries ++ missing) groups v (missing_node p.0)
@@ -157,10 +168,12 @@ module _ (r : ViewedRun) (of : Option (List ℕ)) (es : List Entry) where
             same = ap (folds_same name) m.2 ∙ p.2;
           }
 
-  group_stands : (name : List ℕ) (v : ℕ) → group_vertex (parts_by r of es) name ≡ Some v → StandsFor (nodes_of (parts_by r of es)) v true name
+  group_stands : (name : List ℕ) (v : ℕ) → group_vertex (parts_by r of es) name ≡ Some v
+      → StandsFor (nodes_of (parts_by r of es)) v true name
   group_stands name v is = by (place_in (parts_by r of es).groups name) refl is
     where
-      by : (o : Option ℕ) → place_in (parts_by r of es).groups name ≡ o → option_map (λ k. length (parts_by r of es).names + length (parts_by r of es).missing + k) o ≡ Some v
+      by : (o : Option ℕ) → place_in (parts_by r of es).groups name ≡ o
+          → option_map (λ k. length (parts_by r of es).names + length (parts_by r of es).missing + k) o ≡ Some v
           → StandsFor (nodes_of (parts_by r of es)) v true name
       by None a is = absurd cc
       by (Some k) a is =
@@ -176,33 +189,50 @@ module _ (r : ViewedRun) (of : Option (List ℕ)) (es : List Entry) where
           record {
             node = group_node (group_state (parts_by r of es) p.0) p.0;
             at = at_right (entries ++ missing) groups v k at
-                ∙ map_at (λ (group : List ℕ). group_node (group_state (parts_by r of es) group) group) (parts_by r of es).groups k p.0 p.1;
+                ∙ map_at (λ (group : List ℕ). group_node (group_state (parts_by r of es) group) group)
+                (parts_by r of es).groups k p.0 p.1;
             kind = refl;
             same = p.2;
           }
 
   -- each need of an entry has a vertex
-  name_found : (e : Entry) → Contains es e → (name : List ℕ) → Contains e.services name → (v : ℕ) × (name_vertex (parts_by r of es) name ≡ Some v)
+  name_found : (e : Entry) → Contains es e → (name : List ℕ) → Contains e.services name
+      → (v : ℕ) × (name_vertex (parts_by r of es) name ≡ Some v)
   name_found e c name need = by (place_in (parts_by r of es).names name) refl
     where
       among : List (List ℕ)
       among = option_to_list of ++ flat_map (λ (x : Entry). x.services) es
 
       by : (o : Option ℕ) → place_in (parts_by r of es).names name ≡ o
-          → (v : ℕ) × (option_or (place_in (parts_by r of es).names name) (option_map (λ k. length (parts_by r of es).names + k) (place_in (parts_by r of es).missing name)) ≡ Some v)
-      by (Some k) a = (k, ap (λ (o : Option ℕ). option_or o (option_map (λ k. length (parts_by r of es).names + k) (place_in (parts_by r of es).missing name))) a)
+          → (v : ℕ) × (option_or (place_in (parts_by r of es).names name)
+          (option_map (λ k. length (parts_by r of es).names + k) (place_in (parts_by r of es).missing name))
+          ≡ Some v)
+      by (Some k) a = (
+        k,
+        ap (λ (o : Option ℕ). option_or o
+            (option_map (λ k. length (parts_by r of es).names + k) (place_in (parts_by r of es).missing name))) a,
+      )
       by None a =
           let lacks : List ℕ → Bool = λ n. not (is_some (place_in (parts_by r of es).names n)) in
           let all : Contains among name =
           Contains-append_right (option_to_list of) (flat_map (λ (x : Entry). x.services) es) name
           (flat_in (λ (x : Entry). x.services) es e name c need) in
-          let k = first_placed (filter lacks among) name (filter_in lacks among name all (ap (λ (o : Option ℕ). not (is_some o)) a)) in
-          (length (parts_by r of es).names + k.0, λ i. option_or (a i) (option_map (λ k. length (parts_by r of es).names + k) (k.1 i)))
+          let k = first_placed (filter lacks among) name
+          (filter_in lacks among name all (ap (λ (o : Option ℕ). not (is_some o)) a)) in (
+            length (parts_by r of es).names + k.0,
+            λ i. option_or (a i)
+                (option_map (λ k. length (parts_by r of es).names + k) (k.1 i)),
+          )
 
-  group_found : (e : Entry) → Contains es e → (name : List ℕ) → Contains e.groups name → (v : ℕ) × (group_vertex (parts_by r of es) name ≡ Some v)
+  group_found : (e : Entry) → Contains es e → (name : List ℕ) → Contains e.groups name
+      → (v : ℕ) × (group_vertex (parts_by r of es) name ≡ Some v)
   group_found e c name need =
-      let k = first_placed (flat_map (λ (x : Entry). x.groups) es) name (flat_in (λ (x : Entry). x.groups) es e name c need) in
-      (length (parts_by r of es).names + length (parts_by r of es).missing + k.0, ap (option_map (λ k. length (parts_by r of es).names + length (parts_by r of es).missing + k)) k.1)
+      let k = first_placed (flat_map (λ (x : Entry). x.groups) es) name
+      (flat_in (λ (x : Entry). x.groups) es e name c need) in (
+        length (parts_by r of es).names + length (parts_by r of es).missing + k.0,
+        ap
+            (option_map (λ k. length (parts_by r of es).names + length (parts_by r of es).missing + k)) k.1,
+      )
 
   -- ---- the edges of an entry
 
@@ -225,7 +255,8 @@ module _ (r : ViewedRun) (of : Option (List ℕ)) (es : List Entry) where
         let b : List (List ℕ) = map (λ name. []) (parts_by r of es).missing in
         let g = map (group_row (parts_by r of es) of) (parts_by r of es).groups in
         sym (get_or_from_slice_get (a ++ b ++ g) u (entry_row (parts_by r of es) e) []
-        (at_left (a ++ b) g u (entry_row (parts_by r of es) e) (at_left a b u (entry_row (parts_by r of es) e) (map_at (entry_row (parts_by r of es)) es u e is))))
+        (at_left (a ++ b) g u (entry_row (parts_by r of es) e)
+        (at_left a b u (entry_row (parts_by r of es) e) (map_at (entry_row (parts_by r of es)) es u e is))))
 
     in_row : (v : ℕ) → Contains (services ++ others) v → HasEdge rows u v
     in_row v c = subst (λ (vs : List ℕ). Contains vs v) row c
@@ -235,18 +266,22 @@ module _ (r : ViewedRun) (of : Option (List ℕ)) (es : List Entry) where
 
     to_services : LeadsToNeeds nodes rows u false e.services
     to_services =
-        needs_led nodes rows u false (name_vertex (parts_by r of es)) e.services name_stands (name_found e (item_here es u e is))
+        needs_led nodes rows u false (name_vertex (parts_by r of es)) e.services name_stands
+        (name_found e (item_here es u e is))
         (λ v c. in_row v (Contains-append_left services others v c)) (λ v edge. elim (of_row v edge) [
           | inl c ↦ inl c
-          | inr c ↦ (let f = from (group_vertex (parts_by r of es)) (first_names e.groups) v c in inr (f.item, group_stands f.item v f.is))
+          | inr c ↦ (let f = from (group_vertex (parts_by r of es)) (first_names e.groups) v c in inr
+              (f.item, group_stands f.item v f.is))
         ])
 
     to_groups : LeadsToNeeds nodes rows u true e.groups
     to_groups =
-        needs_led nodes rows u true (group_vertex (parts_by r of es)) e.groups group_stands (group_found e (item_here es u e is))
+        needs_led nodes rows u true (group_vertex (parts_by r of es)) e.groups group_stands
+        (group_found e (item_here es u e is))
         (λ v c. in_row v (Contains-append_right services others v c)) (λ v edge. elim (of_row v edge) [
           | inr c ↦ inl c
-          | inl c ↦ (let f = from (name_vertex (parts_by r of es)) (first_names e.services) v c in inr (f.item, name_stands f.item v f.is))
+          | inl c ↦ (let f = from (name_vertex (parts_by r of es)) (first_names e.services) v c in inr
+              (f.item, name_stands f.item v f.is))
         ])
 
     entry_vertex : IsEntryVertex nodes rows u r e
@@ -268,3 +303,37 @@ module _ (r : ViewedRun) (of : Option (List ℕ)) (es : List Entry) where
 pub are_needs : NeedsAreEdges
 unfolding whole_of
 are_needs r of u e is = entry_vertex r of (entries_in r) u e is
+
+-- ---- the name that is asked for
+
+-- a name that is asked for and has no entry is a missing name
+asked_found : (r : ViewedRun) (es : List Entry) (name : List ℕ)
+    → (v : ℕ) × (name_vertex (parts_by r (Some name) es) name ≡ Some v)
+asked_found r es name = by (place_in names name) refl
+  where
+    names : List (List ℕ)
+    names = (parts_by r (Some name) es).names
+
+    missing : List (List ℕ)
+    missing = (parts_by r (Some name) es).missing
+
+    by : (o : Option ℕ) → place_in names name ≡ o
+        → (v : ℕ) × (option_or (place_in names name) (option_map (λ k. length names + k) (place_in missing name))
+        ≡ Some v)
+    by (Some k) a = (
+      k,
+      ap (λ (o : Option ℕ). option_or o
+          (option_map (λ k. length names + k) (place_in missing name))) a,
+    )
+    by None a =
+        let lacks : List ℕ → Bool = λ n. not (is_some (place_in names n)) in
+        let others = flat_map (λ (x : Entry). x.services) es in
+        let k = first_placed (filter lacks (name ∷ others)) name
+        (filter_in lacks (name ∷ others) name (first_in name others) (ap (λ (o : Option ℕ). not (is_some o)) a)) in
+        (length names + k.0, λ i. option_or (a i) (option_map (λ k. length names + k) (k.1 i)))
+
+pub has_vertex : NameHasVertex
+unfolding whole_of
+has_vertex r name =
+    let v = asked_found r (entries_in r) name in
+    (v.0, v.1, name_stands r (Some name) (entries_in r) name v.0 v.1)

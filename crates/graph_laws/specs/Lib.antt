@@ -1,3 +1,4 @@
-pub mod Texts
 pub mod Needs
 pub mod Attempts
+pub mod Shown
+pub mod Told

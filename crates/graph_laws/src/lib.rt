@@ -1,10 +1,15 @@
-//! What holds of the graph of a start and of its text, by their definitions, apart from any code.
+//! What holds of the graph of a start, by its definitions, apart from any code.
 #![tactic(auto)]
 
 mod attempts;
 mod needs;
-mod texts;
+mod shown;
+mod told;
 
 pub use attempts::numbers_are_of_attempts;
 pub use needs::edges_are_needs;
-pub use texts::{text_in_quotes_is_told, the_text_of_a_graph_is_ascii};
+pub use shown::{
+    a_name_is_shown_with_all_that_it_reaches_and_all_that_reach_it,
+    what_is_shown_is_numbered_in_order, without_a_name_the_taken_are_shown_and_what_they_need,
+};
+pub use told::the_graph_of_a_start_is_told_by_its_text;

@@ -62,25 +62,24 @@ commit_crash s has size held state carries each before dirty loads c crash =
 -- the cells are what the next session's disk carries, and the tree is in them
 pub next_session : (s : Session) → IsReady s → s.cells.version ≡ version_of s.base.minor
     → (closed : Base) (bins new : List ℕ) (root : ℕ) → closed ≡ closed_of s.base new root
-    → bins ≡ new → new ≡ next_bins s → root ≡ next_root s → IsSession closed bins s.cells false
+    → bins ≡ next_bins s → new ≡ next_bins s → root ≡ next_root s → IsSession closed bins s.cells false
 next_session s has version closed bins new root closed_is bins_are written at =
     let same : closed ≡ next_base s =
     closed_is ∙ ap (λ (b : List ℕ). closed_of s.base b root) written
     ∙ ap (λ (n : ℕ). closed_of s.base (next_bins s) n) at in
-    let whole : bins ≡ next_bins s = bins_are ∙ written in
     subst (λ (b : Base). IsSession b bins s.cells false) (sym same)
-    (subst (λ (b : List ℕ). IsSession (next_base s) b s.cells false) (sym whole)
+    (subst (λ (b : List ℕ). IsSession (next_base s) b s.cells false) (sym bins_are)
     (record { committed = s.tree; carried = has; version = version; kept = λ e. record { bytes = refl; root = refl } }))
 
 -- it is the session that the book of hives says
 pub next_is : (s : Session) → s.tree ≡ s.cells.tree → (closed : Base) (bins new : List ℕ) (root : ℕ)
-    → closed ≡ closed_of s.base new root → bins ≡ new → new ≡ next_bins s → root ≡ next_root s
+    → closed ≡ closed_of s.base new root → bins ≡ next_bins s → new ≡ next_bins s → root ≡ next_root s
     → session_of closed bins s.cells false ≡ committed s
 next_is s tree closed bins new root closed_is bins_are written at =
     ap (λ (b : Base). session_of b bins s.cells false)
     (closed_is ∙ ap (λ (b : List ℕ). closed_of s.base b root) written
     ∙ ap (λ (n : ℕ). closed_of s.base (next_bins s) n) at)
-    ∙ ap (λ (b : List ℕ). session_of (next_base s) b s.cells false) (bins_are ∙ written)
+    ∙ ap (λ (b : List ℕ). session_of (next_base s) b s.cells false) bins_are
     ∙ ap (λ (t : Tree). record { base = next_base s; bins = next_bins s; cells = s.cells; tree = t; changed = false })
     (sym tree)
 

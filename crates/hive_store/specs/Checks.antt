@@ -22,16 +22,15 @@ HoldsAs found (Ok x) = Holds found (held_state found x.0) × (x.1 ≡ found.bins
 HoldsAs found (Err (read.Fault f)) = HeldFault found f
 HoldsAs found (Err read.Memory) = Unit {0}
 
--- the cells of what was recovered, in whose tree it is held, and its bins data
-pub record AreOf (found : Recovered) (cells : HiveCells) (bins : List ℕ) : Type 0 where
+-- the cells of what was recovered, in whose tree it is held
+pub record AreOf (found : Recovered) (cells : HiveCells) : Type 0 where
   pub holds : Holds found (held_state found cells.tree)
-  pub same : bins ≡ found.bins
   pub version : cells.version ≡ version_of found.base.minor
   pub carried : AreCarried found.base found.bins cells
 
--- of what was recovered: its cells and its bins data, or its first fault
-abbrev pub HoldsIn : Recovered → Result (HiveCells × List ℕ) ReadStop → Type 0
-HoldsIn found (Ok x) = AreOf found x.0 x.1
+-- of what was recovered: its cells, or its first fault
+abbrev pub HoldsIn : Recovered → Result HiveCells ReadStop → Type 0
+HoldsIn found (Ok cells) = AreOf found cells
 HoldsIn found (Err (read.Fault f)) = HeldFault found f
 HoldsIn found (Err read.Memory) = Unit {0}
 
@@ -52,3 +51,9 @@ abbrev pub JudgesAs : Image → Result (ℕ × HiveVersion) ReadStop → Type 0
 JudgesAs image (Ok x) = (tree : Tree) × LoadsAs image (state_of tree x.0 x.1)
 JudgesAs image (Err (read.Fault f)) = LoadFault image f
 JudgesAs image (Err read.Memory) = Unit {0}
+
+-- of an image: cells with the tree of the state that it loads as, in its version, with its number, or its first fault
+abbrev pub ChecksCells : Image → Result (HiveCells × ℕ × HiveVersion) ReadStop → Type 0
+ChecksCells image (Ok x) = LoadsAs image (state_of x.0.tree x.1 x.2) × (x.0.version ≡ x.2)
+ChecksCells image (Err (read.Fault f)) = LoadFault image f
+ChecksCells image (Err read.Memory) = Unit {0}

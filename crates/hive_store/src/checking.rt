@@ -4,9 +4,8 @@ ghost use Rattle.std.specs.Prelude.{◌≡◌, true, length, IfOk};
 ghost use Rattle.hive_model.specs.Base.{is_bins_size};
 ghost use Rattle.hive_model.specs.Image.{image_of};
 ghost use Rattle.hive_model.specs.Valid.{IsValid};
-ghost use Rattle.hive_store.specs.Checks.{HoldsAs, HoldsIn, HoldsSome, ChecksAs, JudgesAs};
+ghost use Rattle.hive_store.specs.Checks.{HoldsAs, HoldsIn, HoldsSome, ChecksAs, ChecksCells, JudgesAs};
 
-use crate::room::Kept;
 use hive_cells::read_cells;
 use hive_edit::HiveBytes;
 use hive_log::{Recovered, recovered};
@@ -39,17 +38,14 @@ fn judge_in(alloc: Global, found: Recovered) -> Result<(), ReadStop>
     Ok(())
 }
 
-/// The hive of what was recovered, and its bins data with room for others, or the first fault of its bins, and then
-/// of the tree in them.
-pub(crate) fn hive_in(alloc: Global, found: Recovered) -> Result<(HiveBytes, Kept), ReadStop>
+/// The hive of what was recovered, or the first fault of its bins, and then of the tree in them.
+pub(crate) fn hive_in(alloc: Global, found: Recovered) -> Result<HiveBytes, ReadStop>
     requires sized { is_bins_size (length found.bins) ≡ true }
     ensures exact { HoldsIn found result }
 {
     let base = found.base;
-    let kept = Kept::copied(alloc, found.bins.as_slice())?;
     let cells = read_cells(alloc, found.bins)?;
-    let hive = HiveBytes::from_cells(alloc, cells, base.root, base.version())?;
-    Ok((hive, kept))
+    HiveBytes::from_cells(alloc, cells, base.root, base.version())
 }
 
 /// The tree, the sequence number and the version of two files, or the first fault. An empty log is an absent
@@ -81,4 +77,19 @@ pub fn judge_images(
     let base = found.base;
     judge_in(alloc, found)?;
     Ok((base.first, base.version()))
+}
+
+/// The cells, the sequence number and the version of two files, or the first fault, as `check_images` answers them;
+/// no tree is made. Out of memory alone is free.
+pub fn check_cells(
+    alloc: Global,
+    primary: &[u8],
+    log: &[u8],
+) -> Result<(HiveBytes, u32, HiveVersion), ReadStop>
+    ensures exact { ChecksCells (image_of primary.now log.now) result }
+{
+    let found = recovered(alloc, primary, log)?;
+    let base = found.base;
+    let cells = hive_in(alloc, found)?;
+    Ok((cells, base.first, base.version()))
 }

@@ -49,14 +49,21 @@ impl Hive {
             → (Rises (D.state disk.old).faults (D.state disk.new).faults → ⊥)
             → (Rises (D.state disk.old).lacks (D.state disk.new).lacks → ⊥) → IsOk result }
     {
-        let (base, mut bins, cells) = (self.base, self.bins, self.cells);
+        let (base, mut kept, cells) = (self.base, self.kept, self.cells);
         let new = cells.bytes();
         let mut marks = [0; 4096];
-        let closed = commit(disk, &base, bins.as_slice(), new, cells.root(), &mut marks)?;
-        bins.keep(new, &marks);
+        let closed = commit(
+            disk,
+            &base,
+            kept.carried(&cells),
+            new,
+            cells.root(),
+            &mut marks,
+        )?;
+        kept.keep(&cells, &marks);
         let hive = Hive {
             base: closed,
-            bins,
+            kept,
             cells,
             changed: false,
         };

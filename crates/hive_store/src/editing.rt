@@ -32,13 +32,10 @@ impl Hive {
         ensures changed { OnOk result (self.new.changed ≡ true
             ↔ (self.old.changed ≡ true) ⊎ (self.new.tree ≡ self.old.tree → ⊥)) }
     {
-        if self.changed {
-            self.cells.apply(alloc, steps)?;
+        if !self.changed && keeps(alloc, &self.cells, &steps)? {
             return Ok(());
         }
-        if keeps(alloc, &self.cells, &steps)? {
-            return Ok(());
-        }
+        self.kept.hold(&self.cells)?;
         self.cells.apply(alloc, steps)?;
         self.changed = true;
         Ok(())

@@ -21,6 +21,7 @@ ghost use Rattle.hive_store.specs.Loading.{loaded_state, LoadsFrom, StopsFrom, A
 
 use crate::Hive;
 use crate::checking::hive_in;
+use crate::room::Kept;
 use hive_commit::restore;
 use hive_log::{LoadStop, Reading, read_recovered};
 use nt_bytes::{Bytes, ReadStop};
@@ -57,20 +58,22 @@ fn look<D: Disk>(alloc: Global, disk: &mut D) -> Result<Looked, LoadStop>
 {
     let Reading { recovered, bitmap } = read_recovered(alloc, disk)?;
     let (base, dirty) = (recovered.base, recovered.dirty);
-    match hive_in(alloc, recovered) {
-        Ok((cells, bins)) => Ok(Looked {
-            hive: Hive {
-                base,
-                bins,
-                cells,
-                changed: false,
-            },
-            dirty,
-            bitmap,
-        }),
-        Err(ReadStop::Fault(fault)) => Err(LoadStop::Fault(fault)),
-        Err(ReadStop::Memory) => Err(LoadStop::Memory),
-    }
+    let cells = match hive_in(alloc, recovered) {
+        Ok(cells) => cells,
+        Err(ReadStop::Fault(fault)) => return Err(LoadStop::Fault(fault)),
+        Err(ReadStop::Memory) => return Err(LoadStop::Memory),
+    };
+    let kept = Kept::none(alloc, cells.size())?;
+    Ok(Looked {
+        hive: Hive {
+            base,
+            kept,
+            cells,
+            changed: false,
+        },
+        dirty,
+        bitmap,
+    })
 }
 
 impl Hive {
@@ -110,7 +113,8 @@ impl Hive {
             bitmap,
         } = look(alloc, disk)?;
         if dirty {
-            restore(disk, &hive.base, bitmap.as_slice(), hive.bins.as_slice())?;
+            let bins = hive.kept.carried(&hive.cells);
+            restore(disk, &hive.base, bitmap.as_slice(), bins)?;
         }
         Ok((hive, dirty))
     }

@@ -1,73 +1,108 @@
-//! Bins data in room that is made once.
+//! The bins data that a disk carries, kept beside the cells while these are edited.
 
-ghost use Rattle.std.specs.Prelude.{◌≡◌, ◌<◌, ◌≤◌, ◌+◌, ◌*◌, ◌/◌, ◌++◌, ℕ, true, false, length, take, drop, IfOk};
+ghost use Rattle.std.specs.Prelude.{◌≡◌, ◌<◌, ◌≤◌, ◌+◌, ◌*◌, ◌/◌, ◌++◌, ℕ, true, false, length, take, drop, Some, None, IfOk, OnOk, OnErr, vec_capacity};
 ghost use Rattle.hive_model.specs.Base.{is_bins_size};
+ghost use Rattle.hive_model.specs.Bins.{spelled};
 ghost use Rattle.hive_model.specs.Log.{dirty};
 ghost use Rattle.hive_model.specs.Recovery.{bit, sector};
+ghost use Rattle.hive_store.specs.Session.{carried_bins};
 
+use hive_edit::HiveBytes;
 use std::alloc::{AllocError, Global};
 use std::marker::Model;
 
-/// The greatest size of bins data.
-const MOST: usize = 16_777_216;
-
-/// Bins data, with room for the greatest size, so that others take their place without memory.
+/// Bins data kept beside the cells, as the disk carries them. None are kept where they are the bytes of the cells. The room is as long as the hive
+/// that was loaded, or as the longest bins data that were kept.
 #[derive(Drop)]
 pub(crate) struct Kept {
-    bytes: Vec<u8>,
+    room: Vec<u8>,
+    holds: bool,
 }
 
 impl Model for Kept {
-    ghost use Rattle.std.specs.Prelude.{◌≤◌, List, ℕ};
-    ghost use Rattle.std.specs.Vec.{vec_capacity};
+    ghost use Rattle.std.specs.Prelude.{List, ℕ, Option, Some, None, if◌then◌else◌};
 
-    ghost Value = { List ℕ };
+    ghost Value = { Option (List ℕ) };
 
-    ghost view = { λ a. a.bytes.items };
-
-    ghost invariant = { λ a. 16777216 ≤ vec_capacity a.bytes };
+    ghost view = { λ a. if a.holds then Some a.room.items else None };
 }
 
 impl Kept {
-    /// These bytes, in room of their own.
-    pub(crate) fn copied(alloc: Global, bytes: &[u8]) -> Result<Kept, AllocError>
-        requires { length bytes.now ≤ 16777216 }
-        ensures { IfOk result (λ k. k ≡ bytes.now) }
+    /// None, with room for so many bytes.
+    pub(crate) fn none(alloc: Global, size: usize) -> Result<Kept, AllocError>
+        ensures { IfOk result (λ k. k ≡ None) }
     {
-        let room = Vec::with_capacity(alloc, MOST)?;
-        let mut kept = Kept { bytes: room };
-        kept.fit(bytes);
-        Ok(kept)
+        let room = Vec::with_capacity(alloc, size)?;
+        Ok(Kept { room, holds: false })
     }
 
-    /// Takes these bytes in the place of its own, of which the marked sectors differ: the pages of these are copied,
-    /// and what is after its own end. No memory is taken.
-    pub(crate) fn keep(&mut self, bytes: &[u8], marks: &[u8; 4096])
-        requires sized { is_bins_size (length bytes.now) ≡ true }
-        requires marked { (i : ℕ) → i < length bytes.now / 512 → bit marks.now i ≡ dirty self.old bytes.now i }
-        ensures { self.new ≡ bytes.now }
+    /// Keeps the bytes of these cells, unless some are kept.
+    pub(crate) fn hold(&mut self, cells: &HiveBytes) -> Result<(), AllocError>
+        ensures held { OnOk result (self.new ≡ Some (carried_bins self.old cells.now)) }
+        ensures refused { OnErr result (self.new ≡ self.old) }
     {
-        self.fit(bytes);
-        put_marked(self.bytes.as_mut_slice(), bytes, marks);
+        if self.holds {
+            return Ok(());
+        }
+        self.room.clear();
+        self.room.extend_from_slice(cells.bytes())?;
+        self.holds = true;
+        Ok(())
     }
 
-    /// Takes the length of these bytes: what is too long is cut off, and what is missing is taken from them.
-    fn fit(&mut self, bytes: &[u8])
-        requires { length bytes.now ≤ 16777216 }
-        ensures { self.new ≡ take (length bytes.now) self.old ++ drop (length self.old) bytes.now }
+    /// The bytes that the disk carries: those kept, or those of the cells.
+    pub(crate) fn carried<'a>(&'a self, cells: &'a HiveBytes) -> &'a [u8]
+        ensures { result.now ≡ carried_bins self.now cells.now }
     {
-        let held = self.bytes.len();
-        self.bytes.truncate(bytes.len());
-        if held < bytes.len() {
-            let done = self.bytes.extend_from_slice(&bytes[held..]).is_ok();
-            prove!(done);
+        if self.holds {
+            self.room.as_slice()
+        } else {
+            cells.bytes()
         }
     }
 
-    pub(crate) fn as_slice(&self) -> &[u8]
-        ensures { result.now ≡ self.now }
+    /// Takes the bytes of these cells in the place of its own, of which the marked sectors differ. Where its room is too short for them it keeps
+    /// none. No memory is taken.
+    pub(crate) fn keep(&mut self, cells: &HiveBytes, marks: &[u8; 4096])
+        requires sized { is_bins_size (length (spelled 0 cells.now.bins)) ≡ true }
+        requires marked { (i : ℕ) → i < length (spelled 0 cells.now.bins) / 512
+            → bit marks.now i ≡ dirty (carried_bins self.old cells.now) (spelled 0 cells.now.bins) i }
+        ensures { carried_bins self.new cells.now ≡ spelled 0 cells.now.bins }
     {
-        self.bytes.as_slice()
+        let bytes = cells.bytes();
+        if !self.holds {
+            return;
+        }
+        if bytes.len() > self.room.capacity() {
+            self.holds = false;
+            return;
+        }
+        renew(&mut self.room, bytes, marks);
+    }
+}
+
+/// Makes these bytes of those in a room that is long enough, of which the marked sectors differ: the pages of these are copied, and what is after
+/// its own end.
+fn renew(room: &mut Vec<u8>, bytes: &[u8], marks: &[u8; 4096])
+    requires sized { is_bins_size (length bytes.now) ≡ true }
+    requires fits { length bytes.now ≤ vec_capacity room.old }
+    requires marked { (i : ℕ) → i < length bytes.now / 512 → bit marks.now i ≡ dirty room.old.items bytes.now i }
+    ensures { room.new.items ≡ bytes.now }
+{
+    fit(room, bytes);
+    put_marked(room.as_mut_slice(), bytes, marks);
+}
+
+/// Takes the length of these bytes in a room that is long enough: what is too long is cut off, and what is missing is taken from them.
+fn fit(room: &mut Vec<u8>, bytes: &[u8])
+    requires { length bytes.now ≤ vec_capacity room.old }
+    ensures { room.new.items ≡ take (length bytes.now) room.old.items ++ drop (length room.old.items) bytes.now }
+{
+    let held = room.len();
+    room.truncate(bytes.len());
+    if held < bytes.len() {
+        let done = room.extend_from_slice(&bytes[held..]).is_ok();
+        prove!(done);
     }
 }
 

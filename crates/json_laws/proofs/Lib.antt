@@ -1,11 +1,11 @@
-mod Parts
-mod Values
+pub mod Parts
+pub mod Values
 mod Lists
 mod Told
 mod Printable
-mod Units
-mod LineKinds
-mod Words
+pub mod Units
+pub mod LineKinds
+pub mod Words
 mod StartLines
 mod TreeKind
 mod TreeCounts

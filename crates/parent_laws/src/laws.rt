@@ -1,11 +1,15 @@
 //! The laws.
 
-ghost use Rattle.std.specs.Prelude.{◌≡◌, ℕ, Bool, true, false, List, Some};
+ghost use Rattle.std.specs.Prelude.{◌≡◌, ◌<◌, ◌≤◌, ℕ, Bool, true, false, List, Some, slice_index};
+ghost use Rattle.nt_bytes.specs.declared.version.HiveVersion.{HiveVersion};
+ghost use Rattle.hive_model.specs.Size.{bulk_of};
 ghost use Rattle.hive_model.specs.Tree.{Tree, find_key};
+ghost use Rattle.hive_model.specs.Valid.{IsValid};
+ghost use Rattle.salvage_bins.specs.declared.layout.Mark.{Mark};
 ghost use Rattle.salvage_bins.specs.Ground.{Ground};
 ghost use Rattle.salvage_walk.specs.Keys.{salvaged};
 ghost use Rattle.salvage_parents.specs.Search.{salvaged_by_parents};
-ghost use Rattle.salvage_file.specs.Salvage.{salvaged_as};
+ghost use Rattle.salvage_file.specs.Salvage.{ground_in, salvaged_as};
 ghost use Rattle.parent_laws.specs.Within.{IsWithin, AddsOnly};
 
 /// Each key and value that is salvaged by the lists of keys alone is salvaged too where keys are looked for by their parents: at the same
@@ -21,4 +25,11 @@ pub fn a_search_by_parents_adds_only()
 pub fn a_key_within_a_tree_is_at_its_path()
     ensures { (t u k : Tree) (path : List (List ℕ)) → IsWithin t u → find_key path t ≡ Some k
         → (v : Tree) × (find_key path u ≡ Some v) × IsWithin k v }
+{}
+
+/// What is salvaged of bytes with the keys that are found by their parents is a tree that a hive can hold, if its bulk is at most what a
+/// hive is saved of.
+pub fn a_tree_with_found_keys_is_valid()
+    ensures { (version : HiveVersion) (bytes : List ℕ) (marks : List Mark) (root : ℕ) (t : Tree) → ((k : ℕ) → slice_index bytes k < 256)
+        → (salvaged_by_parents (ground_in version bytes marks) root).tree ≡ Some t → bulk_of version t ≤ 16773120 → IsValid t }
 {}

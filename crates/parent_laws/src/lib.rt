@@ -5,4 +5,7 @@
 
 mod laws;
 
-pub use laws::{a_key_within_a_tree_is_at_its_path, a_search_by_parents_adds_only};
+pub use laws::{
+    a_key_within_a_tree_is_at_its_path, a_search_by_parents_adds_only,
+    a_tree_with_found_keys_is_valid,
+};

@@ -26,7 +26,7 @@ returns-in_err-restore-clause-made g c =
     let asked = c.in_ok-hive.ensures.asked in
     let closed = c.hive.inside.base in
     let bitmap = c.as_slice.result.now in
-    let bins = c.as_slice-then-dirty.result.now in
+    let bins = c.carried-bins.result.now in
     let made = c.in_err-restore.ensures.made in
     read_then (g.D.Disk.calls c.args.disk.now) (g.D.Disk.calls c.look.new.disk) _ asked.sectors asked.made
     (g.D.Disk.calls c.restore.new.disk) closed (bit bitmap) bins made
@@ -35,7 +35,7 @@ returns-in_err-restore-clause-made g c =
     (restored_front image asked.sectors (asked.are tells) view (c.in_ok-hive.ensures.recovered tells)
     closed bitmap bins looked.bitmap c.if-dirty.true (c.in_ok-hive.ensures.found tells c.if-dirty.true)
     (ap (λ (s : Session). s.base) c.hive.view_is) c.as_slice.ensures
-    (c.as_slice-then-dirty.ensures ∙ ap (λ (s : Session). s.bins) c.hive.view_is)
+    (c.carried-bins.ensures ∙ ap (λ (s : Session). s.bins) c.hive.view_is)
     made.front (record { rest = made.rest; cut = made.cut }))
     (λ fault. loads_or_fails image (loaded_state looked.hive) looked.dirty fault (c.in_ok-hive.ensures.exact tells)))
 
@@ -51,7 +51,7 @@ returns-clause-made g c =
       | then-dirty+in_ok-restore w ↦
           let closed = c.hive.inside.base in
           let bitmap = w.as_slice.result.now in
-          let bins = w.as_slice-then-dirty.result.now in
+          let bins = w.carried-bins.result.now in
           let calls = closing_calls closed (bit bitmap) bins in
           rw w.disk-is
           (read_then start one _ asked.sectors asked.made (g.D.Disk.calls w.restore.new.disk) closed (bit bitmap) bins
@@ -59,7 +59,7 @@ returns-clause-made g c =
           (λ tells. restored_all image asked.sectors (asked.are tells) view (c.in_ok-hive.ensures.recovered tells)
           closed bitmap bins looked.bitmap w.if-dirty.true (c.in_ok-hive.ensures.found tells w.if-dirty.true)
           (ap (λ (s : Session). s.base) c.hive.view_is) w.as_slice.ensures
-          (w.as_slice-then-dirty.ensures ∙ ap (λ (s : Session). s.bins) c.hive.view_is)))
+          (w.carried-bins.ensures ∙ ap (λ (s : Session). s.bins) c.hive.view_is)))
       | else-dirty w ↦ rw w.disk-is
           (only_read start one _ asked.sectors asked.made
           (λ tells. clean_all image asked.sectors (asked.are tells) view (c.in_ok-hive.ensures.recovered tells)
@@ -77,8 +77,8 @@ returns-in_err-restore-clause-crash g c = λ tells.
     restored_loads (g.D.Disk.state c.args.disk.now).held
     (record { base = looked.hive.base; bins = looked.hive.bins; dirty = looked.dirty })
     (c.in_ok-hive.ensures.recovered tells)
-    c.hive.inside.base c.as_slice-then-dirty.result.now (ap (λ (s : Session). s.base) c.hive.view_is)
-    (c.as_slice-then-dirty.ensures ∙ ap (λ (s : Session). s.bins) c.hive.view_is)
+    c.hive.inside.base c.carried-bins.result.now (ap (λ (s : Session). s.base) c.hive.view_is)
+    (c.carried-bins.ensures ∙ ap (λ (s : Session). s.bins) c.hive.view_is)
     (g.D.Disk.state c.restore.new.disk) (c.restore.ensures.crash tells)
 
 pub returns-clause-crash : goal.returns-clause-crash
@@ -89,8 +89,8 @@ returns-clause-crash g c = λ tells.
       | then-dirty+in_ok-restore w ↦ rw w.disk-is
           (restored_loads s0.held (record { base = looked.hive.base; bins = looked.hive.bins; dirty = looked.dirty })
           (c.in_ok-hive.ensures.recovered tells)
-          c.hive.inside.base w.as_slice-then-dirty.result.now (ap (λ (s : Session). s.base) c.hive.view_is)
-          (w.as_slice-then-dirty.ensures ∙ ap (λ (s : Session). s.bins) c.hive.view_is)
+          c.hive.inside.base w.carried-bins.result.now (ap (λ (s : Session). s.base) c.hive.view_is)
+          (w.carried-bins.ensures ∙ ap (λ (s : Session). s.bins) c.hive.view_is)
           (g.D.Disk.state w.restore.new.disk) (w.restore.ensures.crash tells))
       | else-dirty w ↦ rw w.disk-is
           (kept_loads s0 (g.D.Disk.state c.look.new.disk) (c.look.ensures.look.held tells)
@@ -106,8 +106,8 @@ returns-clause-loads g c = λ tells.
     (c.in_ok-hive.ensures.exact tells) (c.in_ok-hive.ensures.recovered tells) c.in_ok-hive.ensures.sized in
     elim c.if-dirty.branch [
       | then-dirty+in_ok-restore w ↦ rw w.disk-is
-          (found c.hive.inside.base w.as_slice-then-dirty.result.now (ap (λ (s : Session). s.base) c.hive.view_is)
-          (w.as_slice-then-dirty.ensures ∙ ap (λ (s : Session). s.bins) c.hive.view_is)
+          (found c.hive.inside.base w.carried-bins.result.now (ap (λ (s : Session). s.base) c.hive.view_is)
+          (w.carried-bins.ensures ∙ ap (λ (s : Session). s.bins) c.hive.view_is)
           (g.D.Disk.state w.restore.new.disk).held (w.in_ok-restore.ensures.carries tells))
       | else-dirty w ↦ rw (w.disk-is, c.look.ensures.look.held tells)
           (found looked.hive.base looked.hive.bins refl refl s0.held

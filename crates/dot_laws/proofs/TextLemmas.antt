@@ -24,8 +24,8 @@ use Rattle.graph_lines.specs.declared.graph.NodeState.TheVariants as states
 use Rattle.graph_lines.specs.declared.graph.GraphNode.{GraphNode}
 use Rattle.graph_lines.specs.declared.graph.GraphEdge.{GraphEdge}
 use Rattle.graph_text.specs.Dot.{in_quotes, head_part, head_text, label_text, shape_text, style_text, node_text, stands_in, nodes_text, cluster_front, cluster_text, phase_text, edge_text, opening_text, all_nodes_text, dot_text}
-use Rattle.graph_laws.specs.Texts.{is_text_byte, IsHeadLine, IsNamed, DotIsText}
-use Rattle.graph_laws.proofs.QuoteLemmas.{are_printable}
+use Rattle.dot_laws.specs.Texts.{is_text_byte, IsHeadLine, IsNamed, DotIsText}
+use Rattle.dot_laws.proofs.QuoteLemmas.{are_printable}
 
 -- ---- texts whose bytes all pass
 
@@ -48,16 +48,21 @@ either : {test : ℕ → Bool} {a b : List ℕ} (is : Bool) → Passes test a �
 either true x y = x
 either false x y = y
 
-wider : (p q : ℕ → Bool) → ((c : ℕ) → p c ≡ true → q c ≡ true) → (text : List ℕ) → list_all p text ≡ true → list_all q text ≡ true
+wider : (p q : ℕ → Bool) → ((c : ℕ) → p c ≡ true → q c ≡ true) → (text : List ℕ) → list_all p text ≡ true
+    → list_all q text ≡ true
 wider p q is [] all = refl
 wider p q is (c ∷ text) all =
     let parts = and_parts (p c) (list_all p text) all in
     and_from _ _ (is c parts.0) (wider p q is text parts.1)
 
 as_text : {text : List ℕ} → Prints text → IsText text
-as_text {text} p = record { all = wider is_printable is_text_byte (λ c is. ap (λ (b : Bool). b || (c == 10)) is) text p.all }
+as_text {text} p = record {
+  all = wider is_printable is_text_byte
+      (λ c is. ap (λ (b : Bool). b || (c == 10)) is) text p.all;
+}
 
-each : {X : Type 0} (test : ℕ → Bool) (f : X → List ℕ) (Is : X → Type 0) → ((x : X) → Is x → Passes test (f x)) → (xs : List X)
+each : {X : Type 0} (test : ℕ → Bool) (f : X → List ℕ) (Is : X → Type 0) → ((x : X) → Is x → Passes test (f x))
+    → (xs : List X)
     → AllByRecursion Is xs → Passes test (flat_map f xs)
 each test f Is is [] are = word [] refl
 each test f Is is (x ∷ xs) are = both (is x are.0) (each test f Is is xs are.1)
@@ -93,7 +98,8 @@ unit_prints u lt = by (is_printable u) refl
 name_prints : (name : List ℕ) → AreUnits name → Prints (name_text name)
 name_prints [] are = word [] refl
 name_prints (u ∷ name) are =
-    both (unit_prints u (All-head (λ (n : ℕ). n < 2 ^ 16) u name are)) (name_prints name (All-tail (λ (n : ℕ). n < 2 ^ 16) u name are))
+    both (unit_prints u (All-head (λ (n : ℕ). n < 2 ^ 16) u name are))
+    (name_prints name (All-tail (λ (n : ℕ). n < 2 ^ 16) u name are))
 
 quoted_prints : {text : List ℕ} → Prints text → Prints (in_quotes text)
 quoted_prints {text} p = word (in_quotes text) (are_printable text p.all)
@@ -127,7 +133,8 @@ part_prints (lines.Set number on_good) is =
     both (word (codes "set ") refl) (both (number_prints number) (both (word (codes " ") refl) (set_prints on_good)))
 part_prints (lines.Verdict verdict) is = both (word (codes "verdict ") refl) (verdict_prints (verdict_of verdict))
 part_prints (lines.EndedBy name) is = both (word (codes "ended-by ") refl) (name_prints name is)
-part_prints (lines.Vital name) is = both (word (codes "vital ") refl) (both (name_prints name is) (word (codes " missing") refl))
+part_prints (lines.Vital name) is = both (word (codes "vital ") refl)
+    (both (name_prints name is) (word (codes " missing") refl))
 part_prints (lines.Name name) is = absurd is
 part_prints (lines.Entry kind start number control) is = absurd is
 part_prints (lines.Place phase place of) is = absurd is
@@ -153,7 +160,8 @@ head_prints : (head : List WhyLine) → AllByRecursion IsHeadLine head → Print
 head_prints [] are = word [] refl
 head_prints (line ∷ head) are =
     both (part_prints line are.0)
-    (each is_printable (λ (x : WhyLine). codes ", " ++ head_part x) IsHeadLine (λ x is. both (word (codes ", ") refl) (part_prints x is)) head are.1)
+    (each is_printable (λ (x : WhyLine). codes ", " ++ head_part x) IsHeadLine
+    (λ x is. both (word (codes ", ") refl) (part_prints x is)) head are.1)
 
 -- ---- nodes
 
@@ -172,16 +180,21 @@ style_is_text states.NoEntry = word (style_text states.NoEntry) refl
 
 label_prints : (node : GraphNode) → IsNamed node → Prints (label_text node)
 label_prints node is =
-    both (either (node.number == 0) (word [] refl) (both (number_prints node.number) (word (codes " ") refl))) (name_prints node.name is)
+    both (either (node.number == 0) (word [] refl) (both (number_prints node.number) (word (codes " ") refl)))
+    (name_prints node.name is)
 
-node_is_text : {before : List ℕ} (n : ℕ) (node : GraphNode) → IsText before → IsNamed node → IsText (node_text before n node)
+node_is_text : {before : List ℕ} (n : ℕ) (node : GraphNode) → IsText before → IsNamed node
+    → IsText (node_text before n node)
 unfolding node_text
 node_is_text n node before is =
-    let front = both (both (both before (word (codes "n") refl)) (as_text (number_prints n))) (word (codes " [label=\"") refl) in
-    both (both (both (both (both front (as_text (quoted_prints (label_prints node is)))) (word (codes "\"") refl)) (shape_is_text node.kind))
+    let front = both (both (both before (word (codes "n") refl)) (as_text (number_prints n)))
+    (word (codes " [label=\"") refl) in
+    both (both (both (both (both front (as_text (quoted_prints (label_prints node is)))) (word (codes "\"") refl))
+    (shape_is_text node.kind))
     (style_is_text node.state)) (word (codes "];\n") refl)
 
-nodes_are_text : {before : List ℕ} (place : Option Phase) (n : ℕ) (nodes : List GraphNode) → IsText before → AllByRecursion IsNamed nodes
+nodes_are_text : {before : List ℕ} (place : Option Phase) (n : ℕ) (nodes : List GraphNode) → IsText before
+    → AllByRecursion IsNamed nodes
     → IsText (nodes_text place before n nodes)
 nodes_are_text place n [] before are = word [] refl
 nodes_are_text place n (node ∷ nodes) before are =
@@ -197,19 +210,23 @@ front_is_text phases.System = word (cluster_front phases.System) refl
 front_is_text phases.Automatic = word (cluster_front phases.Automatic) refl
 front_is_text phases.Done = word (cluster_front phases.Done) refl
 
-phase_is_text : (phase : Phase) (nodes : List GraphNode) → AllByRecursion IsNamed nodes → IsText (phase_text phase nodes)
+phase_is_text : (phase : Phase) (nodes : List GraphNode) → AllByRecursion IsNamed nodes
+    → IsText (phase_text phase nodes)
 unfolding phase_text cluster_text
 phase_is_text phase nodes are =
     either (list_any (λ (node : GraphNode). stands_in (Some phase) node.phase) nodes)
-    (both (both (front_is_text phase) (nodes_are_text (Some phase) 1 nodes (word (codes "    ") refl) are)) (word (codes "  }\n") refl))
+    (both (both (front_is_text phase) (nodes_are_text (Some phase) 1 nodes (word (codes "    ") refl) are))
+    (word (codes "  }\n") refl))
     (word [] refl)
 
 edge_is_text : (edge : GraphEdge) → IsText (edge_text edge)
 unfolding edge_text
 edge_is_text edge =
-    let ends = both (both (both (word (codes "  n") refl) (as_text (number_prints edge.from))) (word (codes " -> n") refl))
+    let ends = both (both (both (word (codes "  n") refl) (as_text (number_prints edge.from)))
+    (word (codes " -> n") refl))
     (as_text (number_prints edge.to)) in
-    both (both ends (either edge.of_group (word (codes " [style=dotted]") refl) (word [] refl))) (word (codes ";\n") refl)
+    both (both ends (either edge.of_group (word (codes " [style=dotted]") refl) (word [] refl)))
+    (word (codes ";\n") refl)
 
 edges_are_text : (edges : List GraphEdge) → IsText (flat_map edge_text edges)
 edges_are_text [] = word [] refl
@@ -219,7 +236,8 @@ whole_is_text : (head : List WhyLine) (nodes : List GraphNode) (edges : List Gra
     → AllByRecursion IsNamed nodes → IsText (dot_text head (record { nodes = nodes; edges = edges }))
 unfolding dot_text opening_text all_nodes_text
 whole_is_text head nodes edges are_head are =
-    let opening = both (both (word (codes "digraph ntboot {\n  label=\"") refl) (as_text (quoted_prints (head_prints head are_head))))
+    let opening = both (both (word (codes "digraph ntboot {\n  label=\"") refl)
+    (as_text (quoted_prints (head_prints head are_head))))
     (word (codes "\";\n") refl) in
     let phases' = both (both (phase_is_text phases.Boot nodes are) (phase_is_text phases.System nodes are))
     (phase_is_text phases.Automatic nodes are) in

@@ -8,19 +8,21 @@ use Rattle.std.proofs.lemmas.Grind.{flat_map-append}
 use Rattle.std.proofs.lemmas.List.Folds.{list_all-append}
 use Rattle.nt_bytes.specs.Text.{is_printable}
 use Rattle.graph_text.specs.Dot.{stand_in, replaced, in_quotes}
-use Rattle.graph_laws.specs.Texts.{is_plain, is_piece, IsQuoted, QuotedIsPieces, QuotedIsPrintable, put_back, out_of_quotes, QuotedIsUndone, QuotedIsOne}
+use Rattle.dot_laws.specs.Texts.{is_plain, is_piece, IsQuoted, QuotedIsPieces, QuotedIsPrintable, put_back, out_of_quotes, QuotedIsUndone, QuotedIsOne}
 
 -- ---- byte by byte
 
 abbrev one_quoted : ℕ → List ℕ
 one_quoted c = in_quotes (c ∷ [])
 
-both_replaced : (byte : ℕ) (other xs ys : List ℕ) → replaced byte other (xs ++ ys) ≡ replaced byte other xs ++ replaced byte other ys
+both_replaced : (byte : ℕ) (other xs ys : List ℕ) → replaced byte other (xs ++ ys) ≡ replaced byte other xs
+    ++ replaced byte other ys
 both_replaced byte other xs ys = flat_map-append (stand_in byte other) xs ys
 
 both_quoted : (xs ys : List ℕ) → in_quotes (xs ++ ys) ≡ in_quotes xs ++ in_quotes ys
 both_quoted xs ys =
-    ap (λ (t : List ℕ). replaced 34 (codes "\\\"") (replaced 92 (codes "\\\\") t)) (both_replaced 38 (codes "&amp;") xs ys)
+    ap (λ (t : List ℕ). replaced 34 (codes "\\\"")
+    (replaced 92 (codes "\\\\") t)) (both_replaced 38 (codes "&amp;") xs ys)
     ∙ ap (λ (t : List ℕ). replaced 34 (codes "\\\"") t)
     (both_replaced 92 (codes "\\\\") (replaced 38 (codes "&amp;") xs) (replaced 38 (codes "&amp;") ys))
     ∙ both_replaced 34 (codes "\\\"") (replaced 92 (codes "\\\\") (replaced 38 (codes "&amp;") xs))
@@ -71,14 +73,16 @@ plain_pieces (c ∷ text) all =
 
 one_pieces : (c : ℕ) → IsQuoted (one_quoted c)
 one_pieces c =
-    by_byte IsQuoted c (plain_pieces (codes "&amp;") refl) (record { pieces = codes "\\\\" ∷ []; each = refl; whole = refl })
+    by_byte IsQuoted c (plain_pieces (codes "&amp;") refl)
+    (record { pieces = codes "\\\\" ∷ []; each = refl; whole = refl })
     (record { pieces = codes "\\\"" ∷ []; each = refl; whole = refl })
     (λ b q. plain_pieces (c ∷ []) (and_from _ _ (and_from _ _ (ap not q) (ap not b)) refl))
 
 pub are_pieces : QuotedIsPieces
 are_pieces [] = no_pieces
 are_pieces (c ∷ text) =
-    subst IsQuoted (sym (both_quoted (c ∷ []) text)) (more_pieces (one_quoted c) (in_quotes text) (one_pieces c) (are_pieces text))
+    subst IsQuoted (sym (both_quoted (c ∷ []) text))
+    (more_pieces (one_quoted c) (in_quotes text) (one_pieces c) (are_pieces text))
 
 -- ---- printable
 
@@ -88,7 +92,8 @@ are_printable (c ∷ text) all =
     let parts = and_parts (is_printable c) (list_all is_printable text) all in
     ap (list_all is_printable) (both_quoted (c ∷ []) text)
     ∙ list_all-append is_printable (one_quoted c) (in_quotes text)
-    ∙ and_from _ _ (by_byte (λ (t : List ℕ). list_all is_printable t ≡ true) c refl refl refl (λ b q. and_from _ _ parts.0 refl))
+    ∙ and_from _ _ (by_byte (λ (t : List ℕ). list_all is_printable t ≡ true) c refl refl refl
+    (λ b q. and_from _ _ parts.0 refl))
     (are_printable text parts.1)
 
 -- ---- undone
@@ -106,14 +111,16 @@ module _ (byte : ℕ) (other : List ℕ)
       rest : List ℕ
       rest = replaced byte other text
 
-      by : (b : Bool) → (c == byte) ≡ b → put_back byte other 0 rest ≡ text → put_back byte other 0 (cond (c == byte) other (c ∷ []) ++ rest) ≡ c ∷ text
+      by : (b : Bool) → (c == byte) ≡ b → put_back byte other 0 rest ≡ text
+          → put_back byte other 0 (cond (c == byte) other (c ∷ []) ++ rest) ≡ c ∷ text
       by true is kept =
           ap (λ (b : Bool). put_back byte other 0 (cond b other (c ∷ []) ++ rest)) is
           ∙ found rest
           ∙ (λ i. sym (eqb-true c byte is) i ∷ kept i)
       by false is kept =
           ap (λ (b : Bool). put_back byte other 0 (cond b other (c ∷ []) ++ rest)) is
-          ∙ ap (λ (b : Bool). cond b (byte ∷ put_back byte other (length other - 1) rest) (c ∷ put_back byte other 0 rest)) (passed c text is)
+          ∙ ap (λ (b : Bool). cond b (byte ∷ put_back byte other (length other - 1) rest)
+          (c ∷ put_back byte other 0 rest)) (passed c text is)
           ∙ ap (λ (t : List ℕ). c ∷ t) kept
 
 turned : (a b : ℕ) → (a == b) ≡ false → (b == a) ≡ false
@@ -137,8 +144,10 @@ no_quote : (text : List ℕ) → begins (34 ∷ []) (replaced 34 (codes "\\\"") 
 no_quote [] = refl
 no_quote (c ∷ text) = by (c == 34) refl
   where
-    by : (b : Bool) → (c == 34) ≡ b → begins (34 ∷ []) (cond (c == 34) (codes "\\\"") (c ∷ []) ++ replaced 34 (codes "\\\"") text) ≡ false
-    by true is = ap (λ (b : Bool). begins (34 ∷ []) (cond b (codes "\\\"") (c ∷ []) ++ replaced 34 (codes "\\\"") text)) is
+    by : (b : Bool) → (c == 34) ≡ b → begins (34 ∷ [])
+        (cond (c == 34) (codes "\\\"") (c ∷ []) ++ replaced 34 (codes "\\\"") text) ≡ false
+    by true is = ap (λ (b : Bool). begins (34 ∷ [])
+        (cond b (codes "\\\"") (c ∷ []) ++ replaced 34 (codes "\\\"") text)) is
     by false is =
         ap (λ (b : Bool). begins (34 ∷ []) (cond b (codes "\\\"") (c ∷ []) ++ replaced 34 (codes "\\\"") text)) is
         ∙ none_and _ _ (turned c 34 is)

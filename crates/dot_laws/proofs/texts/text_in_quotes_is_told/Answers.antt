@@ -1,5 +1,5 @@
-use Rattle.graph_laws.proofs.QuoteLemmas.{are_pieces, are_printable, are_undone, are_one}
-use Rattle.graph_laws.proofs.texts.text_in_quotes_is_told.Goals as goal
+use Rattle.dot_laws.proofs.QuoteLemmas.{are_pieces, are_printable, are_undone, are_one}
+use Rattle.dot_laws.proofs.texts.text_in_quotes_is_told.Goals as goal
 
 pub returns-clause-pieces : goal.returns-clause-pieces
 returns-clause-pieces c = are_pieces

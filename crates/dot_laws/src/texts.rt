@@ -1,6 +1,6 @@
 //! What stands between quotes in the text of a graph.
 
-ghost use Rattle.graph_laws.specs.Texts.{QuotedIsPieces, QuotedIsPrintable, QuotedIsUndone, QuotedIsOne, DotIsText};
+ghost use Rattle.dot_laws.specs.Texts.{QuotedIsPieces, QuotedIsPrintable, QuotedIsUndone, QuotedIsOne, DotIsText};
 
 /// Between quotes each text is a sequence of bytes other than quotes and backslashes, of `\\` and of `\"` (`pieces`): no backslash stands before anything
 /// else, and no quote alone. It is printable where the text is (`printable`). The three replacements undone, the last one first, give the text back

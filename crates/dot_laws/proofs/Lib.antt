@@ -1,0 +1,7 @@
+mod QuoteLemmas
+mod TextLemmas
+mod TokenLemmas
+mod StatementLemmas
+mod DrawingLemmas
+mod ObjectLemmas
+mod TellingLemmas
