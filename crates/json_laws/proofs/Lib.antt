@@ -1,7 +1,7 @@
 pub mod Parts
 pub mod Values
 mod Lists
-mod Told
+pub mod Told
 mod Printable
 pub mod Units
 pub mod LineKinds
@@ -9,3 +9,4 @@ pub mod Words
 mod StartLines
 mod TreeKind
 mod TreeCounts
+pub mod ReportLemmas

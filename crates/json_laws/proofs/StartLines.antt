@@ -1,9 +1,9 @@
 -- The lines of a start, back from their objects.
-use Rattle.std.proofs.Common.{◌≡◌, ℕ, Bool, true, false, cond, List, [], ◌∷◌, Option, Some, None, refl, ap, ◌∙◌}
+use Rattle.std.proofs.Common.{◌≡◌, ℕ, cond, List, [], ◌∷◌, Option, Some, None, refl, ap}
 use Rattle.std.specs.Prelude.{bytes_eq, codes}
-use Rattle.std.specs.Option.{option_and_then, option_map}
-use Rattle.start_model.specs.Lines.{Line, CommitWord, PhaseWord, TryWord, EventWord, RefusedWord, Verdict, StartLine, EntryLine, LoadLine, SetLine, CommitLine, SelectLine, PhaseLine, TryLine, UnmetLine, VitalLine, LogonLine, SaveRefusedLine, EditOkLine, FlushNothingLine, RefusedLine, VerdictLine, EndLine, commit_word, phase_word, event_word, refused_word, verdict_word, load_word, set_word, save_word}
-use Rattle.line_text.specs.Objects.{Value, Number, Text, Numbers, Texts, Flag, Null}
+use Rattle.std.specs.Option.{option_map}
+use Rattle.start_model.specs.Lines.{Line, EventWord, RefusedWord, StartLine, EntryLine, LoadLine, SetLine, CommitLine, SelectLine, PhaseLine, TryLine, UnmetLine, VitalLine, LogonLine, SaveRefusedLine, EditOkLine, FlushNothingLine, RefusedLine, VerdictLine, EndLine, commit_word, phase_word, event_word, refused_word, verdict_word, load_word, set_word, save_word}
+use Rattle.line_text.specs.Objects.{Value, Number, Text}
 use Rattle.line_objects.specs.Objects.{line_json, outcome_word, select_fields}
 use Rattle.json_laws.specs.Objects.{Object, IsObject, json_of, told}
 use Rattle.json_laws.specs.Lines.{IsStartLine}

@@ -1,5 +1,5 @@
 -- A key and a value is an object each.
-use Rattle.std.proofs.Common.{◌≡◌, ◌+◌, ℕ, List, [], ◌∷◌, ◌++◌, length, refl, arith}
+use Rattle.std.proofs.Common.{◌≡◌, ◌+◌, ℕ, List, length, refl, arith}
 use Rattle.std.proofs.lemmas.List.{length-append, length-map}
 use Rattle.hive_model.specs.Tree.{Item, Tree, Trees, key, none, more, key_count, keys_count, item_count, items_count}
 use Rattle.tree_text.specs.TreeObjects.{ValueLine, level_below, value_lines, key_lines, keys_lines}

@@ -1,7 +1,7 @@
 -- The text of a value gives the value, and where it ends.
-use Rattle.std.proofs.Common.{◌≡◌, ℕ, zero, suc, ◌/◌, ◌%◌, ◌<◌, ◌^◌, ◌==◌, Bool, true, false, ◌&&◌, not, eqb, cond, List, [], ◌∷◌, ◌++◌, length, refl, sym, ap, subst, ◌∙◌, append_assoc, arith}
+use Rattle.std.proofs.Common.{◌≡◌, ℕ, zero, suc, ◌/◌, ◌%◌, ◌<◌, ◌==◌, Bool, true, false, ◌&&◌, eqb, cond, List, [], ◌∷◌, ◌++◌, length, refl, sym, ap, ◌∙◌, append_assoc, arith}
 use Rattle.std.specs.Prelude.{nat_le, codes}
-use Rattle.std.specs.List.{All, AllByRecursion, list_all, join_by}
+use Rattle.std.specs.List.{AllByRecursion, list_all, join_by}
 use Rattle.std.specs.Fmt.{decimal, digits, digits_onto, digit_glyph}
 use Rattle.std.proofs.lemmas.Bool.{false≢true, and_from, and_parts}
 use Rattle.std.proofs.lemmas.Bool.Decides.{nat_tests}
@@ -10,7 +10,7 @@ use Rattle.line_text.specs.Objects.{Value, Number, Text, Numbers, Texts, Flag, N
 use Rattle.line_text.specs.Quoted.{quoted}
 use Rattle.line_text.proofs.QuoteLemmas.{parted}
 use Rattle.json_laws.specs.Objects.{IsNumber, AreUnits, IsValue, told_value}
-use Rattle.json_laws.proofs.Parts.{first_byte, rest_of, cancel, both_heads, stops, parted_where, apart}
+use Rattle.json_laws.proofs.Parts.{first_byte, rest_of, cancel, stops, parted_where, apart}
 use Rattle.json_laws.proofs.Lists.{parted_list}
 
 -- ---- digits

@@ -1,8 +1,8 @@
 -- The keywords of a start, back from their texts.
-use Rattle.std.proofs.Common.{◌≡◌, ℕ, Bool, true, false, List, [], ◌∷◌, Option, Some, None, refl}
+use Rattle.std.proofs.Common.{◌≡◌, ℕ, Bool, true, false, List, [], ◌∷◌, Option, Some, refl}
 use Rattle.start_model.specs.Lines.{CommitWord, PhaseWord, TryWord, EventWord, RefusedWord, Verdict, BeginCommit, SaveCommit, FlushCommit, OffCommit, BootPhase, SystemPhase, AutomaticPhase, DonePhase, TryOk, TryIgnored, TryLogged, TryFallBack, TryStop, BootEvent, GoEvent, FailEvent, VitalEvent, SetEvent, DeleteEvent, MakeEvent, RemoveEvent, FlushEvent, LogonEvent, OffEvent, CutEvent, FaultEvent, OffReason, RunningReason, EarlyReason, AgainReason, IdleReason, ProtectedReason, NoKeyReason, NoValueReason, BadNameReason, NameTooLongReason, TooDeepReason, DataTooLongReason, FullReason, Good, GoodUnsaved, Running, FallBack, Stopped, Cut, Device, Full, NoNumber, NoEntry, OtherLoader, NoSystem, NoControlSet, NoLastKnownGood, commit_word, phase_word, event_word, refused_word, verdict_word, load_word, set_word, save_word}
 use Rattle.line_objects.specs.Objects.{outcome_word}
-use Rattle.json_laws.specs.Objects.{is_word, AreUnits}
+use Rattle.json_laws.specs.Objects.{AreUnits}
 use Rattle.json_laws.proofs.LineKinds.{pick}
 use Rattle.json_laws.proofs.Units.{word_units}
 

@@ -1,5 +1,5 @@
 -- What is asked of a line of `show`, so that its object determines it? (this project's own)
-use Rattle.std.specs.Prelude.{ℕ, List, length}
+use Rattle.std.specs.Prelude.{List, length}
 use Rattle.std.specs.List.{AllByRecursion}
 use Rattle.hex.specs.Hex.{IsBytes}
 use Rattle.hive_model.specs.Tree.{Item}

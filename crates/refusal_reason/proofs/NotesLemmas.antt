@@ -8,7 +8,7 @@ use Rattle.reason_lines.specs.Texts.{Text}
 use Rattle.reason_lines.specs.Files.{value_of, names, missing_in, is_dirty}
 use Rattle.reason_lines.proofs.FileLemmas.{names-same}
 use Rattle.refusal_reason.specs.declared.notes.Notes.{Notes}
-use Rattle.refusal_reason.specs.Notes.{IsNoted, judged, with_found, with_got, with_said, dirty_file, is_empty}
+use Rattle.refusal_reason.specs.Notes.{IsNoted, absent_in, judged, with_found, with_got, with_put, with_said, dirty_file, is_empty}
 use Rattle.refusal_reason.proofs.FrontLemmas.{take-front}
 
 -- the host shows what it did before
@@ -16,12 +16,12 @@ pub noted-same : (words : List Text) (old new : HostState) (notes : Notes) → I
     → KeepsHost old new → KeepsFiles old new → IsUnsaid old new → IsNoted words new notes
 noted-same words old new notes h keeps files unsaid = record {
   said = λ t w. let told : old.tells ≡ true = sym keeps.tells ∙ t in h.said told w ∙ ap (take 128) (sym (unsaid told));
-  hive = λ t p s. let told : old.tells ≡ true = sym keeps.tells ∙ t in
-      ap (λ (f : Files). dirty_file f (value_of words (codes "--hive"))) (files told) ∙ h.hive told p s;
-  other = λ t p s. let told : old.tells ≡ true = sym keeps.tells ∙ t in
-      ap (λ (f : Files). dirty_file f (value_of words (codes "--with"))) (files told) ∙ h.other told p s;
-  missing = λ t w o. let told : old.tells ≡ true = sym keeps.tells ∙ t in
-      h.missing told w o ∙ ap (missing_in words) (sym (unsaid told));
+  hive = λ t s. let told : old.tells ≡ true = sym keeps.tells ∙ t in
+      ap (λ (f : Files). dirty_file f (value_of words (codes "--hive"))) (files told) ∙ h.hive told s;
+  other = λ t s. let told : old.tells ≡ true = sym keeps.tells ∙ t in
+      ap (λ (f : Files). dirty_file f (value_of words (codes "--with"))) (files told) ∙ h.other told s;
+  missing = λ t s. let told : old.tells ≡ true = sym keeps.tells ∙ t in
+      h.missing told s ∙ ap (missing_in words) (sym (unsaid told));
 }
 
 -- a hive is dirty as its bytes are, or as it was noted
@@ -40,9 +40,9 @@ pub noted-found : (words : List Text) (state : HostState) (notes : Notes) (name 
     → IsNoted words state (with_found words notes name bytes)
 noted-found words state notes name bytes h found = record {
   said = h.said;
-  hive = λ t p s. judged-by words (codes "--hive") name bytes notes.dirty state.files (found t) (h.hive t p)
+  hive = λ t s. judged-by words (codes "--hive") name bytes notes.dirty state.files (found t) (h.hive t)
       (names words (codes "--hive") name) refl s;
-  other = λ t p s. judged-by words (codes "--with") name bytes notes.other_dirty state.files (found t) (h.other t p)
+  other = λ t s. judged-by words (codes "--with") name bytes notes.other_dirty state.files (found t) (h.other t)
       (names words (codes "--with") name) refl s;
   missing = h.missing;
 }
@@ -67,6 +67,19 @@ noted-got words old new notes name found h is keeps files unsaid =
     noted-same words old new (with_got words notes name found)
     (noted-asked words old notes name found h is) keeps files unsaid
 
+-- a file was put
+pub noted-put : (words : List Text) (old new : HostState) (notes : Notes) (name : Text)
+    (answer : Result (Unit {0}) HostStop)
+    → IsNoted words old notes → KeepsHost old new → IsUnsaid old new
+    → IsNoted words new (with_put words notes name (is_err answer))
+noted-put words old new notes name answer h keeps unsaid = record {
+  said = λ t w. let told : old.tells ≡ true = sym keeps.tells ∙ t in h.said told w ∙ ap (take 128) (sym (unsaid told));
+  missing = λ t s. let told : old.tells ≡ true = sym keeps.tells ∙ t in
+      h.missing told s ∙ ap (missing_in words) (sym (unsaid told));
+  hive = λ t s. absurd (false≢true s);
+  other = λ t s. absurd (false≢true s);
+}
+
 -- what begins with nothing is nothing
 none : (text : Text) → take 128 text ≡ [] → text ≡ []
 none [] e = refl
@@ -76,20 +89,27 @@ empty : (text : Text) → is_empty text ≡ true → text ≡ []
 empty [] e = refl
 empty (byte ∷ text) e = absurd (false≢true e)
 
-both : (a b : Bool) → (a && b) ≡ true → (a ≡ true) × (b ≡ true)
+pub both : (a b : Bool) → (a && b) ≡ true → (a ≡ true) × (b ≡ true)
 both true b e = (refl, e)
 both false b e = absurd (false≢true e)
 
--- what was printed at once
-at-once : (words : List Text) (old new : HostState) (notes : Notes) (bytes : Text) (answer : Result (Unit {0}) HostStop)
+-- bytes that were said without a refusal where nothing was printed are all that was printed
+alone : (words : List Text) (old new : HostState) (notes : Notes) (bytes : Text) (answer : Result (Unit {0}) HostStop)
     → (notes.whole ≡ true → notes.front ≡ take 128 old.said) → OnOk answer (new.said ≡ old.said ++ bytes)
-    → (notes.whole && not (is_err answer)) ≡ true → is_empty notes.front ≡ true
+    → is_empty notes.front ≡ true → (notes.whole && not (is_err answer)) ≡ true
     → missing_in words bytes ≡ missing_in words new.said
-at-once words old new notes bytes (Ok done) front is w once =
+alone words old new notes bytes (Ok done) front is once w =
     let same : notes.front ≡ take 128 old.said = front (both notes.whole true w).0 in
     let nothing : old.said ≡ [] = none old.said (sym same ∙ empty notes.front once) in
     ap (missing_in words) (sym (is ∙ ap (λ (l : Text). l ++ bytes) nothing))
-at-once words old new notes bytes (Err stop) front is w once = absurd (false≢true ((both notes.whole false w).1))
+alone words old new notes bytes (Err stop) front is once w = absurd (false≢true ((both notes.whole false w).1))
+
+-- the file that was printed as absent, where they are all
+absent-in : (words : List Text) (said bytes : Text) (is_all : Bool)
+    → (is_all ≡ true → missing_in words bytes ≡ missing_in words said) → is_some (absent_in words is_all bytes) ≡ true
+    → absent_in words is_all bytes ≡ missing_in words said
+absent-in words said bytes true all s = all refl
+absent-in words said bytes false all s = absurd (false≢true s)
 
 -- bytes were said
 pub noted-said : (words : List Text) (old new : HostState) (notes : Notes) (bytes : Text)
@@ -98,12 +118,14 @@ pub noted-said : (words : List Text) (old new : HostState) (notes : Notes) (byte
     → KeepsHost old new → KeepsFiles old new → IsNoted words new (with_said words notes bytes (is_err answer))
 noted-said words old new notes bytes answer h said keeps files = record {
   said = λ t w. let told : old.tells ≡ true = sym keeps.tells ∙ t in front answer (said told) w told;
-  hive = λ t p s. let told : old.tells ≡ true = sym keeps.tells ∙ t in
-      ap (λ (f : Files). dirty_file f (value_of words (codes "--hive"))) (files told) ∙ h.hive told p s;
-  other = λ t p s. let told : old.tells ≡ true = sym keeps.tells ∙ t in
-      ap (λ (f : Files). dirty_file f (value_of words (codes "--with"))) (files told) ∙ h.other told p s;
-  missing = λ t w once. let told : old.tells ≡ true = sym keeps.tells ∙ t in
-      at-once words old new notes bytes answer (h.said told) (said told) w once;
+  hive = λ t s. let told : old.tells ≡ true = sym keeps.tells ∙ t in
+      ap (λ (f : Files). dirty_file f (value_of words (codes "--hive"))) (files told) ∙ h.hive told s;
+  other = λ t s. let told : old.tells ≡ true = sym keeps.tells ∙ t in
+      ap (λ (f : Files). dirty_file f (value_of words (codes "--with"))) (files told) ∙ h.other told s;
+  missing = λ t s. let told : old.tells ≡ true = sym keeps.tells ∙ t in
+      absent-in words new.said bytes (is_empty notes.front && (notes.whole && not (is_err answer)))
+      (λ all. let are = both (is_empty notes.front) (notes.whole && not (is_err answer)) all in
+      alone words old new notes bytes answer (h.said told) (said told) are.0 are.1) s;
 }
   where
     front : (answer : Result (Unit {0}) HostStop) → OnOk answer (new.said ≡ old.said ++ bytes)

@@ -21,7 +21,7 @@ script-known script.Word = refl
 script-known script.Number = refl
 script-known script.TooManyStarts = refl
 
-hive-known : (kind : HiveFaultKind) → is_some (part_reason (hive_kind_word kind)) ≡ true
+pub hive-known : (kind : HiveFaultKind) → is_some (part_reason (hive_kind_word kind)) ≡ true
 hive-known hive.NotRegf = refl
 hive-known hive.Checksum = refl
 hive-known hive.Version = refl
@@ -52,7 +52,7 @@ hive-known hive.Unreadable = refl
 hive-known hive.LogUnreadable = refl
 
 -- what is there
-here : {A : Type 0} → (o : Option A) → is_some o ≡ true → (x : A) × (o ≡ Some x)
+pub here : {A : Type 0} → (o : Option A) → is_some o ≡ true → (x : A) × (o ≡ Some x)
 here None e = absurd (false≢true e)
 here (Some x) e = (x, refl)
 

@@ -1,7 +1,7 @@
 -- What is noted of a command's calls of its host, and what does that say of the host? (this project's own)
 --
 -- A file is known by its place on the command line.
-use Rattle.std.specs.Prelude.{◌≡◌, ◌&&◌, not, ◌++◌, Bool, true, false, List, [], ◌∷◌, Option, Some, None, is_some, option_map, codes}
+use Rattle.std.specs.Prelude.{◌≡◌, ◌&&◌, not, ◌++◌, ℕ, Bool, true, false, List, [], ◌∷◌, Option, Some, None, is_some, option_map, codes}
 use Rattle.std.specs.Prelude.{Result, Ok, Err, if◌then◌else◌, take}
 use Rattle.nt_edge.specs.Host.{Files, HostState}
 use Rattle.nt_edge.specs.declared.host.HostStop.{HostStop}
@@ -35,21 +35,25 @@ with_got words notes name (Ok (Some bytes)) = with_found words notes name bytes
 with_got words notes name (Ok None) = notes
 with_got words notes name (Err stop) = record notes { unread = place_of words name }
 
--- a file was put
+-- a file was put: which hives are dirty now is not known
 abbrev pub with_put : List Text → Notes → Text → Bool → Notes
 with_put words notes name refused = record notes {
-  is_put = true;
   put = place_of words name;
   unwritten = if refused then place_of words name else notes.unwritten;
+  dirty = None;
+  other_dirty = None;
 }
+
+-- the place of the file that is printed as absent, where these bytes are all that was printed
+abbrev pub absent_in : List Text → Bool → Text → Option ℕ
+absent_in words is_all bytes = if is_all then missing_in words bytes else None
 
 -- bytes were said
 abbrev pub with_said : List Text → Notes → Text → Bool → Notes
 with_said words notes bytes refused = record notes {
   front = take 128 (notes.front ++ bytes);
   whole = notes.whole && not refused;
-  once = is_empty notes.front;
-  absent = missing_in words bytes;
+  absent = absent_in words (is_empty notes.front && (notes.whole && not refused)) bytes;
 }
 
 -- the status is that something could not be written
@@ -69,12 +73,10 @@ abbrev pub dirty_file : Files → Option Text → Option Bool
 dirty_file files None = None
 dirty_file files (Some name) = option_map is_dirty (files name)
 
--- Where the host reports, and nothing failed to be said: what was noted as said are the first 128 bytes that were printed, and the file that was
--- noted as absent is the one that was printed as absent, if all was printed at once. As long as no file was put, the hives are dirty as it was noted.
+-- Where the host reports: what was noted as said are the first 128 bytes that were printed, if nothing failed to be said; a file that is noted as
+-- absent is the one that was printed as absent; and a hive of which it is noted is dirty or not as its file is.
 pub record IsNoted (words : List Text) (state : HostState) (notes : Notes) : Type 0 where
   pub said : state.tells ≡ true → notes.whole ≡ true → notes.front ≡ take 128 state.said
-  pub missing : state.tells ≡ true → notes.whole ≡ true → notes.once ≡ true → notes.absent ≡ missing_in words state.said
-  pub hive : state.tells ≡ true → notes.is_put ≡ false → is_some notes.dirty ≡ true
-      → dirty_file state.files (value_of words (codes "--hive")) ≡ notes.dirty
-  pub other : state.tells ≡ true → notes.is_put ≡ false → is_some notes.other_dirty ≡ true
-      → dirty_file state.files (value_of words (codes "--with")) ≡ notes.other_dirty
+  pub missing : state.tells ≡ true → is_some notes.absent ≡ true → notes.absent ≡ missing_in words state.said
+  pub hive : state.tells ≡ true → is_some notes.dirty ≡ true → dirty_file state.files (value_of words (codes "--hive")) ≡ notes.dirty
+  pub other : state.tells ≡ true → is_some notes.other_dirty ≡ true → dirty_file state.files (value_of words (codes "--with")) ≡ notes.other_dirty

@@ -7,26 +7,22 @@ ghost use Rattle.boot_script.specs.declared.stop.ScriptFault.{ScriptFault};
 ghost use Rattle.command_parts.specs.Refusals.{refusal_text};
 ghost use Rattle.command_parts.specs.declared.refusal.Refusal.TheVariants as refusals;
 ghost use Rattle.reason_lines.specs.Texts.{Text};
-ghost use Rattle.command_parts.specs.declared.status.Status.TheVariants as statuses;
+ghost use Rattle.command_parts.specs.declared.status.Status.{Status};
 ghost use Rattle.reason_lines.specs.Files.{option_for, place_of};
-ghost use Rattle.reason_lines.specs.Lines.{absent_for};
+ghost use Rattle.reason_lines.specs.Lines.{absent_for, memory_line};
 ghost use Rattle.reason_lines.specs.Heard.{heard_of, of_boot_ini, of_script};
 ghost use Rattle.refusal_reason.specs.declared.notes.Notes.{Notes};
-ghost use Rattle.refusal_reason.specs.Laws.{SaysHive, SaysScript, absent_line_of, fault_line_of, was_asked};
+ghost use Rattle.refusal_reason.specs.Laws.{SaysHive, SaysScript, absent_line_of, is_refusal, knows, refusal_line};
 ghost use Rattle.refusal_reason.specs.Notes.{IsNoted};
-ghost use Rattle.refusal_reason.specs.Reasons.{fault_line, reason_line};
+ghost use Rattle.refusal_reason.specs.Reasons.{line_on};
 
-/// The line for a printed fault is one of the command line, of what was printed and of the files, where the hive in which it is was asked for and
-/// no file was put since.
-pub fn a_fault_is_explained_by_words_and_files()
-    ensures { (words : List Text) (state : HostState) (notes : Notes) → IsNoted words state notes → state.tells ≡ true → notes.whole ≡ true
-        → notes.is_put ≡ false → was_asked (heard_of (take 128 state.said)) notes ≡ true → fault_line words notes ≡ fault_line_of words state }
-{}
-
-/// The line for a file that is absent is one of the command line and of what was printed, where all was printed at once.
-pub fn an_absent_file_is_explained_by_words()
-    ensures { (words : List Text) (state : HostState) (notes : Notes) → IsNoted words state notes → state.tells ≡ true → notes.whole ≡ true
-        → notes.once ≡ true → reason_line words statuses.NoFile notes ≡ absent_line_of words state.said }
+/// The line on a refusal is one of the command line, of what was printed and of the files. Where too little is noted for it, the line says that
+/// memory was lacking.
+pub fn a_refusal_is_explained_by_words_and_files()
+    ensures known { (words : List Text) (state : HostState) (notes : Notes) (status : Status) → IsNoted words state notes → state.tells ≡ true
+        → is_refusal status ≡ true → knows status notes ≡ true → line_on words status notes ≡ refusal_line words status state.said state.files }
+    ensures unknown { (words : List Text) (notes : Notes) (status : Status) → is_refusal status ≡ true → knows status notes ≡ false
+        → line_on words status notes ≡ memory_line }
 {}
 
 /// Where the refusal for an absent file was printed, that line has its name, and the first option that names it.

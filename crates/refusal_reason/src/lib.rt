@@ -16,8 +16,7 @@ mod notes;
 pub use explaining::explain;
 pub use front::Front;
 pub use laws::{
-    a_fault_is_explained_by_words_and_files, a_refusal_says_its_fault,
-    an_absent_file_is_explained_by_words, an_absent_file_is_named,
+    a_refusal_is_explained_by_words_and_files, a_refusal_says_its_fault, an_absent_file_is_named,
 };
 pub use line::reason_line;
 pub use noted::Noted;

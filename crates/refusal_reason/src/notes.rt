@@ -1,7 +1,7 @@
 //! What is noted of a command's calls of its host.
 
-ghost use Rattle.std.specs.Prelude.{◌≡◌, [], false, map, None, true};
-ghost use Rattle.refusal_reason.specs.Notes.{is_unwritten, judged, with_end, with_found, with_got, with_put, with_said};
+ghost use Rattle.std.specs.Prelude.{◌≡◌, ◌&&◌, [], map, None, not, true};
+ghost use Rattle.refusal_reason.specs.Notes.{absent_in, is_empty, is_unwritten, judged, with_end, with_found, with_got, with_put, with_said};
 
 use crate::front::Front;
 use command_parts::Status;
@@ -16,19 +16,15 @@ pub struct Notes {
     pub front: Front,
     /// Whether nothing failed to be said.
     pub whole: bool,
-    /// Whether all was printed at once.
-    pub once: bool,
-    /// The file that was printed as absent.
+    /// The file that was printed as absent, where all was printed at once.
     pub absent: Option<usize>,
     /// The file that could not be read.
     pub unread: Option<usize>,
-    /// Whether a file was put.
-    pub is_put: bool,
     /// The file that was put last.
     pub put: Option<usize>,
     /// The file that could not be written.
     pub unwritten: Option<usize>,
-    /// Whether the file of `--hive` is dirty, once it was asked for.
+    /// Whether the file of `--hive` is dirty, once it was asked for, and until a file is put.
     pub dirty: Option<bool>,
     /// The same of the file of `--with`.
     pub other_dirty: Option<bool>,
@@ -42,6 +38,31 @@ fn judged(is_its: bool, bytes: &[u8], before: Option<bool>) -> Option<bool>
         Some(is_dirty(bytes))
     } else {
         before
+    }
+}
+
+/// Whether nothing failed to be said so far, and this did not.
+fn stays_whole(whole: bool, refused: bool) -> bool
+    ensures { result ≡ (whole && not refused) }
+{
+    whole && !refused
+}
+
+/// Whether what is said now is all that was printed.
+fn is_all(front: &Front, whole: bool) -> bool
+    ensures { result ≡ (is_empty front.now && whole) }
+{
+    front.is_empty() && whole
+}
+
+/// The place of the file that is printed as absent, where these bytes are all that was printed.
+fn absent_in(words: &[&str], is_all: bool, bytes: &[u8]) -> Option<usize>
+    ensures { result ≡ absent_in (map (λ w. w.now) words.now) is_all bytes.now }
+{
+    if is_all {
+        missing_in(words, bytes)
+    } else {
+        None
     }
 }
 
@@ -63,10 +84,8 @@ impl Notes {
         Notes {
             front: Front::new(),
             whole: true,
-            once: true,
             absent: None,
             unread: None,
-            is_put: false,
             put: None,
             unwritten: None,
             dirty: None,
@@ -103,7 +122,8 @@ impl Notes {
         ensures { self.new ≡ with_put (map (λ w. w.now) words.now) self.old name.now refused }
     {
         let place = place_of(words, name.as_bytes());
-        self.is_put = true;
+        self.dirty = None;
+        self.other_dirty = None;
         self.put = place;
         if refused {
             self.unwritten = place;
@@ -114,10 +134,9 @@ impl Notes {
     pub(crate) fn say(&mut self, words: &[&str], bytes: &[u8], refused: bool)
         ensures { self.new ≡ with_said (map (λ w. w.now) words.now) self.old bytes.now refused }
     {
-        self.once = self.front.is_empty();
-        self.absent = missing_in(words, bytes);
+        self.whole = stays_whole(self.whole, refused);
+        self.absent = absent_in(words, is_all(&self.front, self.whole), bytes);
         self.front.extend(bytes);
-        self.whole = self.whole && !refused;
     }
 
     /// The command answered the one status, and ended with the other once its files were to have their names.

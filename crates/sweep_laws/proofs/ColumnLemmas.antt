@@ -104,7 +104,7 @@ module _ (disk : DiskState) (still : disk.flight ≡ []) (writes : List Write) w
 -- ---- stages
 
 -- the table has a sector for each write, in each stage
-abbrev AsMany : List Stage → List (List Write) → Type 0
+abbrev pub AsMany : List Stage → List (List Write) → Type 0
 AsMany [] writes = Unit {0}
 AsMany (s ∷ stages) [] = Unit {0}
 AsMany (s ∷ stages) (writes ∷ more) = (length s.sectors ≡ length writes) × AsMany stages more
@@ -112,10 +112,10 @@ AsMany (s ∷ stages) (writes ∷ more) = (length s.sectors ≡ length writes) �
 heads : (x y : List Address) (xs ys : List (List Address)) → x ∷ xs ≡ y ∷ ys → x ≡ y
 heads x y xs ys e = cc
 
-tails : (x y : List Address) (xs ys : List (List Address)) → x ∷ xs ≡ y ∷ ys → xs ≡ ys
+pub tails : (x y : List Address) (xs ys : List (List Address)) → x ∷ xs ≡ y ∷ ys → xs ≡ ys
 tails x y xs ys e = cc
 
-as_many : (stages : List Stage) (writes : List (List Write)) → listed_in stages ≡ written_in writes → AsMany stages writes
+pub as_many : (stages : List Stage) (writes : List (List Write)) → listed_in stages ≡ written_in writes → AsMany stages writes
 as_many [] writes same = tt
 as_many (s ∷ stages) [] same = tt
 as_many (s ∷ stages) (writes ∷ more) same = (
@@ -194,6 +194,18 @@ commit_calls base old new root =
     append_assoc (writes_of (log_writes (log_of (dirty old new) new (closed_of base new root))))
     (Synced ∷ block_calls (opened_of base)) (closing_calls (closed_of base new root) (dirty old new) new)
 
+-- the table of a commit that a disk with nothing in flight does
+pub commit_table : (disk : DiskState) (base : Base) (old new log : List ℕ) (root : ℕ) (given : Logged) → disk.flight ≡ []
+    → IsChange disk.held base old new root (dirty old new)
+    → IsFileOf (after_calls disk (change_calls base old new root)).held Log log
+    → IsTrueOf (IsRecoveredBy base old (closed_of base new root) new) disk.held (stages_by false true given (logged_of log))
+    (commit_writes base (dirty old new) new root)
+commit_table disk base old new log root given still is file =
+    let writes = commit_writes base (dirty old new) new root in
+    let held : (after_calls disk (change_calls base old new root)).held ≡ held_after disk.held writes =
+    ap (λ l. (after_calls disk l).held) (commit_calls base old new root) ∙ all_held disk disk.held writes refl still in
+    commit_true given is (subst (λ (h : Image). IsFileOf h Log log) held file)
+
 pub commit_column : (disk : DiskState) (base : Base) (old new log : List ℕ) (root : ℕ) (given : Logged) → disk.flight ≡ []
     → IsChange disk.held base old new root (dirty old new)
     → IsFileOf (after_calls disk (change_calls base old new root)).held Log log
@@ -201,14 +213,10 @@ pub commit_column : (disk : DiskState) (base : Base) (old new log : List ℕ) (r
     (change_calls base old new root)
 commit_column disk base old new log root given still is file =
     let writes = commit_writes base (dirty old new) new root in
-    let calls = commit_calls base old new root in
-    let held : (after_calls disk (change_calls base old new root)).held ≡ held_after disk.held writes =
-    ap (λ l. (after_calls disk l).held) calls ∙ all_held disk disk.held writes refl still in
     let P = IsRecoveredBy base old (closed_of base new root) new in
     let stages = stages_by false true given (logged_of log) in
-    let table : IsTrueOf P disk.held stages writes =
-    commit_true given is (subst (λ (h : Image). IsFileOf h Log log) held file) in
-    subst (λ (l : List Made). EachWordIsTrue P disk stages l) (sym calls)
+    let table = commit_table disk base old new log root given still is file in
+    subst (λ (l : List Made). EachWordIsTrue P disk stages l) (sym (commit_calls base old new root))
     (each_word P disk stages writes table.lists table.leaves still)
 
 pub recovery_column : (disk : DiskState) (base : Base) (bitmap bins log : List ℕ) (written : Logged) → disk.flight ≡ []
@@ -228,6 +236,30 @@ calls_append [] then = refl
 calls_append (writes ∷ more) then = append_assoc (writes_of writes) (Synced ∷ calls_of more) (calls_of then)
     ∙ ap (λ l. writes_of writes ++ Synced ∷ l) (calls_append more then)
 
+pub both_calls : (base : Base) (bitmap old new : List ℕ) (root : ℕ)
+    → closing_calls base (bit bitmap) old ++ change_calls base old new root
+    ≡ calls_of (recovery_writes base (bit bitmap) old ++ commit_writes base (dirty old new) new root)
+both_calls base bitmap old new root =
+    ap (λ l. closing_calls base (bit bitmap) old ++ l) (commit_calls base old new root)
+    ∙ calls_append (recovery_writes base (bit bitmap) old) (commit_writes base (dirty old new) new root)
+
+pub both_table : (disk : DiskState) (base : Base) (bitmap old new log last : List ℕ) (root : ℕ) → disk.flight ≡ []
+    → Found disk.held base bitmap old → NumbersFit base → TextsFit base → is_bins_size (length new) ≡ true → root < 2 ^ 32
+    → IsFileOf disk.held Log log
+    → IsFileOf (after_calls disk (closing_calls base (bit bitmap) old ++ change_calls base old new root)).held Log last
+    → IsTrueOf (IsRecoveredBy base old (closed_of base new root) new) disk.held
+    (stages_by true true (logged_of log) (logged_of last))
+    (recovery_writes base (bit bitmap) old ++ commit_writes base (dirty old new) new root)
+both_table disk base bitmap old new log last root still found numbers texts sized fits file left =
+    let writes = recovery_writes base (bit bitmap) old ++ commit_writes base (dirty old new) new root in
+    let held : (after_calls disk (closing_calls base (bit bitmap) old ++ change_calls base old new root)).held
+    ≡ held_after disk.held writes =
+    ap (λ l. (after_calls disk l).held) (both_calls base bitmap old new root) ∙ all_held disk disk.held writes refl still in
+    let stays : (i : ℕ) → 512 * i < length new → dirty old new i ≡ false
+    → (512 * i < length old) × (sector new i ≡ sector old i) =
+    λ i small off. let same = off_same old new i off in (omega (arith, same.0), sym same.1) in
+    both_true found numbers texts file sized fits stays (subst (λ (h : Image). IsFileOf h Log last) held left)
+
 pub both_column : (disk : DiskState) (base : Base) (bitmap old new log last : List ℕ) (root : ℕ) → disk.flight ≡ []
     → Found disk.held base bitmap old → NumbersFit base → TextsFit base → is_bins_size (length new) ≡ true → root < 2 ^ 32
     → IsFileOf disk.held Log log
@@ -236,17 +268,8 @@ pub both_column : (disk : DiskState) (base : Base) (bitmap old new log last : Li
     (stages_by true true (logged_of log) (logged_of last)) (closing_calls base (bit bitmap) old ++ change_calls base old new root)
 both_column disk base bitmap old new log last root still found numbers texts sized fits file left =
     let writes = recovery_writes base (bit bitmap) old ++ commit_writes base (dirty old new) new root in
-    let calls : closing_calls base (bit bitmap) old ++ change_calls base old new root ≡ calls_of writes =
-    ap (λ l. closing_calls base (bit bitmap) old ++ l) (commit_calls base old new root)
-    ∙ calls_append (recovery_writes base (bit bitmap) old) (commit_writes base (dirty old new) new root) in
-    let held : (after_calls disk (closing_calls base (bit bitmap) old ++ change_calls base old new root)).held
-    ≡ held_after disk.held writes =
-    ap (λ l. (after_calls disk l).held) calls ∙ all_held disk disk.held writes refl still in
     let P = IsRecoveredBy base old (closed_of base new root) new in
     let stages = stages_by true true (logged_of log) (logged_of last) in
-    let stays : (i : ℕ) → 512 * i < length new → dirty old new i ≡ false → (512 * i < length old) × (sector new i ≡ sector old i) =
-    λ i small off. let same = off_same old new i off in (omega (arith, same.0), sym same.1) in
-    let table : IsTrueOf P disk.held stages writes =
-    both_true found numbers texts file sized fits stays (subst (λ (h : Image). IsFileOf h Log last) held left) in
-    subst (λ (l : List Made). EachWordIsTrue P disk stages l) (sym calls)
+    let table = both_table disk base bitmap old new log last root still found numbers texts sized fits file left in
+    subst (λ (l : List Made). EachWordIsTrue P disk stages l) (sym (both_calls base bitmap old new root))
     (each_word P disk stages writes table.lists table.leaves still)

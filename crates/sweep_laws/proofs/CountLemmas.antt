@@ -1,8 +1,12 @@
 -- How many words are `after`, and how many `before`.
-use Rattle.std.proofs.Common.{◌≡◌, ℕ, ◌+◌, ◌-◌, ◌*◌, Bool, true, false, cond, not, List, [], ◌∷◌, ◌++◌, length, refl, ◌∙◌, arith, length-append}
+use Rattle.std.proofs.Common.{◌≡◌, ℕ, ◌+◌, ◌-◌, ◌*◌, Bool, true, false, cond, not, List, [], ◌∷◌, ◌++◌, length, refl, sym, ◌∙◌, arith, length-append}
 use Rattle.std.specs.List.{count_by}
 use Rattle.std.proofs.lemmas.List.Sums.{sum_by-append, sum_by-cons}
 use Rattle.hive_model.specs.Recovery.{one_if}
+use Rattle.std.specs.Prelude.{◌↔◌}
+use Rattle.std.proofs.lemmas.Bool.{false≢true}
+use Rattle.sweep_text.specs.declared.logged.Logged.{Logged}
+use Rattle.sweep_text.specs.Report.{stages_by}
 use Rattle.sweep_text.specs.Stages.{Stage, calls_in, afters_in}
 use Rattle.sweep_laws.specs.Counted.{four, words_of_writes, words_in}
 
@@ -73,3 +77,13 @@ both_tallied (w ∷ more) =
 
 pub false_words : (stages : List Stage) → count_by not (words_in stages) ≡ 4 * calls_in stages - afters_in stages
 false_words stages = omega (arith, both_tallied (words_in stages), true_words stages, four_words stages)
+
+-- ---- no call
+
+pub no_calls : (recovered committed : Bool) (recovery commit : Logged)
+    → (calls_in (stages_by recovered committed recovery commit) ≡ 0) ↔ ((recovered ≡ false) × (committed ≡ false))
+no_calls false false recovery commit = ((λ e. (refl, refl)), (λ e. refl))
+no_calls false true recovery commit =
+    ((λ e. absurd (omega (arith, e))), (λ e. absurd (false≢true (sym e.1))))
+no_calls true committed recovery commit =
+    ((λ e. absurd (omega (arith, e))), (λ e. absurd (false≢true (sym e.0))))

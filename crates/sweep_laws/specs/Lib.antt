@@ -3,3 +3,5 @@ pub mod Leaving
 pub mod Listing
 pub mod Truth
 pub mod Columns
+pub mod Counting
+pub mod Turning

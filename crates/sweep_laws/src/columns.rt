@@ -1,6 +1,6 @@
 //! The n-th word of a column is that of the n-th call.
 
-ghost use Rattle.std.specs.Prelude.{◌≡◌, ◌<◌, ◌^◌, ◌++◌, ℕ, List, [], length, map, true, false};
+ghost use Rattle.std.specs.Prelude.{◌≡◌, ◌<◌, ◌^◌, ◌++◌, ℕ, Bool, List, [], length, map, true, false};
 ghost use Rattle.hive_model.specs.Base.{Base, is_bins_size};
 ghost use Rattle.hive_model.specs.Image.{Log, IsFileOf};
 ghost use Rattle.hive_model.specs.Log.{dirty};
@@ -20,6 +20,7 @@ ghost use Rattle.sweep_text.specs.Report.{stages_by};
 ghost use Rattle.sweep_text.specs.Stages.{Stage, calls_in};
 ghost use Rattle.sweep_laws.specs.Columns.{column, after_calls, EachWordIsTrue, ways, printed, field_of};
 ghost use Rattle.sweep_laws.specs.Leaving.{sync_word, IsRecoveredBy, IsRecoveredBefore};
+ghost use Rattle.sweep_laws.specs.Turning.{TurnsOnce};
 
 /// A column has a word for each call that the table counts (`counted`). Where a disk with nothing in flight does the calls of a commit (`commit`), the
 /// writes and syncs of a recovery (`recovery`), or these and a commit's (`both`), one by one, and the power is cut in the n-th of them, what is
@@ -42,6 +43,12 @@ pub fn the_nth_word_is_that_of_the_nth_call()
         → IsFileOf (after_calls disk (closing_calls base (bit bitmap) old ++ change_calls base old new root)).held Log last
         → EachWordIsTrue (IsRecoveredBy base old (closed_of base new root) new) disk
         (stages_by true true (logged_of log) (logged_of last)) (closing_calls base (bit bitmap) old ++ change_calls base old new root) }
+{}
+
+/// Each column of the table of a report is `before` up to a call, and `after` from there on.
+pub fn each_column_turns_once()
+    ensures { (keep : KeepModel) (recovered committed : Bool) (recovery commit : LoggedModel)
+        → TurnsOnce (column keep (stages_by recovered committed recovery commit)) }
 {}
 
 /// The lines of a write and of a sync print a word for each way, in the order of the columns: as text (`write`, `sync`) and as fields of an object

@@ -10,9 +10,13 @@ mod lists;
 mod recoveries;
 mod tables;
 
-pub use columns::{a_line_prints_a_word_of_each_column, the_nth_word_is_that_of_the_nth_call};
+pub use columns::{
+    a_line_prints_a_word_of_each_column, each_column_turns_once,
+    the_nth_word_is_that_of_the_nth_call,
+};
 pub use counts::{
-    each_call_has_four_words, the_calls_of_a_commit_are_counted,
+    each_call_has_four_words, no_calls_are_counted_exactly_where_nothing_is_written,
+    the_calls_are_those_that_the_disk_counted, the_calls_of_a_commit_are_counted,
     the_calls_of_a_recovery_are_counted,
 };
 pub use cuts::{

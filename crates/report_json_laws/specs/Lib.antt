@@ -1,0 +1,12 @@
+pub mod Check
+pub mod Data
+pub mod Diff
+pub mod Graph
+pub mod Key
+pub mod Replay
+pub mod Salvage
+pub mod Show
+pub mod Starts
+pub mod Sweep
+pub mod Whatif
+pub mod Why
