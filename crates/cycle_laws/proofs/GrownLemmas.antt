@@ -28,10 +28,10 @@ use Rattle.cycle_laws.proofs.RoundLemmas.{put_keeps, put_in, put_first}
 
 -- ---- what an entry leads to
 
-abbrev leads_in : NeedsRun → ℕ → PhaseView → Entry → List ℕ
+abbrev pub leads_in : NeedsRun → ℕ → PhaseView → Entry → List ℕ
 leads_in n at v e = filter_map (leads n at v) (wanted n at v e)
 
-next_is : (n : NeedsRun) (number : ℕ) → next_of n number ≡ of_entry n (leads_in n) number
+pub next_is : (n : NeedsRun) (number : ℕ) → next_of n number ≡ of_entry n (leads_in n) number
 next_is n number = by (places_from 0 n.run.views number)
   where
     by_entry : (at : ℕ) (v : PhaseView) (o : Option Entry) → next_by n at v o ≡ option_map_or (leads_in n at v) o []
@@ -212,10 +212,15 @@ pub items_first : (n : NeedsRun) (number : ℕ) → (rest : List ℕ) × (items_
 unfolding items_of
 items_first n number = grown_first (next_of n) (entry_count n.run.views) 0 number []
 
-pub items_all : (n : NeedsRun) → AreNamed n → (number : ℕ) → number < entry_count n.run.views → (x to : ℕ) (ways : List ℕ)
-    → Contains (items_of n number) x → Contains (needs_of n x) ways → Contains ways to → Contains (items_of n number) to
+-- what an item leads to is one
+pub items_next : (n : NeedsRun) → AreNamed n → (number : ℕ) → number < entry_count n.run.views → (x to : ℕ)
+    → Contains (items_of n number) x → Contains (next_of n x) to → Contains (items_of n number) to
 unfolding items_of
-items_all n named number lt x to ways c need way =
+items_next n named number lt x to c there =
     all_grown (next_of n) (entry_count n.run.views) (leads_below n named) (entry_count n.run.views) 0 (number ∷ []) (omega arith)
     (room_one (entry_count n.run.views) [] number lt (room (entry_count n.run.views)))
-    (λ k x to none. absurd (omega (arith, none))) x to c (leads_ways n x to ways need way)
+    (λ k x to none. absurd (omega (arith, none))) x to c there
+
+pub items_all : (n : NeedsRun) → AreNamed n → (number : ℕ) → number < entry_count n.run.views → (x to : ℕ) (ways : List ℕ)
+    → Contains (items_of n number) x → Contains (needs_of n x) ways → Contains ways to → Contains (items_of n number) to
+items_all n named number lt x to ways c need way = items_next n named number lt x to c (leads_ways n x to ways need way)

@@ -9,12 +9,13 @@ use Rattle.wait_cycles.proofs.MetLemmas.{first_in, all_from, all_gives, all_weak
 use Rattle.service_control.proofs.LeanLemmas.{mapped_to}
 use Rattle.boot_phases.proofs.TriedLemmas.{some_place}
 use Rattle.start_model.specs.Entries.{Entry, need_of}
-use Rattle.start_model.specs.Machine.{Start, next_in}
-use Rattle.start_model.specs.Ready.{has_name, has_group, is_ready}
+use Rattle.start_model.specs.Ready.{Label, has_name, has_group, is_ready, next_of}
+use Rattle.why_state.specs.declared.views.PhaseView.{PhaseView}
+use Rattle.why_items.specs.declared.needs.NeedsRun.{NeedsRun}
 use Rattle.why_items.specs.Items.{lacks_services, lacks_groups}
 use Rattle.why_laws.specs.Lacks.{AreLacks, is_service_met, is_group_met}
 use Rattle.why_laws.proofs.LackLemmas.{lacks_are_unmet_needs}
-use Rattle.cycle_laws.specs.Lacks.{LacksNothingWhereMet, UnmetHasLack}
+use Rattle.cycle_laws.specs.Lacks.{HasLack, LacksNothingWhereMet}
 
 none_lacked : (met : List ℕ → Bool) (names lacks : List (List ℕ)) → AreLacks met names lacks → list_all met names ≡ true → lacks ≡ []
 none_lacked met names [] are all = refl
@@ -41,15 +42,23 @@ nothing_where_met n v e =
       ),
     )
 
--- ---- an unmet entry
+-- ---- an entry that is not ready
 
-not_ready : (s : Start) → next_in s ≡ None → (e : Entry) → Contains s.waiting e → is_ready s.started (need_of e) ≡ true → ⊥
-not_ready s none e c ready =
-    false≢true (sym (ap is_some none) ∙ some_place (is_ready s.started) (map need_of s.waiting)
-    ∙ any_from (is_ready s.started) (map need_of s.waiting) (need_of e) (mapped_to need_of s.waiting e c) ready)
+-- what was met by the end of the phase is among what was started
+pub record HasMet (n : NeedsRun) (v : PhaseView) (started : List Label) : Type 0 where
+  pub services : (name : List ℕ) → is_service_met n v name ≡ true → has_name started name ≡ true
+  pub groups : (group : List ℕ) → is_group_met n v group ≡ true → has_group started group ≡ true
 
-pub unmet_has_lack : UnmetHasLack
-unmet_has_lack n v s met none e c = by (lacks_services n v e) (lacks_groups n v e) refl refl
+not_ready : (started : List Label) (waiting : List Entry) → next_of started (map need_of waiting) ≡ None → (e : Entry) → Contains waiting e
+    → is_ready started (need_of e) ≡ true → ⊥
+not_ready started waiting none e c ready =
+    false≢true (sym (ap is_some none) ∙ some_place (is_ready started) (map need_of waiting)
+    ∙ any_from (is_ready started) (map need_of waiting) (need_of e) (mapped_to need_of waiting e c) ready)
+
+-- where no waiting entry is ready, each lacks something
+pub waiting_has_lack : (n : NeedsRun) (v : PhaseView) (started : List Label) (waiting : List Entry) → HasMet n v started
+    → next_of started (map need_of waiting) ≡ None → (e : Entry) → Contains waiting e → HasLack n v e
+waiting_has_lack n v started waiting met none e c = by (lacks_services n v e) (lacks_groups n v e) refl refl
   where
     by : (services groups : List (List ℕ)) → lacks_services n v e ≡ services → lacks_groups n v e ≡ groups
         → ((name : List ℕ) × Contains services name) ⊎ ((group : List ℕ) × Contains groups group)
@@ -57,7 +66,7 @@ unmet_has_lack n v s met none e c = by (lacks_services n v e) (lacks_groups n v 
     by [] (group ∷ groups) one two = inr (group, first_in group groups)
     by [] [] one two =
         let both = and_parts (list_all (is_service_met n v) e.services) (list_all (is_group_met n v) e.groups) ((nothing_where_met n v e).0 (one, two)) in
-        absurd (not_ready s none e c
-        (and_from (list_all (has_name s.started) e.services) (list_all (has_group s.started) e.groups)
-        (all_weaker (is_service_met n v) (has_name s.started) e.services (λ name i is. met.services name is) both.0)
-        (all_weaker (is_group_met n v) (has_group s.started) e.groups (λ group i is. met.groups group is) both.1)))
+        absurd (not_ready started waiting none e c
+        (and_from (list_all (has_name started) e.services) (list_all (has_group started) e.groups)
+        (all_weaker (is_service_met n v) (has_name started) e.services (λ name i is. met.services name is) both.0)
+        (all_weaker (is_group_met n v) (has_group started) e.groups (λ group i is. met.groups group is) both.1)))

@@ -5,3 +5,4 @@ pub mod LackLemmas
 pub mod RoundLemmas
 pub mod GrownLemmas
 pub mod FreedLemmas
+pub mod ReachedLemmas

@@ -50,7 +50,7 @@ put_in ks (y ∷ xs) x (zero, lt, e) =
         let a = any_gives (nat_eq y) ks is in subst (λ (z : ℕ). Contains ks z) (sym (eqb-true y a.0 a.2)) a.1
     here false is = Contains-push ks y
 
-put_only : (ks xs : List ℕ) (x : ℕ) → Contains (insert_all nat_eq ks xs) x → Contains ks x ⊎ Contains xs x
+pub put_only : (ks xs : List ℕ) (x : ℕ) → Contains (insert_all nat_eq ks xs) x → Contains ks x ⊎ Contains xs x
 put_only ks [] x c = inl c
 put_only ks (y ∷ xs) x c = elim (put_only (insert_key nat_eq ks y) xs x c) [
   | inl i ↦ by (list_any (nat_eq y) ks) i

@@ -35,7 +35,7 @@ use Rattle.why_lacks.specs.Lacks.{of_entry, keys_of, all_keys, entry_lines, entr
 use Rattle.why_cycle.specs.Needs.{leads_of, if_open, group_ways, needs_in, needs_of, places_in, waits_at, waits_of}
 use Rattle.why_cycle.specs.Cycle.{item_line, place_line}
 use Rattle.why_cycle.specs.Walk.{step}
-use Rattle.cycle_laws.specs.Cycles.{Item, IsSaid, Needs}
+use Rattle.cycle_laws.specs.Cycles.{Item, IsOf, IsSaid, Needs}
 
 -- ---- what a step takes
 
@@ -76,13 +76,6 @@ placed_number items to q is =
 
 -- ---- entries
 
--- the entry of a number
-pub record IsOf (n : NeedsRun) (number : ℕ) (x : Item) : Type 0 where
-  pub place : ℕ
-  pub places : places_from 0 n.run.views number ≡ Some (x.at, place)
-  pub phase : slice_get n.run.views x.at ≡ Some x.view
-  pub plan : slice_get x.view.plan place ≡ Some x.entry
-
 pub of_number : {X : Type 0} (n : NeedsRun) (f : ℕ → PhaseView → Entry → List X) (number : ℕ) (y : X) → Contains (of_entry n f number) y
     → (x : Item) × IsOf n number x × Contains (f x.at x.view x.entry) y
 of_number {X} n f number y c = by_places (places_from 0 n.run.views number) refl c
@@ -116,7 +109,7 @@ entry_of n f number x is =
     ∙ ap (λ (o : Option Entry). option_map_or (f x.at x.view) o []) is.plan
 
 -- the number of an entry has its places
-numbered : (at : ℕ) (views : List PhaseView) (k p : ℕ) (v : PhaseView) (number to : ℕ) → slice_get views k ≡ Some v → p < length v.plan
+pub numbered : (at : ℕ) (views : List PhaseView) (k p : ℕ) (v : PhaseView) (number to : ℕ) → slice_get views k ≡ Some v → p < length v.plan
     → number ≡ entry_count (take k views) + p → to ≡ at + k → places_from at views number ≡ Some (to, p)
 numbered at [] k p v number to is lt count there = absurd cc
 numbered at (w ∷ views) zero p v number to is lt count there =
@@ -131,10 +124,10 @@ numbered at (w ∷ views) (suc k) p v number to is lt count there =
     ∙ numbered (at + 1) views k p v (number - length w.plan) to is lt (omega (arith, count)) (omega (arith, there))
 
 -- the plan that has a name
-abbrev HasName : List PhaseView → List ℕ → ℕ × ℕ → Type 0
+abbrev pub HasName : List PhaseView → List ℕ → ℕ × ℕ → Type 0
 HasName views name place = (v : PhaseView) × (slice_get views place.0 ≡ Some v) × (place_in v.names name ≡ Some place.1)
 
-has_name : (views : List PhaseView) (m : ℕ) (name : List ℕ) (place : ℕ × ℕ) → placed_below views m name ≡ Some place → HasName views name place
+pub has_name : (views : List PhaseView) (m : ℕ) (name : List ℕ) (place : ℕ × ℕ) → placed_below views m name ≡ Some place → HasName views name place
 unfolding placed_below
 has_name views zero name place is = absurd cc
 has_name views (suc m) name place is = by (slice_get views m) refl is (has_name views m name place)
@@ -165,7 +158,7 @@ pub record LedTo (n : NeedsRun) (at : ℕ) (v : PhaseView) (name : List ℕ) (to
   pub same : folds_same name item.entry.name ≡ true
   pub unmet : need_of n.run at v name ≡ needs.Unmet
 
-entry_named : (es : List Entry) (k : ℕ) (found : List ℕ) → slice_get (names_of es) k ≡ Some found
+pub entry_named : (es : List Entry) (k : ℕ) (found : List ℕ) → slice_get (names_of es) k ≡ Some found
     → (e : Entry) × (slice_get es k ≡ Some e) × (e.name ≡ found)
 entry_named [] k found is = absurd cc
 entry_named (e ∷ es) zero found is = (e, refl, same_Some e.name found is)
@@ -205,7 +198,7 @@ led n named at v name to is = by (need_of n.run at v name) (placed_below n.run.v
     by (needs.NotTaken reason) o off below is = absurd cc
 
 -- one number has one entry
-one_item : (n : NeedsRun) (number : ℕ) (x y : Item) → IsOf n number x → IsOf n number y → x ≡ y
+pub one_item : (n : NeedsRun) (number : ℕ) (x y : Item) → IsOf n number x → IsOf n number y → x ≡ y
 one_item n number x y a b =
     let both : ◌≡◌ {A = ℕ × ℕ} (x.at, a.place) (y.at, b.place) = same_Some (x.at, a.place) (y.at, b.place) (sym a.places ∙ b.places) in
     let at : x.at ≡ y.at = λ i. (both i).0 in

@@ -12,6 +12,7 @@ use Rattle.why_state.specs.States.{need_of}
 use Rattle.why_state.specs.Views.{viewed_of}
 use Rattle.why_items.specs.declared.needs.NeedsRun.{NeedsRun}
 use Rattle.why_items.specs.Items.{needs_run_of, lacks_services, lacks_groups, members_at}
+use Rattle.why_items.specs.Vertices.{places_from}
 use Rattle.why_lacks.specs.Lacks.{lack_lines}
 use Rattle.why_cycle.specs.Cycle.{cycle_lines}
 
@@ -20,6 +21,13 @@ pub record Item : Type 0 where
   pub at : ℕ
   pub view : PhaseView
   pub entry : Entry
+
+-- the number is that of this entry
+pub record IsOf (n : NeedsRun) (number : ℕ) (x : Item) : Type 0 where
+  pub place : ℕ
+  pub places : places_from 0 n.run.views number ≡ Some (x.at, place)
+  pub phase : slice_get n.run.views x.at ≡ Some x.view
+  pub plan : slice_get x.view.plan place ≡ Some x.entry
 
 -- the entry is of the plan of that phase, and has an `unmet` line among those of these entries
 pub record IsSaid (n : NeedsRun) (numbers : List ℕ) (x : Item) : Type 0 where

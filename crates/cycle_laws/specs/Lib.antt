@@ -1,3 +1,4 @@
 pub mod Cycles
 pub mod Lacks
 pub mod Freed
+pub mod Reached

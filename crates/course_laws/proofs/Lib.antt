@@ -1,0 +1,6 @@
+pub mod MadeLemmas
+pub mod ActLemmas
+pub mod PastLemmas
+pub mod StandsLemmas
+pub mod MetLemmas
+pub mod UnmetLemmas
