@@ -1,0 +1,9 @@
+mod PartLemmas
+mod PieceLemmas
+mod FormLemmas
+mod LineLemmas
+mod JsonLemmas
+mod ReportLemmas
+mod TreeLemmas
+mod DepthLemmas
+mod PlaceLemmas
