@@ -2,8 +2,10 @@ mod PartLemmas
 mod PieceLemmas
 mod FormLemmas
 mod LineLemmas
+mod UnitLemmas
 mod JsonLemmas
 mod ReportLemmas
 mod TreeLemmas
 mod DepthLemmas
+mod CutLemmas
 mod PlaceLemmas

@@ -14,10 +14,11 @@ use Rattle.key_text.specs.Blocks.{title_line, flags_lines, class_lines, security
 use Rattle.key_text.specs.Found.{true_path, spelled, found_lines, path_lines, no_key_lines, lines_of}
 use Rattle.key_laws.specs.Lines.{IsKeyName, IsCounted, FitsItem, FitsLine, FitLines}
 use Rattle.key_laws.specs.Trees.{FitsHead, FitsTree, AllFit, IsHeld}
-use Rattle.key_laws.specs.Shown.{Place, place_at, place_by, place_of, shown_at, shown_of}
+use Rattle.key_laws.specs.Shown.{shown, Place, place_at, place_by, place_of, shown_at, shown_of, bare, bare_at}
 use Rattle.key_laws.proofs.FormLemmas.{wide_units}
-use Rattle.key_laws.proofs.TreeLemmas.{Titled, last_of, titled_last, same_key, whole}
+use Rattle.key_laws.proofs.TreeLemmas.{Titled, last_of, titled_last, same_key, whole, whole_bare}
 use Rattle.key_laws.proofs.DepthLemmas.{deeper, same_depth}
+use Rattle.key_laws.proofs.CutLemmas.{cut_key}
 
 -- ---- the lines of a key fit
 
@@ -263,25 +264,82 @@ same_deeper root path depth deep security p is few le =
     ∙ ap (λ (ls : List KeyLine). ls ++ EndLine ∷ []) (deeper security depth deep p.path p.found le few)
     ∙ sym (lines_placed root path depth security ∙ ap (place_lines security depth) is)
 
+-- two keys with the same lines, of which one has no more levels than are shown
+record SameWhole (security : Bool) (depth deep : ℕ) (p q : Place) : Type 0 where
+  paths : p.path ≡ q.path
+  few : levels q.found ≤ deep + 1
+  keys : shown security (depth + deep) p.found ≡ shown security (depth + deep) q.found
+
+same_whole : (security : Bool) (depth deep : ℕ) (p q : Place) → IsPlaced p → IsPlaced q → levels p.found ≤ depth + 1
+    → place_lines security depth (Some p) ≡ place_lines security deep (Some q) → SameWhole security depth deep p q
+same_whole security depth deep p q is_p is_q few e =
+    let end = EndLine ∷ [] in
+    let fewer = same_depth security security depth deep p.path q.path p.found q.found end few e in
+    let at_p = deeper security depth (depth + deep) p.path p.found (omega arith) few in
+    let at_q = deeper security deep (depth + deep) q.path q.found (omega arith) fewer in
+    let same = same_key security (depth + deep) p.path q.path p.found q.found end end is_p.fits is_q.fits is_p.title
+    is_q.title refl refl
+    (ap (λ (ls : List KeyLine). ls ++ end) at_p ∙ e ∙ sym (ap (λ (ls : List KeyLine). ls ++ end) at_q)) in
+    record { paths = same.0; few = fewer; keys = same.1 }
+
 whole_place : (depth deep : ℕ) (p : Place) (o : Option Place) → IsPlaced p → AreFound o → levels p.found ≤ depth + 1
     → place_lines true depth (Some p) ≡ place_lines true deep o → o ≡ Some p
 whole_place depth deep p None is_p is_o few e =
     absurd (false≢true (sym (says_some true depth p.path p.found (EndLine ∷ [])) ∙ ap says_none e))
 whole_place depth deep p (Some q) is_p is_o few e =
-    let end = EndLine ∷ [] in
-    let fewer = same_depth true true depth deep p.path q.path p.found q.found end few e in
-    let at_p = deeper true depth (depth + deep) p.path p.found (omega arith) few in
-    let at_q = deeper true deep (depth + deep) q.path q.found (omega arith) fewer in
-    let same = same_key true (depth + deep) p.path q.path p.found q.found end end is_p.fits is_o.fits is_p.title
-    is_o.title refl refl
-    (ap (λ (ls : List KeyLine). ls ++ end) at_p ∙ e ∙ sym (ap (λ (ls : List KeyLine). ls ++ end) at_q)) in
+    let same = same_whole true depth deep p q is_p is_o few e in
+    let fewer = same.few in
     let found : p.found ≡ q.found =
-    sym (whole (depth + deep) p.found (omega arith)) ∙ same.1 ∙ whole (depth + deep) q.found (omega arith) in
-    (λ i. Some (record { path = sym same.0 i; found = sym found i }))
+    sym (whole (depth + deep) p.found (omega arith)) ∙ same.keys ∙ whole (depth + deep) q.found (omega arith) in
+    (λ i. Some (record { path = sym same.paths i; found = sym found i }))
+
+bare_place : (depth deep : ℕ) (p : Place) (o : Option Place) → IsPlaced p → AreFound o → levels p.found ≤ depth + 1
+    → place_lines false depth (Some p) ≡ place_lines false deep o → option_map bare_at o ≡ Some (bare_at p)
+bare_place depth deep p None is_p is_o few e =
+    absurd (false≢true (sym (says_some false depth p.path p.found (EndLine ∷ [])) ∙ ap says_none e))
+bare_place depth deep p (Some q) is_p is_o few e =
+    let same = same_whole false depth deep p q is_p is_o few e in
+    let fewer = same.few in
+    let found : bare p.found ≡ bare q.found =
+    sym (whole_bare (depth + deep) p.found (omega arith)) ∙ same.keys ∙ whole_bare (depth + deep) q.found (omega arith) in
+    (λ i. Some (record { path = sym same.paths i; found = sym found i }))
+
+-- the lines of two paths are those of what they lead to
+between : (root other : Tree) (path way : List (List ℕ)) (depth deep : ℕ) (security : Bool) (p : Place)
+    → place_of root path ≡ Some p → lines_of root path depth security ≡ lines_of other way deep security
+    → place_lines security depth (Some p) ≡ place_lines security deep (place_of other way)
+between root other path way depth deep security p is e =
+    sym (lines_placed root path depth security ∙ ap (place_lines security depth) is) ∙ e
+    ∙ lines_placed other way deep security
 
 pub same_place : (root other : Tree) (path way : List (List ℕ)) (depth deep : ℕ) (p : Place) → IsHeld root → IsHeld other
     → place_of root path ≡ Some p → levels p.found ≤ depth + 1
     → lines_of root path depth true ≡ lines_of other way deep true → place_of other way ≡ Some p
 same_place root other path way depth deep p held holds is few e =
     whole_place depth deep p (place_of other way) (subst AreFound is (placed root path held)) (placed other way holds) few
-    (sym (lines_placed root path depth true ∙ ap (place_lines true depth) is) ∙ e ∙ lines_placed other way deep true)
+    (between root other path way depth deep true p is e)
+
+pub same_bare : (root other : Tree) (path way : List (List ℕ)) (depth deep : ℕ) (p : Place) → IsHeld root → IsHeld other
+    → place_of root path ≡ Some p → levels p.found ≤ depth + 1
+    → lines_of root path depth false ≡ lines_of other way deep false
+    → option_map bare_at (place_of other way) ≡ Some (bare_at p)
+same_bare root other path way depth deep p held holds is few e =
+    bare_place depth deep p (place_of other way) (subst AreFound is (placed root path held)) (placed other way holds) few
+    (between root other path way depth deep false p is e)
+
+-- ---- different depths
+
+uncut_place : (security : Bool) (depth deep : ℕ) (p : Place) (o : Option Place) → IsPlaced p → AreFound o → depth < deep
+    → place_lines security depth (Some p) ≡ place_lines security deep o → levels p.found ≤ depth + 1
+uncut_place security depth deep p None is_p is_o lt e =
+    absurd (false≢true (sym (says_some security depth p.path p.found (EndLine ∷ [])) ∙ ap says_none e))
+uncut_place security depth deep p (Some q) is_p is_o lt e =
+    (cut_key security depth deep p.path q.path p.found q.found (EndLine ∷ []) (EndLine ∷ []) lt is_p.fits is_o.fits refl
+    refl (omega arith) e).0
+
+pub whole_below : (root other : Tree) (path way : List (List ℕ)) (depth deep : ℕ) (security : Bool) (p : Place)
+    → IsHeld root → IsHeld other → place_of root path ≡ Some p → depth < deep
+    → lines_of root path depth security ≡ lines_of other way deep security → levels p.found ≤ depth + 1
+whole_below root other path way depth deep security p held holds is lt e =
+    uncut_place security depth deep p (place_of other way) (subst AreFound is (placed root path held))
+    (placed other way holds) lt (between root other path way depth deep security p is e)

@@ -12,7 +12,7 @@ use Rattle.key_text.specs.Lines.{KeyLine, RootLine, KeyAtLine, StampLine, FlagsL
 use Rattle.key_text.specs.Blocks.{title_line, flags_lines, class_lines, security_lines, head_lines, subkey_line, block_lines, key_lines, keys_lines, AreAlike}
 use Rattle.key_text.proofs.BlockLemmas.{same_blocks}
 use Rattle.key_laws.specs.Trees.{FitsTree, AllFit}
-use Rattle.key_laws.specs.Shown.{shown_head, all_named, shown, all_shown}
+use Rattle.key_laws.specs.Shown.{shown_head, all_named, shown, all_shown, bare, all_bare}
 use Rattle.key_laws.proofs.PartLemmas.{stops, heads, parted_by}
 
 abbrev Lines : Type 0
@@ -136,35 +136,35 @@ key_stops : (security : Bool) (depth : ℕ) (path : List (List ℕ)) (t : Tree) 
     → stops is_own (key_lines security depth path t ++ ls ++ after) ≡ true
 key_stops security depth path (key h ts) ls after = title_stops path h.name
 
-keys_stop : (security : Bool) (depth : ℕ) (path : List (List ℕ)) (ts : Trees) (after : Lines)
+pub keys_stop : (security : Bool) (depth : ℕ) (path : List (List ℕ)) (ts : Trees) (after : Lines)
     → stops is_own after ≡ true → stops is_own (keys_lines security depth path ts ++ after) ≡ true
 keys_stop security depth path none after stop = stop
 keys_stop security depth path (more t ts) after stop =
     key_stops security depth (path ++ (head t).name ∷ []) t (keys_lines security depth path ts) after
 
-below_stops : (b : Bool) (security : Bool) (depth : ℕ) (path : List (List ℕ)) (ts : Trees) (after : Lines)
+pub below_stops : (b : Bool) (security : Bool) (depth : ℕ) (path : List (List ℕ)) (ts : Trees) (after : Lines)
     → stops is_own after ≡ true → stops is_own (cond b [] (keys_lines security depth path ts) ++ after) ≡ true
 below_stops true security depth path ts after stop = stop
 below_stops false security depth path ts after stop = keys_stop security depth path ts after stop
 
 -- ---- a block
 
-bare : (security : Bool) (path : List (List ℕ)) (h : Head) (ts : List Tree)
+bare_block : (security : Bool) (path : List (List ℕ)) (h : Head) (ts : List Tree)
     → block_lines security path h ts ≡ block_lines true path (shown_head security h) ts
 unfolding head_lines
-bare true path h ts = refl
-bare false path h ts = refl
+bare_block true path h ts = refl
+bare_block false path h ts = refl
 
 small_class : (security : Bool) (h : Head) → IsBytes h.class → IsBytes (shown_head security h).class
 small_class true h is = is
 small_class false h is = is
 
-record SameBlock (security : Bool) (p q : List (List ℕ)) (h k : Head) (ts us : List Tree) (after others : Lines) : Type 0 where
-  names : title_line p h.name ≡ title_line q k.name
-  alike : AreAlike p q (shown_head security h) (shown_head security k) ts us
-  rest : after ≡ others
+pub record SameBlock (security : Bool) (p q : List (List ℕ)) (h k : Head) (ts us : List Tree) (after others : Lines) : Type 0 where
+  pub names : title_line p h.name ≡ title_line q k.name
+  pub alike : AreAlike p q (shown_head security h) (shown_head security k) ts us
+  pub rest : after ≡ others
 
-same_block : (security : Bool) (p q : List (List ℕ)) (h k : Head) (ts us : List Tree) (after others : Lines)
+pub same_block : (security : Bool) (p q : List (List ℕ)) (h k : Head) (ts us : List Tree) (after others : Lines)
     → IsBytes h.class → IsBytes k.class → stops is_own after ≡ true → stops is_own others ≡ true
     → block_lines security p h ts ++ after ≡ block_lines security q k us ++ others
     → SameBlock security p q h k ts us after others
@@ -177,7 +177,7 @@ same_block security p q h k ts us after others small little stop_a stop_m e =
     record {
       names = both.0;
       alike = same_blocks p q (shown_head security h) (shown_head security k) ts us (small_class security h small)
-          (small_class security k little) (sym (bare security p h ts) ∙ blocks ∙ bare security q k us);
+          (small_class security k little) (sym (bare_block security p h ts) ∙ blocks ∙ bare_block security q k us);
       rest = parts.1;
     }
 
@@ -205,7 +205,7 @@ same_head false p q h k ts us n e = λ i. record {
 
 -- ---- keys
 
-abbrev names : Trees → List (List ℕ)
+abbrev pub names : Trees → List (List ℕ)
 names ts = map (λ (t : Tree). (head t).name) (listed ts)
 
 same_named : (ts us : Trees) → names ts ≡ names us → all_named ts ≡ all_named us
@@ -282,15 +282,22 @@ one_level : (ts : Trees) → most_levels ts ≤ 0 → all_named ts ≡ ts
 one_level none le = refl
 one_level (more t ts) le = absurd (omega (arith, some_level t))
 
-whole_by : (b : Bool) (depth : ℕ) (ts deep : Trees) → eqb depth 0 ≡ b → most_levels ts ≤ depth
-    → (most_levels ts ≤ depth - 1 + 1 → deep ≡ ts) → cond b (all_named ts) deep ≡ ts
-whole_by true depth ts deep e le further = one_level ts (let none_below : depth ≡ 0 = grind (arith, nat_tests) in omega arith)
-whole_by false depth ts deep e le further = further (let some : 1 ≤ depth = grind (arith, nat_tests) in omega arith)
+bare_level : (ts : Trees) → most_levels ts ≤ 0 → all_named ts ≡ all_bare ts
+bare_level none le = refl
+bare_level (more t ts) le = absurd (omega (arith, some_level t))
+
+whole_by : (b : Bool) (depth : ℕ) (ts deep target : Trees) → eqb depth 0 ≡ b → most_levels ts ≤ depth
+    → (most_levels ts ≤ 0 → all_named ts ≡ target) → (most_levels ts ≤ depth - 1 + 1 → deep ≡ target)
+    → cond b (all_named ts) deep ≡ target
+whole_by true depth ts deep target e le wide further =
+    wide (let none_below : depth ≡ 0 = grind (arith, nat_tests) in omega arith)
+whole_by false depth ts deep target e le wide further =
+    further (let some : 1 ≤ depth = grind (arith, nat_tests) in omega arith)
 
 mutual
   pub whole : (depth : ℕ) (t : Tree) → levels t ≤ depth + 1 → shown true depth t ≡ t
   whole depth (key h ts) le =
-      ap (key h) (whole_by (eqb depth 0) depth ts (all_shown true (depth - 1) ts) refl (omega arith)
+      ap (key h) (whole_by (eqb depth 0) depth ts (all_shown true (depth - 1) ts) ts refl (omega arith) (one_level ts)
       (λ few. all_whole (depth - 1) ts few))
 
   all_whole : (depth : ℕ) (ts : Trees) → most_levels ts ≤ depth + 1 → all_shown true depth ts ≡ ts
@@ -298,4 +305,18 @@ mutual
   all_whole depth (more t ts) le =
       let first = whole depth t (omega arith) in
       let others = all_whole depth ts (omega arith) in
+      (λ i. more (first i) (others i))
+
+-- the same without descriptors
+mutual
+  pub whole_bare : (depth : ℕ) (t : Tree) → levels t ≤ depth + 1 → shown false depth t ≡ bare t
+  whole_bare depth (key h ts) le =
+      ap (key (shown_head false h)) (whole_by (eqb depth 0) depth ts (all_shown false (depth - 1) ts) (all_bare ts) refl
+      (omega arith) (bare_level ts) (λ few. all_whole_bare (depth - 1) ts few))
+
+  all_whole_bare : (depth : ℕ) (ts : Trees) → most_levels ts ≤ depth + 1 → all_shown false depth ts ≡ all_bare ts
+  all_whole_bare depth none le = refl
+  all_whole_bare depth (more t ts) le =
+      let first = whole_bare depth t (omega arith) in
+      let others = all_whole_bare depth ts (omega arith) in
       (λ i. more (first i) (others i))

@@ -28,6 +28,16 @@ abbrev mutual
   all_shown security depth none = none
   all_shown security depth (more t ts) = more (shown security depth t) (all_shown security depth ts)
 
+-- a key without the descriptors in it
+abbrev mutual
+  pub bare : Tree → Tree
+  bare (key h ts) = key (shown_head false h) (all_bare ts)
+
+  -- each of these keys without the descriptors in it
+  pub all_bare : Trees → Trees
+  all_bare none = none
+  all_bare (more t ts) = more (bare t) (all_bare ts)
+
 -- a key, and its path from the root down as the names are spelled
 pub record Place : Type 0 where
   pub path : List (List ℕ)
@@ -51,3 +61,7 @@ shown_at security depth p = record { path = p.path; found = shown security depth
 -- what `key` shows of the key that a path means, if there is one
 abbrev pub shown_of : Tree → List (List ℕ) → ℕ → Bool → Option Place
 shown_of root path depth security = option_map (shown_at security depth) (place_of root path)
+
+-- the key at a place without the descriptors in it
+abbrev pub bare_at : Place → Place
+bare_at p = record { path = p.path; found = bare p.found }

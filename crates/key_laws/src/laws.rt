@@ -1,13 +1,13 @@
 //! What a text determines.
 
-ghost use Rattle.std.specs.Prelude.{◌≡◌, ◌≤◌, ◌+◌, ℕ, Bool, true, List, Some};
+ghost use Rattle.std.specs.Prelude.{◌≡◌, ◌<◌, ◌≤◌, ◌+◌, ℕ, Bool, true, false, List, Some, option_map};
 ghost use Rattle.hive_model.specs.Tree.{Tree};
 ghost use Rattle.hive_model.specs.Valid.{levels};
 ghost use Rattle.line_text.specs.declared.form.ReportForm.{ReportForm};
 ghost use Rattle.key_text.specs.Found.{lines_of};
 ghost use Rattle.key_text.specs.Lines.{KeyLine, printed_lines};
 ghost use Rattle.key_laws.specs.Lines.{FitLines};
-ghost use Rattle.key_laws.specs.Shown.{Place, place_of, shown_of};
+ghost use Rattle.key_laws.specs.Shown.{Place, place_of, shown_of, bare_at};
 ghost use Rattle.key_laws.specs.Trees.{IsHeld};
 
 /// A text determines its lines: two sequences of lines that fit the fields of a hive have one text only where they are equal.
@@ -41,4 +41,20 @@ pub fn a_text_determines_its_key()
         → place_of root path ≡ Some place → levels place.found ≤ depth + 1
         → printed_lines form (lines_of root path depth true) ≡ printed_lines form (lines_of other way deep true)
         → place_of other way ≡ Some place }
+{}
+
+/// Without descriptors it determines all of the key but them, in the same way.
+pub fn a_text_without_descriptors_determines_the_rest()
+    ensures { (form : ReportForm) (root other : Tree) (path way : List (List ℕ)) (depth deep : ℕ) (place : Place) → IsHeld root → IsHeld other
+        → place_of root path ≡ Some place → levels place.found ≤ depth + 1
+        → printed_lines form (lines_of root path depth false) ≡ printed_lines form (lines_of other way deep false)
+        → option_map bare_at (place_of other way) ≡ Some (bare_at place) }
+{}
+
+/// Texts of different depths are equal only where neither cuts a key off: the lesser depth is at least the levels below the key.
+pub fn texts_of_different_depths_show_all()
+    ensures { (form : ReportForm) (root other : Tree) (path way : List (List ℕ)) (depth deep : ℕ) (security : Bool) (place : Place)
+        → IsHeld root → IsHeld other → place_of root path ≡ Some place → depth < deep
+        → printed_lines form (lines_of root path depth security) ≡ printed_lines form (lines_of other way deep security)
+        → levels place.found ≤ depth + 1 }
 {}
