@@ -34,7 +34,7 @@ pub fn a_depth_past_the_last_level_adds_nothing()
         → levels place.found ≤ depth + 1 → depth ≤ deep → lines_of root path deep security ≡ lines_of root path depth security }
 {}
 
-/// With descriptors and a depth of at least the levels below a key, its text determines the key whole: where another text with
+/// With descriptors and a depth of at least the levels below a key, a text determines the key whole: where another text with
 /// descriptors, of any depth, is the same, its path leads to a key equal in all, spelled the same.
 pub fn a_text_determines_its_key()
     ensures { (form : ReportForm) (root other : Tree) (path way : List (List ℕ)) (depth deep : ℕ) (place : Place) → IsHeld root → IsHeld other
@@ -43,7 +43,7 @@ pub fn a_text_determines_its_key()
         → place_of other way ≡ Some place }
 {}
 
-/// Without descriptors it determines all of the key but them, in the same way.
+/// Without descriptors a text of at least the levels below a key determines, in the same way, all of the key but them.
 pub fn a_text_without_descriptors_determines_the_rest()
     ensures { (form : ReportForm) (root other : Tree) (path way : List (List ℕ)) (depth deep : ℕ) (place : Place) → IsHeld root → IsHeld other
         → place_of root path ≡ Some place → levels place.found ≤ depth + 1
