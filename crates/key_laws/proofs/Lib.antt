@@ -1,0 +1,11 @@
+mod PartLemmas
+mod PieceLemmas
+mod FormLemmas
+mod LineLemmas
+mod UnitLemmas
+mod JsonLemmas
+mod ReportLemmas
+mod TreeLemmas
+mod DepthLemmas
+mod CutLemmas
+mod PlaceLemmas
