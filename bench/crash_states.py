@@ -1,6 +1,6 @@
 #!/usr/bin/env python3
-"""Explores what a kill, a loss of power or a failed call leaves of a save and of a mending: bench/crash_states.py NTBOOT NTMEND [--few] [--only CASE]. No gate
-runs it. It needs strace (Debian: apt-get install strace).
+"""Explores what a kill, a loss of power, a failed call or a short count leaves of a save and of a mending:
+bench/crash_states.py NTBOOT NTMEND [--few] [--only CASE]. No gate runs it. It needs strace (Debian: apt-get install strace), and cc for shorten.c.
 
 Each case is a run that saves a hive and its log over its own input, or a mending in place, in a folder of its own.
 1. States of power loss. The system calls of the run are recorded. After each one every state is made that a file system may then leave: of the
@@ -10,7 +10,9 @@ Each case is a run that saves a hive and its log over its own input, or a mendin
 2. Faults. Each call that the program makes fails in turn, with each of EIO, ENOSPC, EDQUOT and EINTR: the tree is then the old or the new one, the new
    one where the exit is 0, no new file is left over but where its removal failed, and the run made again ends its work.
 3. Kills. The run is killed at each call: the same, but that a new file may be left, and does not stop the run that follows.
-Prints the counts. --few takes each third fault and kill.
+4. Short counts. Each read and write moves half of the bytes that it asks for, or one byte, and then each of one run moves at most so many: the run
+   ends as it does without, prints the same, and leaves the same files.
+Prints the counts. --few takes each third fault, kill and short count.
 """
 import itertools
 import os
@@ -213,7 +215,7 @@ class Disk:
         return False
 
 
-# ---- the three explorations
+# ---- the four explorations
 
 def wrong(case, how, tree):
     sys.exit(f"{case.name}: {how}: {tree[:200]!r}")
@@ -298,6 +300,27 @@ def kills(case, room, shown, trees, step):
     return count
 
 
+def shortened(case, room, shorten, which, most):
+    """Runs the case with short counts. The answer is what it prints, its exit, the files that it leaves, and how many reads and writes there were."""
+    fill(room, case.files)
+    with tempfile.NamedTemporaryFile() as out:
+        done = run([shorten, out.name, str(which), str(most), case.program, *case.words], room)
+        count = int(read(out.name))
+    return (done.returncode, done.stdout, {name: read(room, name) for name in sorted(os.listdir(room))}), count
+
+
+def shorts(case, room, shorten, step):
+    """No read or write has its count shortened in the run that the others are compared with."""
+    whole, count = shortened(case, room, shorten, 0, 1 << 40)
+    if whole[0] != 0 or count == 0:
+        wrong(case, "the run itself", whole[1])
+    tried = [*itertools.product(range(1, count + 1, step), (0, 1)), *((0, most) for most in (1, 7, 511, 513, 4095))]
+    for which, most in tried:
+        if shortened(case, room, shorten, which, most)[0] != whole:
+            wrong(case, f"short counts, {which} of {count}, at most {most}", b"another end")
+    return len(tried)
+
+
 # ---- the cases
 
 def grown(count):
@@ -335,7 +358,9 @@ def main(words):
     only = words[words.index("--only") + 1] if "--only" in words else ""
     ntboot, ntmend = (os.path.abspath(w) for w in words[:2])
     shown = Shown(ntboot)
-    with tempfile.TemporaryDirectory() as room:
+    with tempfile.TemporaryDirectory() as room, tempfile.TemporaryDirectory() as made:
+        shorten = os.path.join(made, "shorten")
+        subprocess.run(["cc", "-O2", "-o", shorten, os.path.join(HERE, "shorten.c")], check=True)
         for case in cases(ntboot, ntmend, room):
             if only not in case.name:
                 continue
@@ -348,6 +373,7 @@ def main(words):
             count, exits = faults(case, room, shown, trees, step)
             print(f"{case.name}: {count} failed calls, exits {exits}", flush=True)
             print(f"{case.name}: {kills(case, room, shown, trees, step)} kills", flush=True)
+            print(f"{case.name}: {shorts(case, room, shorten, step)} runs with short counts", flush=True)
 
 
 main(sys.argv[1:])

@@ -146,13 +146,14 @@ class House:
         return [(*node, names) for node, (_, names) in self.nodes.items() if node not in seen and not any("◌" in it for it in names)]
 
     def unused(self):
-        """The names that a proof's `use` lines bring and nothing there cites. Those of an operator, and what is passed on, stay."""
-        for path, file in self.antt.items():
+        """The names that `use` lines bring, in a proof and for clauses, and nothing there cites. What is passed on stays."""
+        for file in [*self.antt.values(), *self.rt]:
             text = file.text()
             tokens = set(TOKEN.findall(text)) | set(re.findall(r"[\w']+", text))
             for here, (_, _, number) in file.names.items():
-                if here not in tokens and here != "[]" and "◌" not in here and not file.lines[number].startswith("pub "):
-                    yield path, number, here
+                parts = [it for it in here.split("◌") if it]
+                if not all(it in tokens or not it.isalnum() and it in text for it in parts) and not file.lines[number].startswith("pub "):
+                    yield file.path, number, here
 
 
 def main(words):

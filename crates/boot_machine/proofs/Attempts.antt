@@ -1,6 +1,6 @@
 -- An attempt of the first ready entry, in its parts.
-use Rattle.std.proofs.Common.{◌≡◌, ℕ, ◌==◌, Bool, List, Option, Some, Result, Ok, Err, subst, refl, ◌∙◌}
-use Rattle.std.specs.Prelude.{if◌then◌else◌, IfOk}
+use Rattle.std.proofs.Common.{◌≡◌, ℕ, Bool, List, Option, Some, Result, Ok, Err, subst, refl, ◌∙◌}
+use Rattle.std.specs.Prelude.{IfOk}
 use Rattle.start_model.specs.Machine.{MachineState, Start, attempt_in, attempt_of}
 use Rattle.boot_machine.specs.declared.tried.Tried as code
 use Rattle.boot_machine.specs.Views.{tried_in}

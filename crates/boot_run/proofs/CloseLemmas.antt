@@ -1,5 +1,5 @@
 -- What a flush and the end of a start amount to.
-use Rattle.std.proofs.Common.{◌≡◌, Bool, true, false, cond, [], ◌∷◌, ◌++◌, Option, Some, None, refl, sym, ap, subst, ◌∙◌}
+use Rattle.std.proofs.Common.{◌≡◌, Bool, true, false, cond, [], ◌∷◌, Option, Some, None, refl, sym, ap, subst, ◌∙◌}
 use Rattle.std.specs.Prelude.{Result, Ok, Err, OnOk, option_map}
 use Rattle.std.specs.Option.{option_map_or}
 use Rattle.hive_model.specs.Tree.{Tree}

@@ -1,5 +1,5 @@
 -- What a disk with nothing in flight may be left as, and what remains when it is turned off.
-use Rattle.std.proofs.Common.{◌≡◌, ◌⊎◌, inl, inr, ⊎_elim, false, List, [], ◌∷◌, ◌++◌, refl, sym, ap, subst, ◌∙◌}
+use Rattle.std.proofs.Common.{◌≡◌, ◌⊎◌, inl, inr, ⊎_elim, false, List, [], ◌∷◌, refl, sym, ap, subst}
 use Rattle.std.specs.Prelude.{Result, Ok, Err, IsErrOf}
 use Rattle.hive_model.specs.Image.{Image, Write, Address, IsCrashImage}
 use Rattle.hive_model.specs.State.{HiveState}

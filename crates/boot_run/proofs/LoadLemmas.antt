@@ -1,5 +1,5 @@
 -- What a load amounts to in the book's run.
-use Rattle.std.proofs.Common.{◌≡◌, ◌⊎◌, inl, ℕ, Bool, false, List, [], ◌∷◌, ◌++◌, refl, sym, ap, subst, ◌∙◌, append-nil}
+use Rattle.std.proofs.Common.{◌≡◌, inl, ℕ, Bool, false, List, [], ◌∷◌, refl, sym, ap, subst, ◌∙◌, append-nil}
 use Rattle.nt_bytes.specs.declared.fault.HiveFault.{HiveFault}
 use Rattle.hive_model.specs.Bins.{spelled}
 use Rattle.hive_model.specs.Image.{Image}

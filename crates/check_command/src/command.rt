@@ -5,7 +5,7 @@ ghost use Rattle.hive_model.specs.Valid.{HoldsKeys};
 ghost use Rattle.command_parts.specs.Inputs.{AsksHive, AsksSoMany};
 ghost use Rattle.command_parts.specs.OnHive.{AnswersOnHive, SeeksAnswer, DecidesOnHive, told_answer};
 ghost use Rattle.command_words.specs.Views.{check_seen};
-ghost use Rattle.check_command.specs.Answer.{tree_answer, question_at, question_on, question_in, asks_check};
+ghost use Rattle.check_command.specs.Answer.{tree_answer, question_at, question_in, asks_check};
 
 use check_text::lines_text;
 use command_parts::{HiveFiles, Obstacle, Refusal, Status, Told, answer, hive_in, no_memory, read};

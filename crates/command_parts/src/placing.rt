@@ -2,12 +2,13 @@
 
 ghost use Rattle.std.specs.Prelude.{◌≡◌, false, [], length, min, take, unwrap_or, IfOk, OnOk, OnErr};
 ghost use Rattle.hive_model.specs.Valid.{IsValid};
-ghost use Rattle.hive_store.specs.Checks.{ChecksAs, JudgesAs};
+ghost use Rattle.hive_store.specs.Checks.{ChecksAs, ChecksCells, JudgesAs};
 ghost use Rattle.nt_edge.specs.Disk.{new_state};
 ghost use Rattle.command_parts.specs.Placed.{image_in, placed_disk, with_log, IsUnrun};
 
 use crate::inputs::HiveFiles;
-use hive_store::{check_images, judge_images};
+use hive_edit::HiveBytes;
+use hive_store::{check_cells, check_images, judge_images};
 use nt_bytes::{Bytes, HiveVersion, ReadStop};
 use nt_edge::{Bench, DiskStop, HiveFile};
 use reg_tree::Key;
@@ -47,6 +48,17 @@ pub fn judge(alloc: Global, files: &HiveFiles) -> Result<(u32, HiveVersion), Rea
     ensures { JudgesAs (image_in files.now) result }
 {
     judge_images(alloc, files.primary.as_slice(), log_bytes(&files.log))
+}
+
+/// Judges a whole hive with its log, as a start will load it, and keeps its cells, in which keys are looked up; no tree is made. Beside them
+/// its sequence number and its version.
+pub fn judge_cells(
+    alloc: Global,
+    files: &HiveFiles,
+) -> Result<(HiveBytes, u32, HiveVersion), ReadStop>
+    ensures { ChecksCells (image_in files.now) result }
+{
+    check_cells(alloc, files.primary.as_slice(), log_bytes(&files.log))
 }
 
 /// Places the log on the disk, where there is one.

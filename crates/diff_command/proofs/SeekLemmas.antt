@@ -1,5 +1,5 @@
 -- What a search for the answer leaves, step by step.
-use Rattle.std.proofs.Common.{◌≡◌, ◌⊎◌, inr, ℕ, None, subst, ◌∙◌}
+use Rattle.std.proofs.Common.{◌≡◌, inr, ℕ, None, subst}
 use Rattle.std.specs.Prelude.{Result, Ok, Err}
 use Rattle.nt_bytes.specs.declared.fault.HiveFault.{HiveFault}
 use Rattle.nt_bytes.specs.declared.version.HiveVersion.{HiveVersion}

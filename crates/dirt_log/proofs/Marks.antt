@@ -1,5 +1,5 @@
 -- The sectors of a log, in sequence.
-use Rattle.std.proofs.Common.{◌≡◌, ◌<◌, ◌≤◌, ◌+◌, ◌-◌, ◌*◌, ◌/◌, ℕ, Bool, true, false, cond, List, [], ◌∷◌, length, refl, ap, ◌∙◌, add-one, arith}
+use Rattle.std.proofs.Common.{◌≡◌, ◌<◌, ◌≤◌, ◌+◌, ◌-◌, ◌*◌, ◌/◌, ℕ, Bool, true, false, cond, List, ◌∷◌, length, refl, ap, ◌∙◌, add-one, arith}
 use Rattle.hive_model.specs.Recovery.{sector, rank, first_dirty}
 use Rattle.hive_log.proofs.Ranks.{rank_below}
 use Rattle.log_parts.specs.Pages.{put_at, put_pages}

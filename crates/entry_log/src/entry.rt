@@ -1,7 +1,7 @@
 //! One entry.
 
-ghost use Rattle.std.specs.Prelude.{◌≡◌, ◌<◌, ◌≤◌, ◌+◌, ◌*◌, ◌/◌, true, length, IfSome};
-ghost use Rattle.entry_log.specs.Entries.{begins_entry, bytes_of, has_length, has_hashes, is_page, are_pages, has_pages, IsWhole};
+ghost use Rattle.std.specs.Prelude.{◌≡◌, ◌<◌, ◌≤◌, ◌+◌, ◌*◌, ◌/◌, true, length};
+ghost use Rattle.entry_log.specs.Entries.{begins_entry, bytes_of, has_length, has_hashes, is_page, are_pages, has_pages};
 ghost use Rattle.entry_log.specs.Entries as book;
 ghost use Rattle.entry_log.specs.Runs.{follows, judged, found_at};
 

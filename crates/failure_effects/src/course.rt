@@ -1,12 +1,11 @@
 //! A start in its course, attempt by attempt.
 
-ghost use Rattle.std.specs.Prelude.{◌≡◌, ◌<◌, ◌++◌, false, map, Some, IfOk, OnOk, length};
+ghost use Rattle.std.specs.Prelude.{◌≡◌, ◌<◌, ◌++◌, false, map, Some, IfOk, OnOk};
 ghost use Rattle.std.specs.Option.{option_copied};
 ghost use Rattle.hive_model.specs.Tree.{Tree};
 ghost use Rattle.boot_phases.specs.Lists.{lists_of};
-ghost use Rattle.start_model.specs.Machine.{MachineState, off_machine};
 ghost use Rattle.boot_machine.specs.Steps.{is_at_end};
-ghost use Rattle.failure_effects.specs.Played.{noted, judged, left, begun, attempted, next_course, attempts_of, phase_ended, phase_played, played_on, played, waiting_count};
+ghost use Rattle.failure_effects.specs.Played.{noted, judged, left, begun, next_course, attempts_of, phase_ended, phase_played, played_on, played, waiting_count};
 ghost use Rattle.error_control.specs.Judgement.{judgement_in};
 
 use crate::opening::Taken;

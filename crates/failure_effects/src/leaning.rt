@@ -1,6 +1,6 @@
 //! Who leans on a name.
 
-ghost use Rattle.std.specs.Prelude.{◌≡◌, ◌<◌, ◌^◌, ◌+◌, ◌++◌, ◌∷◌, [], ℕ, suc, not, map, filter, length, IfOk, OnOk, if◌then◌else◌};
+ghost use Rattle.std.specs.Prelude.{◌≡◌, ◌<◌, ◌^◌, ◌+◌, ◌++◌, ◌∷◌, [], ℕ, suc, not, map, filter, IfOk, OnOk, if◌then◌else◌};
 ghost use Rattle.std.specs.List.{filter_map, list_any, cons_option};
 ghost use Rattle.failure_effects.specs.Lost.{has_name as has};
 ghost use Rattle.hive_model.specs.Valid.{HoldsKeys};

@@ -1,6 +1,6 @@
 //! An open file, as a disk of sectors asks it.
 
-ghost use Rattle.std.specs.Prelude.{◌≡◌, ◌≤◌, ◌∷◌, [], ℕ, List, length};
+ghost use Rattle.std.specs.Prelude.{◌≤◌, ◌∷◌, [], ℕ, List, length};
 ghost use Rattle.std.specs.Io.{ReadsAtMost};
 ghost use Rattle.file_disk.specs.Asked.{Asked, ReadFrom, WroteTo, SyncedFile, Asks, CountsFailure};
 

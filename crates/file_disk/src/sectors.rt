@@ -1,6 +1,6 @@
 //! A sector of an open file.
 
-ghost use Rattle.std.specs.Prelude.{◌≡◌, ◌<◌, ◌≤◌, ◌+◌, ◌-◌, ◌*◌, ◌∷◌, [], if◌then◌else◌, nat_eq, IfOk, IfErr};
+ghost use Rattle.std.specs.Prelude.{◌≡◌, ◌<◌, ◌≤◌, ◌+◌, ◌-◌, ◌*◌, ◌∷◌, [], if◌then◌else◌, nat_eq, IfOk};
 ghost use Rattle.file_disk.specs.Asked.{ReadFrom, WroteTo, Asks, CountsFailure, ReadsSector};
 ghost use Rattle.nt_edge.specs.declared.disk.Presence.TheVariants.{Whole, Absent};
 

@@ -3,7 +3,6 @@
 ghost use Rattle.std.specs.Prelude.{◌≡◌, ◌+◌, ◌*◌, [], ◌∷◌, ◌++◌, codes, replicate, length, take, slice_range};
 ghost use Rattle.hive_model.specs.Base.{base_text};
 ghost use Rattle.hive_model.specs.Log.{dirty, bytes_of_bits, log_of};
-ghost use Rattle.hive_model.specs.Recovery.{sector};
 ghost use Rattle.hive_laws.specs.Samples.{block, before, after, longer};
 
 /// Two lists of 4096 bytes differ at byte 600 alone: only sector 1 has to be logged. The log is a base

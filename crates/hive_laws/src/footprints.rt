@@ -2,7 +2,7 @@
 
 ghost use Rattle.std.specs.Prelude.{◌≡◌, ℕ, List, ◌++◌, Ok, Err};
 ghost use Rattle.hive_model.specs.Bins.{Cells};
-ghost use Rattle.hive_model.specs.Tree.{Tree, none};
+ghost use Rattle.hive_model.specs.Tree.{Tree};
 ghost use Rattle.hive_model.specs.Edit.{Step, Refusal, after_steps};
 ghost use Rattle.hive_model.specs.Footprint.{footprint_of, IsInFootprint};
 

@@ -7,7 +7,6 @@ ghost use Rattle.hive_model.specs.Carries.{HasBase};
 ghost use Rattle.hive_model.specs.Recovery.{Recovered, recovered_of};
 ghost use Rattle.hive_model.specs.Asked.{primary_at, log_at, is_readable, asked_of};
 ghost use Rattle.hive_laws.specs.Looking.{LooksAt, IsInOrder};
-ghost use Rattle.hive_laws.specs.Samples.{block};
 
 /// Images that agree at each sector at which recovery of the first looks recover alike: as the same base
 /// block and bins data, or with the same fault.

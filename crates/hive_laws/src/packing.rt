@@ -3,7 +3,7 @@
 ghost use Rattle.std.specs.Prelude.{◌≡◌, ◌<◌, ℕ, List, length};
 ghost use Rattle.hive_model.specs.Bins.{Cells};
 ghost use Rattle.hive_model.specs.Lists.{AreHints};
-ghost use Rattle.hive_model.specs.Packed.{list_cells, packed};
+ghost use Rattle.hive_model.specs.Packed.{list_cells};
 ghost use Rattle.hive_model.specs.InPlace.{IsPackedList};
 ghost use Rattle.hive_laws.specs.Rows.{InARow};
 

@@ -1,6 +1,6 @@
 //! What the options make of a text.
 
-ghost use Rattle.std.specs.Prelude.{◌≡◌, ◌↔◌, ◌++◌, ◌∷◌, ℕ, Bool, true, false, List, [], Option, Some, None, Result, Ok, Err, map, option_map, codes};
+ghost use Rattle.std.specs.Prelude.{◌≡◌, ◌↔◌, ◌++◌, ◌∷◌, ℕ, Bool, true, false, List, Option, Some, None, Result, Ok, Err, map, option_map, codes};
 ghost use Rattle.reg_text.specs.declared.item.LineItem.{LineItem};
 ghost use Rattle.reg_text.specs.Reading.{edits_of, key_after};
 ghost use Rattle.std.specs.List.{All, list_any};

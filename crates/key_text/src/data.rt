@@ -1,6 +1,6 @@
 //! The form of a value's data.
 
-ghost use Rattle.std.specs.Prelude.{◌≡◌, ◌==◌, ◌&&◌, ◌+◌, ◌*◌, ◌≤◌, length, take, option_map, IfOk};
+ghost use Rattle.std.specs.Prelude.{◌≡◌, ◌==◌, ◌&&◌, ◌*◌, ◌≤◌, length, IfOk};
 ghost use Rattle.key_text.specs.Data.{is_zero_before_end, are_strings, strings_of, string_form, is_string_kind, units_form, form_of};
 
 use crate::split::split_at;

@@ -1,7 +1,7 @@
 //! The date of a day.
 
 ghost use Rattle.std.specs.Prelude.{◌≡◌, ◌<◌, ◌≤◌, ◌+◌};
-ghost use Rattle.key_text.specs.Dates.{is_leap, year_day, month_in, date_of};
+ghost use Rattle.key_text.specs.Dates.{is_leap, year_day, date_of};
 
 use crate::month::month_of;
 use std::marker::Model;

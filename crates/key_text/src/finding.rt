@@ -2,7 +2,7 @@
 
 ghost use Rattle.std.specs.Prelude.{◌≡◌, ◌∷◌, IfOk};
 ghost use Rattle.hive_model.specs.Valid.{HoldsKeys};
-ghost use Rattle.key_text.specs.Found.{current, means_current, default_path, true_path, spelled};
+ghost use Rattle.key_text.specs.Found.{means_current, default_path, true_path, spelled};
 
 use nt_bytes::{Names, Units, same_folded};
 use reg_tree::Key;

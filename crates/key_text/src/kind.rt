@@ -1,6 +1,6 @@
 //! The names of types.
 
-ghost use Rattle.std.specs.Prelude.{◌≡◌, ◌++◌, slice_get, option_map, IfOk, OnOk};
+ghost use Rattle.std.specs.Prelude.{◌≡◌, ◌++◌, slice_get, option_map, OnOk};
 ghost use Rattle.key_text.specs.Kinds.{kind_names, kind_digits, kind_text};
 
 use line_text::push_hex;

@@ -1,7 +1,6 @@
 //! The month of a day of the year.
 
-ghost use Rattle.std.specs.Prelude.{◌≡◌, ◌<◌, ◌≤◌, ◌+◌, sum, length};
-ghost use Rattle.std.specs.List.{All};
+ghost use Rattle.std.specs.Prelude.{◌≡◌, ◌<◌, ◌≤◌, ◌+◌, length};
 ghost use Rattle.key_text.specs.Months.{month_lengths, month_day};
 
 use std::marker::Model;

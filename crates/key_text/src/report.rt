@@ -1,6 +1,6 @@
 //! The report of `key`.
 
-ghost use Rattle.std.specs.Prelude.{◌≡◌, ◌++◌, [], IfOk, OnOk};
+ghost use Rattle.std.specs.Prelude.{◌≡◌, ◌++◌, IfOk, OnOk};
 ghost use Rattle.std.specs.Option.{option_copied};
 ghost use Rattle.hive_model.specs.Valid.{HoldsKeys};
 ghost use Rattle.key_text.specs.Lines.{printed_lines};

@@ -2,7 +2,7 @@
 
 ghost use Rattle.std.specs.Prelude.{◌≡◌, [], ◌∷◌, ◌++◌, codes, IfOk, OnOk};
 ghost use Rattle.line_text.specs.Objects.{Number, Text, fields_text, object_text};
-ghost use Rattle.start_model.specs.Lines.{StartLine, SetLine, CommitLine, SelectLine, TryLine, SaveRefusedLine, RefusedLine, event_word, refused_word};
+ghost use Rattle.start_model.specs.Lines.{SetLine, CommitLine, SelectLine, TryLine, SaveRefusedLine, RefusedLine};
 ghost use Rattle.boot_report.specs.Report.{commit_of, event_of, line_of, refused_of, try_of};
 ghost use Rattle.line_objects.specs.Objects.{line_json, printed, select_fields};
 

@@ -1,6 +1,6 @@
 //! Texts in quotes: JSON strings in ASCII.
 
-ghost use Rattle.std.specs.Prelude.{◌≡◌, ◌++◌, codes, OnOk};
+ghost use Rattle.std.specs.Prelude.{◌≡◌, ◌++◌, OnOk};
 ghost use Rattle.std.specs.List.{flat_map};
 ghost use Rattle.line_text.specs.Quoted.{quoted_unit, quoted, more_quoted, quoted_list};
 

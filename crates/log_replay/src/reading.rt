@@ -2,7 +2,7 @@
 
 ghost use Rattle.std.specs.Prelude.{◌≡◌, ◌≤◌, ◌*◌, ◌/◌, ◌++◌, length, take, IfOk, OnOk};
 ghost use Rattle.log_parts.specs.Wide.{wide_base_of};
-ghost use Rattle.log_replay.specs.Reading.{based, reading_of, entries_in, run_line, fault_lines, old_line, reading_lines, IsWholeAs};
+ghost use Rattle.log_replay.specs.Reading.{based, reading_of, entries_in, run_line, fault_lines, old_line, reading_lines};
 
 use crate::line::{LogName, ReplayLine};
 use dirt_log::{OldReading, read_old};

@@ -27,11 +27,11 @@ impl MemDisk {
 
 impl Bench for MemDisk {
     ghost use Rattle.std.specs.Prelude.{◌≡◌, ◌≤◌, true, false, [], length, IfOk, IfErr, OnOk, OnErr};
-    ghost use Rattle.hive_model.specs.Image.{Image, IsCrashImage, IsFileOf, ArmedCut, ArmedFault};
-    ghost use Rattle.nt_edge.specs.Book.{file_of, call_of, keep_of};
+    ghost use Rattle.hive_model.specs.Image.{Image, IsCrashImage, IsFileOf};
+    ghost use Rattle.nt_edge.specs.Book.{file_of};
     ghost use Rattle.nt_edge.specs.Calls.{MakesNone};
     ghost use Rattle.nt_edge.specs.Disk.{now_of};
-    ghost use Rattle.nt_edge.specs.Bench.{placed, woken, taken, turned_off, cut_off, armed};
+    ghost use Rattle.nt_edge.specs.Bench.{placed, woken, taken, turned_off};
     ghost use Rattle.nt_edge.specs.declared.disk.DiskStop.TheVariants.{Memory};
     ghost use Rattle.mem_edge.specs.Calls.{counts_calls};
     ghost use Rattle.mem_edge.specs.State.{state_of};

@@ -1,6 +1,6 @@
 //! Files as vectors of sectors: bytes cut up, and sectors joined.
 
-ghost use Rattle.std.specs.Prelude.{◌≡◌, ◌+◌, ◌*◌, ◌<◌, ◌≤◌, ℕ, List, Some, None, length, take, drop, IfOk};
+ghost use Rattle.std.specs.Prelude.{◌≡◌, ◌+◌, ◌*◌, ◌<◌, ◌≤◌, ℕ, None, length, take, drop, IfOk};
 ghost use Rattle.hive_model.specs.Image.{sector_of, padded, bytes_of};
 ghost use Rattle.mem_edge.specs.Views.{content_of, held_in};
 ghost use Rattle.mem_edge.specs.Files.{IsJoined};

@@ -1,6 +1,6 @@
 //! A host in memory that never fails but for lack of memory.
 
-ghost use Rattle.std.specs.Prelude.{◌≡◌, ℕ, List, [], None, true, option_map, OnOk, OnErr};
+ghost use Rattle.std.specs.Prelude.{◌≡◌, ℕ, List, [], None, option_map, OnOk, OnErr};
 ghost use Rattle.nt_edge.specs.Host.{Puts};
 ghost use Rattle.mem_edge.specs.Hosts.{quiet_files_of, quiet_host_of, quiet_law};
 

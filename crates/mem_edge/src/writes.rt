@@ -1,8 +1,8 @@
 //! The writes in flight, with the latest one to each sector at hand.
 
-ghost use Rattle.std.specs.Prelude.{◌≡◌, ◌↔◌, IsTrue, List, [], ◌∷◌, ◌++◌, None, OnOk, OnErr};
-ghost use Rattle.hive_model.specs.Image.{Address, put, overlaid};
-ghost use Rattle.mem_edge.specs.Views.{content_of, whole_of, latest_of, write_of, writes_of, flying};
+ghost use Rattle.std.specs.Prelude.{◌≡◌, ◌↔◌, IsTrue, [], ◌∷◌, ◌++◌, None, OnOk, OnErr};
+ghost use Rattle.hive_model.specs.Image.{Address, put};
+ghost use Rattle.mem_edge.specs.Views.{content_of, whole_of, latest_of, writes_of, flying};
 
 use nt_edge::{Address, HiveFile};
 use std::alloc::{AllocError, Global};

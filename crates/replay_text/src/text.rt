@@ -1,6 +1,6 @@
 //! The lines as texts.
 
-ghost use Rattle.std.specs.Prelude.{◌≡◌, ◌++◌, OnOk, codes};
+ghost use Rattle.std.specs.Prelude.{◌≡◌, ◌++◌, OnOk};
 ghost use Rattle.replay_text.specs.Lines.{log_text, sequence_text, entries_text, old_text, other_text, fault_text, apply_text, replayed_text, saved_text, line_text};
 
 use crate::words::{kind_word, name_word, state_word};

@@ -1,5 +1,5 @@
 -- A log that is whole is long, what is opened is small, and payloads of bytes are bytes.
-use Rattle.std.proofs.Common.{◌≡◌, ℕ, ◌+◌, ◌-◌, ◌/◌, ◌%◌, ◌<◌, ◌≤◌, Bool, true, false, cond, List, [], ◌∷◌, length, length-take, take, drop, ◌++◌, replicate, Option, Some, None, Result, Ok, Err, refl, sym, ap, subst, ◌∙◌, arith}
+use Rattle.std.proofs.Common.{◌≡◌, ℕ, ◌+◌, ◌-◌, ◌≤◌, Bool, true, false, cond, List, [], ◌∷◌, length, length-take, take, drop, ◌++◌, replicate, Option, Some, None, Result, Ok, Err, refl, sym, ap, subst, ◌∙◌, arith}
 use Rattle.std.specs.Prelude.{◌==◌, ◌||◌, nat_lt, slice_range}
 use Rattle.std.proofs.lemmas.Bool.{leb-true}
 use Rattle.std.proofs.lemmas.Bool.Decides.{nat_tests}
@@ -29,11 +29,10 @@ use Rattle.salvage_bins.specs.declared.layout.Mark.TheVariants as marks
 use Rattle.salvage_bins.specs.Ground.{mark_at, payload_here, payload_by}
 use Rattle.salvage_file.specs.declared.recovery.LogStop.{LogStop}
 use Rattle.salvage_file.specs.declared.recovery.RecoveredHive.{RecoveredHive}
-use Rattle.salvage_file.specs.declared.opening.Opened.{Opened}
 use Rattle.salvage_file.specs.Faults.{head_of, base_faults, bins_length, bins_of}
 use Rattle.salvage_file.specs.Long.{IsLongAs}
-use Rattle.salvage_file.specs.Recovery.{beside, by_reading, by_logged, by_faults, recovered_bins, recovery, log_stop}
-use Rattle.salvage_file.specs.Opened.{is_size, is_short, as_is, dirty_as, sound_as, opened_as, opened}
+use Rattle.salvage_file.specs.Recovery.{by_reading, by_faults, recovery, log_stop}
+use Rattle.salvage_file.specs.Opened.{as_is, dirty_as, sound_as, opened_as, opened}
 use Rattle.salvage_file.specs.Salvage.{ground_in}
 use Rattle.salvage_file.proofs.KeyLemmas.{salvaged-valid}
 

@@ -1,9 +1,8 @@
 -- The parts that are salvaged fit their fields, where payloads are bytes.
-use Rattle.std.proofs.Common.{◌≡◌, ℕ, ◌+◌, ◌-◌, ◌*◌, ◌/◌, ◌<◌, ◌≤◌, Bool, true, false, cond, List, [], ◌∷◌, ◌++◌, length, length-append, Option, Some, None, Result, Ok, Err, refl, sym, ap, subst, ◌∙◌, arith, min, map}
+use Rattle.std.proofs.Common.{◌≡◌, ℕ, ◌+◌, ◌-◌, ◌/◌, ◌<◌, ◌≤◌, Bool, true, false, cond, List, [], ◌∷◌, ◌++◌, length, length-append, Option, Some, None, Result, Ok, Err, refl, ap, subst, ◌∙◌, arith, min}
 use Rattle.std.specs.Prelude.{◌==◌, ◌&&◌, not, nat_lt, drop, slice_range}
 use Rattle.std.proofs.lemmas.Bool.Decides.{nat_tests}
-use Rattle.std.specs.List.{All, list_any}
-use Rattle.std.proofs.lemmas.List.Elements.{All-append, All-cons, All-nil}
+use Rattle.std.specs.List.{list_any}
 use Rattle.std.specs.Int.{w16, from_le_bytes}
 use Rattle.nt_bytes.specs.Fields.{u16_in}
 use Rattle.nt_bytes.specs.Folding.{folds_same}
@@ -14,12 +13,12 @@ use Rattle.hive_model.specs.Forms.{◌>>=◌, bytes_in}
 use Rattle.hive_model.specs.Bins.{with_place}
 use Rattle.hive_model.specs.KeyNode.{KeyNode, key_node_at}
 use Rattle.hive_model.specs.KeyValue.{KeyValue, key_value_at, data_inside}
-use Rattle.hive_model.specs.Lists.{ListKind, Li, Lf, Lh, Ri, numbers_in, offsets_in}
+use Rattle.hive_model.specs.Lists.{ListKind, Li, Lf, Lh, Ri, offsets_in}
 use Rattle.hive_model.specs.Security.{SecurityCell, security_at}
 use Rattle.hive_model.specs.Size.{segment_bytes, is_big, segment_part}
 use Rattle.hive_model.specs.Tree.{Item}
 use Rattle.hive_model.specs.Valid.{IsItem}
-use Rattle.hive_model.specs.Walk.{nowhere, big_data_of, is_list_of_lists, node_at}
+use Rattle.hive_model.specs.Walk.{big_data_of, is_list_of_lists, node_at}
 use Rattle.hive_read.proofs.FormFacts.{IsBytes, bytes-take, bytes-drop, NodeFacts, node-facts, value-facts, held-short, celled-small, bytes-in, descriptor-small, numbers-length, then-so, unless}
 use Rattle.hive_read.proofs.ValidTrees.{AreBytes}
 use Rattle.salvage_bins.specs.Ground.{Ground}

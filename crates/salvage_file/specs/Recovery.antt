@@ -7,7 +7,6 @@ use Rattle.nt_bytes.specs.declared.fault.HiveFault.{HiveFault}
 use Rattle.nt_bytes.specs.declared.fault.HiveFaultKind.{HiveFaultKind}
 use Rattle.nt_bytes.specs.declared.fault.HiveFaultKind.TheVariants as kinds
 use Rattle.hive_model.specs.Base.{Base, fields_of}
-use Rattle.log_parts.specs.declared.fault.LogFault.{LogFault}
 use Rattle.log_parts.specs.declared.fault.LogFaultKind.{LogFaultKind}
 use Rattle.log_parts.specs.declared.fault.LogFaultKind.TheVariants as logs
 use Rattle.log_parts.specs.Pages.{put_pages}

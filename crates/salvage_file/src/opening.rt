@@ -1,6 +1,6 @@
 //! A damaged hive's base block and bins data.
 
-ghost use Rattle.std.specs.Prelude.{◌≡◌, ◌≤◌, length, false, Some, None, Err, if◌then◌else◌, IfOk};
+ghost use Rattle.std.specs.Prelude.{◌≡◌, false, Some, None, Err, if◌then◌else◌, IfOk};
 ghost use Rattle.salvage_file.specs.Opened.{as_is, dirty_as, is_short, is_size, opened, opened_as, sound_as};
 
 use crate::base::{base_faults, bins_of, fields, head_of, push_unless};

@@ -1,8 +1,7 @@
 //! What a log makes of a dirty hive.
 
-ghost use Rattle.std.specs.Prelude.{◌≡◌, ◌≤◌, ◌+◌, length, take, drop, IfOk};
+ghost use Rattle.std.specs.Prelude.{◌≡◌, ◌+◌, IfOk};
 ghost use Rattle.dirt_log.specs.Dirt.{IsLong};
-ghost use Rattle.hive_model.specs.Base.{is_bins_size};
 ghost use Rattle.salvage_file.specs.Long.{IsLongAs};
 ghost use Rattle.salvage_file.specs.Recovery.{beside, by_faults, by_logged, by_reading, kind_of, recovered_bins, recovery};
 

@@ -1,7 +1,6 @@
 //! Laws of the walk.
 
-ghost use Rattle.std.specs.Prelude.{◌≡◌, ℕ, Bool, false, [], Option, Some, None};
-ghost use Rattle.nt_bytes.specs.declared.fault.HiveFault.{HiveFault};
+ghost use Rattle.std.specs.Prelude.{◌≡◌, ℕ, false, [], Some, None};
 ghost use Rattle.hive_model.specs.Stands.{IsWellFormed};
 ghost use Rattle.hive_model.specs.Tree.{Tree};
 ghost use Rattle.hive_model.specs.Walk.{first_fault};

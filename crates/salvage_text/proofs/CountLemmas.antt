@@ -1,6 +1,6 @@
 -- The counts of a key are its own and those of its children.
-use Rattle.std.proofs.Common.{◌≡◌, ◌+◌, ◌<◌, ℕ, List, [], ◌∷◌, length, refl, sym, ap, ◌∙◌, arith}
-use Rattle.hive_model.specs.Tree.{Tree, Trees, key, trees, listed, head, children, key_count, keys_count, item_count, items_count}
+use Rattle.std.proofs.Common.{◌≡◌, ◌+◌, ◌<◌, List, [], ◌∷◌, length, refl, sym, ap, ◌∙◌, arith}
+use Rattle.hive_model.specs.Tree.{Tree, key, trees, listed, head, children, key_count, keys_count, item_count, items_count}
 use Rattle.hive_model.specs.Codes.{weight, weights, weights-trees}
 use Rattle.reg_tree.proofs.Trees.{trees_listed}
 

@@ -1,6 +1,6 @@
 //! The lines as texts.
 
-ghost use Rattle.std.specs.Prelude.{◌≡◌, ◌++◌, codes, OnOk};
+ghost use Rattle.std.specs.Prelude.{◌≡◌, ◌++◌, OnOk};
 ghost use Rattle.salvage_text.specs.Lines.{SequenceLine, VersionLine, BaseLine, LogLine, BytesLine, SalvagedLine, SavedLine, RefusedLine, line_text};
 
 use crate::walk_text::{push_fault, push_placed};

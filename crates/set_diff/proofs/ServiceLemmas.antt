@@ -1,12 +1,11 @@
 -- The services of a set, by their entries and their texts.
-use Rattle.std.proofs.Common.{◌≡◌, ℕ, List, [], ◌∷◌, cond, map, filter, refl, ap}
+use Rattle.std.proofs.Common.{◌≡◌, List, [], ◌∷◌, cond, map, filter, refl, ap}
 use Rattle.std.specs.Prelude.{Option, Some, None, zip}
 use Rattle.std.specs.List.{filter_map, cons_option}
 use Rattle.std.specs.Option.{option_map, is_some}
 use Rattle.hive_model.specs.Tree.{Tree}
 use Rattle.start_model.specs.Entries.{Entry, entry_of}
 use Rattle.set_diff.specs.declared.service.Service.{Service}
-use Rattle.set_diff.specs.declared.service.Texts.{Texts}
 use Rattle.set_diff.specs.Services.{service_at, service_of}
 use Rattle.set_diff.specs.Texts.{texts_of, is_entry, with_texts}
 

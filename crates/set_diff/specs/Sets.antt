@@ -1,5 +1,5 @@
 -- Which lines are there of two control sets? (this project's own)
-use Rattle.std.specs.Prelude.{ℕ, Bool, true, false, not, ◌==◌, List, [], ◌∷◌, ◌++◌, map, length, count_by, position, slice_get, Option, Some, None, option_and_then, if◌then◌else◌}
+use Rattle.std.specs.Prelude.{ℕ, Bool, true, false, not, ◌==◌, List, [], ◌∷◌, ◌++◌, map, count_by, position, slice_get, Option, Some, None, option_and_then, if◌then◌else◌}
 use Rattle.std.specs.List.{flat_map}
 use Rattle.std.specs.Option.{option_map_or}
 use Rattle.nt_bytes.specs.Folding.{folds_same}
@@ -11,7 +11,6 @@ use Rattle.diff_lines.specs.declared.lines.Part.TheVariants.{Group}
 use Rattle.diff_lines.specs.declared.lines.Sequence.TheVariants.{Groups}
 use Rattle.diff_lines.specs.declared.lines.Side.{Side}
 use Rattle.diff_lines.specs.declared.lines.Side.TheVariants.{First, Second}
-use Rattle.diff_lines.specs.declared.lines.Shown.{Shown}
 use Rattle.diff_lines.specs.declared.lines.Shown.TheVariants.{Numbers}
 use Rattle.set_diff.specs.declared.boot.QuietBoot.{QuietBoot}
 use Rattle.set_diff.specs.declared.service.Service.{Service}

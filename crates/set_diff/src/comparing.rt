@@ -1,6 +1,6 @@
 //! Two sets, compared.
 
-ghost use Rattle.std.specs.Prelude.{◌≡◌, ◌++◌, ◌∷◌, IfOk, OnOk, IfSome};
+ghost use Rattle.std.specs.Prelude.{◌≡◌, ◌++◌, IfOk, OnOk, IfSome};
 ghost use Rattle.std.specs.Option.{option_copied};
 ghost use Rattle.hive_model.specs.Valid.{HoldsKeys};
 ghost use Rattle.set_diff.specs.Boots.{attempt_names, lone_names, common_attempts, boots_lines, or_same};

@@ -1,6 +1,6 @@
 //! The events before, and then the event too, played each with the probe after them.
 
-ghost use Rattle.std.specs.Prelude.{◌≡◌, [], ◌∷◌, ◌++◌, IfOk};
+ghost use Rattle.std.specs.Prelude.{◌≡◌, IfOk};
 ghost use Rattle.std.specs.List.{All};
 ghost use Rattle.boot_script.specs.Script.{HasCounts};
 ghost use Rattle.boot_run.specs.Agrees.{LoadsAny};

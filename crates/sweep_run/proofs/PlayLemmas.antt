@@ -1,7 +1,7 @@
 -- A run on a disk that was ordered no stop is the quiet run.
 use Rattle.std.proofs.Common.{◌≡◌, ℕ, true, List, [], ◌∷◌, ◌++◌, map, Option, refl, sym, ap, subst, ◌∙◌}
 use Rattle.std.specs.Prelude.{Result, Ok, Err, IfOk}
-use Rattle.hive_model.specs.Image.{Log, Image, IsFileOf}
+use Rattle.hive_model.specs.Image.{Image}
 use Rattle.hive_model.specs.Load.{Loads}
 use Rattle.nt_edge.specs.Bench.{KeepsOrders}
 use Rattle.nt_edge.specs.Disk.{DiskState}
@@ -10,11 +10,10 @@ use Rattle.nt_edge.specs.Crash.{EachCrash}
 use Rattle.boot_script.specs.declared.event.Event.{Event}
 use Rattle.boot_machine.specs.Views.{event_in}
 use Rattle.start_model.specs.Boot.{Choice}
-use Rattle.start_model.specs.Fits.{MayLoad, outcomes_of}
+use Rattle.start_model.specs.Fits.{outcomes_of}
 use Rattle.start_model.specs.Lines.{Line, line_text, text_of}
 use Rattle.start_model.specs.Possible.{Woken}
 use Rattle.start_model.specs.Run.{run_of}
-use Rattle.run_parts.specs.Reports.{LeftOf}
 use Rattle.printed_parts.specs.Reports.{Reports, ReportsOr}
 use Rattle.printed_parts.proofs.ReportLemmas.{as_text, text_report}
 use Rattle.line_text.specs.declared.form.ReportForm.TheVariants.{Text}
@@ -29,7 +28,6 @@ use Rattle.order_laws.proofs.QuietLemmas.{reports-said, reports-loads, reports-u
 use Rattle.command_parts.specs.declared.inputs.HiveFiles.{HiveFiles}
 use Rattle.command_parts.specs.Placed.{image_in, placed_disk}
 use Rattle.sweep_run.specs.declared.playing.Played.{Played}
-use Rattle.sweep_run.specs.Swept.{IsLogOf}
 use Rattle.sweep_run.specs.Played.{quiet_of, Plays, PlaysOn, IsPlayed, Taken}
 
 -- ---- the disk that holds the hive

@@ -1,7 +1,6 @@
 //! One line of the script.
 
 ghost use Rattle.std.specs.Prelude.{◌≡◌, map, IfOk};
-ghost use Rattle.std.specs.Option.{option_map_or};
 ghost use Rattle.boot_script.specs.Script.{script_of};
 ghost use Rattle.boot_script.specs.Words.{Gives, words_of};
 ghost use Rattle.sweep_script.specs.Sweep.{mark_role, plain_role, role_by, role_of, last_of, unordered, event_of};

@@ -1,7 +1,7 @@
 //! What was read of a script so far.
 
-ghost use Rattle.std.specs.Prelude.{◌≡◌, ◌==◌, ◌≤◌, [], None, false, IfErr, IfOk, OnOk};
-ghost use Rattle.boot_script.specs.Script.{script_of, starts};
+ghost use Rattle.std.specs.Prelude.{◌≡◌, ◌==◌, ◌≤◌, [], None, false, IfErr, OnOk};
+ghost use Rattle.boot_script.specs.Script.{starts};
 ghost use Rattle.boot_script.specs.declared.stop.ScriptStop.TheVariants as stops;
 ghost use Rattle.sweep_script.specs.Sweep.{no_parts, placed, with_event, after_event, after_role, after_line, Takes, Refuses};
 

@@ -9,7 +9,7 @@ use Rattle.std.proofs.lemmas.Bool.Decides.{nat_tests}
 use Rattle.std.proofs.lemmas.List.{append_cancel_right}
 use Rattle.boot_report.proofs.TextLemmas.{body, text-body}
 use Rattle.start_model.specs.Lines as book
-use Rattle.start_model.specs.Lines.{Line, StartLine, EntryLine, LoadLine, SetLine, CommitLine, SelectLine, PhaseLine, TryLine, UnmetLine, VitalLine, LogonLine, SaveRefusedLine, EditOkLine, FlushNothingLine, RefusedLine, VerdictLine, EndLine, line_text, load_word, commit_word, event_word, refused_word}
+use Rattle.start_model.specs.Lines.{Line, StartLine, EntryLine, LoadLine, SetLine, CommitLine, SelectLine, PhaseLine, TryLine, UnmetLine, VitalLine, LogonLine, SaveRefusedLine, EditOkLine, FlushNothingLine, RefusedLine, VerdictLine, EndLine, line_text, load_word, commit_word}
 use Rattle.line_text.specs.declared.form.ReportForm.{ReportForm}
 use Rattle.line_text.specs.declared.form.ReportForm.TheVariants as forms
 use Rattle.line_text.specs.Objects.{Number, Text, field_text, opening_text}

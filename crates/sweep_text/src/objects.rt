@@ -1,8 +1,8 @@
 //! The lines of an event as objects of JSON, by their words.
 
 ghost use Rattle.std.specs.Prelude.{◌≡◌, [], ◌∷◌, ◌++◌, codes, OnOk};
-ghost use Rattle.line_text.specs.Objects.{Text, field_text, key_text, object_text};
-ghost use Rattle.sweep_text.specs.Words.{digits_field, word_of, after_word, load_object, commit_object, save_object, refused_object, verdict_object, object_by};
+ghost use Rattle.line_text.specs.Objects.{Text, field_text, object_text};
+ghost use Rattle.sweep_text.specs.Words.{digits_field, word_of, after_word, load_object, commit_object, save_object, refused_object, object_by};
 
 use crate::words::words;
 use line_text::{close_object, open_object, push_word_field};

@@ -1,6 +1,6 @@
 //! The whole report.
 
-ghost use Rattle.std.specs.Prelude.{◌≡◌, ◌≤◌, ◌*◌, ◌+◌, List, [], ◌++◌, length, map, true, false, OnOk, IfOk};
+ghost use Rattle.std.specs.Prelude.{◌≡◌, ◌≤◌, ◌*◌, ◌+◌, List, ◌++◌, length, map, true, false, OnOk, IfOk};
 ghost use Rattle.std.specs.List.{flat_map, list_any};
 ghost use Rattle.start_model.specs.Lines.{Line};
 ghost use Rattle.sweep_text.specs.Logged.{AreFew};

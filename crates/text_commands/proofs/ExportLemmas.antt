@@ -5,7 +5,8 @@ use Rattle.nt_bytes.specs.declared.version.HiveVersion.{HiveVersion}
 use Rattle.hive_model.specs.Image.{Image}
 use Rattle.hive_model.specs.Load.{state_of}
 use Rattle.hive_model.specs.Tree.{Tree}
-use Rattle.hive_store.specs.Checks.{ChecksAs}
+use Rattle.hive_edit.specs.Hive.{HiveCells}
+use Rattle.hive_store.specs.Checks.{ChecksAs, ChecksCells}
 use Rattle.nt_edge.specs.Host.{HostState, Files}
 use Rattle.nt_edge.specs.declared.host.HostStop.{HostStop}
 use Rattle.nt_edge.specs.declared.host.HostStop.TheVariants.{Read, Write, Memory}
@@ -37,6 +38,13 @@ exported_as form image path root sequence version (Err (Stopped stop)) loads is 
     stop_is : (a b : HostStop) → Stopped a ≡ Stopped b → a ≡ b
     stop_is a b e = cc
 exported_as form image path root sequence version (Err (Refused why)) loads is = absurd cc
+
+-- the same of the cells of a hive that was judged
+pub exported_by_cells : (form : ReportForm) (image : Image) (path : List (List ℕ)) (cells : HiveCells) (sequence : ℕ) (version : HiveVersion)
+    (r : Result Outcome Obstacle)
+    → ChecksCells image (Ok (cells, sequence, version)) → TreeExports form path cells.tree r → ExportsAs form image path r
+exported_by_cells form image path cells sequence version r checks is =
+    exported_as form image path cells.tree sequence version r checks.0 is
 
 -- ---- after the search for the hive
 

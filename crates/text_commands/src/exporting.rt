@@ -14,9 +14,11 @@ ghost use Rattle.text_commands.specs.Exports.{export_with, TreeExports, ExportsA
 use crate::counts::{item_count, key_count};
 use crate::fault::fault_line;
 use command_parts::{
-    HiveFiles, Obstacle, Refusal, Status, hive_in, no_memory, read, refuse, stopped, tell,
+    HiveFiles, Obstacle, Refusal, Status, hive_in, judge_cells, no_memory, read, refuse, stopped,
+    tell,
 };
 use command_words::ExportWords;
+use hive_edit::HiveBytes;
 use key_text::path_in;
 use line_text::{ReportForm, close_object, open_object, push_number_field, push_word_field};
 use nt_bytes::{Bytes, Names, ReadStop};
@@ -195,7 +197,7 @@ fn tree_export(
 }
 
 /// The export of the tree in a hive's files, or the hive's first fault.
-fn export_in(
+fn export_tree(
     alloc: Global,
     form: ReportForm,
     path: &Names,
@@ -207,6 +209,81 @@ fn export_in(
         Ok((root, _, _)) => tree_export(alloc, form, path, &root),
         Err(ReadStop::Fault(fault)) => Err(Obstacle::Refused(Refusal::HiveFault(fault))),
         Err(ReadStop::Memory) => Err(no_memory()),
+    }
+}
+
+/// The export of the key that was found, if any.
+fn found_export(
+    alloc: Global,
+    form: ReportForm,
+    path: &Names,
+    key: Option<Key>,
+) -> Result<Outcome, AllocError>
+    ensures { IfOk result (λ e. export_with e.put e.status e.line ≡ found_export form path.now key) }
+{
+    match key {
+        Some(key) => key_export(alloc, form, path, &key),
+        None => no_key(alloc, form),
+    }
+}
+
+/// The export of the key at a path. No other key is read.
+fn export_under(
+    alloc: Global,
+    form: ReportForm,
+    path: &Names,
+    cells: &HiveBytes,
+) -> Result<Outcome, AllocError>
+    ensures { IfOk result (λ e. export_with e.put e.status e.line ≡ export_of form path.now cells.now.tree) }
+{
+    let key = cells.subtree(alloc, path)?;
+    found_export(alloc, form, path, key)
+}
+
+/// The same of the cells of a hive that was judged.
+fn cells_export(
+    alloc: Global,
+    form: ReportForm,
+    path: &Names,
+    cells: &HiveBytes,
+) -> Result<Outcome, Obstacle>
+    ensures { TreeExports form path.now cells.now.tree result }
+{
+    match export_under(alloc, form, path, cells) {
+        Ok(export) => Ok(export),
+        Err(_) => Err(no_memory()),
+    }
+}
+
+/// The export of the key at a path in a hive's files, or the hive's first fault. All keys are judged, and that one alone is read.
+fn export_one(
+    alloc: Global,
+    form: ReportForm,
+    path: &Names,
+    files: &HiveFiles,
+) -> Result<Outcome, Obstacle>
+    ensures { ExportsAs form (image_in files.now) path.now result }
+{
+    match judge_cells(alloc, files) {
+        Ok((cells, _, _)) => cells_export(alloc, form, path, &cells),
+        Err(ReadStop::Fault(fault)) => Err(Obstacle::Refused(Refusal::HiveFault(fault))),
+        Err(ReadStop::Memory) => Err(no_memory()),
+    }
+}
+
+/// The export of a key in a hive's files, or the hive's first fault. The empty path names the root.
+fn export_in(
+    alloc: Global,
+    form: ReportForm,
+    path: &Names,
+    files: &HiveFiles,
+) -> Result<Outcome, Obstacle>
+    ensures { ExportsAs form (image_in files.now) path.now result }
+{
+    if path.as_slice().is_empty() {
+        export_tree(alloc, form, path, files)
+    } else {
+        export_one(alloc, form, path, files)
     }
 }
 

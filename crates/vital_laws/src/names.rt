@@ -1,6 +1,6 @@
 //! Which names are vital.
 
-ghost use Rattle.std.specs.Prelude.{◌≡◌, ℕ, false, List, [], ◌∷◌, Option, Some};
+ghost use Rattle.std.specs.Prelude.{◌≡◌, ℕ, false, List, [], Option, Some};
 ghost use Rattle.std.specs.List.{AllPairs, list_any};
 ghost use Rattle.nt_bytes.specs.Folding.{folds_same};
 ghost use Rattle.start_model.specs.Events as events;

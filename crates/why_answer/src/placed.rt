@@ -1,7 +1,7 @@
 //! A name that a plan has.
 
 ghost use Rattle.std.specs.Prelude.{◌≡◌, ◌<◌, ◌++◌, length, slice_get, OnOk};
-ghost use Rattle.std.specs.Option.{option_copied, option_map_or};
+ghost use Rattle.std.specs.Option.{option_map_or};
 ghost use Rattle.hive_model.specs.Valid.{HoldsKeys};
 ghost use Rattle.quiet_run.specs.Play.{AreHeld};
 ghost use Rattle.why_items.specs.Vertices.{number_of};

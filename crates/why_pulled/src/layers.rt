@@ -23,7 +23,6 @@ pub struct Layers {
 }
 
 impl Model for Layers {
-    ghost use Rattle.std.specs.Prelude.{List};
     ghost use Rattle.why_pulled.specs.Layers.{Found as Item};
 
     ghost Value = { Item };

@@ -1,4 +1,4 @@
-use Rattle.std.proofs.Common.{◌≡◌, Some, None, sym, subst}
+use Rattle.std.proofs.Common.{Some, None, sym, subst}
 use Rattle.std.specs.Prelude.{Option}
 use Rattle.hive_store.specs.Session.{Session}
 use Rattle.start_model.specs.Commit.{committed_state}

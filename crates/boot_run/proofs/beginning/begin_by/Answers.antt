@@ -1,4 +1,4 @@
-use Rattle.std.proofs.Common.{◌≡◌, ◌∙◌, ap, sym, subst}
+use Rattle.std.proofs.Common.{◌∙◌, ap, sym, subst}
 use Rattle.hive_model.specs.Base.{version_of}
 use Rattle.start_model.specs.Sets.{SetPlan}
 use Rattle.start_model.specs.Boot.{begin_start}

@@ -1,4 +1,4 @@
-use Rattle.std.proofs.Common.{◌≡◌, ◌∙◌}
+use Rattle.std.proofs.Common.{◌∙◌}
 use Rattle.std.specs.Prelude.{Ok, Err}
 use Rattle.start_model.specs.Lines as book
 use Rattle.start_model.specs.Commit.{commit}

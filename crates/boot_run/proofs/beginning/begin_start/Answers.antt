@@ -1,4 +1,4 @@
-use Rattle.std.proofs.Common.{◌≡◌, ◌∙◌, ◌∷◌, [], refl, subst}
+use Rattle.std.proofs.Common.{◌∙◌, ◌∷◌, [], refl, subst}
 use Rattle.nt_edge.specs.Host.{SaysFront}
 use Rattle.start_model.specs.Lines as book
 use Rattle.start_model.specs.Lines.{Line}

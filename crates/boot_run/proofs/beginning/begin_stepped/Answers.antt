@@ -1,4 +1,4 @@
-use Rattle.std.proofs.Common.{◌≡◌, ◌∙◌, false, refl, ap, sym, subst, List}
+use Rattle.std.proofs.Common.{◌∙◌, false, refl, ap, sym, subst, List}
 use Rattle.std.specs.List.{All}
 use Rattle.hive_model.specs.Base.{version_of}
 use Rattle.hive_model.specs.Edit.{Step, edited}

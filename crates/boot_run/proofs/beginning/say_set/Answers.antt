@@ -1,4 +1,4 @@
-use Rattle.std.proofs.Common.{◌≡◌, ◌∷◌, [], false, refl, subst}
+use Rattle.std.proofs.Common.{◌∷◌, [], false, refl, subst}
 use Rattle.std.specs.Prelude.{Ok, Err}
 use Rattle.nt_edge.specs.Host.{SaysFront}
 use Rattle.start_model.specs.Lines as book

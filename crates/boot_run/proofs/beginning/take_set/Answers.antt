@@ -1,4 +1,4 @@
-use Rattle.std.proofs.Common.{◌≡◌, ◌∙◌, false, sym, subst}
+use Rattle.std.proofs.Common.{◌∙◌, false, sym, subst}
 use Rattle.std.specs.Prelude.{Result}
 use Rattle.start_model.specs.Sets.{SetPlan, stepped}
 use Rattle.start_model.specs.Act.{end_with}

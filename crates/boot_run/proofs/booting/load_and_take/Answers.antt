@@ -1,4 +1,4 @@
-use Rattle.std.proofs.Common.{◌≡◌, ◌∙◌, Option, Some, None, sym, subst}
+use Rattle.std.proofs.Common.{◌∙◌, Option, Some, None, sym, subst}
 use Rattle.hive_store.specs.Session.{Session}
 use Rattle.start_model.specs.Act.{wake}
 use Rattle.start_model.specs.Boot.{take_set, woken, loaded_state}

@@ -1,4 +1,4 @@
-use Rattle.std.proofs.Common.{◌≡◌, Some, None, subst, false}
+use Rattle.std.proofs.Common.{Some, None, subst, false}
 use Rattle.std.specs.Prelude.{Option}
 use Rattle.boot_report.specs.Report.{verdict_of}
 use Rattle.hive_store.specs.Session.{Session}

@@ -1,4 +1,3 @@
-use Rattle.std.proofs.Common.{◌≡◌}
 use Rattle.std.specs.Prelude.{Result, Ok, Err}
 use Rattle.boot_report.specs.Report.{verdict_of}
 use Rattle.boot_run.specs.declared.stop.RunStop.{RunStop}

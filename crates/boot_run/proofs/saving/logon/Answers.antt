@@ -1,4 +1,4 @@
-use Rattle.std.proofs.Common.{◌≡◌, ◌∙◌, refl, sym, ap, subst}
+use Rattle.std.proofs.Common.{◌∙◌, refl, sym, ap, subst}
 use Rattle.std.specs.Option.{option_map_or}
 use Rattle.start_model.specs.Lines.{LogonLine}
 use Rattle.start_model.specs.Machine.{MachineState}

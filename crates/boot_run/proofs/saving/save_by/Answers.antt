@@ -1,4 +1,4 @@
-use Rattle.std.proofs.Common.{◌≡◌, ◌∙◌, ap, sym, subst, List, Some}
+use Rattle.std.proofs.Common.{◌∙◌, ap, sym, subst, List, Some}
 use Rattle.std.specs.List.{All}
 use Rattle.hive_model.specs.Edit.{Step, edited}
 use Rattle.hive_model.specs.Base.{version_of}

@@ -1,4 +1,4 @@
-use Rattle.std.proofs.Common.{◌≡◌, None, ap, ◌∙◌}
+use Rattle.std.proofs.Common.{None, ap}
 use Rattle.start_model.specs.Machine.{MachineState}
 use Rattle.start_model.specs.Starter.{judged}
 use Rattle.printed_parts.proofs.BreakLemmas.{or-breaks}

@@ -1,4 +1,4 @@
-use Rattle.std.proofs.Common.{◌≡◌, refl}
+use Rattle.std.proofs.Common.{refl}
 use Rattle.start_model.specs.Starter.{go_act}
 use Rattle.run_parts.proofs.CountLemmas.{still}
 use Rattle.printed_parts.proofs.BreakLemmas.{breaks-silent, or-breaks}

@@ -1,4 +1,4 @@
-use Rattle.std.proofs.Common.{◌≡◌, ◌∙◌, ap, sym, subst, Some}
+use Rattle.std.proofs.Common.{◌∙◌, ap, sym, subst, Some}
 use Rattle.start_model.specs.Machine.{MachineState, after_phase, with_start}
 use Rattle.start_model.specs.Act.{Act, say_all, with_machine}
 use Rattle.start_model.specs.Commit.{save_where_due}

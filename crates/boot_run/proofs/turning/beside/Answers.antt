@@ -1,4 +1,4 @@
-use Rattle.std.proofs.Common.{◌≡◌, refl}
+use Rattle.std.proofs.Common.{refl}
 use Rattle.boot_machine.specs.Views.{event_in}
 use Rattle.boot_run.proofs.HostLemmas.{still-host}
 use Rattle.boot_run.proofs.PlayLemmas.{agrees_left}

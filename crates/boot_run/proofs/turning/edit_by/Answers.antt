@@ -1,4 +1,4 @@
-use Rattle.std.proofs.Common.{◌≡◌, sym, subst, [], ◌∷◌, Some}
+use Rattle.std.proofs.Common.{sym, subst, [], ◌∷◌, Some}
 use Rattle.std.specs.Prelude.{Option}
 use Rattle.hive_model.specs.Edit.{edited}
 use Rattle.boot_machine.specs.Views.{event_in}

@@ -1,4 +1,4 @@
-use Rattle.std.proofs.Common.{◌≡◌, ap, sym, subst}
+use Rattle.std.proofs.Common.{ap, sym, subst}
 use Rattle.boot_machine.specs.Views.{event_in}
 use Rattle.start_model.specs.Events.{Event}
 use Rattle.start_model.specs.Boot.{boot_act}

@@ -1,4 +1,4 @@
-use Rattle.std.proofs.Common.{◌≡◌, ap, sym, subst, None}
+use Rattle.std.proofs.Common.{ap, sym, subst, None}
 use Rattle.std.specs.Option.{option_map_or}
 use Rattle.nt_edge.specs.Book.{keep_of}
 use Rattle.boot_machine.specs.Views.{event_in}

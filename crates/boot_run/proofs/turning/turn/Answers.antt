@@ -1,4 +1,4 @@
-use Rattle.std.proofs.Common.{◌≡◌, refl}
+use Rattle.std.proofs.Common.{refl}
 use Rattle.std.specs.Prelude.{Result, Ok, Err}
 use Rattle.boot_machine.specs.Views.{event_in, word_of_refusal}
 use Rattle.start_model.specs.Lines.{RefusedLine}

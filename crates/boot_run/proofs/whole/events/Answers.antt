@@ -1,4 +1,4 @@
-use Rattle.std.proofs.Common.{◌≡◌, ◌∙◌, map, length, ◌-◌, take, drop, refl}
+use Rattle.std.proofs.Common.{◌∙◌, map, length, ◌-◌, take, drop, refl}
 use Rattle.std.specs.Prelude.{Result, Ok, Err}
 use Rattle.std.proofs.lemmas.List.Elements.{All-take, All-drop}
 use Rattle.boot_machine.specs.Views.{event_in}

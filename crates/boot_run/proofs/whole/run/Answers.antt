@@ -1,4 +1,4 @@
-use Rattle.std.proofs.Common.{◌≡◌, ◌∙◌, map, sym, refl}
+use Rattle.std.proofs.Common.{map, sym, refl}
 use Rattle.start_model.specs.Run.{first_state}
 use Rattle.boot_machine.specs.Views.{event_in}
 use Rattle.boot_run.specs.Choices.{choices}

@@ -1,4 +1,4 @@
-use Rattle.std.proofs.Common.{◌≡◌, ◌≤◌, ◌+◌, ◌-◌, ◌*◌, ◌/◌, length, true, false, arith, sym, ap, ◌∙◌}
+use Rattle.std.proofs.Common.{◌≡◌, ◌+◌, ◌-◌, ◌*◌, ◌/◌, length, true, false, arith, sym, ap, ◌∙◌}
 use Rattle.hive_model.specs.Recovery.{sector, bit, first_dirty}
 use Rattle.hive_log.proofs.Ranks.{rank_on, rank_off}
 use Rattle.log_parts.specs.Pages.{put_at, put_pages}

@@ -1,7 +1,6 @@
 use Rattle.std.proofs.Common.{ap, ◌∙◌, List, ℕ}
 use Rattle.command_parts.specs.declared.status.Status.TheVariants as statuses
 use Rattle.command_parts.specs.Placed.{image_in}
-use Rattle.command_parts.specs.Refusals.{Answer}
 use Rattle.command_parts.proofs.SeekLemmas.{told_at}
 use Rattle.key_command.specs.Answer.{answer_at}
 use Rattle.key_command.proofs.command.report_at.Goals as goal

@@ -1,4 +1,4 @@
-use Rattle.std.proofs.Common.{◌≡◌, [], ◌∷◌, ◌++◌}
+use Rattle.std.proofs.Common.{[]}
 use Rattle.std.specs.Prelude.{codes}
 use Rattle.line_text.specs.Objects.{Number}
 use Rattle.replay_text.specs.Lines.{log_fields}

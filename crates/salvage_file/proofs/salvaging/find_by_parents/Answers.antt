@@ -1,5 +1,4 @@
-use Rattle.std.proofs.Common.{Option, ap, sym, ◌∙◌}
-use Rattle.hive_model.specs.Tree.{Tree}
+use Rattle.std.proofs.Common.{ap, sym, ◌∙◌}
 use Rattle.salvage_parents.specs.declared.search.SearchedTree.{SearchedTree}
 use Rattle.salvage_file.specs.Salvage.{ground_in}
 use Rattle.salvage_file.proofs.FileLemmas.{ground-bytes}

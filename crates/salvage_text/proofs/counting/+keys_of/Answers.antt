@@ -1,4 +1,4 @@
-use Rattle.std.proofs.Common.{◌≡◌, ◌+◌, ◌≤◌, List, length, sym, ap, ◌∙◌, arith}
+use Rattle.std.proofs.Common.{◌≡◌, List, ap, arith}
 use Rattle.hive_model.specs.Tree.{Tree, trees, keys_count}
 use Rattle.hive_model.specs.Codes.{weights}
 use Rattle.salvage_text.proofs.CountLemmas.{keys_parted, weight_parted, empty}

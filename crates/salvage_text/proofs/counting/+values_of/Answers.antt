@@ -1,4 +1,4 @@
-use Rattle.std.proofs.Common.{◌≡◌, ◌+◌, ◌≤◌, List, length, sym, ap, ◌∙◌, arith}
+use Rattle.std.proofs.Common.{◌≡◌, List, length, ap, arith}
 use Rattle.hive_model.specs.Tree.{Item, Tree, trees, items_count}
 use Rattle.hive_model.specs.Codes.{weights}
 use Rattle.salvage_text.proofs.CountLemmas.{items_parted, weight_parted, empty}

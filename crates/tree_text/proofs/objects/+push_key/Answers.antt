@@ -1,4 +1,4 @@
-use Rattle.std.proofs.Common.{◌≡◌, rules}
+use Rattle.std.proofs.Common.{rules}
 use Rattle.hive_model.specs.Tree.{Head}
 use Rattle.tree_text.proofs.ObjectLemmas.{key_parts}
 use Rattle.tree_text.proofs.objects.+push_key.Goals as goal

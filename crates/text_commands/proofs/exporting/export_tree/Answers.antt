@@ -1,6 +1,6 @@
 use Rattle.command_parts.specs.Placed.{image_in}
 use Rattle.text_commands.proofs.ExportLemmas.{exported_as}
-use Rattle.text_commands.proofs.exporting.export_in.Goals as goal
+use Rattle.text_commands.proofs.exporting.export_tree.Goals as goal
 
 pub returns-in-Ok : goal.returns-in-Ok
 returns-in-Ok c =
