@@ -17,11 +17,10 @@ use Rattle.start_model.specs.EventActs.{flush_act, off_act}
 use Rattle.start_model.specs.Run.{play}
 use Rattle.boot_machine.specs.Steps.{is_there, falls_back}
 use Rattle.printed_parts.specs.Parts.{Told, Tells, Goes, PlaysOr, TellsOr}
-use Rattle.run_parts.proofs.CountLemmas.{still}
-use Rattle.printed_parts.proofs.GoesLemmas.{goes-nothing, goes-line}
+use Rattle.printed_parts.proofs.GoesLemmas.{idle, goes-nothing, goes-line}
 use Rattle.boot_run.specs.declared.runner.Runner.{Runner}
 use Rattle.boot_run.specs.Agrees.{IsUp, IsLive, IsSound, IsRunningBy, Counts, CommitLeft, TurnLeft, OffLeft, IsEnding}
-use Rattle.boot_run.proofs.DiskLemmas.{still-off, left-off}
+use Rattle.boot_run.proofs.DiskLemmas.{idle-off, left-off}
 use Rattle.boot_run.proofs.CommitLemmas.{loads_down}
 use Rattle.boot_run.proofs.PlayLemmas.{plays-as, plays-line, live_left, here_turn}
 
@@ -57,7 +56,7 @@ flush_none m r s d x y changed counts live said =
     let P : Act → Type 0 = λ a. Goes (play a) (play (done m)) x y d d in (
       done m,
       (
-        subst P (flush_same m changed) (goes-line book.FlushNothingLine (done m) x y d d (still d) refl said),
+        subst P (flush_same m changed) (goes-line book.FlushNothingLine (done m) x y d d (idle d) refl said),
         here_turn m r d (Some s) counts live,
       ),
     )
@@ -121,7 +120,7 @@ end_plays result word m r r' x y d e ends counts machine starts off left said =
       starts = counts.starts ∙ sym starts;
     } in
     plays-line result (OffLeft r' e) (VerdictLine word) (done (start_over false m)) x y d e
-    (still-off d d e (still d) off) ends.none said kept
+    (idle-off d d e (idle d) off) ends.none said kept
     (λ v. here_turn (start_over false m) r' e None over kept)
 
 -- after the commit of a start that ends
@@ -144,7 +143,7 @@ pub end_stopped : (word : Verdict) (m : RunState) (tree : Tree) (r : Runner) (x 
 end_stopped word m tree r x d rest h = (
   rest,
   (
-    goes-nothing (play rest) x d d (still d),
+    goes-nothing (play rest) x d d (idle d),
     record {
       after = start_over false (opened_state m tree);
       is = h.0;

@@ -1,15 +1,18 @@
 -- What a commit of the session amounts to in the book's run.
-use Rattle.std.proofs.Common.{◌≡◌, ◌+◌, ◌%◌, inl, inr, ℕ, Bool, false, List, [], ◌∷◌, refl, sym, ap, subst, ◌∙◌}
-use Rattle.hive_model.specs.Base.{version_of}
+use Rattle.std.proofs.Common.{◌≡◌, ◌+◌, ◌%◌, inl, inr, ℕ, Bool, true, false, List, [], ◌∷◌, length, Some, refl, sym, ap, subst, ◌∙◌}
+use Rattle.hive_model.specs.Base.{Base, version_of, is_bins_size}
 use Rattle.hive_model.specs.Image.{Image}
 use Rattle.hive_model.specs.State.{HiveState}
-use Rattle.hive_model.specs.Load.{Loads}
+use Rattle.hive_model.specs.Carries.{Carries, HasLog}
+use Rattle.hive_model.specs.Load.{Loads, Holds}
+use Rattle.hive_model.proofs.BaseLemmas.{base_in_checked}
 use Rattle.nt_edge.specs.Disk.{DiskState, CountsGrow}
 use Rattle.nt_edge.specs.Crash.{EachCrash}
 use Rattle.nt_edge.specs.Host.{SaysFront}
 use Rattle.nt_edge.specs.Bench.{turned_off}
-use Rattle.hive_store.specs.Session.{Session}
+use Rattle.hive_store.specs.Session.{Session, next_bins}
 use Rattle.hive_store.specs.Commits as store
+use Rattle.hive_store.proofs.Holding.{clean, held_by, carried}
 use Rattle.hive_commit.specs.Stages.{LoadsAsEither}
 use Rattle.hive_commit.specs.Stages.{next_number}
 use Rattle.start_model.specs.Lines.{CommitLine, VerdictLine, CommitWord, Verdict}
@@ -18,13 +21,15 @@ use Rattle.start_model.specs.Causes.{HasCause}
 use Rattle.line_objects.specs.Objects.{printed}
 use Rattle.run_parts.specs.Counted.{CountedIn}
 use Rattle.start_model.specs.Machine.{ended}
-use Rattle.start_model.specs.Possible.{Outcome, Finished, settled_at, open_between}
-use Rattle.start_model.specs.Act.{Act, done, mark, Held, RunState, next_state, start_over, end_with}
+use Rattle.start_model.specs.Possible.{Possible, Outcome, Finished, settled_at, open_between}
+use Rattle.start_model.specs.Act.{Act, done, say, mark, Held, RunState, next_state, start_over, end_with}
 use Rattle.start_model.specs.Commit.{committed_state, opened_state, committed, commit}
 use Rattle.start_model.specs.Run.{play}
 use Rattle.run_parts.specs.Parts.{Stays, since_wake, tally_now}
+use Rattle.printed_parts.specs.Logged.{IsLogged}
 use Rattle.printed_parts.specs.Parts.{Told, Tells, Goes, Breaks}
 use Rattle.run_parts.proofs.CountLemmas.{Alone, alone-by}
+use Rattle.printed_parts.proofs.LoggedLemmas.{LogsWhere}
 use Rattle.printed_parts.proofs.GoesLemmas.{goes-then, goes-told, goes-held}
 use Rattle.printed_parts.proofs.BreakLemmas.{breaks-silent, breaks-told}
 use Rattle.boot_run.specs.Agrees.{IsDown, LoadsAny, IsStored, IsLive, Counts}
@@ -44,6 +49,21 @@ pub record Committed (s : Session) (d e : DiskState) : Type 0 where
   pub history : e.history ≡ d.history
   pub counts : CountsGrow d e
 
+-- what the session's commit says once it is done: of the disk from before it, and of the disk after it
+pub record Logged (s : Session) (d e : DiskState) : Type 0 where
+  pub opened : Carries d.held s.base s.bins
+  pub closed : Carries e.held (store.next_base s) (next_bins s)
+  pub log : HasLog e.held (store.session_log s)
+
+-- the base block and the bins data that an image carries hold what it loads as
+carried_holds : (image : Image) (base : Base) (bins : List ℕ) (state : HiveState) → Carries image base bins
+    → Loads image state false
+    → Holds (clean base bins) state
+carried_holds image base bins state is loads =
+    let size : is_bins_size (length bins) ≡ true =
+    ap is_bins_size (sym is.size) ∙ (base_in_checked image base is.block).size_is in
+    held_by image state false (clean base bins) loads (carried image base bins size is)
+
 module _ (m : RunState) (next : RunState → Act) (what : CommitWord) (s : Session) (d e : DiskState)
     (live : IsStored m s d) (c : Committed s d e) where
   pub commit_open : EachCrash e (MayLoad (open_between m.disk.settled (next_state m s.tree)))
@@ -62,7 +82,7 @@ module _ (m : RunState) (next : RunState → Act) (what : CommitWord) (s : Sessi
 
   -- the commit is done
   module _ (after : Session) (number : ℕ) (is : after ≡ store.committed s) (raised : number ≡ next_number s.base.first)
-      (none : e.flight ≡ []) (loads : Loads e.held (store.committed_state s) false) where
+      (none : e.flight ≡ []) (loads : Loads e.held (store.committed_state s) false) (logged : Logged s d e) where
     commit_number : number ≡ (next_state m s.tree).sequence
     commit_number = raised ∙ ap (λ (t : HiveState). t.sequence) (next_is m s d live)
 
@@ -79,6 +99,27 @@ module _ (m : RunState) (next : RunState → Act) (what : CommitWord) (s : Sessi
       loads = commit_loads;
     }
 
+    commit_logged : IsLogged e.held m.disk.settled (next_state m s.tree)
+    commit_logged = record {
+      opened = s.base;
+      old = s.bins;
+      closed = store.next_base s;
+      new = next_bins s;
+      was = carried_holds d.held s.base s.bins m.disk.settled logged.opened live.loads;
+      is = carried_holds e.held (store.next_base s) (next_bins s) (next_state m s.tree) logged.closed commit_loads;
+      carries = logged.closed;
+      log = logged.log;
+    }
+
+    commit_logs : LogsWhere (open_between m.disk.settled (next_state m s.tree)) Finished e
+    commit_logs = λ before after done opened.
+        let first : m.disk.settled ≡ before = ap (λ (p : Possible). p.settled) opened in
+        let other : Some (next_state m s.tree) ≡ Some after = ap (λ (p : Possible). p.other) opened in
+        let second : next_state m s.tree ≡ after = cc in
+        let P : HiveState → Type 0 = λ t. IsLogged e.held t (next_state m s.tree) in
+        let Q : HiveState → Type 0 = λ t. IsLogged e.held before t in
+        still_leaves e (λ (image : Image). IsLogged image before after) none (subst Q second (subst P first commit_logged))
+
     pub commit_goes : tally_now e ≡ tally_now d → (x y : Told) → Tells x y (CommitLine what number ∷ [])
         → Goes (play (commit what s.tree m next)) (play (next (committed_state m s.tree))) x y d e
     commit_goes quiet x y said =
@@ -87,7 +128,7 @@ module _ (m : RunState) (next : RunState → Act) (what : CommitWord) (s : Sessi
         goes-then (play (commit what s.tree m next)) (play r) (play (next (committed_state m s.tree))) x y y d e e
         (goes-told (open_between m.disk.settled (next_state m s.tree)) (committed what s.tree m next)
         (CommitLine what (next_state m s.tree).sequence) Finished r x y d e
-        commit_alone tt quiet refl refl (subst P commit_number said))
+        commit_alone tt quiet commit_logs refl refl (subst P commit_number said))
         (goes-held s.tree (next (committed_state m s.tree)) y e)
 
     pub commit_breaks : tally_now e ≡ tally_now d → Stays next → (x : Told) (y : List ℕ)
@@ -98,7 +139,7 @@ module _ (m : RunState) (next : RunState → Act) (what : CommitWord) (s : Sessi
         let P : ℕ → Type 0 = λ n. SaysFront x.said y (printed x.form (CommitLine what n)) in
         breaks-told (open_between m.disk.settled (next_state m s.tree)) (committed what s.tree m next)
         (CommitLine what (next_state m s.tree).sequence) Finished r x y d e
-        commit_alone tt quiet refl refl (subst P commit_number f) commit_open
+        commit_alone tt quiet commit_logs refl refl (subst P commit_number f) commit_open
         (λ image crash. stays (committed_state m s.tree) image refl
         (still_leaves e (MayLoad (settled_at (next_state m s.tree))) none
         (settled_loads e.held (next_state m s.tree) commit_loads) image crash))
@@ -111,6 +152,14 @@ module _ (m : RunState) (next : RunState → Act) (what : CommitWord) (s : Sessi
     stop_cause : HasCause u (since_wake d) (tally_now f)
     stop_cause = let P : DiskState → Type 0 = λ t. HasCause u (since_wake d) (tally_now t) in subst P (sym off) cause
 
+    -- it left no commit that is done
+    stop_logs : LogsWhere (open_between m.disk.settled (next_state m s.tree)) u f
+    stop_logs = λ before after finished opened.
+        let e : say (CommitLine what (next_state m s.tree).sequence) (mark (Held s.tree) (next (committed_state m s.tree)))
+        ≡ end_with verdict false (opened_state m s.tree) =
+        sym (ap (committed what s.tree m next) finished) ∙ is in
+        absurd cc
+
     pub stop_open : EachCrash f (MayLoad (open_between m.disk.settled (next_state m s.tree)))
     stop_open = left-off e f (MayLoad (open_between m.disk.settled (next_state m s.tree))) off commit_open
 
@@ -120,7 +169,7 @@ module _ (m : RunState) (next : RunState → Act) (what : CommitWord) (s : Sessi
         goes-told (open_between m.disk.settled (next_state m s.tree)) (committed what s.tree m next)
         (VerdictLine verdict) u
         (done (start_over false (opened_state m s.tree))) x y d f (alone-off d e f commit_alone off)
-        stop_cause (counted-off u d e f counted off) told is said
+        stop_cause (counted-off u d e f counted off) stop_logs told is said
 
     pub stop_breaks : CountedIn u (tally_now d) (tally_now e) → (x : Told) (y : List ℕ) → SaysFront x.said y (printed x.form (VerdictLine verdict))
         → Breaks (commit what s.tree m next) x y d f
@@ -128,7 +177,7 @@ module _ (m : RunState) (next : RunState → Act) (what : CommitWord) (s : Sessi
         breaks-told (open_between m.disk.settled (next_state m s.tree)) (committed what s.tree m next)
         (VerdictLine verdict) u
         (done (start_over false (opened_state m s.tree))) x y d f (alone-off d e f commit_alone off)
-        stop_cause (counted-off u d e f counted off) told is front stop_open stop_open
+        stop_cause (counted-off u d e f counted off) stop_logs told is front stop_open stop_open
 
 -- the runner counts the state in which a start is over
 pub counts_over : (m n : RunState) (r r' : Runner) → Counts m r → n.machine ≡ m.machine → n.starts ≡ m.starts

@@ -22,6 +22,7 @@ use Rattle.run_parts.specs.Counted.{with_cut}
 use Rattle.run_parts.specs.Parts.{Grew, IsMarked, NoLess, since_wake, tally_now, cuts_behind}
 use Rattle.printed_parts.specs.Parts.{Told, Tells, Goes, GoesBut, Breaks, PlaysOr, TellsOr}
 use Rattle.run_parts.proofs.CountLemmas.{still, no_less-same, no_less-bounded, rises-since}
+use Rattle.printed_parts.proofs.LoggedLemmas.{not_empty, logged-none, logged-stop}
 use Rattle.printed_parts.proofs.GoesLemmas.{tells-nothing}
 use Rattle.printed_parts.proofs.BreakLemmas.{breaks-silent, breaks-front}
 use Rattle.boot_run.specs.declared.runner.Runner.{Runner}
@@ -66,15 +67,19 @@ module _ (d f : DiskState) (bounded : IsBounded d) (marked : IsMarked d) (is : f
   cut_goes : (m : RunState) (x y : Told) → Tells x y (VerdictLine book.Cut ∷ [])
       → Goes (play (cut_act m)) (play (done (start_over false m))) x y d f
   cut_goes m x y said = record {
-    lines = VerdictLine book.Cut ∷ [];
-    notes = Cuts ∷ Ended PowerCut ∷ [];
-    added = [];
-    woken = [];
-    tells = said;
-    grew = grew-cut (Cuts ∷ Ended PowerCut ∷ []) refl refl (cut_cause, tt);
-    fits = tt;
-    goes = λ w o. refl;
-    adds_up = cut_once;
+    part = record {
+      lines = VerdictLine book.Cut ∷ [];
+      notes = Cuts ∷ Ended PowerCut ∷ [];
+      added = [];
+      woken = [];
+      tells = said;
+      grew = grew-cut (Cuts ∷ Ended PowerCut ∷ []) refl refl (cut_cause, tt);
+      fits = tt;
+      goes = λ w o. refl;
+      adds_up = cut_once;
+    };
+    kept = λ none. absurd (not_empty [] PowerCut [] none);
+    logged = logged-stop (play (cut_act m)) [] PowerCut f (λ h. cc);
   }
 
   -- it is not
@@ -125,23 +130,27 @@ armed_goes arming m x d e is =
       done m,
       (
         subst P (sym is) (record {
-          lines = [];
-          notes = Ordered arming ∷ [];
-          added = [];
-          woken = [];
-          tells = tells-nothing x;
-          grew = record {
-            wakes = sym (append-nil d.history.wakes);
-            armings = refl;
-            cut_calls = refl;
-            placings = refl;
-            takings = refl;
-            later = record { cuts = no_less-same d.cuts; faults = no_less-same d.faults };
-            caused = tt;
+          part = record {
+            lines = [];
+            notes = Ordered arming ∷ [];
+            added = [];
+            woken = [];
+            tells = tells-nothing x;
+            grew = record {
+              wakes = sym (append-nil d.history.wakes);
+              armings = refl;
+              cut_calls = refl;
+              placings = refl;
+              takings = refl;
+              later = record { cuts = no_less-same d.cuts; faults = no_less-same d.faults };
+              caused = tt;
+            };
+            fits = tt;
+            goes = λ w o. refl;
+            adds_up = refl;
           };
-          fits = tt;
-          goes = λ w o. refl;
-          adds_up = refl;
+          kept = λ none. record { asleep = refl; left = λ image h. h };
+          logged = logged-none (play (arm_act arming m)) [] [] (armed arming d) refl;
         }),
         refl,
       ),

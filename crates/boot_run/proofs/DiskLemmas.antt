@@ -22,8 +22,9 @@ use Rattle.start_model.specs.Fits.{MayLoad}
 use Rattle.start_model.specs.Possible.{Outcome, PowerCut, DeviceFault, settled_at, open_between}
 use Rattle.run_parts.specs.Counted.{CountedIn}
 use Rattle.run_parts.specs.Parts.{Grew, Later, IsMarked, since_wake, tally_now, tally_at}
-use Rattle.printed_parts.specs.Parts.{Told, GoesBut}
-use Rattle.run_parts.proofs.CountLemmas.{Alone, Still, still, later-same, no_less-then, no_less-bounded, rises-since, since-grown}
+use Rattle.printed_parts.specs.Parts.{Told, Goes, GoesBut}
+use Rattle.run_parts.proofs.CountLemmas.{Alone, later-same, no_less-then, no_less-bounded, rises-since, since-grown}
+use Rattle.printed_parts.proofs.GoesLemmas.{Idle}
 
 -- with nothing in flight a cut leaves what is held
 pub still_leaves : (d : DiskState) (P : Image → Type 0) → d.flight ≡ [] → P d.held → EachCrash d P
@@ -84,25 +85,44 @@ pub counted-off : (u : Outcome) (d e f : DiskState) → CountedIn u (tally_now d
 counted-off u d e f counted off = let P : DiskState → Type 0 = λ t. CountedIn u (tally_now d) (tally_now t) in
     subst P (sym off) counted
 
-pub still-off : (d e f : DiskState) → Still d e → f ≡ turned_off e → Still d f
-still-off d e f s off = let P : DiskState → Type 0 = λ t. tally_now t ≡ tally_now d in
-    record { alone = alone-off d e f s.alone off; same = subst P (sym off) s.same }
+pub idle-off : (d e f : DiskState) → Idle d e → f ≡ turned_off e → Idle d f
+idle-off d e f s off =
+    let P : DiskState → Type 0 = λ t. Idle d t in
+    let here : Idle d (turned_off e) = record {
+      still = record { alone = alone-off d e (turned_off e) s.still.alone refl; same = s.still.same };
+      left = s.left;
+    } in
+    subst P (sym off) here
 
-pub goes-off : (untold : List Note) (a b : Going) (x y : Told) (d e f : DiskState) → f ≡ turned_off e
+-- the same part, whose disk is turned off after it
+part-off : (untold : List Note) (a b : Going) (x y : Told) (d e : DiskState) → GoesBut untold a b x y d e
+    → GoesBut untold a b x y d (turned_off e)
+part-off untold a b x y d e g = record {
+  lines = g.lines;
+  notes = g.notes;
+  added = g.added;
+  woken = g.woken;
+  tells = g.tells;
+  grew = grew-off g.notes g.added d e (turned_off e) g.grew refl;
+  fits = g.fits;
+  goes = g.goes;
+  adds_up = g.adds_up;
+}
+
+pub goes_but-off : (untold : List Note) (a b : Going) (x y : Told) (d e f : DiskState) → f ≡ turned_off e
     → GoesBut untold a b x y d e
     → GoesBut untold a b x y d f
-goes-off untold a b x y d e f off g =
-    let P : DiskState → Type 0 = λ t. GoesBut untold a b x y d t in
-    let here : GoesBut untold a b x y d (turned_off e) = record {
-      lines = g.lines;
-      notes = g.notes;
-      added = g.added;
-      woken = g.woken;
-      tells = g.tells;
-      grew = grew-off g.notes g.added d e (turned_off e) g.grew refl;
-      fits = g.fits;
-      goes = g.goes;
-      adds_up = g.adds_up;
+goes_but-off untold a b x y d e f off g = let P : DiskState → Type 0 = λ t. GoesBut untold a b x y d t in
+    subst P (sym off) (part-off untold a b x y d e g)
+
+pub goes-off : (a b : Going) (x y : Told) (d e f : DiskState) → f ≡ turned_off e → Goes a b x y d e → Goes a b x y d f
+unfolding part-off
+goes-off a b x y d e f off g =
+    let P : DiskState → Type 0 = λ t. Goes a b x y d t in
+    let here : Goes a b x y d (turned_off e) = record {
+      part = part-off [] a b x y d e g.part;
+      kept = λ none. record { asleep = (g.kept none).asleep; left = (g.kept none).left };
+      logged = g.logged;
     } in
     subst P (sym off) here
 

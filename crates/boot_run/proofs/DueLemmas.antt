@@ -18,8 +18,7 @@ use Rattle.start_model.specs.Run.{play}
 use Rattle.boot_machine.specs.Steps.{on_start}
 use Rattle.run_parts.specs.Parts.{Stays}
 use Rattle.printed_parts.specs.Parts.{Told, Goes}
-use Rattle.run_parts.proofs.CountLemmas.{still}
-use Rattle.printed_parts.proofs.GoesLemmas.{goes-nothing}
+use Rattle.printed_parts.proofs.GoesLemmas.{idle, goes-nothing}
 use Rattle.boot_run.specs.declared.runner.Runner.{Runner}
 use Rattle.boot_run.specs.Agrees.{IsLive, IsSound, IsRunningBy, Counts, OnLeft, TurnLeft}
 use Rattle.boot_run.specs.Saves.{HandedOut, noting}
@@ -40,7 +39,7 @@ goes_on act m next r h x d is counts live =
     let P : Act → Type 0 = λ a. Goes (play a) (play (next m)) x x d d in (
       next m,
       (
-        subst P is (goes-nothing (play (next m)) x d d (still d)),
+        subst P is (goes-nothing (play (next m)) x d d (idle d)),
         (m, (refl, record { counts = counts; by = live })),
       ),
     )

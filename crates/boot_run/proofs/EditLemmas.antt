@@ -28,6 +28,7 @@ use Rattle.good_laws.proofs.EditLemmas.{KeepsSets, edited_keeps}
 use Rattle.run_laws.proofs.SameLemmas.{same-Decides}
 use Rattle.printed_parts.specs.Parts.{Told, PlaysOr}
 use Rattle.run_parts.proofs.CountLemmas.{still}
+use Rattle.printed_parts.proofs.GoesLemmas.{idle}
 use Rattle.printed_parts.proofs.BreakLemmas.{breaks-silent}
 use Rattle.printed_parts.specs.Parts.{Breaks}
 use Rattle.boot_run.specs.declared.runner.Runner.{Runner}
@@ -132,7 +133,7 @@ refused_by said (Some why) edit h k m e a b x y d is same machine starts up coun
     let P : Session → Type 0 = λ s. IsLive m s d in
     plays-as said Left Left (edit_done (Edits e) m (Err why)) (edit_done (Edits e) m edit) x y d d
     (ap (edit_done (Edits e) m) (sym is)) (λ v rest l. l)
-    (plays-line said Left (RefusedLine (event_word_of (Edits e)) (reason_of why)) (done m) x y d d (still d) refl told
+    (plays-line said Left (RefusedLine (event_word_of (Edits e)) (reason_of why)) (done m) x y d d (idle d) refl told
     (live_left m h d up live)
     (λ v. here_turn m b d (Some k)
     (record { machine = counts.machine ∙ sym machine; starts = counts.starts ∙ sym starts })
@@ -156,7 +157,7 @@ edit_plays said (Ok v) h k m e step a b x y d base made same changed machine sta
     plays-as said Left Left (edit_done (Edits e) m (Ok k.tree))
     (edit_done (Edits e) m (edited m.version m.live (step ∷ []))) x y d d (ap (edit_done (Edits e) m) (sym edit))
     (λ v rest l. l)
-    (plays-line said Left EditOkLine (done n) x y d d (still d) refl told (live_left m h d up live)
+    (plays-line said Left EditOkLine (done n) x y d d (idle d) refl told (live_left m h d up live)
     (λ v. here_turn n b d (Some k)
     (record { machine = counts.machine ∙ sym machine; starts = counts.starts ∙ sym starts })
     (edit_live m h k d live base changed)))

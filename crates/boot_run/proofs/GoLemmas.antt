@@ -12,8 +12,7 @@ use Rattle.start_model.specs.Act.{Act, RunState}
 use Rattle.start_model.specs.Starter.{no_set, live_set, stepping, go_steps, enough_steps}
 use Rattle.start_model.specs.Run.{play}
 use Rattle.printed_parts.specs.Parts.{Told, Goes, Breaks}
-use Rattle.run_parts.proofs.CountLemmas.{still}
-use Rattle.printed_parts.proofs.GoesLemmas.{goes-nothing, goes-then}
+use Rattle.printed_parts.proofs.GoesLemmas.{idle, goes-nothing, goes-then}
 use Rattle.printed_parts.proofs.BreakLemmas.{breaks-then}
 use Rattle.boot_run.specs.declared.runner.Runner.{Runner}
 use Rattle.boot_run.specs.Agrees.{IsLive, IsRunningBy, Counts, TurnLeft, OnLeft}
@@ -50,7 +49,7 @@ steps_init most m x d r o hive is counts live =
     let P : Option Session → Type 0 = λ q. StepsTo most m most x x d d r q in
     subst P (sym is) (
       go_steps most m,
-      (goes-nothing (play (go_steps most m)) x d d (still d), (m, (refl, record { counts = counts; by = live }))),
+      (goes-nothing (play (go_steps most m)) x d d (idle d), (m, (refl, record { counts = counts; by = live }))),
     )
 
 -- no step is left

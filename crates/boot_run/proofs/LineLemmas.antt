@@ -11,8 +11,7 @@ use Rattle.start_model.specs.Act.{Act, say}
 use Rattle.start_model.specs.Run.{play}
 use Rattle.line_objects.specs.Objects.{printed}
 use Rattle.printed_parts.specs.Parts.{Told, Tells, PlaysOr}
-use Rattle.run_parts.proofs.CountLemmas.{still}
-use Rattle.printed_parts.proofs.GoesLemmas.{goes-line}
+use Rattle.printed_parts.proofs.GoesLemmas.{idle, goes-line}
 use Rattle.printed_parts.proofs.BreakLemmas.{or-breaks, breaks-line}
 use Rattle.boot_run.proofs.PlayLemmas.{plays-as, plays-then}
 
@@ -24,7 +23,7 @@ pub said_then : {T E : Type 0}
     → PlaysOr whole x z d f r Left
 said_then r Left whole l rest same x y z d f is eq none told p =
     plays-as r Left Left (say l rest) whole x z d f is (λ v a k. k)
-    (plays-then r Left (say l rest) rest x y z d d f (goes-line l rest x y d d (still d) none told)
+    (plays-then r Left (say l rest) rest x y z d d f (goes-line l rest x y d d (idle d) none told)
     (plays-as r Left Left same rest y z d f eq (λ v a k. k) p))
 
 -- a prefix of the line was printed, and the call was refused
@@ -34,4 +33,4 @@ pub said_front : {T E : Type 0} → (r : Result T E) (Left : T → Act → Type 
     → EachCrash d (MayLoad (play rest [] []).disk) → PlaysOr whole x y d d r Left
 said_front r Left err whole l rest x y d is none front left =
     plays-as r Left Left (say l rest) whole x y d d is (λ v a k. k)
-    (or-breaks Left r err (say l rest) x y d d (breaks-line l rest x y.said d d (still d) none front left))
+    (or-breaks Left r err (say l rest) x y d d (breaks-line l rest x y.said d d (idle d) none front left))

@@ -1,5 +1,5 @@
 -- What a load amounts to in the book's run.
-use Rattle.std.proofs.Common.{◌≡◌, inl, ℕ, Bool, false, List, [], ◌∷◌, refl, sym, ap, subst, ◌∙◌, append-nil}
+use Rattle.std.proofs.Common.{◌≡◌, inl, ℕ, Bool, false, List, [], ◌∷◌, Some, None, refl, sym, ap, subst, ◌∙◌, append-nil}
 use Rattle.nt_bytes.specs.declared.fault.HiveFault.{HiveFault}
 use Rattle.hive_model.specs.Bins.{spelled}
 use Rattle.hive_model.specs.Image.{Image}
@@ -23,10 +23,11 @@ use Rattle.start_model.specs.Act.{Act, done, ask, wake, Woke, RunState, start_ov
 use Rattle.start_model.specs.Boot.{woken_state, loaded_state}
 use Rattle.start_model.specs.Run.{play}
 use Rattle.run_parts.specs.Parts.{Stays, since_wake, tally_now}
-use Rattle.printed_parts.specs.Parts.{Told, Tells, Goes, Breaks}
+use Rattle.printed_parts.specs.Parts.{Told, Tells, Goes, GoesBut, Breaks}
 use Rattle.run_parts.proofs.CountLemmas.{Alone, alone-by, none_fell-same}
-use Rattle.printed_parts.proofs.GoesLemmas.{tells-nothing, goes-then, goes-told, goes-held}
-use Rattle.printed_parts.proofs.BreakLemmas.{breaks-silent, breaks-then, breaks-told}
+use Rattle.printed_parts.proofs.LoggedLemmas.{LogsWhere}
+use Rattle.printed_parts.proofs.GoesLemmas.{tells-nothing, goes-but, goes-begun, goes-held}
+use Rattle.printed_parts.proofs.BreakLemmas.{breaks-silent, breaks-after, breaks-told}
 use Rattle.boot_run.specs.Acts as acts
 use Rattle.boot_run.specs.Acts.{loaded, load}
 use Rattle.boot_run.specs.Agrees.{IsDown, LoadsAny, IsLive}
@@ -40,9 +41,9 @@ no_fault = load-or-fault one_list (λ bins fault is fails. not_both (spelled 0 b
 -- the disk woke up
 pub goes-wake : (disk : Possible) (next : Woken → Act) (w : Woken) (i : Image) (x : Told) (d e : DiskState)
     → e ≡ woken i d → Loads i w.state w.dirty → IsPossible disk w
-    → Goes (play (wake disk next)) (play (next w)) x x d e
+    → GoesBut [] (play (wake disk next)) (play (next w)) x x d e
 goes-wake disk next w i x d e is loads possible =
-    let P : DiskState → Type 0 = λ t. Goes (play (wake disk next)) (play (next w)) x x d t in
+    let P : DiskState → Type 0 = λ t. GoesBut [] (play (wake disk next)) (play (next w)) x x d t in
     let one : Wake = record { image = i; cuts = d.cuts; faults = d.faults } in
     subst P (sym is) (record {
       lines = [];
@@ -86,16 +87,22 @@ module _ (m : RunState) (next : RunState → Act) (i : Image) (d d1 e : DiskStat
       }
 
   pub load_begins : (x : Told)
-      → Goes (play (load m next)) (play (ask (woken_at may.woken) (loaded m next may.woken))) x x d d1
+      → GoesBut [] (play (load m next)) (play (ask (woken_at may.woken) (loaded m next may.woken))) x x d d1
   load_begins x =
-      goes-then (play (load m next)) (play (acts.woken m next may.woken))
+      goes-but [] (play (load m next)) (play (acts.woken m next may.woken))
       (play (ask (woken_at may.woken) (loaded m next may.woken))) x x x d d1 d1
       (goes-wake m.disk (acts.woken m next) may.woken i x d d1 c.woke may.loads may.possible)
-      (goes-held may.woken.state.tree (ask (woken_at may.woken) (loaded m next may.woken)) x d1)
+      (goes-held may.woken.state.tree (ask (woken_at may.woken) (loaded m next may.woken)) x d1).part
+
+  -- a load is no commit
+  load_logs : (u : Outcome) (f : DiskState) → LogsWhere (woken_at may.woken) u f
+  load_logs u f = λ before after is opened.
+      let e : Some after ≡ None = sym (ap (λ (p : Possible). p.other) opened) in
+      absurd cc
 
   pub load_memory : tally_now e ≡ tally_now d1 → (x : Told) → Breaks (load m next) x x.said d e
   load_memory none x =
-      breaks-then (load m next) (ask (woken_at may.woken) (loaded m next may.woken)) x x x.said d d1 e (load_begins x)
+      breaks-after (load m next) (ask (woken_at may.woken) (loaded m next may.woken)) x x x.said d d1 e (load_begins x)
       (breaks-silent (ask (woken_at may.woken) (loaded m next may.woken)) x d1 e
       (record { alone = load_alone; same = none }) load_may)
 
@@ -129,21 +136,19 @@ module _ (m : RunState) (next : RunState → Act) (i : Image) (d d1 e : DiskStat
         → Goes (play (load m next)) (play (next (loaded_state m may.woken))) x y d e
     load_goes quiet number is x y said =
         let P : Line → Type 0 = λ l. Tells x y (l ∷ []) in
-        goes-then (play (load m next)) (play (ask (woken_at may.woken) (loaded m next may.woken)))
-        (play (next (loaded_state m may.woken))) x x y d d1 e (load_begins x)
-        (goes-told (woken_at may.woken) (loaded m next may.woken) (LoadLine may.woken.state.sequence may.woken.dirty)
-        Finished (next (loaded_state m may.woken)) x y d1 e
-        load_alone tt quiet refl refl (subst P (load_line number is) said))
+        goes-begun (play (load m next)) (woken_at may.woken) (loaded m next may.woken)
+        (LoadLine may.woken.state.sequence may.woken.dirty) Finished (next (loaded_state m may.woken)) x x y d d1 e
+        (load_begins x) load_alone tt quiet (load_logs Finished e) refl refl (subst P (load_line number is) said)
 
     pub load_breaks : tally_now e ≡ tally_now d1 → Stays next → (number : ℕ) → number ≡ s.base.first → (x : Told) (y : List ℕ)
         → SaysFront x.said y (printed x.form (LoadLine number dirty))
         → Breaks (load m next) x y d e
     load_breaks quiet stays number is x y f =
         let P : Line → Type 0 = λ l. SaysFront x.said y (printed x.form l) in
-        breaks-then (load m next) (ask (woken_at may.woken) (loaded m next may.woken)) x x y d d1 e (load_begins x)
+        breaks-after (load m next) (ask (woken_at may.woken) (loaded m next may.woken)) x x y d d1 e (load_begins x)
         (breaks-told (woken_at may.woken) (loaded m next may.woken) (LoadLine may.woken.state.sequence may.woken.dirty)
         Finished (next (loaded_state m may.woken)) x y d1 e
-        load_alone tt quiet refl refl (subst P (load_line number is) f) load_may
+        load_alone tt quiet (load_logs Finished e) refl refl (subst P (load_line number is) f) load_may
         (λ image crash. stays (loaded_state m may.woken) image refl
         (still_leaves e (MayLoad (settled_at may.woken.state)) none (settled_loads e.held may.woken.state load_loads)
         image crash)))
@@ -163,20 +168,17 @@ module _ (m : RunState) (next : RunState → Act) (i : Image) (d d1 e : DiskStat
     pub stopped_goes : CountedIn u (tally_now d1) (tally_now e) → (x y : Told) → Tells x y (VerdictLine verdict ∷ [])
         → Goes (play (load m next)) (play (done (start_over false (woken_state m may.woken)))) x y d f
     stopped_goes counted x y said =
-        goes-then (play (load m next)) (play (ask (woken_at may.woken) (loaded m next may.woken)))
-        (play (done (start_over false (woken_state m may.woken)))) x x y d d1 f
-        (load_begins x)
-        (goes-told (woken_at may.woken) (loaded m next may.woken) (VerdictLine verdict) u
-        (done (start_over false (woken_state m may.woken))) x y d1 f
-        (alone-off d1 e f load_alone off) stopped_cause (counted-off u d1 e f counted off) told is said)
+        goes-begun (play (load m next)) (woken_at may.woken) (loaded m next may.woken) (VerdictLine verdict) u
+        (done (start_over false (woken_state m may.woken))) x x y d d1 f (load_begins x)
+        (alone-off d1 e f load_alone off) stopped_cause (counted-off u d1 e f counted off) (load_logs u f) told is said
 
     pub stopped_breaks : CountedIn u (tally_now d1) (tally_now e) → (x : Told) (y : List ℕ) → SaysFront x.said y (printed x.form (VerdictLine verdict))
         → Breaks (load m next) x y d f
     stopped_breaks counted x y front =
-        breaks-then (load m next) (ask (woken_at may.woken) (loaded m next may.woken)) x x y d d1 f (load_begins x)
+        breaks-after (load m next) (ask (woken_at may.woken) (loaded m next may.woken)) x x y d d1 f (load_begins x)
         (breaks-told (woken_at may.woken) (loaded m next may.woken) (VerdictLine verdict) u
         (done (start_over false (woken_state m may.woken))) x y d1 f
-        (alone-off d1 e f load_alone off) stopped_cause (counted-off u d1 e f counted off) told is front stopped_may
+        (alone-off d1 e f load_alone off) stopped_cause (counted-off u d1 e f counted off) (load_logs u f) told is front stopped_may
         stopped_may)
 
 -- the disk is down after a load that was stopped

@@ -11,8 +11,7 @@ use Rattle.start_model.specs.Act.{Act, RunState, done, say, end_with}
 use Rattle.start_model.specs.Run.{play}
 use Rattle.run_parts.specs.Parts.{Stays}
 use Rattle.printed_parts.specs.Parts.{Told, Goes, Breaks, PlaysOr, TellsOr}
-use Rattle.run_parts.proofs.CountLemmas.{Still}
-use Rattle.printed_parts.proofs.GoesLemmas.{goes-then, goes-line}
+use Rattle.printed_parts.proofs.GoesLemmas.{Idle, goes-then, goes-line}
 use Rattle.printed_parts.proofs.BreakLemmas.{breaks-then, breaks-line}
 use Rattle.boot_run.specs.declared.runner.Runner.{Runner}
 use Rattle.boot_run.specs.Agrees.{IsUp, IsStored, IsLive, IsSound, Counts, AgreesBy, TurnLeft}
@@ -39,7 +38,7 @@ plays-then (Err v) Left whole mid x y z d e f g p = breaks-then whole mid x y z.
 -- one line, that reports no outcome
 pub plays-line : {T E : Type 0}
     → (r : Result T E) (Left : T → Act → Type 0) (l : Line) (rest : Act) (x y : Told) (d e : DiskState)
-    → Still d e → outcomes_in (l ∷ []) ≡ [] → TellsOr l x y r → EachCrash e (MayLoad (play rest [] []).disk)
+    → Idle d e → outcomes_in (l ∷ []) ≡ [] → TellsOr l x y r → EachCrash e (MayLoad (play rest [] []).disk)
     → ((v : T) → Left v rest)
     → PlaysOr (say l rest) x y d e r Left
 plays-line (Ok v) Left l rest x y d e s none said left f = (rest, (goes-line l rest x y d e s none said, f v))

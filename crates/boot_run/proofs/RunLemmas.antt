@@ -1,5 +1,5 @@
 -- The events of a run in order.
-use Rattle.std.proofs.Common.{◌≡◌, ◌≤◌, ◌<◌, ◌-◌, length, map, take, drop, get_or, arith, ℕ, true, false, List, [], ◌∷◌, ◌++◌, Option, Some, None, inl, refl, sym, ap, subst, ◌∙◌, append_assoc}
+use Rattle.std.proofs.Common.{◌≡◌, ◌≤◌, ◌<◌, ◌-◌, length, map, take, drop, get_or, arith, ℕ, true, false, List, [], ◌∷◌, ◌++◌, Option, Some, None, inl, refl, sym, ap, subst, ◌∙◌, append-nil, append_assoc}
 use Rattle.std.specs.Prelude.{Result, Ok, Err, option_map, IfSome}
 use Rattle.reg_tree.proofs.Outcomes.{uncons}
 use Rattle.nt_bytes.specs.Front.{IsFront}
@@ -12,25 +12,26 @@ use Rattle.nt_edge.specs.Disk.{DiskState}
 use Rattle.nt_edge.specs.Crash.{EachCrash}
 use Rattle.nt_edge.specs.Bench.{turned_off}
 use Rattle.start_model.specs.Lines as lines
+use Rattle.start_model.specs.Lines.{Line}
 use Rattle.start_model.specs.Machine.{Start, MachineState, ending_of}
 use Rattle.start_model.specs.Fits.{outcomes_in, MayLoad}
 use Rattle.start_model.specs.Events.{Event}
 use Rattle.start_model.specs.Report.{Going}
 use Rattle.start_model.specs.Act as acts
-use Rattle.start_model.specs.Possible.{Possible, Woken, Outcome, loads_as}
+use Rattle.start_model.specs.Possible.{Possible, Woken, Outcome, Finished, loads_as, open_between}
 use Rattle.start_model.specs.Act.{Act, Note, Ended, RunState}
 use Rattle.start_model.specs.Boot.{Choice}
 use Rattle.start_model.specs.EventActs.{event_step_of}
 use Rattle.start_model.specs.Run.{RunResult, reached, behind, play, then_run, closing_act, verdict_first, run_from, run_of, first_state}
 use Rattle.run_laws.specs.Open.{IsClosed}
-use Rattle.run_laws.proofs.PartLemmas.{then-behind}
+use Rattle.run_laws.proofs.PartLemmas.{with_rest, then-behind, play-more}
 use Rattle.run_laws.proofs.StillLemmas.{run-may, event-closed}
 use Rattle.line_text.specs.declared.form.ReportForm.{ReportForm}
 use Rattle.line_objects.specs.Objects.{printed_lines}
 use Rattle.printed_parts.specs.Parts.{Told, Goes, GoesBut, Breaks, RunBreaks, PlaysOr, TellsOr}
 use Rattle.printed_parts.specs.Reports.{Reports, ReportsFront}
-use Rattle.run_parts.proofs.CountLemmas.{still}
-use Rattle.printed_parts.proofs.GoesLemmas.{goes-nothing, goes-then, goes-but, printed-append}
+use Rattle.printed_parts.proofs.LoggedLemmas.{not_empty}
+use Rattle.printed_parts.proofs.GoesLemmas.{idle, goes-nothing, goes-then, goes-but, printed-append}
 use Rattle.printed_parts.proofs.ReportLemmas.{reports_of, reports_front_of}
 use Rattle.boot_run.specs.Agrees.{IsSound, Agrees, AgreesBy, Counts, TurnLeft}
 use Rattle.boot_run.specs.Begins.{Played, RunsOr, untold}
@@ -41,7 +42,7 @@ use Rattle.start_model.specs.Summary.{no_summary}
 use Rattle.nt_edge.specs.Host.{HostState}
 use Rattle.hive_model.specs.Load.{Loads}
 use Rattle.boot_run.specs.declared.runner.Runner.{Runner}
-use Rattle.boot_run.proofs.DiskLemmas.{goes-off, left-off}
+use Rattle.boot_run.proofs.DiskLemmas.{goes_but-off, goes-off, left-off}
 use Rattle.boot_run.proofs.PlayLemmas.{plays-as, plays-then, plays-line}
 use Rattle.boot_run.proofs.CloseLemmas.{ending}
 
@@ -115,13 +116,45 @@ module _ (choice : Option ℕ → Choice) where
     adds_up = p.adds_up;
   }
 
+  -- Where the act with all outcomes but the last, and the rest of the script after it, stops in a commit, the act does: it can't be over then,
+  -- since it takes the last one too.
+  stops-before : (es : List Event) (act rest : Act) (ws : List Woken) (os first : List Outcome) (ls : List Line)
+      (ns : List Note) (p : Possible) → os ≡ first ++ Finished ∷ []
+      → play act (ws ++ []) (os ++ []) ≡ behind ls ns (play rest [] []) → (left : Option Left)
+      → (play act ws first).rest ≡ left
+      → (then_run (run_from choice es) (play act ws first) left).disk ≡ p → (play act ws first).disk ≡ p
+  stops-before es act rest ws os first ls ns p last goes None over is = is
+  stops-before es act rest ws os first ls ns p last goes (Some (m, us, vs)) over is =
+      let longer : play act (ws ++ []) (first ++ Finished ∷ [])
+      ≡ with_rest (play act ws first) (Some (m, us ++ [], vs ++ Finished ∷ [])) =
+      play-more act ws first m us vs [] (Finished ∷ []) over in
+      let same : play act (ws ++ []) (os ++ []) ≡ play act (ws ++ []) (first ++ Finished ∷ []) =
+      ap (λ (o : List Outcome). play act (ws ++ []) o) (append-nil os ∙ last) in
+      let end : (play rest [] []).rest ≡ Some (m, us ++ [], vs ++ Finished ∷ []) =
+      ap (λ (r : RunResult). r.rest) (sym goes ∙ same ∙ longer) in
+      absurd (not_empty vs Finished [] (play-left rest m (us ++ []) (vs ++ Finished ∷ []) end).outcomes)
+
+  goes-within : (es : List Event) (a b : Act) (x y : Told) (d e : DiskState) → Goes (play a) (play b) x y d e
+      → Goes (before es a) (before es b) x y d e
+  unfolding goes-before
+  goes-within es a b x y d e p = record {
+    part = goes-before [] es a b x y d e p.part;
+    kept = p.kept;
+    logged = λ was now m. p.logged was now (record {
+      first = m.first;
+      last = m.last;
+      opened = stops-before es a b p.part.woken (outcomes_in p.part.lines) m.first p.part.lines p.part.notes
+          (open_between was now) m.last (p.part.goes [] []) (play a p.part.woken m.first).rest refl m.opened;
+    });
+  }
+
   goes-event : (ev : Event) (es : List Event) (m after : RunState) (rest : Act) (x y : Told) (d e : DiskState)
       → rest ≡ acts.done after
       → Goes (play (event_step_of choice ev m)) (play rest) x y d e
       → Goes (run_from choice (ev ∷ es) m) (run_from choice es after) x y d e
   goes-event ev es m after rest x y d e is p =
       let P : Act → Type 0 = λ a. Goes (before es (event_step_of choice ev m)) (before es a) x y d e in
-      subst P is (goes-before [] es (event_step_of choice ev m) rest x y d e p)
+      subst P is (goes-within es (event_step_of choice ev m) rest x y d e p)
 
   front-then : (form : ReportForm) (part : List ℕ) (go : RunState → List Woken → List Outcome → RunResult)
       (r : RunResult) (rest : Option (RunState × List Woken × List Outcome))
@@ -171,7 +204,7 @@ module _ (choice : Option ℕ → Choice) where
   pub started : (m : RunState) (es : List Event) (r : Runner) (hive : Option Session) (x : Told) (d : DiskState)
       → Agrees m r d hive → Progress (run_from choice es m) es x x d d r hive
   started m es r hive x d agrees =
-      record { state = m; goes = goes-nothing (run_from choice es m) x d d (still d); agrees = agrees }
+      record { state = m; goes = goes-nothing (run_from choice es m) x d d (idle d); agrees = agrees }
 
   -- an event more
   pub went_on : (whole : Going) (ev : Event) (es : List Event) (x y z : Told) (d e f : DiskState) (r r' : Runner)
@@ -194,8 +227,8 @@ module _ (choice : Option ℕ → Choice) where
       record {
         rest = q.rest;
         mid = q.mid;
-        goes = goes-but (Ended q.outcome ∷ []) whole (run_from choice (ev ∷ es) p.state) q.rest x y q.mid d e f p.goes
-            q.goes;
+        goes = goes-but (Ended q.outcome ∷ []) whole (run_from choice (ev ∷ es) p.state) q.rest x y q.mid d e f
+            p.goes.part q.goes;
         outcome = q.outcome;
         part = q.part;
         said_is = q.said_is;
@@ -230,7 +263,7 @@ module _ (choice : Option ℕ → Choice) where
   end_or (Err stop) whole m x y z d e g left b = record {
     rest = play b.rest;
     mid = b.mid;
-    goes = goes-but (Ended b.outcome ∷ []) whole (play (closing_act m)) (play b.rest) x y b.mid d e e g b.plays;
+    goes = goes-but (Ended b.outcome ∷ []) whole (play (closing_act m)) (play b.rest) x y b.mid d e e g.part b.plays;
     outcome = b.outcome;
     part = b.part;
     said_is = b.said_is;
@@ -290,7 +323,7 @@ last_verdict result m r word rest x y d counts on is left said =
     let End : Unit {0} → Act → Type 0 = λ u a. a ≡ rest in
     plays-as result End End (acts.say (lines.VerdictLine word) rest) (verdict_first m.machine.start rest) x y d d
     (verdict_on m.machine.start word rest there same) (λ v a h. h)
-    (plays-line result End (lines.VerdictLine word) rest x y d d (still d)
+    (plays-line result End (lines.VerdictLine word) rest x y d d (idle d)
     (ending m.machine.start word there same).none said left (λ v. refl))
 
 pub no_verdict : (m : RunState) (r : Runner) (rest : Act) (x : Told) (d : DiskState) → Counts m r
@@ -299,7 +332,7 @@ pub no_verdict : (m : RunState) (r : Runner) (rest : Act) (x : Told) (d : DiskSt
 no_verdict m r rest x d counts off =
     let gone : is_there m.machine.start ≡ false = ap (λ (k : MachineState). is_there k.start) counts.machine ∙ off in
     let P : Act → Type 0 = λ b. Goes (play b) (play rest) x x d d in
-    (rest, (subst P (verdict_off m.machine.start rest gone) (goes-nothing (play rest) x d d (still d)), refl))
+    (rest, (subst P (verdict_off m.machine.start rest gone) (goes-nothing (play rest) x d d (idle d)), refl))
 
 -- the last line, after the verdict
 pub closes : {E : Type 0} → (result : Result (Unit {0}) E) (m : RunState) (x y z : Told) (d : DiskState)
@@ -311,7 +344,7 @@ closes result m x y z d left p said =
     let End : Unit {0} → Act → Type 0 = λ u a. a ≡ acts.done m in
     let P : Act → Type 0 = λ a. Goes (play (closing_act m)) (play a) x y d d in
     plays-then result End (closing_act m) (acts.say lines.EndLine (acts.done m)) x y z d d d (subst P p.1.1 p.1.0)
-    (plays-line result End lines.EndLine (acts.done m) y z d d (still d) refl said left (λ v. refl))
+    (plays-line result End lines.EndLine (acts.done m) y z d d (idle d) refl said left (λ v. refl))
 
 -- ---- the report
 
@@ -320,7 +353,7 @@ pub reports_off : (whole : Going) (x y : Told) (d e f : DiskState) → f ≡ tur
     → Reports whole x y d f
 reports_off whole x y d e f off p =
     reports_of whole p.last x y d f
-    (goes-off [] whole (reached p.last) x y d e f off p.goes)
+    (goes-off whole (reached p.last) x y d e f off p.goes)
     (left-off e f (MayLoad p.last.disk) off p.left)
 
 -- a run that was given up
@@ -329,7 +362,7 @@ pub reports_front_off : (whole : Going) (x : Told) (y : List ℕ) (d e f : DiskS
 reports_front_off whole x y d e f off b = record {
   rest = b.rest;
   mid = b.mid;
-  goes = goes-off (Ended b.outcome ∷ []) whole b.rest x b.mid d e f off b.goes;
+  goes = goes_but-off (Ended b.outcome ∷ []) whole b.rest x b.mid d e f off b.goes;
   outcome = b.outcome;
   part = b.part;
   said_is = b.said_is;
@@ -354,6 +387,7 @@ in_form form run x y d e r = record {
   said_is = r.said_is;
   grew = r.grew;
   adds_up = r.adds_up;
+  logged = r.logged;
   summary = r.summary;
 }
 

@@ -33,7 +33,7 @@ use Rattle.line_objects.specs.Objects.{printed}
 use Rattle.run_parts.specs.Parts.{Stays}
 use Rattle.printed_parts.specs.Parts.{Told, Tells, Goes, PlaysOr, TellsOr}
 use Rattle.run_parts.proofs.CountLemmas.{still}
-use Rattle.printed_parts.proofs.GoesLemmas.{goes-nothing, goes-line, goes-saved}
+use Rattle.printed_parts.proofs.GoesLemmas.{idle, goes-nothing, goes-line, goes-saved}
 use Rattle.printed_parts.proofs.BreakLemmas.{breaks-line}
 use Rattle.boot_run.specs.declared.runner.Runner.{Runner}
 use Rattle.boot_run.specs.Agrees.{IsUp, IsLive, IsStored, IsSound, IsOnSet, IsRunningBy, Counts, LeavesUp, CommitLeft, OnLeft}
@@ -90,7 +90,7 @@ pub stopped_left : (m : RunState) (tree : Tree) (next more : RunState → Act) (
 stopped_left m tree next more r x d rest h = (
   rest,
   (
-    goes-nothing (play rest) x d d (still d),
+    goes-nothing (play rest) x d d (idle d),
     record {
       after = start_over false (opened_state m tree);
       is = h.0;
@@ -115,13 +115,13 @@ noted_plays (Ok v) line told ok s m next h r r' x y d is none out counts up live
     let P : Line → Type 0 = λ l. Tells x y (l ∷ []) in (
       next (noted_saved ok s m),
       (
-        goes-line line (next (noted_saved ok s m)) x y d d (still d) none (subst P is said),
+        goes-line line (next (noted_saved ok s m)) x y d d (idle d) none (subst P is said),
         noted_left ok s m next h r r' d out counts live machine starts,
       ),
     )
 noted_plays (Err e) line told ok s m next h r r' x y d is none out counts up live stays said machine starts =
     let P : Line → Type 0 = λ l. SaysFront x.said y.said (printed x.form l) in
-    breaks-line line (next (noted_saved ok s m)) x y.said d d (still d) none (subst P is said)
+    breaks-line line (next (noted_saved ok s m)) x y.said d d (idle d) none (subst P is said)
     (noted_may ok s m next h d up live stays)
 
 -- after the commit of a save

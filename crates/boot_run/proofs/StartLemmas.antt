@@ -31,15 +31,16 @@ use Rattle.boot_machine.specs.Steps.{falls_back, is_last_phase, is_in_last_phase
 use Rattle.line_objects.specs.Objects.{printed}
 use Rattle.run_parts.specs.Parts.{Stays}
 use Rattle.printed_parts.specs.Parts.{Told, Tells, Goes, Breaks, PlaysOr, TellsOr}
-use Rattle.run_parts.proofs.CountLemmas.{alone, still}
-use Rattle.printed_parts.proofs.GoesLemmas.{outcomes_in-append, tells-nothing, tells-then}
+use Rattle.run_parts.proofs.CountLemmas.{alone}
+use Rattle.printed_parts.proofs.LoggedLemmas.{logged-none}
+use Rattle.printed_parts.proofs.GoesLemmas.{idle, outcomes_in-append, tells-nothing, tells-then}
 use Rattle.printed_parts.proofs.BreakLemmas.{breaks-line, breaks-then}
 use Rattle.boot_run.specs.declared.stop.RunStop.{RunStop}
 use Rattle.boot_run.specs.declared.runner.Runner.{Runner}
 use Rattle.boot_run.specs.Agrees.{IsOnSet, IsRunningBy, Counts, TurnLeft}
 use Rattle.boot_run.specs.Starts.{EndsBy, NextPhase, phase_lines, phase_gone, stop_lines}
 use Rattle.boot_run.specs.Views.{SaysPart, SaysAll}
-use Rattle.boot_run.proofs.DiskLemmas.{still-off, left-off}
+use Rattle.boot_run.proofs.DiskLemmas.{idle-off, left-off}
 use Rattle.boot_run.proofs.PlayLemmas.{plays-as, plays-line, here_turn}
 use Rattle.run_laws.proofs.GoLemmas.{slice_get-within}
 use Rattle.start_model.proofs.HeldLemmas.{services_few}
@@ -86,7 +87,7 @@ judged_plays result word j m next r r' x y d e ends counts machine starts off le
     record { machine = ap (ended falls) counts.machine ∙ sym machine; starts = counts.starts ∙ sym starts } in
     plays-as result Left Left (end_with (verdict_of word) falls m) (judged j m next) x y d e q.act (λ v a k. k)
     (plays-line result Left (VerdictLine (verdict_of word)) (done (start_over falls m)) x y d e
-    (still-off d d e (still d) off) q.none said kept
+    (idle-off d d e (idle d) off) q.none said kept
     (λ v. here_turn (start_over falls m) r' e None over kept))
 
 pub judged_may : (j : Judgement) (m : RunState) (next : RunState → Act) (c : Image) → m.disk.other ≡ None → Stays next
@@ -215,16 +216,20 @@ play_all (l ∷ ls) act w o = ap (behind (l ∷ []) []) (play_all ls act w o)
 pub goes_all : (ls : List Line) (act : Act) (x y : Told) (d : DiskState) → AreQuiet ls → Tells x y ls
     → Goes (play (say_all ls act)) (play act) x y d d
 goes_all ls act x y d quiet told = record {
-  lines = ls;
-  notes = [];
-  added = [];
-  woken = [];
-  tells = told;
-  grew = alone d;
-  fits = tt;
-  goes = λ w o. ap (λ (os : List Outcome). play (say_all ls act) w (os ++ o)) (quiet_none ls quiet)
-      ∙ play_all ls act w o;
-  adds_up = refl;
+  part = record {
+    lines = ls;
+    notes = [];
+    added = [];
+    woken = [];
+    tells = told;
+    grew = alone d;
+    fits = tt;
+    goes = λ w o. ap (λ (os : List Outcome). play (say_all ls act) w (os ++ o)) (quiet_none ls quiet)
+        ∙ play_all ls act w o;
+    adds_up = refl;
+  };
+  kept = λ none. record { asleep = refl; left = λ image h. h };
+  logged = logged-none (play (say_all ls act)) [] (outcomes_in ls) d (quiet_none ls quiet);
 }
 
 all_disk : (ls : List Line) (act : Act) → (play (say_all ls act) [] []).disk ≡ (play act [] []).disk
@@ -248,7 +253,7 @@ breaks_all ls act x y d quiet p left =
     let L : Possible → Type 0 = λ o. EachCrash d (MayLoad o) in
     subst Q is (breaks-then (say_all p.first (say p.line more)) (say p.line more) x p.mid y d d d
     (goes_all p.first (say p.line more) x p.mid d q.0 p.told)
-    (breaks-line p.line more p.mid y d d (still d) q.1.0 p.front (subst L (sym (all_disk p.rest act)) left)))
+    (breaks-line p.line more p.mid y d d (idle d) q.1.0 p.front (subst L (sym (all_disk p.rest act)) left)))
 
 -- ---- what is printed, one part after another
 

@@ -32,7 +32,7 @@ use Rattle.nt_edge.specs.declared.disk.DiskCall as calls
 use Rattle.nt_edge.specs.declared.disk.Keep as keeps
 use Rattle.printed_parts.specs.Parts.{Told, Goes, Breaks, PlaysOr, TellsOr}
 use Rattle.run_parts.proofs.CountLemmas.{still}
-use Rattle.printed_parts.proofs.GoesLemmas.{goes-nothing}
+use Rattle.printed_parts.proofs.GoesLemmas.{idle, goes-nothing}
 use Rattle.printed_parts.proofs.BreakLemmas.{breaks-silent}
 use Rattle.boot_run.specs.declared.runner.Runner.{Runner}
 use Rattle.boot_run.specs.Agrees.{IsUp, IsDown, IsLive, IsSound, IsRunningBy, RunsOnBy, Counts, Agrees, AgreesBy, TurnLeft}
@@ -165,7 +165,7 @@ pub aside_goes : (ev : Event) (m : RunState) (x : Told) (d : DiskState)
     → aside_act ev m ≡ done (record m { machine = aside_machine ev m.machine })
     → (a : Act) × (Goes (play (aside_act ev m)) (play a) x x d d
     × (a ≡ done (record m { machine = aside_machine ev m.machine })))
-aside_goes ev m x d is = (aside_act ev m, (goes-nothing (play (aside_act ev m)) x d d (still d), is))
+aside_goes ev m x d is = (aside_act ev m, (goes-nothing (play (aside_act ev m)) x d d (idle d), is))
 
 pub fail_act : (ev : Event) (name : List ℕ) (count : ℕ) (m : RunState) → ev ≡ Fail name count
     → aside_act ev m ≡ done (record m { machine = aside_machine ev m.machine })
@@ -389,7 +389,7 @@ pub refused_plays : {E : Type 0}
     → PlaysOr (say (RefusedLine (event_word_of ev) why) (done m)) x y d d result (λ u rest. TurnLeft r' d hive rest)
 refused_plays result ev why m r r' x y d hive machine starts sound agrees said =
     plays-line result (λ u rest. TurnLeft r' d hive rest) (RefusedLine (event_word_of ev) why) (done m) x y d d
-    (still d) refl said (agrees_left m r d hive sound agrees.by)
+    (idle d) refl said (agrees_left m r d hive sound agrees.by)
     (λ v. here_turn m r' d hive
     (record { machine = agrees.counts.machine ∙ sym machine; starts = agrees.counts.starts ∙ sym starts })
     agrees.by)

@@ -23,7 +23,8 @@ use Rattle.start_model.specs.Summary.{with_line}
 use Rattle.run_parts.specs.Parts.{HasNoLineFeed, since_wake, tally_now}
 use Rattle.printed_parts.specs.Parts.{Told, Tells, Goes, GoesBut, Breaks, PlaysOr}
 use Rattle.run_parts.proofs.CountLemmas.{Alone, Still, still}
-use Rattle.printed_parts.proofs.GoesLemmas.{goes-untold, goes-but, goes-line, goes-told}
+use Rattle.printed_parts.proofs.LoggedLemmas.{LogsWhere}
+use Rattle.printed_parts.proofs.GoesLemmas.{Idle, goes-untold, goes-but, goes-line, goes-told}
 
 -- ---- a prefix of a line
 
@@ -106,9 +107,9 @@ breaks-silent a x d e s left =
     }
 
 -- after a part that was played
-pub breaks-then : (a b : Act) (x y : Told) (z : List ℕ) (d e f : DiskState) → Goes (play a) (play b) x y d e
+pub breaks-after : (a b : Act) (x y : Told) (z : List ℕ) (d e f : DiskState) → GoesBut [] (play a) (play b) x y d e
     → Breaks b y z e f → Breaks a x z d f
-breaks-then a b x y z d e f p q =
+breaks-after a b x y z d e f p q =
     record {
       rest = q.rest;
       mid = q.mid;
@@ -121,8 +122,12 @@ breaks-then a b x y z d e f p q =
       left = q.left;
     }
 
+pub breaks-then : (a b : Act) (x y : Told) (z : List ℕ) (d e f : DiskState) → Goes (play a) (play b) x y d e
+    → Breaks b y z e f → Breaks a x z d f
+breaks-then a b x y z d e f p q = breaks-after a b x y z d e f p.part q
+
 -- a line that reports no outcome
-pub breaks-line : (l : Line) (r : Act) (x : Told) (y : List ℕ) (d e : DiskState) → Still d e → outcomes_in (l ∷ []) ≡ []
+pub breaks-line : (l : Line) (r : Act) (x : Told) (y : List ℕ) (d e : DiskState) → Idle d e → outcomes_in (l ∷ []) ≡ []
     → SaysFront x.said y (printed x.form l)
     → EachCrash e (MayLoad (play r [] []).disk) → Breaks (say l r) x y d e
 breaks-line l r x y d e s none f left =
@@ -136,7 +141,7 @@ breaks-line l r x y d e s none f left =
     record {
       rest = say l r;
       mid = x;
-      plays = goes-untold Finished (play (say l r)) x d e s.alone s.same;
+      plays = goes-untold Finished (play (say l r)) x d e s.still.alone s.still.same;
       outcome = Finished;
       part = q.part;
       said_is = q.said_is;
@@ -190,12 +195,12 @@ breaks-front whole rest r l more u x y d e told untold says f opened left =
 pub breaks-told : (disk : Possible) (next : Outcome → Act) (l : Line) (u : Outcome) (r : Act) (x : Told) (y : List ℕ)
     (d e : DiskState)
     → Alone d e → HasCause u (since_wake d) (tally_now e) → CountedIn u (tally_now d) (tally_now e)
-    → outcomes_in (l ∷ []) ≡ u ∷ [] → next u ≡ say l r
+    → LogsWhere disk u e → outcomes_in (l ∷ []) ≡ u ∷ [] → next u ≡ say l r
     → SaysFront x.said y (printed x.form l)
     → EachCrash e (MayLoad disk) → EachCrash e (MayLoad (play r [] []).disk) → Breaks (ask disk next) x y d e
-breaks-told disk next l u r x y d e s cause counted told is f opened left =
+breaks-told disk next l u r x y d e s cause counted logs told is f opened left =
     breaks-front (ask disk next) (ask disk next) r l (play r [] []).lines u x y d e
-    (λ m said. goes-told disk next l u r x m d e s cause counted told is said)
+    (λ m said. goes-told disk next l u r x m d e s cause counted logs told is said)
     (goes-untold u (play (ask disk next)) x d e s counted) (ap (λ (a : Act). (play a [] []).lines) is) f opened left
 
 -- ---- answers

@@ -18,8 +18,11 @@ use Rattle.start_model.specs.Summary.{Summary, with_line, with_lines}
 use Rattle.line_text.specs.declared.form.ReportForm.{ReportForm}
 use Rattle.line_objects.specs.Objects.{printed, printed_lines}
 use Rattle.run_parts.specs.Parts.{tallies, tally_now, since_wake, Grew}
-use Rattle.printed_parts.specs.Parts.{Told, Tells, Goes, GoesBut}
-use Rattle.run_parts.proofs.CountLemmas.{Alone, Still, alone, grew-then, adds-then, tallies-append}
+use Rattle.run_parts.specs.Reports.{LeftOf}
+use Rattle.printed_parts.specs.Logged.{EndsInCommit, LeavesLogged}
+use Rattle.printed_parts.specs.Parts.{Told, Tells, Goes, GoesBut, IsKept}
+use Rattle.run_parts.proofs.CountLemmas.{Alone, Still, alone, still, grew-then, adds-then, tallies-append}
+use Rattle.printed_parts.proofs.LoggedLemmas.{LogsWhere, not_empty, logged-none, logged-ask, logged-then}
 
 -- ---- lists
 
@@ -115,20 +118,37 @@ tells-then x y z a b p q =
       summary = q.summary ∙ ap (λ (s : Summary). with_lines s b) p.summary ∙ sym (with_lines-append x.summary a b);
     }
 
+-- nothing was done to the disk, and it may be left as no more than before
+pub record Idle (old new : DiskState) : Type 0 where
+  pub still : Still old new
+  pub left : (image : Image) → LeftOf new image → LeftOf old image
+
+pub idle : (d : DiskState) → Idle d d
+idle d = record { still = still d; left = λ image h. h }
+
+-- a part in which no operation ended, on a disk to which nothing was done
+quiet : (a b : Going) (x y : Told) (d e : DiskState) (p : GoesBut [] a b x y d e) → outcomes_in p.lines ≡ []
+    → p.woken ≡ [] → ((image : Image) → LeftOf e image → LeftOf d image) → Goes a b x y d e
+quiet a b x y d e p none asleep left = record {
+  part = p;
+  kept = λ h. record { asleep = asleep; left = left };
+  logged = logged-none a p.woken (outcomes_in p.lines) e none;
+}
+
 -- nothing happened
-pub goes-nothing : (a : Going) (x : Told) (d e : DiskState) → Still d e → Goes a a x x d e
+pub goes-nothing : (a : Going) (x : Told) (d e : DiskState) → Idle d e → Goes a a x x d e
 goes-nothing a x d e s =
-    record {
+    quiet a a x x d e (record {
       lines = [];
       notes = [];
       added = [];
       woken = [];
       tells = tells-nothing x;
-      grew = s.alone;
+      grew = s.still.alone;
       fits = tt;
       goes = λ w o. refl;
-      adds_up = s.same;
-    }
+      adds_up = s.still.same;
+    }) refl refl s.left
 
 -- an operation ended, and that is not reported yet
 pub goes-untold : (u : Outcome) (a : Going) (x : Told) (d e : DiskState) → Alone d e
@@ -148,7 +168,7 @@ goes-untold u a x d e s counted =
     }
 
 -- one part after another
-pub goes-but : (untold : List Note) (a b c : Going) (x y z : Told) (d e f : DiskState) → Goes a b x y d e
+pub goes-but : (untold : List Note) (a b c : Going) (x y z : Told) (d e f : DiskState) → GoesBut [] a b x y d e
     → GoesBut untold b c y z e f
     → GoesBut untold a c x z d f
 goes-but untold a b c x y z d e f p q =
@@ -184,26 +204,70 @@ goes-but untold a b c x y z d e f p q =
       adds_up = subst S (sym (append_assoc p.notes q.notes untold)) (subst T (sym (tallies-append p.added q.added)) both);
     }
 
+-- A part in which an operation ended, after another: what the disk is left as is known from the second.
+pub goes-after : (a b c : Going) (x y z : Told) (d e f : DiskState) (p : GoesBut [] a b x y d e)
+    (q : GoesBut [] b c y z e f) (u : Outcome) (us : List Outcome) → outcomes_in q.lines ≡ u ∷ us
+    → LeavesLogged b q.woken (outcomes_in q.lines) f → Goes a c x z d f
+unfolding goes-but
+goes-after a b c x y z d e f p q u us is logged =
+    let all : outcomes_in (p.lines ++ q.lines) ≡ outcomes_in p.lines ++ (u ∷ us) =
+    outcomes_in-append p.lines q.lines ∙ ap (λ (os : List Outcome). outcomes_in p.lines ++ os) is in
+    let P : List Outcome → Type 0 = λ os. LeavesLogged b q.woken os f in
+    let Q : List Outcome → Type 0 = λ os. LeavesLogged a (p.woken ++ q.woken) os f in
+    record {
+      part = goes-but [] a b c x y z d e f p q;
+      kept = λ none. absurd (not_empty (outcomes_in p.lines) u us (sym all ∙ none));
+      logged = subst Q (sym all)
+          (logged-then a b p.woken q.woken (outcomes_in p.lines) u us f
+          (λ o. ap (λ (r : RunResult). r.disk) (p.goes q.woken o)) (subst P is logged));
+    }
+
+-- A part after another, by the operations that ended in it: none, or some.
+goes-by : (a b c : Going) (x y z : Told) (d e f : DiskState) → Goes a b x y d e → (q : Goes b c y z e f)
+    → (os : List Outcome) → outcomes_in q.part.lines ≡ os → Goes a c x z d f
+unfolding goes-but
+goes-by a b c x y z d e f p q [] none =
+    let k : IsKept q.part.woken e f = q.kept none in
+    let wakes : p.part.woken ++ q.part.woken ≡ p.part.woken =
+    ap (λ (ws : List Woken). p.part.woken ++ ws) k.asleep ∙ append-nil p.part.woken in
+    let same : outcomes_in (p.part.lines ++ q.part.lines) ≡ outcomes_in p.part.lines =
+    outcomes_in-append p.part.lines q.part.lines
+    ∙ ap (λ (os : List Outcome). outcomes_in p.part.lines ++ os) none ∙ append-nil (outcomes_in p.part.lines) in
+    record {
+      part = goes-but [] a b c x y z d e f p.part q.part;
+      kept = λ h.
+          let m : IsKept p.part.woken d e = p.kept (sym same ∙ h) in
+          record { asleep = wakes ∙ m.asleep; left = λ image left. m.left image (k.left image left) };
+      logged = λ before after m.
+          let here : EndsInCommit a p.part.woken (outcomes_in p.part.lines) before after = record {
+            first = m.first;
+            last = sym same ∙ m.last;
+            opened = ap (λ (ws : List Woken). (a ws m.first).disk) (sym wakes) ∙ m.opened;
+          } in
+          λ image left. p.logged before after here image (k.left image left);
+    }
+goes-by a b c x y z d e f p q (u ∷ us) is = goes-after a b c x y z d e f p.part q.part u us is q.logged
+
 pub goes-then : (a b c : Going) (x y z : Told) (d e f : DiskState) → Goes a b x y d e → Goes b c y z e f
     → Goes a c x z d f
-goes-then a b c x y z d e f p q = goes-but [] a b c x y z d e f p q
+goes-then a b c x y z d e f p q = goes-by a b c x y z d e f p q (outcomes_in q.part.lines) refl
 
 -- a line that reports no outcome
-pub goes-line : (l : Line) (r : Act) (x y : Told) (d e : DiskState) → Still d e → outcomes_in (l ∷ []) ≡ []
+pub goes-line : (l : Line) (r : Act) (x y : Told) (d e : DiskState) → Idle d e → outcomes_in (l ∷ []) ≡ []
     → Tells x y (l ∷ [])
     → Goes (play (say l r)) (play r) x y d e
 goes-line l r x y d e s none said =
-    record {
+    quiet (play (say l r)) (play r) x y d e (record {
       lines = l ∷ [];
       notes = [];
       added = [];
       woken = [];
       tells = said;
-      grew = s.alone;
+      grew = s.still.alone;
       fits = tt;
       goes = λ w o. ap (λ (os : List Outcome). play (say l r) w (os ++ o)) none;
-      adds_up = s.same;
-    }
+      adds_up = s.still.same;
+    }) none refl s.left
 
 -- what was done to the disk where an operation ended so, and nothing else
 pub grew-ended : (u : Outcome) (d e : DiskState) → Alone d e → HasCause u (since_wake d) (tally_now e)
@@ -220,13 +284,13 @@ grew-ended u d e s cause =
     }
 
 -- an operation of the disk, and the line that reports its outcome
-pub goes-told : (disk : Possible) (next : Outcome → Act) (l : Line) (u : Outcome) (r : Act) (x y : Told)
+told_part : (disk : Possible) (next : Outcome → Act) (l : Line) (u : Outcome) (r : Act) (x y : Told)
     (d e : DiskState)
     → Alone d e → HasCause u (since_wake d) (tally_now e) → CountedIn u (tally_now d) (tally_now e)
     → outcomes_in (l ∷ []) ≡ u ∷ [] → next u ≡ say l r
     → Tells x y (l ∷ [])
-    → Goes (play (ask disk next)) (play r) x y d e
-goes-told disk next l u r x y d e s cause counted told is said =
+    → GoesBut [] (play (ask disk next)) (play r) x y d e
+told_part disk next l u r x y d e s cause counted told is said =
     record {
       lines = l ∷ [];
       notes = Ended u ∷ [];
@@ -240,6 +304,33 @@ goes-told disk next l u r x y d e s cause counted told is said =
           ∙ ap (λ (a : Act). behind [] (Ended u ∷ []) (play a w o)) is;
       adds_up = (tally_now e, (counted, refl));
     }
+
+pub goes-told : (disk : Possible) (next : Outcome → Act) (l : Line) (u : Outcome) (r : Act) (x y : Told)
+    (d e : DiskState)
+    → Alone d e → HasCause u (since_wake d) (tally_now e) → CountedIn u (tally_now d) (tally_now e)
+    → LogsWhere disk u e → outcomes_in (l ∷ []) ≡ u ∷ [] → next u ≡ say l r
+    → Tells x y (l ∷ [])
+    → Goes (play (ask disk next)) (play r) x y d e
+unfolding told_part
+goes-told disk next l u r x y d e s cause counted logs told is said =
+    record {
+      part = told_part disk next l u r x y d e s cause counted told is said;
+      kept = λ none. absurd (not_empty [] u [] (sym told ∙ none));
+      logged = logged-ask disk next u (outcomes_in (l ∷ [])) e told logs;
+    }
+
+-- the same after a part in which no operation ended
+pub goes-begun : (a : Going) (disk : Possible) (next : Outcome → Act) (l : Line) (u : Outcome) (r : Act) (x y z : Told)
+    (d e f : DiskState) → GoesBut [] a (play (ask disk next)) x y d e
+    → Alone e f → HasCause u (since_wake e) (tally_now f) → CountedIn u (tally_now e) (tally_now f)
+    → LogsWhere disk u f → outcomes_in (l ∷ []) ≡ u ∷ [] → next u ≡ say l r
+    → Tells y z (l ∷ [])
+    → Goes a (play r) x z d f
+unfolding told_part
+goes-begun a disk next l u r x y z d e f p s cause counted logs told is said =
+    goes-after a (play (ask disk next)) (play r) x y z d e f p
+    (told_part disk next l u r y z e f s cause counted told is said) u [] told
+    (logged-ask disk next u (outcomes_in (l ∷ [])) f told logs)
 
 -- a tree that the disk holds, or a clone that was saved: the disk has no part in the note
 pub goes-held : (t : Tree) (r : Act) (x : Told) (d : DiskState) → Goes (play (mark (Held t) r)) (play r) x x d d
@@ -255,7 +346,7 @@ goes-held t r x d =
       later = s.later;
       caused = tt;
     } in
-    record {
+    quiet (play (mark (Held t) r)) (play r) x x d d (record {
       lines = [];
       notes = Held t ∷ [];
       added = [];
@@ -265,7 +356,7 @@ goes-held t r x d =
       fits = tt;
       goes = λ w o. refl;
       adds_up = refl;
-    }
+    }) refl refl (λ image h. h)
 
 pub goes-saved : (t : Tree) (r : Act) (x : Told) (d : DiskState) → Goes (play (mark (Saved t) r)) (play r) x x d d
 goes-saved t r x d =
@@ -280,7 +371,7 @@ goes-saved t r x d =
       later = s.later;
       caused = tt;
     } in
-    record {
+    quiet (play (mark (Saved t) r)) (play r) x x d d (record {
       lines = [];
       notes = Saved t ∷ [];
       added = [];
@@ -290,4 +381,4 @@ goes-saved t r x d =
       fits = tt;
       goes = λ w o. refl;
       adds_up = refl;
-    }
+    }) refl refl (λ image h. h)

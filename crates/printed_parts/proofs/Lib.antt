@@ -1,3 +1,4 @@
+pub mod LoggedLemmas
 pub mod GoesLemmas
 pub mod BreakLemmas
 pub mod ReportLemmas

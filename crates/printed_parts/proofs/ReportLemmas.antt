@@ -18,6 +18,7 @@ use Rattle.run_parts.specs.Counted.{AddsUp}
 use Rattle.run_parts.specs.Parts.{Grew, HasNoLineFeed, tallies, tally_now}
 use Rattle.run_parts.specs.Parts as texts
 use Rattle.run_parts.specs.Reports as texts_of
+use Rattle.printed_parts.specs.Logged.{LeavesLogged}
 use Rattle.printed_parts.specs.Parts.{Told, Goes, RunBreaks}
 use Rattle.printed_parts.specs.Reports.{Reports, ReportsFront, part_text}
 use Rattle.printed_parts.proofs.GoesLemmas.{image_at, printed-append}
@@ -28,7 +29,8 @@ outcomes-whole ls = ap outcomes_of (sym (append-nil (text_of ls))) ∙ outcomes_
 -- a run that was played to its end is the report that its text reports
 pub reports_of : (run : Going) (last : RunState) (x y : Told) (d e : DiskState) → Goes run (reached last) x y d e
     → EachCrash e (MayLoad last.disk) → Reports run x y d e
-reports_of run last x y d e g left =
+reports_of run last x y d e all left =
+    let g = all.part in
     let t : List ℕ = text_of g.lines in
     let is : run g.woken (outcomes_of t) ≡ behind g.lines g.notes (reached last [] []) =
     ap (λ (w : List Woken). run w (outcomes_of t)) (sym (append-nil g.woken))
@@ -41,6 +43,7 @@ reports_of run last x y d e g left =
     let P : List Note → Type 0 = λ ns. Grew ns g.added d e in
     let Q : List Note → Type 0 = λ ns. Fits (map image_at g.added) g.woken (woke_in ns) in
     let R : List Note → Type 0 = λ ns. AddsUp ns (tallies g.added) (tally_now d) (tally_now e) in
+    let S : List Outcome → Type 0 = λ os. LeavesLogged run g.woken os e in
     record {
       text = t;
       added = g.added;
@@ -55,6 +58,7 @@ reports_of run last x y d e g left =
       said_is = g.tells.said ∙ ap (λ (ls : List Line). x.said ++ printed_lines x.form ls) lines;
       grew = subst P notes g.grew;
       adds_up = subst R notes (subst R (append-nil g.notes) g.adds_up);
+      logged = subst S (sym (outcomes-whole g.lines)) all.logged;
       summary = g.tells.summary ∙ ap (with_lines x.summary) lines;
     }
 

@@ -16,10 +16,12 @@ use Rattle.line_objects.specs.Objects.{printed_lines}
 use Rattle.run_parts.specs.Counted.{AddsUp}
 use Rattle.run_parts.specs.Parts.{Grew, HasNoLineFeed, tallies, tally_now}
 use Rattle.run_parts.specs.Reports.{LeftOf}
+use Rattle.printed_parts.specs.Logged.{LeavesLogged}
 use Rattle.printed_parts.specs.Parts.{Told}
 
 -- What was printed since are the lines of the run on the wakes that were added, whose text is the whole report; and what was done to the disk
--- are its notes: with these its counts add up, so each stop that came is reported.
+-- are its notes: with these its counts add up, so each stop that came is reported. Where its last operation is a commit, the disk has the image
+-- of that.
 pub record Reports (run : Going) (told told' : Told) (old new : DiskState) : Type 0 where
   pub text : List ℕ
   pub added : List Wake
@@ -27,6 +29,7 @@ pub record Reports (run : Going) (told told' : Told) (old new : DiskState) : Typ
   pub said_is : told'.said ≡ told.said ++ printed_lines told.form (run report.woken (outcomes_of text)).lines
   pub grew : Grew (run report.woken (outcomes_of text)).notes added old new
   pub adds_up : AddsUp (run report.woken (outcomes_of text)).notes (tallies added) (tally_now old) (tally_now new)
+  pub logged : LeavesLogged run report.woken (outcomes_of text) new
   pub summary : told'.summary ≡ with_lines told.summary (run report.woken (outcomes_of text)).lines
 
 -- the text of a line of which a part was printed: an object that was cut off has none

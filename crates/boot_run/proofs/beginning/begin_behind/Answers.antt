@@ -3,8 +3,7 @@ use Rattle.std.specs.Prelude.{Option}
 use Rattle.hive_store.specs.Session.{Session}
 use Rattle.start_model.specs.Commit.{committed_state}
 use Rattle.start_model.specs.Boot.{begin_start}
-use Rattle.run_parts.proofs.CountLemmas.{still}
-use Rattle.printed_parts.proofs.GoesLemmas.{goes-nothing}
+use Rattle.printed_parts.proofs.GoesLemmas.{idle, goes-nothing}
 use Rattle.start_model.specs.Run.{play}
 use Rattle.boot_run.specs.Agrees.{CommitLeft, TurnLeft}
 use Rattle.boot_run.specs.Begins.{IsUpOrDown}
@@ -33,7 +32,7 @@ returns-in-None-clause-plays g c = λ m tree d rest tells up h.
     let R : Option Session → Type 0 = λ o. TurnLeft c.args.runner.now d o rest in (
       rest,
       (
-        goes-nothing (play rest) (told_in (g.H.Host.state c.args.host.now) c.args.runner.now) d d (still d),
+        goes-nothing (play rest) (told_in (g.H.Host.state c.args.host.now) c.args.runner.now) d d (idle d),
         subst R (sym c.in-None.is) (commit_over m tree next c.args.runner.now d rest (subst P c.in-None.is h)),
       ),
     )

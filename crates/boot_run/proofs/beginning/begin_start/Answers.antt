@@ -8,7 +8,7 @@ use Rattle.start_model.specs.Boot.{begin_start, begun_state}
 use Rattle.line_objects.specs.Objects.{printed}
 use Rattle.printed_parts.specs.Parts.{Tells}
 use Rattle.run_parts.proofs.CountLemmas.{still}
-use Rattle.printed_parts.proofs.GoesLemmas.{goes-line}
+use Rattle.printed_parts.proofs.GoesLemmas.{idle, goes-line}
 use Rattle.printed_parts.proofs.BreakLemmas.{or-breaks, breaks-silent, breaks-line}
 use Rattle.boot_run.specs.Views.{told_in, told_by}
 use Rattle.boot_run.proofs.PlayLemmas.{plays-then, plays-line, live_left}
@@ -29,7 +29,7 @@ returns-in_err-say-clause-plays g c = λ m d tells up counts live.
     or-breaks _ c.from_residual.result c.from_residual.ensures.0
     (begin_start c.args.number c.args.on_good c.args.numbers m) x y d d
     (breaks-line (select_line c.args.numbers)
-    (say (book.PhaseLine book.BootPhase) (done (begun_state c.args.number c.args.on_good m))) x y.said d d (still d)
+    (say (book.PhaseLine book.BootPhase) (done (begun_state c.args.number c.args.on_good m))) x y.said d d (idle d)
     refl
     (subst P c.select_line.ensures (c.in_err-say.ensures.tells tells)) (live_left m c.args.hive.now d up live))
 
@@ -50,9 +50,9 @@ returns-clause-plays g c = λ m d tells up counts live.
     let last : Act = done (begun_state c.args.number c.args.on_good m) in
     plays-then c.say-2.result _ (begin_start c.args.number c.args.on_good c.args.numbers m)
     (say (book.PhaseLine book.BootPhase) last) x y z d d d
-    (goes-line (select_line c.args.numbers) (say (book.PhaseLine book.BootPhase) last) x y d d (still d) refl
+    (goes-line (select_line c.args.numbers) (say (book.PhaseLine book.BootPhase) last) x y d d (idle d) refl
     (subst P c.select_line.ensures (c.in_ok-say.ensures.tells tells)))
-    (plays-line c.say-2.result _ (book.PhaseLine book.BootPhase) last y z d d (still d) refl
+    (plays-line c.say-2.result _ (book.PhaseLine book.BootPhase) last y z d d (idle d) refl
     (c.say-2.ensures.tells (c.in_ok-say.ensures.host.keeps.tells ∙ tells)) (live_left m c.args.hive.now d up live)
     (λ v. begun m c.args.runner.now _ d c.args.hive.now c.args.number c.args.on_good counts live c.in-Ok.ensures.begun
     refl))

@@ -11,7 +11,7 @@ use Rattle.start_model.specs.Run.{play}
 use Rattle.line_objects.specs.Objects.{printed}
 use Rattle.printed_parts.specs.Parts.{Tells, Goes, Breaks}
 use Rattle.run_parts.proofs.CountLemmas.{still}
-use Rattle.printed_parts.proofs.GoesLemmas.{goes-nothing, goes-line}
+use Rattle.printed_parts.proofs.GoesLemmas.{idle, goes-nothing, goes-line}
 use Rattle.printed_parts.proofs.BreakLemmas.{breaks-silent, breaks-line}
 use Rattle.boot_run.specs.Begins.{begin_planned, Planned}
 use Rattle.boot_run.specs.Views.{told_by}
@@ -46,7 +46,7 @@ returns-in-Ok-say-clause-plays g c = λ m d tells up live.
       rest,
       (
         subst Q (take_planned m c.args.hive.now.tree c.args.on_good plan live.live c.in-Ok-planned.ensures.plans)
-            (goes-line (set_line c.args.on_good m) rest x y d d (still d) refl
+            (goes-line (set_line c.args.on_good m) rest x y d d (idle d) refl
             (subst P line (c.in-Ok-say.ensures.tells tells))),
         refl,
       ),
@@ -63,7 +63,7 @@ returns-in-Err-clause-plays g c = λ m d tells up live.
     let line = set_line_is m c.args.hive.now.tree c.args.on_good c.taken.result c.in-Ok.numbers live.live
     c.in-Ok.ensures c.taken.ensures in
     subst Q (take_planned m c.args.hive.now.tree c.args.on_good plan live.live c.in-Ok-planned.ensures.plans)
-    (breaks-line (set_line c.args.on_good m) rest x y.said d d (still d) refl
+    (breaks-line (set_line c.args.on_good m) rest x y.said d d (idle d) refl
     (subst P line (c.in-Err.ensures.tells tells))
     (λ image crash. planned_stays c.args.on_good m plan image (stepped m.version m.live plan.steps)
     (none_open m c.args.hive.now d live) (live_left m c.args.hive.now d up live image crash)))
@@ -85,7 +85,7 @@ returns-in-Ok-say-2-clause-plays g c = λ m d tells up live.
       (
         subst Q (take_stopped m c.args.hive.now.tree c.args.on_good NoFreeNumber live.live
             (subst R c.in-Err-NoFreeNumber.field-0-is c.in-Err-NoFreeNumber.ensures.plans))
-            (goes-line (set_line c.args.on_good m) rest x y d d (still d) refl
+            (goes-line (set_line c.args.on_good m) rest x y d d (idle d) refl
             (subst P line (c.in-Ok-say-2.ensures.tells tells))),
         (refl, record { falls = refl; none = refl }),
       ),
@@ -106,7 +106,7 @@ returns-in-Err-say-clause-plays g c = λ m d tells up live.
     c.args.on_good) in
     subst Q (take_stopped m c.args.hive.now.tree c.args.on_good NoFreeNumber live.live
     (subst R c.in-Err-NoFreeNumber.field-0-is c.in-Err-NoFreeNumber.ensures.plans))
-    (breaks-line (set_line c.args.on_good m) rest x y.said d d (still d) refl
+    (breaks-line (set_line c.args.on_good m) rest x y.said d d (idle d) refl
     (subst P line (c.in-Err-say.ensures.tells tells)) (live_left m c.args.hive.now d up live))
 
 pub returns-in-Err-NoControlSet-clause-plays : goal.returns-in-Err-NoControlSet-clause-plays
@@ -122,7 +122,7 @@ returns-in-Err-NoControlSet-clause-plays g c = λ m d tells up live.
       (
         subst Q (take_stopped m c.args.hive.now.tree c.args.on_good NoControlSet live.live
             (subst R c.in-Err-NoControlSet.field-0-is c.in-Err-NoControlSet.ensures.plans))
-            (goes-nothing (play rest) x d d (still d)),
+            (goes-nothing (play rest) x d d (idle d)),
         (refl, record { falls = refl; none = refl }),
       ),
     )
@@ -140,7 +140,7 @@ returns-in-Err-NoLastKnownGood-clause-plays g c = λ m d tells up live.
       (
         subst Q (take_stopped m c.args.hive.now.tree c.args.on_good NoLastKnownGood live.live
             (subst R c.in-Err-NoLastKnownGood.field-0-is c.in-Err-NoLastKnownGood.ensures.plans))
-            (goes-nothing (play rest) x d d (still d)),
+            (goes-nothing (play rest) x d d (idle d)),
         (refl, record { falls = refl; none = refl }),
       ),
     )

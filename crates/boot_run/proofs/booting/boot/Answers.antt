@@ -9,7 +9,7 @@ use Rattle.start_model.specs.Boot.{chosen, accepted_state, boot_act}
 use Rattle.line_objects.specs.Objects.{printed}
 use Rattle.printed_parts.specs.Parts.{Tells}
 use Rattle.run_parts.proofs.CountLemmas.{still}
-use Rattle.printed_parts.proofs.GoesLemmas.{goes-line}
+use Rattle.printed_parts.proofs.GoesLemmas.{idle, goes-line}
 use Rattle.printed_parts.proofs.BreakLemmas.{breaks-silent, breaks-then}
 use Rattle.boot_run.specs.Agrees.{TurnLeft}
 use Rattle.boot_run.specs.Choices.{choices, choice_in}
@@ -52,7 +52,7 @@ returns-in_default-choose-clause-plays g c = λ m tells counts left.
     let P : ℕ → Type 0 = λ n. Tells x y (StartLine n ∷ []) in
     let number = number_is m c.args.runner.now c.in-Some.number counts (search rules) in
     breaks-then (boot_act choice c.args.entry c.args.last_known_good m) rest x y y.said d d d
-    (goes-line (StartLine (m.starts + 1)) rest x y d d (still d) refl
+    (goes-line (StartLine (m.starts + 1)) rest x y d d (idle d) refl
     (subst P number (c.in_ok-say.ensures.tells tells)))
     (breaks-silent rest y d d (still d)
     (chosen_left (m.machine.fallback_due || c.args.last_known_good) (accepted_state m) (choice c.args.entry)

@@ -3,7 +3,7 @@ use Rattle.start_model.specs.Lines as book
 use Rattle.start_model.specs.Act.{done, say}
 use Rattle.start_model.specs.Commit.{commit}
 use Rattle.start_model.specs.EventActs.{flush_act}
-use Rattle.run_parts.proofs.CountLemmas.{still}
+use Rattle.printed_parts.proofs.GoesLemmas.{idle}
 use Rattle.printed_parts.proofs.BreakLemmas.{breaks-line, or-breaks}
 use Rattle.boot_run.specs.Agrees.{CommitLeft, TurnLeft}
 use Rattle.boot_run.specs.Views.{told_in, told_by}
@@ -33,7 +33,7 @@ returns-in_err-say-clause-plays g c = λ m tells counts live.
     plays-as c.from_residual.result Left Left (say book.FlushNothingLine (done m)) (flush_act m) x y d d
     (flush_same m changed) (λ v rest h. h)
     (or-breaks Left c.from_residual.result c.from_residual.ensures.0 (say book.FlushNothingLine (done m)) x y d d
-    (breaks-line book.FlushNothingLine (done m) x y.said d d (still d) refl (c.in_err-say.ensures.tells tells)
+    (breaks-line book.FlushNothingLine (done m) x y.said d d (idle d) refl (c.in_err-say.ensures.tells tells)
     (live_left m c.args.hive d c.requires.sound.0 live)))
 
 pub returns-clause-plays : goal.returns-clause-plays

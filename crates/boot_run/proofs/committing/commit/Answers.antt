@@ -12,7 +12,7 @@ use Rattle.start_model.specs.Commit.{commit, committed_state, opened_state}
 use Rattle.printed_parts.proofs.BreakLemmas.{or-breaks}
 use Rattle.boot_run.specs.Views.{told_in, told_by}
 use Rattle.boot_run.proofs.DiskLemmas.{marked-by, cut-cause, fault-cause, commit-done, commit-lacked, commit-failed}
-use Rattle.boot_run.proofs.CommitLemmas.{Committed, commit_down, commit_memory, commit_live, commit_goes, commit_breaks, stop_open, stop_goes, stop_breaks, counts_over}
+use Rattle.boot_run.proofs.CommitLemmas.{Committed, Logged, commit_down, commit_memory, commit_live, commit_goes, commit_breaks, stop_open, stop_goes, stop_breaks, counts_over}
 use Rattle.boot_run.proofs.committing.commit.Goals as goal
 
 pub returns-in_err-say-in-Ok-clause-plays : goal.returns-in_err-say-in-Ok-clause-plays
@@ -28,11 +28,17 @@ returns-in_err-say-in-Ok-clause-plays g c = λ m next tells counts live stays.
       history = c.in-Ok.ensures.goes.goes_on.history;
       counts = c.in-Ok.ensures.goes.goes_on.counts;
     } in
+    let logged : Logged c.args.hive d e =
+    record {
+      opened = c.requires.up.carries;
+      closed = c.in-Ok.ensures.carries told;
+      log = c.in-Ok.ensures.logged told;
+    } in
     or-breaks _ c.from_residual.result c.from_residual.ensures.0
     (commit (commit_of c.args.what) c.args.hive.tree m next) x y d e
     (commit_breaks m next (commit_of c.args.what)
     c.args.hive d e live all c.in-Ok.hive c.in-Ok.sequence c.in-Ok.ensures.answered c.in-Ok.ensures.number
-    (c.in-Ok.ensures.still told) (c.in-Ok.ensures.loads told)
+    (c.in-Ok.ensures.still told) (c.in-Ok.ensures.loads told) logged
     (commit-done _ d e c.in-Ok.ensures.goes) stays x y.said (c.in_err-say-in-Ok.ensures.tells tells))
 
 pub returns-in_ok-say-in-Ok-clause-plays : goal.returns-in_ok-say-in-Ok-clause-plays
@@ -47,12 +53,18 @@ returns-in_ok-say-in-Ok-clause-plays g c = λ m next tells counts live stays.
       crash = c.in-Ok.ensures.crash told;
       history = c.in-Ok.ensures.goes.goes_on.history;
       counts = c.in-Ok.ensures.goes.goes_on.counts;
+    } in
+    let logged : Logged c.args.hive d e =
+    record {
+      opened = c.requires.up.carries;
+      closed = c.in-Ok.ensures.carries told;
+      log = c.in-Ok.ensures.logged told;
     } in (
       next (committed_state m c.args.hive.tree),
       (
         commit_goes m next (commit_of c.args.what)
             c.args.hive d e live all c.in-Ok.hive c.in-Ok.sequence c.in-Ok.ensures.answered c.in-Ok.ensures.number
-            (c.in-Ok.ensures.still told) (c.in-Ok.ensures.loads told)
+            (c.in-Ok.ensures.still told) (c.in-Ok.ensures.loads told) logged
             (commit-done _ d e c.in-Ok.ensures.goes) x y (c.in_ok-say-in-Ok.ensures.tells tells),
         (
           refl,
@@ -60,7 +72,7 @@ returns-in_ok-say-in-Ok-clause-plays g c = λ m next tells counts live stays.
             record { machine = counts.machine; starts = counts.starts },
             commit_live m next (commit_of c.args.what)
                 c.args.hive d e live all c.in-Ok.hive c.in-Ok.sequence c.in-Ok.ensures.answered c.in-Ok.ensures.number
-                (c.in-Ok.ensures.still told) (c.in-Ok.ensures.loads told),
+                (c.in-Ok.ensures.still told) (c.in-Ok.ensures.loads told) logged,
           ),
         ),
       ),

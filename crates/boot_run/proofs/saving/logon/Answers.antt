@@ -6,8 +6,7 @@ use Rattle.start_model.specs.Act.{say, done}
 use Rattle.start_model.specs.Commit.{save_where_due}
 use Rattle.start_model.specs.EventActs.{logon_act}
 use Rattle.boot_machine.specs.Steps.{on_start}
-use Rattle.run_parts.proofs.CountLemmas.{still}
-use Rattle.printed_parts.proofs.GoesLemmas.{goes-line}
+use Rattle.printed_parts.proofs.GoesLemmas.{idle, goes-line}
 use Rattle.printed_parts.proofs.BreakLemmas.{breaks-line, or-breaks}
 use Rattle.boot_run.specs.Agrees.{Counts, OnLeft, TurnLeft, IsRunningBy}
 use Rattle.boot_run.specs.Views.{told_in, told_by}
@@ -31,7 +30,7 @@ returns-in_err-say-clause-plays g c = λ m tells counts live.
     (option_map_or (λ s. logon_act s m) m.machine.start (done m)) x y d d
     (logon_is m.machine.start c.args.hive.tree m refl on) (λ v a k. k)
     (or-breaks Left c.from_residual.result c.from_residual.ensures.0 (say LogonLine more) x y d d
-    (breaks-line LogonLine more x y.said d d (still d) refl (c.in_err-say.ensures.tells tells)
+    (breaks-line LogonLine more x y.said d d (idle d) refl (c.in_err-say.ensures.tells tells)
     (λ image crash. due_may n.machine.start n done image (none_open m c.args.hive d live) stays_done
     (live_left m c.args.hive d c.requires.sound.0 live image crash))))
 
@@ -60,6 +59,6 @@ returns-clause-plays g c = λ m tells counts live.
     (option_map_or (λ s. logon_act s m) m.machine.start (done m)) x z d e
     (logon_is m.machine.start c.args.hive.tree m refl on) (λ v a k. done_left r e v a k)
     (plays-then c.save_where_due.result (OnLeft done r e) (say LogonLine more) more x y z d d e
-    (goes-line LogonLine more x y d d (still d) refl (c.in_ok-say.ensures.tells tells))
+    (goes-line LogonLine more x y d d (idle d) refl (c.in_ok-say.ensures.tells tells))
     (c.save_where_due.ensures.plays n done (c.in_ok-say.ensures.host.keeps.tells ∙ tells) now
     (live_machine n.machine m c.args.hive d live) stays_done))

@@ -4,7 +4,7 @@ use Rattle.start_model.specs.Act.{say, with_machine}
 use Rattle.start_model.specs.Starter.{judged, starter_step, good_is_usable, try_line}
 use Rattle.printed_parts.specs.Parts.{Breaks}
 use Rattle.run_parts.proofs.CountLemmas.{still}
-use Rattle.printed_parts.proofs.GoesLemmas.{goes-line}
+use Rattle.printed_parts.proofs.GoesLemmas.{idle, goes-line}
 use Rattle.printed_parts.proofs.BreakLemmas.{breaks-silent, breaks-line, or-breaks}
 use Rattle.boot_run.specs.Agrees.{Counts, IsRunningBy, OnLeft}
 use Rattle.boot_run.specs.Views.{told_in}
@@ -39,7 +39,7 @@ returns-in_err-verdict-clause-plays g c = λ m s next tells counts live stays.
     let P : Option (MachineState × Tried) → Type 0 = λ t. Breaks (starter_step s m next t) x y.said d d in
     or-breaks _ c.from_residual.result c.from_residual.ensures.0 (starter_step s m next o) x y d d
     (subst P (sym (same ∙ there.1))
-    (breaks-line (try_line one.1) (judged one.1.judgement (with_machine one.0 m) next) x y.said d d (still d) refl
+    (breaks-line (try_line one.1) (judged one.1.judgement (with_machine one.0 m) next) x y.said d d (idle d) refl
     (c.in_err-verdict.ensures.tells one tells there.1)
     (λ image crash. judged_may one.1.judgement (with_machine one.0 m) next image (none_open m c.args.hive d live)
     stays (live_left m c.args.hive d c.requires.sound.0 live image crash))))
@@ -79,6 +79,6 @@ returns-clause-plays g c = λ m s next tells counts live stays.
     plays-as c.end_where.result Left Left (say (try_line one.1) act) (starter_step s m next o) x z d e
     (ap (starter_step s m next) (sym (same ∙ a.is))) (λ v b l. l)
     (plays-then c.end_where.result Left (say (try_line one.1) act) act x y z d d e
-    (goes-line (try_line one.1) act x y d d (still d) refl (c.in_ok-verdict.ensures.tells one tells a.is))
+    (goes-line (try_line one.1) act x y d d (idle d) refl (c.in_ok-verdict.ensures.tells one tells a.is))
     (c.end_where.ensures.plays n next one.1.judgement (c.in_ok-verdict.ensures.host.keeps.tells ∙ tells) now
     (live_machine one.0 m c.args.hive d live) a.ends))
