@@ -117,6 +117,7 @@ module _ (form : ReportForm) (inputs : Inputs) (saves : Saves) (w : Woken) (befo
               settles.cuts ∙ ap (λ (t : Tally). t.cuts) same,
               settles.faults ∙ ap (λ (t : Tally). t.faults) same,
             );
+        logged = λ first second ends image held. all.logged first second ends image (settles.left image held);
         good = whole_good choice script w x y before left all;
       }
 

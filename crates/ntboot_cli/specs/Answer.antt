@@ -18,6 +18,7 @@ use Rattle.start_model.specs.Run.{run_of}
 use Rattle.start_model.specs.Quiet.{Quiet, quiet_run_of}
 use Rattle.start_model.specs.Summary.{Summary, no_summary}
 use Rattle.run_laws.specs.Quiet.{AllFinished}
+use Rattle.printed_parts.specs.Logged.{LeavesLogged}
 use Rattle.printed_parts.specs.Reports.{Reports, ReportsFront}
 use Rattle.boot_run.specs.Agrees.{LoadsAny}
 use Rattle.boot_run.specs.Choices.{choices}
@@ -80,8 +81,9 @@ abbrev pub quiet_in : Inputs → Woken → Quiet
 quiet_in inputs placed = quiet_run_of (choices inputs.ini inputs.system) (map event_in inputs.script) placed
 
 -- The whole report was printed in this form. The disk as the run left it then settled, and that many files were taken from it. Where it had
--- no cut and no fault, the lines are those of the quiet run; and where the report says no stop, it counted none. LastKnownGood
--- names a good set in each tree that was held, and in each that the disk may load as.
+-- no cut and no fault, the lines are those of the quiet run; and where the report says no stop, it counted none. Where the run's last operation
+-- is a commit that is done, the disk has the image of that, whose log lists exactly the sectors that differ. LastKnownGood names a good set in
+-- each tree that was held, and in each that the disk may load as.
 pub record RunsWhole (form : ReportForm) (inputs : Inputs) (placed : Woken) (taken : ℕ) (before after : DiskState) (old new : List ℕ) : Type 0 where
   pub summary : Summary
   pub left : DiskState
@@ -89,6 +91,7 @@ pub record RunsWhole (form : ReportForm) (inputs : Inputs) (placed : Woken) (tak
   pub settles : Settles taken left after
   pub quiet : after.cuts ≡ 0 → after.faults ≡ 0 → new ≡ old ++ printed_lines form (quiet_in inputs placed).lines
   pub counted : AllFinished (outcomes_of reports.text) → (after.cuts ≡ before.cuts) × (after.faults ≡ before.faults)
+  pub logged : LeavesLogged (run_in inputs placed) reports.report.woken (outcomes_of reports.text) after
   pub good : let r = run_in inputs placed reports.report.woken (outcomes_of reports.text) in KeepsGood r.notes r.disk
 
 -- A prefix of the report was printed, and LastKnownGood names a good set up to where nothing more happened.

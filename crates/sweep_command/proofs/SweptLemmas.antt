@@ -9,7 +9,7 @@ use Rattle.line_text.specs.declared.form.ReportForm.{ReportForm}
 use Rattle.start_model.specs.Boot.{Choice}
 use Rattle.start_model.specs.Events.{Event as Happening}
 use Rattle.start_model.specs.Lines.{Line, text_of}
-use Rattle.start_model.specs.Possible.{Possible, Woken}
+use Rattle.start_model.specs.Possible.{Possible, Woken, open_between}
 use Rattle.start_model.specs.Quiet.{Quiet, quiet_run_of}
 use Rattle.sweep_inputs.specs.declared.inputs.SweepInputs.{SweepInputs}
 use Rattle.sweep_lines.specs.Pieces.{lines_between, pieces_of}
@@ -24,7 +24,9 @@ use Rattle.sweep_script.specs.Names.{first_word}
 use Rattle.sweep_text.specs.Logged.{logged_of}
 use Rattle.sweep_text.specs.Report.{sweep_report, AreTexts}
 use Rattle.start_model.specs.Run.{first_state}
-use Rattle.sweep_command.specs.Answer.{probe_event, swept, ArePlayed, IsSweptAs}
+use Rattle.last_laws.specs.Last.{last_of}
+use Rattle.sweep_command.specs.Answer.{probe_event, swept, ArePlayed, IsItsLog, IsSweptAs}
+use Rattle.sweep_command.proofs.LastLemmas.{whole_last}
 
 -- ---- the events as the book has them
 
@@ -81,6 +83,12 @@ module _ (inputs : SweepInputs) (first second : Played) (placed : Woken)
         ∙ ap (λ s. s.disk) (whole_state choice before (event_in inputs.script.event) placed))
         with'.log
 
+    pub its_log : IsItsLog inputs placed second.log
+    its_log = λ was now is.
+        with'.logged was now
+        (ap (λ (events : List Happening). last_of choice events placed) (whole_in inputs.script.before inputs.script.event)
+        ∙ whole_last choice before (event_in inputs.script.event) placed (open_between was now) is)
+
 -- the report is on them
 pub swept_as : {E : Type 0} (form : ReportForm) (inputs : SweepInputs) (event log : List ℕ) (first second : Played)
     (r : Result (List ℕ) E)
@@ -94,6 +102,7 @@ swept_as form inputs event log first second (Ok text) named kept played reports 
     let lines = (swept inputs placed).lines in (
       second.log,
       log_left inputs first second placed both.0 both.1,
+      its_log inputs first second placed both.0 both.1,
       reports lines (are_texts inputs first second placed both.0 both.1)
           ∙ ap (λ (e : List ℕ). sweep_report form e lines (logged_of log) (logged_of second.log)) named
           ∙ ap (λ (l : List ℕ). sweep_report form (first_word inputs.script.event) lines (logged_of l) (logged_of second.log)) kept,

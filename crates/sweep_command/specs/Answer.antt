@@ -2,8 +2,8 @@
 --
 -- The first obstacle decides, and then the hive with its log, which has a first fault or is what the report is about: the lines of the event
 -- are those of the quiet run of the book of startup, and the calls follow from them and from what two logs list: the one that was placed, and the
--- log of a disk that loads as the state after the event.
-use Rattle.std.specs.Prelude.{◌≡◌, ◌⊎◌, ℕ, List, [], ◌∷◌, ◌++◌, map, Option, unwrap_or, Result, Ok, Err, codes}
+-- log of a disk that loads as the state after the event, which is the event's own where its last operation is a commit.
+use Rattle.std.specs.Prelude.{◌≡◌, ◌⊎◌, ℕ, List, [], ◌∷◌, ◌++◌, map, Option, None, Some, unwrap_or, Result, Ok, Err, codes}
 use Rattle.nt_bytes.specs.declared.fault.HiveFault.{HiveFault}
 use Rattle.nt_bytes.specs.declared.fault.ReadStop.{ReadStop}
 use Rattle.nt_bytes.specs.declared.fault.ReadStop.TheVariants as read
@@ -12,14 +12,18 @@ use Rattle.nt_edge.specs.Host.{HostState}
 use Rattle.nt_edge.specs.declared.host.HostStop.TheVariants.{Memory as NoMemory}
 use Rattle.hive_model.specs.Image.{Image}
 use Rattle.hive_model.specs.Load.{Loads, LoadFault}
+use Rattle.hive_model.specs.State.{HiveState}
 use Rattle.boot_script.specs.declared.event.Event.{Event}
 use Rattle.boot_script.specs.declared.event.Event.TheVariants.{Make}
 use Rattle.boot_machine.specs.Views.{event_in}
 use Rattle.boot_run.specs.Agrees.{LoadsAny}
 use Rattle.boot_run.specs.Choices.{choices}
 use Rattle.start_model.specs.Boot.{Choice}
-use Rattle.start_model.specs.Possible.{Woken}
+use Rattle.start_model.specs.EventActs.{event_step_of}
+use Rattle.start_model.specs.Possible.{Possible, Woken, open_between}
 use Rattle.start_model.specs.Quiet.{Quiet}
+use Rattle.start_model.specs.Run.{first_state}
+use Rattle.last_laws.specs.Last.{last_in}
 use Rattle.command_words.specs.Words.{SweepAsked}
 use Rattle.command_parts.specs.declared.inputs.HiveFiles.{HiveFiles}
 use Rattle.command_parts.specs.declared.status.Status.{Status}
@@ -35,10 +39,10 @@ use Rattle.command_parts.specs.Saves.{no_saves}
 use Rattle.line_text.specs.declared.form.ReportForm.{ReportForm}
 use Rattle.sweep_inputs.specs.declared.inputs.SweepInputs.{SweepInputs}
 use Rattle.sweep_inputs.specs.Inputs.{SweepFilesAsked, inputs_in}
-use Rattle.sweep_lines.specs.Swept.{swept_by}
+use Rattle.sweep_lines.specs.Swept.{swept_by, state_after}
 use Rattle.sweep_run.specs.declared.playing.Played.{Played}
 use Rattle.sweep_run.specs.Played.{IsPlayed}
-use Rattle.sweep_run.specs.Swept.{IsLogOf}
+use Rattle.sweep_run.specs.Swept.{IsLogOf, IsLogBetween}
 use Rattle.sweep_script.specs.declared.reading.SweepScript.{SweepScript}
 use Rattle.sweep_script.specs.Names.{first_word}
 use Rattle.sweep_text.specs.Logged.{logged_of}
@@ -65,9 +69,20 @@ abbrev pub report_with : ReportForm → SweepInputs → Woken → List ℕ → L
 report_with form inputs placed log =
     sweep_report form (first_word inputs.script.event) (swept inputs placed).lines (logged_of (unwrap_or inputs.hive.log [])) (logged_of log)
 
+-- the last operation of the event, which comes after those before it
+abbrev pub last_swept : SweepInputs → Woken → Option Possible
+last_swept inputs placed =
+    let choice = choices inputs.ini inputs.system in
+    last_in None (event_step_of choice (event_in inputs.script.event) (state_after choice (map event_in inputs.script.before) (first_state placed)))
+
+-- where that is a commit, the log is its own: it lists exactly the sectors that differ
+abbrev pub IsItsLog : SweepInputs → Woken → List ℕ → Type 0
+IsItsLog inputs placed log = (before after : HiveState) → last_swept inputs placed ≡ Some (open_between before after) → IsLogBetween before after log
+
 -- the text is the report, with what the log of a disk lists that loads as the state after the event
 abbrev pub IsSwept : ReportForm → SweepInputs → Woken → List ℕ → Type 0
-IsSwept form inputs placed text = (log : List ℕ) × IsLogOf (swept inputs placed).state.disk log × (text ≡ report_with form inputs placed log)
+IsSwept form inputs placed text =
+    (log : List ℕ) × IsLogOf (swept inputs placed).state.disk log × IsItsLog inputs placed log × (text ≡ report_with form inputs placed log)
 
 -- whatever the hive loads as
 abbrev pub IsSweptAs : ReportForm → SweepInputs → List ℕ → Type 0

@@ -10,7 +10,7 @@ use Rattle.nt_edge.specs.Crash.{EachCrash}
 use Rattle.boot_script.specs.declared.event.Event.{Event}
 use Rattle.boot_machine.specs.Views.{event_in}
 use Rattle.start_model.specs.Boot.{Choice}
-use Rattle.start_model.specs.Fits.{outcomes_of}
+use Rattle.start_model.specs.Fits.{outcomes_of, woke_in}
 use Rattle.start_model.specs.Lines.{Line, line_text, text_of}
 use Rattle.start_model.specs.Possible.{Woken}
 use Rattle.start_model.specs.Run.{run_of}
@@ -24,11 +24,13 @@ use Rattle.boot_run.specs.Agrees.{LoadsAny, IsDown}
 use Rattle.boot_run.specs.Begins.{untold, answered}
 use Rattle.boot_run.proofs.DiskLemmas.{still_leaves}
 use Rattle.order_laws.specs.Unordered.{AreUnordered}
-use Rattle.order_laws.proofs.QuietLemmas.{reports-said, reports-loads, reports-uncounted}
+use Rattle.run_laws.proofs.NoteLemmas.{fits_possible}
+use Rattle.order_laws.proofs.QuietLemmas.{reports-finished, reports-said, reports-loads, reports-uncounted}
 use Rattle.command_parts.specs.declared.inputs.HiveFiles.{HiveFiles}
 use Rattle.command_parts.specs.Placed.{image_in, placed_disk}
 use Rattle.sweep_run.specs.declared.playing.Played.{Played}
 use Rattle.sweep_run.specs.Played.{quiet_of, Plays, PlaysOn, IsPlayed, Taken}
+use Rattle.sweep_run.proofs.EndLemmas.{ends_in_commit}
 
 -- ---- the disk that holds the hive
 
@@ -86,6 +88,12 @@ module _ (choice : Option ℕ → Choice) (script : List Event) (files : HiveFil
             ∙ reports-said choice events w (as_text [] x) (as_text r.text y) before after t u.cuts u.faults)
             ∙ ap (λ (s : List ℕ). s ++ text_of (quiet_of choice script w).lines) unsaid;
         left = reports-loads choice events w (as_text [] x) (as_text r.text y) before after t u.cuts u.faults;
+        logged = λ first second ends.
+            r.logged first second
+            (ends_in_commit choice events w r.report.woken (outcomes_of r.text) r.report.last first second r.report.taken
+            (fits_possible (map (λ w. w.image) r.added) r.report.woken (woke_in (run r.report.woken (outcomes_of r.text)).notes)
+            r.report.fits)
+            (reports-finished choice events w (as_text [] x) (as_text r.text y) before after t u.cuts u.faults) ends);
       }
 
   pub plays_on : (summary : Summary) (text : List ℕ) → old.tells ≡ true → old.said ≡ [] → new.said ≡ text
@@ -114,5 +122,6 @@ taken_result choice script files said disk (Ok p) taken plays = λ w loads.
     record {
       said = taken.0 ∙ here.said;
       log = (taken.1.0, here.left taken.1.0 taken.1.1.0, taken.1.1.1);
+      logged = λ before after ends. (taken.1.0, here.logged before after ends taken.1.0 taken.1.1.0, taken.1.1.1);
     }
 taken_result choice script files said disk (Err e) taken plays = tt
