@@ -1,22 +1,28 @@
 //! The command: a hive in, what is suspicious about its services or the first obstacle out.
 
-ghost use Rattle.std.specs.Prelude.{◌≡◌, Err, IfOk};
+ghost use Rattle.std.specs.Prelude.{◌≡◌, ◌∷◌, [], Err, IfOk};
 ghost use Rattle.hive_model.specs.Valid.{HoldsKeys};
+ghost use Rattle.hive_sets.specs.Shows.{ShowsHive};
 ghost use Rattle.command_parts.specs.Inputs.{AsksHive, AsksSoMany};
 ghost use Rattle.command_parts.specs.OnHive.{AnswersOnHive, SeeksAnswer, DecidesOnHive, told_answer};
 ghost use Rattle.command_words.specs.Views.{check_seen};
 ghost use Rattle.check_command.specs.Answer.{tree_answer, question_at, question_in, asks_check};
+ghost use Rattle.check_command.specs.Read.{checked_number};
 
 use check_text::lines_text;
-use command_parts::{HiveFiles, Obstacle, Refusal, Status, Told, answer, hive_in, no_memory, read};
+use command_parts::{
+    HiveFiles, Obstacle, Refusal, Status, Told, answer, hive_in, judge_cells, no_memory,
+};
 use command_words::CheckWords;
+use hive_edit::HiveBytes;
+use hive_sets::{part, select_numbers};
 use line_text::ReportForm;
 use nt_bytes::ReadStop;
 use nt_edge::Host;
 use reg_tree::Key;
 use std::alloc::{AllocError, Global};
 
-/// The lines of a check of a hive's tree.
+/// The lines of a check of a tree.
 #[tactic(auto, unfolding(service_check::specs::Check::check_lines))]
 fn told_by(
     alloc: Global,
@@ -36,6 +42,38 @@ fn told_by(
     })
 }
 
+/// The number of the set that is checked.
+fn checked_number(alloc: Global, hive: &HiveBytes, set: Option<u32>) -> Result<u32, AllocError>
+    ensures { IfOk result (λ n. n ≡ checked_number set hive.now.tree) }
+{
+    match set {
+        Some(number) => Ok(number),
+        None => Ok(select_numbers(alloc, hive)?.default),
+    }
+}
+
+/// The part of a hive's tree that the check needs.
+fn checked_part(alloc: Global, hive: &HiveBytes, set: Option<u32>) -> Result<Key, AllocError>
+    ensures { IfOk result (ShowsHive (checked_number set hive.now.tree ∷ []) hive.now.tree) }
+{
+    let number = checked_number(alloc, hive, set)?;
+    part(alloc, hive, &[number])
+}
+
+/// The lines of a check of a hive. Of its tree only the part that they need is made.
+fn told_of(
+    alloc: Global,
+    form: ReportForm,
+    hive: &HiveBytes,
+    set: Option<u32>,
+    order: bool,
+) -> Result<Told, AllocError>
+    ensures { IfOk result (λ told. told_answer told ≡ tree_answer form set order hive.now.tree) }
+{
+    let root = checked_part(alloc, hive, set)?;
+    told_by(alloc, form, &root, set, order)
+}
+
 /// The lines of a check of a hive, or its first fault.
 fn report_at(
     alloc: Global,
@@ -46,8 +84,8 @@ fn report_at(
 ) -> Result<Told, Obstacle>
     ensures { AnswersOnHive (question_at form set order files.now) result }
 {
-    match read(alloc, files) {
-        Ok((root, _, _)) => match told_by(alloc, form, &root, set, order) {
+    match judge_cells(alloc, files) {
+        Ok((hive, _, _)) => match told_of(alloc, form, &hive, set, order) {
             Ok(told) => Ok(told),
             Err(_) => Err(no_memory()),
         },
