@@ -1,2 +1,3 @@
 pub mod SeekLemmas
 pub mod DiffAsks
+pub mod PartLemmas

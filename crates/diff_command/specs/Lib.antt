@@ -1,3 +1,4 @@
 pub mod Compared
 pub mod Answer
 pub mod Asks
+pub mod Read

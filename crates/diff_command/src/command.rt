@@ -2,7 +2,6 @@
 
 ghost use Rattle.std.specs.Prelude.{◌≡◌, ◌++◌, Err, IfOk, codes};
 ghost use Rattle.std.specs.Fmt.{decimal};
-ghost use Rattle.hive_model.specs.Valid.{HoldsKeys};
 ghost use Rattle.command_parts.specs.Placed.{image_in};
 ghost use Rattle.command_words.specs.Views.{diff_seen};
 ghost use Rattle.diff_command.specs.Answer.{hive_fault, with_fault, IsWithFault, IsOnImage, IsSame, IsOther, IsSecond, IsAnswer, DecidesDiff, FindsBy, SeeksBy};
@@ -10,14 +9,14 @@ ghost use Rattle.diff_command.specs.Asks.{AsksAfter, AsksSearch, AsksDiff, AsksW
 
 use crate::comparing::{found_alone, found_between};
 use command_parts::{
-    HiveFiles, Obstacle, Refusal, Status, hive_in, hive_kind, no_memory, read, refuse, stopped,
-    tell,
+    HiveFiles, Obstacle, Refusal, Status, hive_in, hive_kind, judge_cells, no_memory, refuse,
+    stopped, tell,
 };
 use command_words::DiffWords;
+use hive_edit::HiveBytes;
 use line_text::ReportForm;
 use nt_bytes::{Bytes, HiveFault, ReadStop};
 use nt_edge::Host;
-use reg_tree::Key;
 use std::alloc::{AllocError, Global};
 
 /// A text that is printed, and the status after it.
@@ -51,12 +50,11 @@ fn alone(
     alloc: Global,
     form: ReportForm,
     words: DiffWords<'_>,
-    root: &Key,
+    hive: &HiveBytes,
 ) -> Result<Finding, Obstacle>
-    requires { HoldsKeys root.now }
-    ensures { FindsBy (IsSame form (diff_seen words.entry) root.now) result }
+    ensures { FindsBy (IsSame form (diff_seen words.entry) hive.now.tree) result }
 {
-    match found_alone(alloc, form, words, root) {
+    match found_alone(alloc, form, words, hive) {
         Ok(finding) => Ok(finding),
         Err(_) => Err(no_memory()),
     }
@@ -67,12 +65,10 @@ fn between(
     alloc: Global,
     form: ReportForm,
     words: DiffWords<'_>,
-    first: &Key,
-    second: &Key,
+    first: &HiveBytes,
+    second: &HiveBytes,
 ) -> Result<Finding, Obstacle>
-    requires first { HoldsKeys first.now }
-    requires second { HoldsKeys second.now }
-    ensures { FindsBy (IsOther form (diff_seen words.entry) first.now second.now) result }
+    ensures { FindsBy (IsOther form (diff_seen words.entry) first.now.tree second.now.tree) result }
 {
     match found_between(alloc, form, words, first, second) {
         Ok(finding) => Ok(finding),
@@ -85,13 +81,12 @@ fn with_files(
     alloc: Global,
     form: ReportForm,
     words: DiffWords<'_>,
-    first: &Key,
+    first: &HiveBytes,
     files: &HiveFiles,
 ) -> Result<Finding, Obstacle>
-    requires { HoldsKeys first.now }
-    ensures { FindsBy (IsOnImage (image_in files.now) with_fault (IsOther form (diff_seen words.entry) first.now)) result }
+    ensures { FindsBy (IsOnImage (image_in files.now) with_fault (IsOther form (diff_seen words.entry) first.now.tree)) result }
 {
-    match read(alloc, files) {
+    match judge_cells(alloc, files) {
         Ok((second, _, _)) => between(alloc, form, words, first, &second),
         Err(ReadStop::Fault(fault)) => with_fault(alloc, fault),
         Err(ReadStop::Memory) => Err(no_memory()),
@@ -103,11 +98,10 @@ fn seek_second<H: Host>(
     alloc: Global,
     form: ReportForm,
     words: DiffWords<'_>,
-    first: &Key,
+    first: &HiveBytes,
     host: &mut H,
 ) -> Result<Finding, Obstacle>
-    requires { HoldsKeys first.now }
-    ensures seeks { SeeksBy (λ files. IsSecond form (diff_seen words.entry) files first.now) result (H.state host.old) (H.state host.new) }
+    ensures seeks { SeeksBy (λ files. IsSecond form (diff_seen words.entry) files first.now.tree) result (H.state host.old) (H.state host.new) }
     ensures asks { AsksWith (diff_seen words.entry) result (H.state host.old) (H.state host.new) }
     ensures kept { result ≡ Err (Obstacle.Refused Refusal.Usage) → ⊥ }
 {
@@ -132,7 +126,7 @@ fn seek_on<H: Host>(
     ensures asks { AsksAfter files.now (diff_seen words.entry) result (H.state host.old) (H.state host.new) }
     ensures kept { result ≡ Err (Obstacle.Refused Refusal.Usage) → ⊥ }
 {
-    match read(alloc, files) {
+    match judge_cells(alloc, files) {
         Ok((first, _, _)) => seek_second(alloc, form, words, &first, host),
         Err(ReadStop::Fault(fault)) => Err(Obstacle::Refused(Refusal::HiveFault(fault))),
         Err(ReadStop::Memory) => Err(no_memory()),

@@ -6,17 +6,22 @@ ghost use Rattle.hive_model.specs.Valid.{HoldsKeys};
 ghost use Rattle.start_model.specs.Sets.{select_numbers_of};
 ghost use Rattle.command_parts.specs.Leaves.{stop_in};
 ghost use Rattle.command_words.specs.Views.{diff_seen};
+ghost use Rattle.hive_sets.specs.Shows.{ShowsHive};
 ghost use Rattle.diff_command.specs.Answer.{finding_answer};
 ghost use Rattle.diff_command.specs.Compared.{both_trees, both_found, found_lines, lines_answer, first_number, same_number, other_number, same_answer, other_answer};
+ghost use Rattle.diff_command.specs.Read.{StandsFor};
 
 use crate::command::Finding;
 use command_parts::Status;
 use command_words::DiffWords;
 use diff_lines::DiffLines;
 use diff_text::lines_text;
+use hive_edit::HiveBytes;
+use hive_sets::{part, select_numbers};
 use line_text::ReportForm;
+use nt_bytes::Names;
 use reg_tree::Key;
-use select_keys::{select_numbers, set_of};
+use select_keys::set_of;
 use set_diff::{close, put_sets};
 use std::alloc::{AllocError, Global};
 use tree_diff::put_trees;
@@ -127,37 +132,74 @@ fn found(
 // ---- the numbers of the sets
 
 /// The set that the next boot takes.
-fn default_number(root: &Key) -> u32
-    ensures { result ≡ (select_numbers_of root.now).default }
+fn default_number(alloc: Global, hive: &HiveBytes) -> Result<u32, AllocError>
+    ensures { IfOk result (λ n. n ≡ (select_numbers_of hive.now.tree).default) }
 {
-    select_numbers(root).default
+    Ok(select_numbers(alloc, hive)?.default)
 }
 
-fn good_number(root: &Key) -> u32
-    ensures { result ≡ (select_numbers_of root.now).good }
+fn good_number(alloc: Global, hive: &HiveBytes) -> Result<u32, AllocError>
+    ensures { IfOk result (λ n. n ≡ (select_numbers_of hive.now.tree).good) }
 {
-    select_numbers(root).good
+    Ok(select_numbers(alloc, hive)?.good)
 }
 
 /// The set of the first hive.
-fn first_number(words: DiffWords<'_>, root: &Key) -> u32
-    ensures { result ≡ first_number (diff_seen words.entry) root.now }
+fn first_number(alloc: Global, words: DiffWords<'_>, hive: &HiveBytes) -> Result<u32, AllocError>
+    ensures { IfOk result (λ n. n ≡ first_number (diff_seen words.entry) hive.now.tree) }
 {
-    words.set.unwrap_or(default_number(root))
+    let number = default_number(alloc, hive)?;
+    Ok(words.set.unwrap_or(number))
 }
 
 /// The second set in the same hive.
-fn same_number(words: DiffWords<'_>, root: &Key) -> u32
-    ensures { result ≡ same_number (diff_seen words.entry) root.now }
+fn same_number(alloc: Global, words: DiffWords<'_>, hive: &HiveBytes) -> Result<u32, AllocError>
+    ensures { IfOk result (λ n. n ≡ same_number (diff_seen words.entry) hive.now.tree) }
 {
-    words.with_set.unwrap_or(good_number(root))
+    let number = good_number(alloc, hive)?;
+    Ok(words.with_set.unwrap_or(number))
 }
 
 /// The second set in a hive of its own.
-fn other_number(words: DiffWords<'_>, root: &Key) -> u32
-    ensures { result ≡ other_number (diff_seen words.entry) root.now }
+fn other_number(alloc: Global, words: DiffWords<'_>, hive: &HiveBytes) -> Result<u32, AllocError>
+    ensures { IfOk result (λ n. n ≡ other_number (diff_seen words.entry) hive.now.tree) }
 {
-    words.with_set.unwrap_or(default_number(root))
+    let number = default_number(alloc, hive)?;
+    Ok(words.with_set.unwrap_or(number))
+}
+
+// ---- what is read of a hive
+
+/// The whole tree.
+fn whole(alloc: Global, hive: &HiveBytes) -> Result<Key, AllocError>
+    ensures held { IfOk result HoldsKeys }
+    ensures same { IfOk result (λ t. t ≡ hive.now.tree) }
+{
+    let top = Names::new(alloc);
+    match hive.subtree(alloc, &top)? {
+        Some(key) => Ok(key),
+        None => unreachable!(),
+    }
+}
+
+/// The part for the sets of these numbers.
+fn part_of(alloc: Global, hive: &HiveBytes, numbers: &[u32]) -> Result<Key, AllocError>
+    ensures held { IfOk result HoldsKeys }
+    ensures shows { IfOk result (ShowsHive numbers.now hive.now.tree) }
+{
+    let root = part(alloc, hive, numbers)?;
+    Ok(root)
+}
+
+/// What stands for a hive's tree where the sets of these numbers are compared; with all keys and values, the tree itself.
+fn tree_for(alloc: Global, all: bool, hive: &HiveBytes, numbers: &[u32]) -> Result<Key, AllocError>
+    ensures held { IfOk result HoldsKeys }
+    ensures stands { IfOk result (StandsFor all numbers.now hive.now.tree) }
+{
+    if all {
+        return whole(alloc, hive);
+    }
+    part_of(alloc, hive, numbers)
 }
 
 /// What is found of two sets of one hive.
@@ -165,16 +207,16 @@ pub(crate) fn found_alone(
     alloc: Global,
     form: ReportForm,
     words: DiffWords<'_>,
-    root: &Key,
+    hive: &HiveBytes,
 ) -> Result<Finding, AllocError>
-    requires { HoldsKeys root.now }
-    ensures answer { IfOk result (λ f. finding_answer f ≡ same_answer form (diff_seen words.entry) root.now) }
+    ensures answer { IfOk result (λ f. finding_answer f ≡ same_answer form (diff_seen words.entry) hive.now.tree) }
     ensures ends { IfOk result (λ f. stop_in f.status ≡ None) }
     ensures kept { IfOk result (λ f. f.status ≡ Status.Usage → ⊥) }
 {
-    let n = first_number(words, root);
-    let m = same_number(words, root);
-    found(alloc, form, words.all, root, n, root, m)
+    let n = first_number(alloc, words, hive)?;
+    let m = same_number(alloc, words, hive)?;
+    let root = tree_for(alloc, words.all, hive, &[n, m])?;
+    found(alloc, form, words.all, &root, n, &root, m)
 }
 
 /// What is found of sets of two hives.
@@ -182,16 +224,16 @@ pub(crate) fn found_between(
     alloc: Global,
     form: ReportForm,
     words: DiffWords<'_>,
-    first: &Key,
-    second: &Key,
+    first: &HiveBytes,
+    second: &HiveBytes,
 ) -> Result<Finding, AllocError>
-    requires first { HoldsKeys first.now }
-    requires second { HoldsKeys second.now }
-    ensures answer { IfOk result (λ f. finding_answer f ≡ other_answer form (diff_seen words.entry) first.now second.now) }
+    ensures answer { IfOk result (λ f. finding_answer f ≡ other_answer form (diff_seen words.entry) first.now.tree second.now.tree) }
     ensures ends { IfOk result (λ f. stop_in f.status ≡ None) }
     ensures kept { IfOk result (λ f. f.status ≡ Status.Usage → ⊥) }
 {
-    let n = first_number(words, first);
-    let m = other_number(words, second);
-    found(alloc, form, words.all, first, n, second, m)
+    let n = first_number(alloc, words, first)?;
+    let m = other_number(alloc, words, second)?;
+    let a = tree_for(alloc, words.all, first, &[n])?;
+    let b = tree_for(alloc, words.all, second, &[m])?;
+    found(alloc, form, words.all, &a, n, &b, m)
 }

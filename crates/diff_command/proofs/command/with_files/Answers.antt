@@ -6,5 +6,5 @@ use Rattle.diff_command.proofs.command.with_files.Goals as goal
 
 pub returns-in-Ok : goal.returns-in-Ok
 returns-in-Ok c =
-    loaded_finds (image_in c.args.files.now) with_fault (IsOther c.args.form (diff_seen c.args.words) c.args.first.now) c.in-Ok.second
-    c.in-Ok.field-0-1 c.in-Ok.field-0-2 c.between.result c.in-Ok.ensures.checks c.between.ensures
+    loaded_finds (image_in c.args.files.now) with_fault (IsOther c.args.form (diff_seen c.args.words) c.args.first.now.tree) c.in-Ok.second.tree
+    c.in-Ok.field-0-1 c.in-Ok.field-0-2 c.between.result c.in-Ok.ensures.0 c.between.ensures

@@ -1,4 +1,17 @@
+use Rattle.std.proofs.Common.{◌≡◌, List, subst, ◌∙◌}
+use Rattle.std.specs.Prelude.{IfOk}
+use Rattle.command_words.specs.Views.{diff_seen}
+use Rattle.diff_lines.specs.declared.lines.DiffLine.{DiffLine}
+use Rattle.diff_command.specs.Answer.{finding_answer}
+use Rattle.diff_command.specs.Compared.{found_lines, lines_answer}
+use Rattle.diff_command.proofs.PartLemmas.{alone_same}
 use Rattle.diff_command.proofs.comparing.found_alone.Goals as goal
 
 pub returns-clause-answer : goal.returns-clause-answer
-returns-clause-answer c = rw (c.first_number-n.ensures, c.same_number-m.ensures) at c.found.ensures.answer
+returns-clause-answer c =
+    let all = (diff_seen c.args.words).all in
+    let tree = c.args.hive.now.tree in
+    subst (λ (lines : List DiffLine). IfOk c.found.result (λ f. finding_answer f ≡ lines_answer c.args.form lines))
+    (alone_same all tree c.in_ok-root.root c.in_ok-n.n c.in_ok-m.m c.in_ok-root.ensures.stands
+    ∙ (λ i. found_lines all tree (c.in_ok-n.ensures i) tree (c.in_ok-m.ensures i)))
+    c.found.ensures.answer
