@@ -151,7 +151,8 @@ class House:
             text = file.text()
             tokens = set(TOKEN.findall(text)) | set(re.findall(r"[\w']+", text))
             for here, (_, _, number) in file.names.items():
-                parts = [it for it in here.split("◌") if it]
+                # a block `do` has `x ← e` for `>>=`
+                parts = ["←" if it == ">>=" and "←" in text else it for it in here.split("◌") if it]
                 if not all(it in tokens or not it.isalnum() and it in text for it in parts) and not file.lines[number].startswith("pub "):
                     yield file.path, number, here
 

@@ -8,7 +8,7 @@ use Rattle.command_words.specs.Words.{ControlAsked}
 use Rattle.command_parts.specs.declared.refusal.Refusal.{Refusal}
 use Rattle.command_parts.specs.declared.refusal.Refusal.TheVariants.{ScriptFault as BadCommands}
 use Rattle.command_parts.specs.declared.refusal.Obstacle.{Obstacle}
-use Rattle.command_parts.specs.Inputs.{file_in, hive_in, behind_step, asks_hive}
+use Rattle.command_parts.specs.Inputs.{◌>>=◌, file_in, hive_in, behind_step, asks_hive}
 use Rattle.command_parts.specs.Leaves.{AsksUntil}
 use Rattle.control_command.specs.declared.command.ControlCommand.{ControlCommand}
 use Rattle.control_command.specs.declared.inputs.ControlInputs.{ControlInputs}

@@ -13,7 +13,7 @@ use Rattle.command_words.specs.Words.{Reading, asks, help, refused, version, swe
 use Rattle.command_parts.specs.declared.refusal.Refusal.{Refusal}
 use Rattle.command_parts.specs.declared.refusal.Refusal.TheVariants.{Usage, ScriptFault as BadScript}
 use Rattle.command_parts.specs.declared.refusal.Obstacle.{Obstacle}
-use Rattle.command_parts.specs.Inputs.{system_in, file_in, bytes_in, ini_in, hive_in, behind_step, asks_hive}
+use Rattle.command_parts.specs.Inputs.{◌>>=◌, system_in, file_in, bytes_in, ini_in, hive_in, behind_step, asks_hive}
 use Rattle.command_parts.specs.Leaves.{AsksUntil, named}
 use Rattle.safe_command.specs.Inputs.{asks_safe, arguments_in as safe_arguments_in}
 use Rattle.control_command.specs.Inputs.{asks_control}

@@ -28,7 +28,7 @@ use Rattle.line_text.specs.declared.form.ReportForm.TheVariants as forms
 use Rattle.generated_hive.specs.Generated.{generated}
 use Rattle.ntboot_cli.specs.declared.making.Usual.{Usual}
 use Rattle.command_parts.specs.declared.refusal.Refusal.{Refusal}
-use Rattle.command_parts.specs.Inputs.{system_in, ini_in}
+use Rattle.command_parts.specs.Inputs.{◌>>=◌, system_in, ini_in}
 
 -- the usual system, and a boot.ini without text; both are there
 abbrev pub usual_in : Result Usual Refusal

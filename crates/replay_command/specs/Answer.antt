@@ -9,6 +9,7 @@ use Rattle.command_words.specs.Words.{ReplayAsked}
 use Rattle.command_parts.specs.declared.refusal.Refusal.{Refusal}
 use Rattle.command_parts.specs.declared.refusal.Refusal.TheVariants.{HiveFault as BadHive}
 use Rattle.command_parts.specs.declared.reporting.FileReport.{FileReport}
+use Rattle.command_parts.specs.Inputs.{◌>>=◌}
 use Rattle.line_text.specs.declared.form.ReportForm.{ReportForm}
 use Rattle.log_replay.specs.declared.replaying.Outcome.{Outcome}
 use Rattle.log_replay.specs.Replay.{replay_of}

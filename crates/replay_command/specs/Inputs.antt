@@ -6,7 +6,7 @@ use Rattle.nt_edge.specs.Host.{Files, HostState}
 use Rattle.command_words.specs.Words.{ReplayAsked}
 use Rattle.command_parts.specs.declared.refusal.Obstacle.{Obstacle}
 use Rattle.command_parts.specs.declared.refusal.Refusal.{Refusal}
-use Rattle.command_parts.specs.Inputs.{file_in, log_in, behind_step}
+use Rattle.command_parts.specs.Inputs.{◌>>=◌, file_in, log_in, behind_step}
 use Rattle.command_parts.specs.Leaves.{AsksUntil, named}
 use Rattle.log_replay.specs.declared.line.LogName.{LogName}
 use Rattle.log_replay.specs.declared.line.LogName.TheVariants.{Log, Log1, Log2}

@@ -11,7 +11,7 @@ use Rattle.safe_boot.specs.declared.mode.SafeMode.{SafeMode}
 use Rattle.safe_boot.specs.declared.mode.SafeMode.TheVariants.{Minimal, Network}
 use Rattle.command_parts.specs.declared.refusal.Refusal.{Refusal}
 use Rattle.command_parts.specs.declared.refusal.Obstacle.{Obstacle}
-use Rattle.command_parts.specs.Inputs.{system_in, bytes_in, ini_in, hive_in, behind_step, asks_hive}
+use Rattle.command_parts.specs.Inputs.{◌>>=◌, system_in, bytes_in, ini_in, hive_in, behind_step, asks_hive}
 use Rattle.command_parts.specs.Leaves.{AsksUntil, named}
 use Rattle.safe_command.specs.declared.inputs.SafeInputs.{SafeInputs}
 

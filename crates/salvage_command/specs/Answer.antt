@@ -8,7 +8,7 @@ use Rattle.command_words.specs.Words.{SalvageAsked}
 use Rattle.command_parts.specs.declared.inputs.HiveFiles.{HiveFiles}
 use Rattle.command_parts.specs.declared.refusal.Refusal.{Refusal}
 use Rattle.command_parts.specs.declared.reporting.FileReport.{FileReport}
-use Rattle.command_parts.specs.Inputs.{hive_in, asks_hive}
+use Rattle.command_parts.specs.Inputs.{◌>>=◌, hive_in, asks_hive}
 use Rattle.line_text.specs.declared.form.ReportForm.{ReportForm}
 use Rattle.salvage_file.specs.Salvage.{salvaged_as}
 use Rattle.salvage_text.specs.declared.reporting.Report.{Report}

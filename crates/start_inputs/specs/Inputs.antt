@@ -13,7 +13,7 @@ use Rattle.command_words.specs.Words.{Text}
 use Rattle.command_parts.specs.declared.refusal.Refusal.{Refusal}
 use Rattle.command_parts.specs.declared.refusal.Refusal.TheVariants.{ScriptFault as BadScript}
 use Rattle.command_parts.specs.declared.refusal.Obstacle.{Obstacle}
-use Rattle.command_parts.specs.Inputs.{system_in, file_in, bytes_in, ini_in, hive_in, behind_step, asks_hive}
+use Rattle.command_parts.specs.Inputs.{◌>>=◌, system_in, file_in, bytes_in, ini_in, hive_in, behind_step, asks_hive}
 use Rattle.command_parts.specs.Leaves.{AsksUntil, named}
 use Rattle.start_inputs.specs.declared.inputs.StartFiles.{StartFiles}
 use Rattle.start_inputs.specs.declared.inputs.StartInputs.{StartInputs}

@@ -7,7 +7,7 @@ use Rattle.arc_path.specs.Reading.{arc_of}
 use Rattle.command_words.specs.Words.{WhatifAsked}
 use Rattle.command_parts.specs.declared.refusal.Refusal.{Refusal}
 use Rattle.command_parts.specs.declared.refusal.Obstacle.{Obstacle}
-use Rattle.command_parts.specs.Inputs.{system_in, bytes_in, ini_in, hive_in, behind_step, asks_hive}
+use Rattle.command_parts.specs.Inputs.{◌>>=◌, system_in, bytes_in, ini_in, hive_in, behind_step, asks_hive}
 use Rattle.command_parts.specs.Leaves.{AsksUntil, named}
 use Rattle.whatif_command.specs.declared.inputs.WhatifInputs.{WhatifInputs}
 
