@@ -6,9 +6,10 @@ ghost use Rattle.command_parts.specs.OnHive.{AnswersOnHive, SeeksAnswer, Decides
 ghost use Rattle.command_words.specs.Views.{key_seen};
 ghost use Rattle.key_command.specs.Answer.{question_at, question_on, question_in, asks_key};
 
-use command_parts::{HiveFiles, Obstacle, Refusal, Status, Told, answer, hive_in, no_memory, read};
+use crate::text::text_at;
+use command_parts::{HiveFiles, Obstacle, Refusal, Status, Told, answer, hive_in, no_memory};
 use command_words::KeyWords;
-use key_text::{key_report, path_in};
+use key_text::path_in;
 use line_text::ReportForm;
 use nt_bytes::{Names, ReadStop};
 use nt_edge::Host;
@@ -25,11 +26,8 @@ fn report_at(
 ) -> Result<Told, Obstacle>
     ensures { AnswersOnHive (question_at form path.now depth security files.now) result }
 {
-    match read(alloc, files) {
-        Ok((root, _, _)) => match key_report(alloc, form, &root, path, depth, security) {
-            Ok(text) => Ok(Told::done(text)),
-            Err(_) => Err(no_memory()),
-        },
+    match text_at(alloc, files, form, path, depth, security) {
+        Ok(text) => Ok(Told::done(text)),
         Err(ReadStop::Fault(fault)) => Err(Obstacle::Refused(Refusal::HiveFault(fault))),
         Err(ReadStop::Memory) => Err(no_memory()),
     }
