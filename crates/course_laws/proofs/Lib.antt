@@ -3,5 +3,4 @@ pub mod ActLemmas
 pub mod PastLemmas
 pub mod StandsLemmas
 pub mod MetLemmas
-pub mod PlacedLemmas
 pub mod UnmetLemmas

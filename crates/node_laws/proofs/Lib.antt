@@ -1,5 +1,0 @@
-pub mod EntryLemmas
-pub mod NodeLemmas
-pub mod EdgeLemmas
-pub mod GroupLemmas
-pub mod PartLemmas

@@ -1,4 +1,0 @@
-pub mod Tries
-pub mod Unmet
-pub mod Met
-pub mod Moment
