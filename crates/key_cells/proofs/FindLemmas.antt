@@ -1,19 +1,15 @@
 -- What is found on the way to a key.
-use Rattle.std.proofs.Common.{◌≡◌, ◌<◌, ◌≤◌, ℕ, Bool, true, false, cond, not, List, [], ◌∷◌, length, refl, sym, ap, ◌∙◌, arith}
-use Rattle.std.specs.Prelude.{Option, Some, None, find, option_and_then, codes, nat_le, Err}
-use Rattle.std.specs.Option.{is_some}
-use Rattle.std.proofs.lemmas.Bool.Decides.{nat_tests}
+use Rattle.std.proofs.Common.{◌≡◌, ◌<◌, ℕ, Bool, true, false, cond, List, [], ◌∷◌, length, refl, sym, ap, ◌∙◌, arith}
+use Rattle.std.specs.Prelude.{Option, Some, None, codes, Err}
 use Rattle.std.proofs.lemmas.List.Elements.{All-nil}
 use Rattle.nt_bytes.specs.declared.fault.ReadStop.{ReadStop}
 use Rattle.nt_bytes.specs.declared.fault.ReadStop.TheVariants as stops
-use Rattle.nt_bytes.specs.Folding.{folds_same}
-use Rattle.hive_model.specs.Tree.{Tree, key, none, head, children, is_named, find_key}
-use Rattle.hive_model.specs.Edit.{has_child}
+use Rattle.hive_model.specs.Tree.{Tree, key, none, head, find_key}
 use Rattle.hive_model.specs.Valid.{IsItem, HoldsKeys}
 use Rattle.start_model.specs.Sets.{numbers_in, select_numbers_of, set_name, is_usable}
 use Rattle.hive_levels.specs.Cut.{bare, cut, changed, along, Shows}
 use Rattle.hive_levels.proofs.AlongLemmas.{along_key}
-use Rattle.key_text.specs.Found.{current, means_current, default_path, true_path, lines_of, no_key_lines}
+use Rattle.key_text.specs.Found.{means_current, default_path, true_path, lines_of, no_key_lines}
 use Rattle.key_cells.specs.Ways.{path_through}
 
 -- what stops stops
@@ -32,26 +28,6 @@ numbers_along t =
     ap numbers_in (along_key (codes "Select" ∷ []) 1 t) ∙ numbers_cut (find_key (codes "Select" ∷ []) t)
 
 -- ---- sets
-
-some_end : (o : Option Tree) → is_some (option_and_then (find_key []) o) ≡ is_some o
-some_end None = refl
-some_end (Some t) = refl
-
--- a number from 1 to 999 names a set where the root has a child of that name
-pub usable_is : (t : Tree) (n : ℕ) → 1 ≤ n → n ≤ 999 → is_usable t n ≡ has_child (set_name n) t
-usable_is t n low high =
-    let first : nat_le 1 n ≡ true = grind (arith, nat_tests) in
-    let last : nat_le n 999 ≡ true = grind (arith, nat_tests) in
-    rw (first, last) (some_end (find (is_named (set_name n)) (children t)))
-
-pub too_low : (t : Tree) (n : ℕ) → n < 1 → is_usable t n ≡ false
-too_low t n low = let first : nat_le 1 n ≡ false = grind (arith, nat_tests) in rw first refl
-
-pub too_high : (t : Tree) (n : ℕ) → 1 ≤ n → 999 < n → is_usable t n ≡ false
-too_high t n low high =
-    let first : nat_le 1 n ≡ true = grind (arith, nat_tests) in
-    let last : nat_le n 999 ≡ false = grind (arith, nat_tests) in
-    rw (first, last) refl
 
 -- the path through the set of a number
 pub through : (t : Tree) (n : ℕ) (set : Option (List ℕ)) (rest : List (List ℕ))
@@ -83,20 +59,7 @@ nothing_held = (
   tt,
 )
 
--- ---- the current set
-
-pub means_no : (t : Tree) (name : List ℕ) → folds_same current name ≡ false → false ≡ means_current t name
-means_no t name e = rw e refl
-
-pub means_there : (t : Tree) (name : List ℕ) (there : Bool) → folds_same current name ≡ true
-    → there ≡ has_child current t → not there ≡ means_current t name
-means_there t name there e f = rw (e, f) refl
-
 -- ---- the true path
-
-pub true_empty : (t : Tree) (path : List (List ℕ)) → path ≡ [] → Some [] ≡ true_path t path
-unfolding true_path
-true_empty t path is = rw is refl
 
 pub true_current : (t : Tree) (path : List (List ℕ)) (name : List ℕ) (rest : List (List ℕ)) (b : Bool)
     → path ≡ name ∷ rest → b ≡ means_current t name → b ≡ true → true_path t path ≡ default_path t rest

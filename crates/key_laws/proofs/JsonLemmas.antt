@@ -259,9 +259,6 @@ objects ls = printed_lines forms.Json ls
 opened : (l : KeyLine) (ls : List KeyLine) → objects (l ∷ ls) ≡ json_of (object_of l) ++ objects ls
 opened l ls = ap (λ (t : List ℕ). t ++ objects ls) (is_object l)
 
-begins : (l : KeyLine) (rest : List ℕ) → first_byte (json_of (object_of l) ++ rest) ≡ 123
-begins l rest = refl
-
 pub same_objects : (a b : List KeyLine) → FitLines a → FitLines b → objects a ≡ objects b → a ≡ b
 same_objects [] [] is_a is_b e = refl
 same_objects [] (l ∷ ls) is_a is_b e =
