@@ -1,6 +1,6 @@
 #!/usr/bin/env python3
 """Proof text that nothing cites. `tests/dead_text.py` prints each definition of an .antt file that no answer, invariant or clause needs, however far
-below, and then 'N passed, N failed'. With `--imports` it prints each name too that a `use` line brings in vain, which fails nothing.
+below, each name that a `use` line brings in vain, and then 'N passed, N failed'.
 
 A node is a definition at the left margin, or a whole `module` or `mutual` block with all its names. What needs no citation are the answers and the
 invariants, which the prover asks for by name, and what a .rt file names in a clause or an attribute. Names count as cited wherever they are written
@@ -157,16 +157,17 @@ class House:
                     yield file.path, number, here
 
 
-def main(words):
+def main():
     house = House()
     dead = sorted((path, start, " ".join(sorted(names))) for path, start, names in house.dead())
-    unused = sorted(house.unused()) if "--imports" in words else []
+    unused = sorted(house.unused())
     for what, found in (("nothing cites", dead), ("imports in vain", unused)):
         for path, line, name in found:
             print(f"{os.path.relpath(path, TOP)}:{line + 1}: {what} {name}")
-    print(f"{len(house.nodes) - len(dead)} passed, {len(dead)} failed")
-    return 1 if dead else 0
+    failed = len(dead) + len(unused)
+    print(f"{len(house.nodes) - len(dead)} passed, {failed} failed")
+    return 1 if failed else 0
 
 
 if __name__ == "__main__":
-    sys.exit(main(sys.argv[1:]))
+    sys.exit(main())

@@ -1,6 +1,6 @@
 //! Which entry a start takes.
 
-ghost use Rattle.std.specs.Prelude.{◌≡◌, ℕ, false, Option, Ok, Err, IfOk};
+ghost use Rattle.std.specs.Prelude.{◌≡◌, false, Option, Ok, Err, IfOk};
 ghost use Rattle.arc_path.specs.Reading.{arc_of};
 ghost use Rattle.arc_path.specs.declared.arc.ArcFault.{ArcFault as Fault};
 ghost use Rattle.std.specs.Option.{option_copied};

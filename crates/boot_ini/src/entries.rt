@@ -1,8 +1,8 @@
 //! An entry of `[operating systems]`.
 
-ghost use Rattle.std.specs.Prelude.{◌≡◌, ◌<◌, ◌≤◌, ◌++◌, [], ◌∷◌, length, IfOk, Option};
+ghost use Rattle.std.specs.Prelude.{◌≡◌, ◌<◌, ◌≤◌, length, IfOk, Option};
 ghost use Rattle.std.specs.List.{position_or_len, before_first, after_first};
-ghost use Rattle.boot_ini.specs.Entries.{is_quoted, title_of, behind_title, is_switch, switches_in, entry_of};
+ghost use Rattle.boot_ini.specs.Entries.{title_of, behind_title, is_switch, switches_in, entry_of};
 ghost use Rattle.nt_bytes.specs.Text.{is_blank};
 
 use crate::ini::{OsEntry, Switches};

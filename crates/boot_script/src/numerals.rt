@@ -1,6 +1,5 @@
 //! Numbers in words.
 
-ghost use Rattle.std.specs.Prelude.{◌≡◌};
 ghost use Rattle.boot_script.specs.Words.{number_from, Sees};
 
 use crate::stop::ScriptFaultKind;

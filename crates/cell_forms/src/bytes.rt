@@ -1,6 +1,5 @@
 //! Cells of plain bytes.
 
-ghost use Rattle.std.specs.Prelude.{◌≡◌};
 ghost use Rattle.hive_model.specs.Forms.{Gives, bytes_in};
 
 use crate::names::fault;

@@ -1,6 +1,6 @@
 //! Names where they stand: units read out of the bytes that store them.
 
-ghost use Rattle.std.specs.Prelude.{◌≡◌, ◌∷◌, true, List, [], IfOk};
+ghost use Rattle.std.specs.Prelude.{◌≡◌, ◌∷◌, true, [], IfOk};
 ghost use Rattle.std.specs.List.{list_any};
 ghost use Rattle.std.specs.Option.{IfSome, IsNone};
 ghost use Rattle.std.specs.Prelude.{length};

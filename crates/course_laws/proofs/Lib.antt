@@ -3,4 +3,5 @@ pub mod ActLemmas
 pub mod PastLemmas
 pub mod StandsLemmas
 pub mod MetLemmas
+pub mod PlacedLemmas
 pub mod UnmetLemmas

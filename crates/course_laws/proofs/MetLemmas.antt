@@ -102,7 +102,7 @@ pub run_is : (run : QuietRun) → (viewed_of run).run ≡ run
 unfolding viewed_of
 run_is run = refl
 
-service_well : (run : QuietRun) (n : ℕ) (name : List ℕ) → is_met n (service_met (viewed_of run) name) ≡ true
+pub service_well : (run : QuietRun) (n : ℕ) (name : List ℕ) → is_met n (service_met (viewed_of run) name) ≡ true
     → (k : ℕ) × WentWell run n name k
 unfolding viewed_of
 service_well run n name is =
@@ -166,7 +166,7 @@ by_group r a group is = by (is_ok a.outcome) refl is
     by true ok is = (ok, is)
     by false ok is = absurd cc
 
-group_well : (run : QuietRun) (n : ℕ) (group : List ℕ) → is_met n (group_met (starts_of (viewed_of run)) group) ≡ true
+pub group_well : (run : QuietRun) (n : ℕ) (group : List ℕ) → is_met n (group_met (starts_of (viewed_of run)) group) ≡ true
     → GroupWell run n group
 group_well run n group is =
     let m = some_met n (group_met g group) is in by m.0 m.2 (place_in g.groups group) refl m.1
@@ -206,7 +206,7 @@ negated : (b : Bool) → not b ≡ true → b ≡ false
 negated true h = absurd (false≢true h)
 negated false h = refl
 
-untried_in : (set : Tree) (phase : Phase) (tried : List (List ℕ)) (e : Entry) → Contains (plan_of set phase tried) e
+pub untried_in : (set : Tree) (phase : Phase) (tried : List (List ℕ)) (e : Entry) → Contains (plan_of set phase tried) e
     → was_tried tried e ≡ false
 untried_in set phase tried e c = by phase (plan_from set phase tried e c)
   where
@@ -227,7 +227,7 @@ untried_in set phase tried e c = by phase (plan_from set phase tried e c)
         (item_here (places_of (is_open tried) (entries_of set)) a.index a.place a.at) a.here)).1
     by Done t = absurd (none_in t.place t.taken)
 
-was_there : (ts : List Made) (t : Made) (e : Entry) → Contains ts t → folds_same t.0.name e.name ≡ true
+pub was_there : (ts : List Made) (t : Made) (e : Entry) → Contains ts t → folds_same t.0.name e.name ≡ true
     → was_tried (made_names ts) e ≡ true
 was_there ts t e c same =
     any_from (λ (name : List ℕ). folds_same name e.name) (made_names ts) t.0.name
@@ -378,7 +378,7 @@ module _ (run : QuietRun) (us : List (List ℕ)) (known : Known (sight run.start
   -- ---- its group
 
   module _ (held : AreHeld run.start.phases) where
-    set_held : (at : ℕ) (v : PhaseView) (s : Stands run us known at v) → HoldsKeys s.phase.set
+    pub set_held : (at : ℕ) (v : PhaseView) (s : Stands run us known at v) → HoldsKeys s.phase.set
     set_held at v s =
         let within = slice_get_within run.start.phases at s.phase s.there in
         subst (λ (p : BegunPhase). HoldsKeys p.set) (get_or_from_slice_get run.start.phases at s.phase s.phase s.there)

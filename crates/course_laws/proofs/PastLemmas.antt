@@ -39,7 +39,7 @@ slice_cases (z ∷ xs) ys (suc k) x is = elim (slice_cases xs ys k x is) [
   | inr i ↦ inr (i.0, omega (arith, i.1), i.2)
 ]
 
-alone_at : {X : Type 0} (x y : X) (i : ℕ) → slice_get (x ∷ []) i ≡ Some y → (i ≡ 0) × (x ≡ y)
+pub alone_at : {X : Type 0} (x y : X) (i : ℕ) → slice_get (x ∷ []) i ≡ Some y → (i ≡ 0) × (x ≡ y)
 alone_at x y zero is = (refl, same_Some x y is)
 alone_at x y (suc i) is = absurd cc
 
@@ -111,7 +111,7 @@ module _ (ps : List BegunPhase) (before : List Made) (w : List Entry) (us : List
     (gone : next_of (labels before) (map need_of w) ≡ None) (from : q.from ≡ length before) (at : ℕ)
     (p : BegunPhase) where
   -- with one phase more
-  at_more : AtPast ps before w us at p → AtPast (ps ++ q ∷ []) (before ++ ts) w' (us ++ names_of w) at p
+  unfoldable pub at_more : AtPast ps before w us at p → AtPast (ps ++ q ∷ []) (before ++ ts) w' (us ++ names_of w) at p
   at_more a = record {
     before = a.before;
     ts = a.ts;

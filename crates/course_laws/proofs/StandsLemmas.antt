@@ -98,7 +98,7 @@ module _ (run : QuietRun) (us : List (List ℕ)) (known : Known (sight run.start
   PastHere at p = AtPast l.phases known.made known.waiting known.left at p
 
   pub stands_by : (at : ℕ) (p : BegunPhase) → slice_get l.phases at ≡ Some p → (a : PastHere at p)
-      → (s : Stands at (view_of l at p)) × (s.before ≡ a.before) × (s.ts ≡ a.ts)
+      → (s : Stands at (view_of l at p)) × (s.before ≡ a.before) × (s.ts ≡ a.ts) × (s.waiting ≡ a.waiting)
   stands_by at p there a = by a.after
     where
       all : known.made ≡ a.before ++ (a.ts ++ a.rest)
@@ -118,7 +118,7 @@ module _ (run : QuietRun) (us : List (List ℕ)) (known : Known (sight run.start
 
       by : IsLast l.phases known.waiting at a.rest a.waiting
           ⊎ IsFollowed l.phases known.left at (a.before ++ a.ts) a.waiting
-          → (s : Stands at (view_of l at p)) × (s.before ≡ a.before) × (s.ts ≡ a.ts)
+          → (s : Stands at (view_of l at p)) × (s.before ≡ a.before) × (s.ts ≡ a.ts) × (s.waiting ≡ a.waiting)
       by (inl last) =
           let after : slice_get l.phases (at + 1) ≡ None = slice_get_past l.phases (at + 1)
           (omega (arith, last.count)) in
@@ -156,6 +156,7 @@ module _ (run : QuietRun) (us : List (List ℕ)) (known : Known (sight run.start
             },
             refl,
             refl,
+            refl,
           )
       by (inr f) =
           let ended : is_ended l at ≡ true = ap (λ (o : Option BegunPhase). option_map_or
@@ -185,6 +186,7 @@ module _ (run : QuietRun) (us : List (List ℕ)) (known : Known (sight run.start
                   let ends = ends_before l.phases known.made known.waiting known.left known.past d at p q a is in
                   omega (arith, ends, end_is);
             },
+            refl,
             refl,
             refl,
           )

@@ -19,7 +19,7 @@ use Rattle.start_model.specs.Entries.{Entry}
 use Rattle.quiet_run.specs.declared.last.Attempt.{Attempt}
 use Rattle.quiet_run.specs.declared.last.QuietRun.{QuietRun}
 use Rattle.quiet_run.specs.Play.{AreHeld}
-use Rattle.quiet_run.specs.Watch.{placed_as, quiet_run_of}
+use Rattle.quiet_run.specs.Watch.{quiet_run_of}
 use Rattle.start_model.specs.Lines.{Line, StartLine, UnmetLine}
 use Rattle.start_model.specs.Quiet as book
 use Rattle.why_laws.specs.Reports.{started_by, last_start_in}
@@ -50,11 +50,12 @@ use Rattle.course_laws.specs.Unmet.{unmet_by, UnmetIsReported}
 use Rattle.course_laws.proofs.MadeLemmas.{labels, Known, sight}
 use Rattle.course_laws.proofs.ActLemmas.{unmet_seen, hear, run_known}
 use Rattle.course_laws.proofs.StandsLemmas.{Stands, stands_at, left_waiting}
+use Rattle.course_laws.proofs.PlacedLemmas.{placed_known}
 use Rattle.course_laws.proofs.MetLemmas.{entry_named, met_names, met_groups, names_are}
 
 -- ---- an attempt that was found has an outcome
 
-outcome_there : (run : QuietRun) (n : ℕ) (name : List ℕ) (k : ℕ) → attempt_upto (viewed_of run) n name ≡ Some k
+pub outcome_there : (run : QuietRun) (n : ℕ) (name : List ℕ) (k : ℕ) → attempt_upto (viewed_of run) n name ≡ Some k
     → outcome_at (viewed_of run) k ≡ None → ⊥
 unfolding viewed_of
 outcome_there run n name k is none = by (place_in (names_tried run.start.attempts) name) refl is
@@ -204,7 +205,7 @@ early_never r n m name le is = by (place_in r.tried name) is
     by None is = refl
     by (Some k) is = tested k (nat_lt k m) refl is
 
-same_never : (r : ViewedRun) (n : ℕ) (a b : List ℕ) → folds_same a b ≡ true → attempt_upto r n a ≡ None
+pub same_never : (r : ViewedRun) (n : ℕ) (a b : List ℕ) → folds_same a b ≡ true → attempt_upto r n a ≡ None
     → attempt_upto r n b ≡ None
 same_never r n a b same is =
     let one : attempt_upto r n a ≡ attempt_upto r n b =
@@ -396,7 +397,7 @@ items_are_left choice script version tree name place state placed number c =
 
 -- ---- lines
 
-placed_name : (views : List PhaseView) (m : ℕ) (name : List ℕ) (place : ℕ × ℕ) (v : PhaseView)
+pub placed_name : (views : List PhaseView) (m : ℕ) (name : List ℕ) (place : ℕ × ℕ) (v : PhaseView)
     → placed_below views m name ≡ Some place
     → slice_get views place.0 ≡ Some v → place_in v.names name ≡ Some place.1
 placed_name views m name place v placed there =
@@ -425,16 +426,16 @@ hear_last us (x ∷ xs) = by (last_start_in xs) (hear_last (unmet_seen x us) xs)
     by None is = hear_line us xs x is
     by (Some last) is = is
 
-heard_unmet : (lines : List Line) (last : ℕ × List Line) → last_start_in lines ≡ Some last
+pub heard_unmet : (lines : List Line) (last : ℕ × List Line) → last_start_in lines ≡ Some last
     → hear [] lines ≡ filter_map unmet_by last.1
 heard_unmet lines last is = subst (λ (o : Option (ℕ × List Line)). HearsAs [] (hear [] lines) lines o) is
     (hear_last [] lines)
 
 pub unmet_is_reported : UnmetIsReported
-unmet_is_reported choice script version tree last is name state =
-    let run : QuietRun = quiet_run_of choice script version tree in
-    let lines : List Line = (book.quiet_run_of choice script (placed_as version tree)).lines in
-    let known = run_known choice script version tree in
+unmet_is_reported choice script placed last is name state =
+    let run : QuietRun = quiet_run_of choice script placed.state.version placed.state.tree in
+    let lines : List Line = (book.quiet_run_of choice script placed).lines in
+    let known = placed_known choice script placed in
     let u = unmet_state run name state in
     let s = stands_at run _ known u.place.0 u.view u.there in
     let at = placed_name (viewed_of run).views (length (viewed_of run).views) name u.place u.view u.placed u.there in

@@ -2,13 +2,11 @@
 use Rattle.std.specs.Prelude.{◌≡◌, ℕ, true, List, Contains, Option, None, Some}
 use Rattle.std.specs.List.{filter_map}
 use Rattle.nt_bytes.specs.Folding.{folds_same}
-use Rattle.nt_bytes.specs.declared.version.HiveVersion.{HiveVersion}
-use Rattle.hive_model.specs.Tree.{Tree}
 use Rattle.start_model.specs.Boot.{Choice}
 use Rattle.start_model.specs.Events.{Event}
 use Rattle.start_model.specs.Lines.{Line, UnmetLine}
+use Rattle.start_model.specs.Possible.{Woken}
 use Rattle.start_model.specs.Quiet as book
-use Rattle.quiet_run.specs.Watch.{placed_as}
 use Rattle.why_lines.specs.declared.lines.NameState.TheVariants as states
 use Rattle.why_state.specs.States.{state_of}
 use Rattle.why_laws.specs.Reports.{last_start_in}
@@ -23,9 +21,9 @@ unmet_by line = None
 abbrev pub IsUnmetIn : List Line → List ℕ → Type 0
 IsUnmetIn lines name = (said : List ℕ) × Contains (filter_map unmet_by lines) said × (folds_same name said ≡ true)
 
--- where the state of a name is `unmet`, the last start has a line of that in the report of the run on a hive with the sequence number 0
+-- where the state of a name is `unmet`, the last start has a line of that in the report of the run, whatever the sequence number of the hive and its log
 abbrev pub UnmetIsReported : Type 0
 UnmetIsReported =
-    (choice : Option ℕ → Choice) (script : List Event) (version : HiveVersion) (tree : Tree) (last : ℕ × List Line)
-    → last_start_in (book.quiet_run_of choice script (placed_as version tree)).lines ≡ Some last
-    → (name : List ℕ) → state_of (view_from choice script (placed_as version tree)) name ≡ states.Unmet → IsUnmetIn last.1 name
+    (choice : Option ℕ → Choice) (script : List Event) (placed : Woken) (last : ℕ × List Line)
+    → last_start_in (book.quiet_run_of choice script placed).lines ≡ Some last
+    → (name : List ℕ) → state_of (view_from choice script placed) name ≡ states.Unmet → IsUnmetIn last.1 name

@@ -2,8 +2,8 @@
 
 ghost use Rattle.course_laws.specs.Unmet.{UnmetIsReported};
 
-/// Where the state of a name is `unmet`, the report of the run has, after its last line `start`, a line `unmet` of that name, as it folds. The run is on a hive
-/// with the sequence number 0 and no log to take.
+/// Where the state of a name is `unmet`, the report of the run has, after its last line `start`, a line `unmet` of that name, as it folds; whatever the
+/// sequence number of the hive, and whether its log is taken.
 pub fn an_unmet_name_has_an_unmet_line()
     ensures { UnmetIsReported }
 {}

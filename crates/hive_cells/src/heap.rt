@@ -1,7 +1,7 @@
 //! The heap of cells.
 
 ghost use Rattle.std.specs.Prelude.{◌≡◌, ◌%◌, IfOk};
-ghost use Rattle.hive_model.specs.Bins.{cell_at, payload_at, payload_of, with_place, spelled, Sees};
+ghost use Rattle.hive_model.specs.Bins.{payload_at, with_place, spelled, Sees};
 
 use crate::lookup::head;
 use nt_bytes::{Bytes, HiveFault, HiveFaultKind};

@@ -1,5 +1,5 @@
 -- What goes out of cells where a value is deleted. (This project's own; the fields: regf format 1.3 and 1.5, key value and big data.)
-use Rattle.std.specs.Prelude.{◌≡◌, ◌⊎◌, ◌<◌, ◌≤◌, ◌+◌, ◌*◌, ℕ, List, [], ◌∷◌, ◌++◌, length, ◌==◌, if◌then◌else◌, Some, None, Ok}
+use Rattle.std.specs.Prelude.{◌≡◌, ◌<◌, ◌≤◌, ◌+◌, ◌*◌, ℕ, List, [], ◌∷◌, ◌++◌, length, ◌==◌, if◌then◌else◌, Some, None, Ok}
 use Rattle.std.specs.Option.{IsSome}
 use Rattle.std.specs.Result.{IsOk}
 use Rattle.nt_bytes.specs.Fields.{u32_in}

@@ -1,11 +1,9 @@
 //! A child of the root added with all below it.
 
-ghost use Rattle.std.specs.Prelude.{◌≡◌, ◌≤◌, ◌<◌, ◌^◌, ℕ, ◌+◌, ◌-◌, [], min, nat_lt, Ok, IfOk, MatchBool, MatchResult, slice_index};
+ghost use Rattle.std.specs.Prelude.{◌≡◌, ◌≤◌, ◌<◌, ◌^◌, ◌+◌, ◌-◌, [], min, Ok, IfOk, MatchBool, MatchResult};
 ghost use Rattle.std.specs.Option.{IfSome, MatchOption};
 ghost use Rattle.std.specs.Result.{IsOk};
-ghost use Rattle.hive_model.specs.Bins.{spelled};
-ghost use Rattle.hive_model.specs.Tree.{head, trees};
-ghost use Rattle.hive_model.specs.Valid.{levels, most_levels};
+ghost use Rattle.hive_model.specs.Tree.{head};
 ghost use Rattle.hive_model.specs.Size.{list_size, security_size, size};
 ghost use Rattle.hive_model.specs.Edit.{add_child, after_step, is_bad_name, renamed};
 ghost use Rattle.reg_tree.specs.Fitting.{Fits};

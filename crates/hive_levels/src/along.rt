@@ -1,6 +1,5 @@
 //! The keys that a path leads along.
 
-ghost use Rattle.std.specs.Prelude.{◌≡◌};
 ghost use Rattle.hive_model.specs.Tree.{Tree};
 ghost use Rattle.hive_model.specs.Stands.{Stands};
 ghost use Rattle.hive_cells.specs.Sources.{cells_of};

@@ -1,6 +1,6 @@
 //! The bitmap of a log: a bit for each sector of the new bins data.
 
-ghost use Rattle.std.specs.Prelude.{◌≡◌, ◌<◌, ◌≤◌, ◌+◌, ◌*◌, ◌/◌, ℕ, ◌++◌, length, take, codes, slice_index};
+ghost use Rattle.std.specs.Prelude.{◌≡◌, ◌<◌, ◌≤◌, ◌+◌, ◌*◌, ◌/◌, ◌++◌, length, take, codes, slice_index};
 ghost use Rattle.hive_model.specs.Recovery as book;
 ghost use Rattle.hive_model.specs.Recovery.{bit, sector};
 ghost use Rattle.hive_model.specs.Log.{bitmap_text};

@@ -1,5 +1,5 @@
 -- What is printed of judged cells.
-use Rattle.std.proofs.Common.{◌≡◌, ℕ, List, Result, Ok, Err}
+use Rattle.std.proofs.Common.{ℕ, List, Result, Ok, Err}
 use Rattle.nt_bytes.specs.declared.fault.ReadStop.{ReadStop}
 use Rattle.nt_bytes.specs.declared.fault.ReadStop.TheVariants as read
 use Rattle.hive_model.specs.Base.{version_of}

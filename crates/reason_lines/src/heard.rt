@@ -1,7 +1,7 @@
 //! What a printed line says of a fault.
 
 ghost use Rattle.std.specs.Prelude.{◌≡◌, map, option_map};
-ghost use Rattle.reason_lines.specs.Heard.{at_byte, at_line, boot_ini_of, fault_heard, heard_of, hive_heard, line_heard, of_hive, of_other, of_reg, of_script};
+ghost use Rattle.reason_lines.specs.Heard.{boot_ini_of, fault_heard, heard_of, hive_heard, line_heard, of_hive, of_other, of_reg, of_script};
 ghost use Rattle.reason_lines.specs.Kinds.{reason_in, part_reason, script_rows, boot_ini_rows, reg_rows};
 ghost use Rattle.reason_lines.specs.Texts.{after_word, first_word, number_of};
 ghost use Rattle.reason_lines.specs.Seen.{found_seen, heard_seen, row_seen};

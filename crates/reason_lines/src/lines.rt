@@ -1,6 +1,6 @@
 //! The lines of reasons.
 
-ghost use Rattle.std.specs.Prelude.{◌≡◌, Bool, IfOk, map, option_map};
+ghost use Rattle.std.specs.Prelude.{◌≡◌, IfOk, map, option_map};
 ghost use Rattle.reason_lines.specs.Lines.{absent_for, absent_line, absent_text, bins_line, byte_line, heard_line, hive_line, log_line, memory_line, name_of, needed_log, recovered_line, script_name, second_of, text_line, unread_line, unwritten_line, whole_line, hive_of, other_of};
 ghost use Rattle.reason_lines.specs.Seen.{heard_seen, pair_seen};
 

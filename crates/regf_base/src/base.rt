@@ -1,6 +1,6 @@
 //! Reading a base block.
 
-ghost use Rattle.std.specs.Prelude.{◌≡◌, Result, Ok, Err, Some, None, IsOk, OnOk, IfErr};
+ghost use Rattle.std.specs.Prelude.{◌≡◌, Result, Ok, Err, Some, None, OnOk, IfErr};
 ghost use Rattle.hive_model.specs.Base.{Base, base_of, base_checks, first_failing, fields_of, is_bins_size, is_minor, version_of};
 
 use crate::sum::checksum;

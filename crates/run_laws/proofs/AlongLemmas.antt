@@ -1,5 +1,5 @@
 -- What a law over the events of a run says of the whole run.
-use Rattle.std.proofs.Common.{◌≡◌, ◌⊎◌, inl, inr, ℕ, List, [], ◌∷◌, ◌++◌, Option, Some, None, refl, sym, subst, ◌∙◌, append-nil, append_assoc}
+use Rattle.std.proofs.Common.{◌≡◌, ◌⊎◌, inl, inr, ℕ, List, [], ◌∷◌, ◌++◌, Option, Some, None, refl, sym, subst, append-nil, append_assoc}
 use Rattle.start_model.specs.Events.{Event}
 use Rattle.start_model.specs.Act as acts
 use Rattle.start_model.specs.Run as run

@@ -4,7 +4,7 @@ ghost use Rattle.std.specs.Prelude.{◌≡◌, ◌++◌, codes, false, IfOk, OnO
 ghost use Rattle.std.specs.Option.{option_map_or};
 ghost use Rattle.hive_model.specs.Tree.{find_dword};
 ghost use Rattle.start_model.specs.Entries.{is_driver};
-ghost use Rattle.safe_boot.specs.Images.{after_last, file_of, image_of};
+ghost use Rattle.safe_boot.specs.Images.{file_of, image_of};
 
 use nt_bytes::Units;
 use reg_tree::Key;

@@ -2,7 +2,6 @@
 
 ghost use Rattle.std.specs.Prelude.{◌≡◌, [], OnOk, IfOk};
 ghost use Rattle.nt_bytes.specs.declared.fault.HiveFaultKind.TheVariants.{FormShort};
-ghost use Rattle.hive_model.specs.Base.{fault_at};
 ghost use Rattle.hive_model.specs.Walk.{reading};
 ghost use Rattle.hive_model.specs.KeyValue.{key_value_at};
 ghost use Rattle.cell_forms.specs.Views.{key_node_of};

@@ -1,5 +1,5 @@
 -- Which stops of the disk did a run order, and how often did it cut the power itself? (this project's own)
-use Rattle.std.specs.Prelude.{◌+◌, List, [], ◌∷◌}
+use Rattle.std.specs.Prelude.{List, [], ◌∷◌}
 use Rattle.hive_model.specs.Image.{Arming}
 use Rattle.start_model.specs.Act.{Note, Ordered}
 

@@ -1,6 +1,6 @@
 //! Many steps made on a draft, all or none.
 
-ghost use Rattle.std.specs.Prelude.{◌≡◌, map};
+ghost use Rattle.std.specs.Prelude.{map};
 ghost use Rattle.std.specs.List.{All};
 ghost use Rattle.hive_model.specs.Edit.{after_steps, edited};
 ghost use Rattle.hive_model.specs.Valid.{IsValid};

@@ -1,6 +1,5 @@
 //! Steps on a draft.
 
-ghost use Rattle.std.specs.Prelude.{◌≡◌};
 ghost use Rattle.hive_model.specs.Edit.{value_set, value_deleted, key_made, key_deleted, after_step};
 ghost use Rattle.reg_tree.specs.Makes.{step_of};
 ghost use Rattle.tree_draft.specs.Stops.{Drafts};

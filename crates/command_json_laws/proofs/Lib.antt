@@ -1,0 +1,9 @@
+mod ControlLines
+mod ExportLines
+mod ImportLines
+mod MakeLines
+mod OneLine
+mod SafeLines
+mod StartTexts
+mod TextParts
+mod TwinLines

@@ -1,0 +1,5 @@
+pub mod EntryLemmas
+pub mod NodeLemmas
+pub mod EdgeLemmas
+pub mod GroupLemmas
+pub mod PartLemmas

@@ -1,0 +1,9 @@
+pub mod ApartLemmas
+pub mod TurnLemmas
+pub mod OnceLemmas
+pub mod TryLemmas
+pub mod SetLemmas
+pub mod LeftLemmas
+pub mod SaidLemmas
+pub mod StartedLemmas
+pub mod MomentLemmas
