@@ -81,7 +81,8 @@ fn settle(
 /// Does what the command line asks for over real files; then prints the reason of a refusal, where that is asked for.
 fn obey(rt: &HostRuntime, words: &[String], texts: &[&str]) -> Status {
     let alloc = rt.alloc();
-    let mut host = Noted::new(StandardHost::new(rt, SystemFiles::new(alloc)), texts);
+    let host = StandardHost::new(rt, SystemFiles::new(alloc));
+    let mut host = Noted::new(alloc, host, texts);
     let mut disk = MemDisk::new(alloc);
     let answered = ntboot(alloc, words, &mut host, &mut disk);
     let (mut host, texts, mut notes) = host.into_parts();

@@ -1,4 +1,4 @@
-pub mod FrontLemmas
 pub mod NotesLemmas
+pub mod RoomLemmas
 pub mod LawLemmas
 pub mod RefusalLemmas

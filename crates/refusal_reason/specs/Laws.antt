@@ -1,5 +1,5 @@
 -- What do the lines amount to? (this project's own)
-use Rattle.std.specs.Prelude.{◌≡◌, Bool, true, false, List, Some, take, is_some, unwrap_or, codes}
+use Rattle.std.specs.Prelude.{◌≡◌, Bool, true, false, List, Some, take, codes}
 use Rattle.nt_bytes.specs.declared.fault.HiveFault.{HiveFault}
 use Rattle.nt_edge.specs.Host.{Files}
 use Rattle.boot_script.specs.declared.stop.ScriptFault.{ScriptFault}
@@ -8,17 +8,11 @@ use Rattle.command_parts.specs.Kinds.{script_kind_word, hive_kind_word}
 use Rattle.command_parts.specs.declared.status.Status.{Status}
 use Rattle.command_parts.specs.declared.status.Status.TheVariants as statuses
 use Rattle.reason_lines.specs.Texts.{Text}
-use Rattle.reason_lines.specs.Files.{value_of, file_at, missing_in}
+use Rattle.reason_lines.specs.Files.{file_at, missing_in}
 use Rattle.reason_lines.specs.Heard.{heard_of, of_script, of_hive}
 use Rattle.reason_lines.specs.Kinds.{PartReason, part_reason, reason_in, script_rows}
 use Rattle.reason_lines.specs.Lines.{absent_line, heard_line}
-use Rattle.refusal_reason.specs.declared.notes.Notes.{Notes}
-use Rattle.refusal_reason.specs.Notes.{dirty_file}
-use Rattle.refusal_reason.specs.Reasons.{knows_fault, usage_line}
-
--- whether the file that an option names is dirty; no where there is none
-abbrev pub is_dirty_at : List Text → Files → Text → Bool
-is_dirty_at words files option = unwrap_or (dirty_file files (value_of words option)) false
+use Rattle.refusal_reason.specs.Reasons.{is_dirty_at, usage_line}
 
 -- the line for the fault that was printed, by the command line, by what was printed and by the files
 abbrev pub fault_line_of : List Text → Text → Files → Text
@@ -29,27 +23,25 @@ fault_line_of words said files =
 abbrev pub absent_line_of : List Text → Text → Text
 absent_line_of words said = absent_line words (file_at words (missing_in words said))
 
--- the status is that of a refusal: of the command line, or of what is in files or which of them are there
+-- the status is that of a refusal for what is in files or which of them are there
+abbrev pub is_fault : Status → Bool
+is_fault statuses.NoFile = true
+is_fault statuses.ScriptFault = true
+is_fault statuses.BootIniFault = true
+is_fault statuses.HiveFault = true
+is_fault statuses.RegFault = true
+is_fault status = false
+
+-- the status is that of a refusal: of the command line, or for files
 abbrev pub is_refusal : Status → Bool
 is_refusal statuses.Usage = true
-is_refusal statuses.NoFile = true
-is_refusal statuses.ScriptFault = true
-is_refusal statuses.BootIniFault = true
-is_refusal statuses.HiveFault = true
-is_refusal statuses.RegFault = true
-is_refusal status = false
+is_refusal status = is_fault status
 
 -- the line on a refusal, by the command line, by what was printed and by the files
 abbrev pub refusal_line : List Text → Status → Text → Files → Text
 refusal_line words statuses.Usage said files = usage_line (reading_of words)
 refusal_line words statuses.NoFile said files = absent_line_of words said
 refusal_line words status said files = fault_line_of words said files
-
--- what is noted is enough for that line
-abbrev pub knows : Status → Notes → Bool
-knows statuses.Usage notes = true
-knows statuses.NoFile notes = is_some notes.absent
-knows status notes = knows_fault (heard_of notes.front) notes
 
 -- the script's fault is what the text says, with the reason of its word
 pub record SaysScript (text : Text) (fault : ScriptFault) : Type 0 where

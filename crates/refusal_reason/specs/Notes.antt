@@ -1,22 +1,28 @@
 -- What is noted of a command's calls of its host, and what does that say of the host? (this project's own)
 --
 -- A file is known by its place on the command line.
-use Rattle.std.specs.Prelude.{◌≡◌, ◌&&◌, not, ◌++◌, ℕ, Bool, true, false, List, [], ◌∷◌, Option, Some, None, is_some, option_map, codes}
-use Rattle.std.specs.Prelude.{Result, Ok, Err, if◌then◌else◌, take}
+use Rattle.std.specs.Prelude.{◌≡◌, ◌⊎◌, ◌≤◌, ◌&&◌, not, ◌+◌, ◌++◌, ℕ, Bool, true, false, List, [], ◌∷◌, Option, Some, None, is_some, option_map, codes}
+use Rattle.std.specs.Prelude.{Result, Ok, Err, if◌then◌else◌, length, max, take}
 use Rattle.nt_edge.specs.Host.{Files, HostState}
 use Rattle.nt_edge.specs.declared.host.HostStop.{HostStop}
 use Rattle.command_parts.specs.declared.status.Status.{Status}
 use Rattle.command_parts.specs.declared.status.Status.TheVariants as statuses
 use Rattle.reason_lines.specs.Texts.{Text}
-use Rattle.reason_lines.specs.Files.{value_of, names, place_of, missing_in, is_dirty}
+use Rattle.reason_lines.specs.Files.{value_of, names, place_of, is_dirty}
 use Rattle.refusal_reason.specs.declared.notes.Notes.{Notes}
 
--- ---- what a call adds
+-- ---- how much is kept of what was printed
 
--- there is no byte
-abbrev pub is_empty : Text → Bool
-is_empty [] = true
-is_empty (byte ∷ bytes) = false
+-- the length of the longest word
+abbrev pub longest : List Text → ℕ
+longest [] = 0
+longest (word ∷ words) = max (length word) (longest words)
+
+-- enough for the line of each fault, and for the one that a file on the command line is absent
+abbrev pub room_for : List Text → ℕ
+room_for words = longest words + 128
+
+-- ---- what a call adds
 
 -- whether a hive is dirty, where the bytes are the ones of its file
 abbrev pub judged : Bool → Text → Option Bool → Option Bool
@@ -44,17 +50,17 @@ with_put words notes name refused = record notes {
   other_dirty = None;
 }
 
--- the place of the file that is printed as absent, where these bytes are all that was printed
-abbrev pub absent_in : List Text → Bool → Text → Option ℕ
-absent_in words is_all bytes = if is_all then missing_in words bytes else None
-
 -- bytes were said
-abbrev pub with_said : List Text → Notes → Text → Bool → Notes
-with_said words notes bytes refused = record notes {
-  front = take 128 (notes.front ++ bytes);
-  whole = notes.whole && not refused;
-  absent = absent_in words (is_empty notes.front && (notes.whole && not refused)) bytes;
-}
+abbrev pub with_said : Notes → Text → Notes
+with_said notes bytes = record notes { front = take notes.room (notes.front ++ bytes) }
+
+-- bytes were said, or not all of them, or there was no memory to note them
+abbrev pub with_lost : Notes → Notes
+with_lost notes = record notes { whole = false }
+
+-- the one, or the other
+abbrev pub IsSaid : Bool → Notes → Text → Notes → Type 0
+IsSaid refused old bytes new = ((refused ≡ false) × (new ≡ with_said old bytes)) ⊎ (new ≡ with_lost old)
 
 -- the status is that something could not be written
 abbrev pub is_unwritten : Status → Bool
@@ -73,10 +79,11 @@ abbrev pub dirty_file : Files → Option Text → Option Bool
 dirty_file files None = None
 dirty_file files (Some name) = option_map is_dirty (files name)
 
--- Where the host reports: what was noted as said are the first 128 bytes that were printed, if nothing failed to be said; a file that is noted as
--- absent is the one that was printed as absent; and a hive of which it is noted is dirty or not as its file is.
+-- Where the host reports: what was noted as said are the first bytes that were printed, as many as there is room for, if all could be said and
+-- noted; and a hive of which it is noted is dirty or not as its file is.
 pub record IsNoted (words : List Text) (state : HostState) (notes : Notes) : Type 0 where
-  pub said : state.tells ≡ true → notes.whole ≡ true → notes.front ≡ take 128 state.said
-  pub missing : state.tells ≡ true → is_some notes.absent ≡ true → notes.absent ≡ missing_in words state.said
+  pub room : notes.room ≡ room_for words
+  pub fits : length notes.front ≤ notes.room
+  pub said : state.tells ≡ true → notes.whole ≡ true → notes.front ≡ take notes.room state.said
   pub hive : state.tells ≡ true → is_some notes.dirty ≡ true → dirty_file state.files (value_of words (codes "--hive")) ≡ notes.dirty
   pub other : state.tells ≡ true → is_some notes.other_dirty ≡ true → dirty_file state.files (value_of words (codes "--with")) ≡ notes.other_dirty

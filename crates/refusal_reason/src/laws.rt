@@ -2,7 +2,7 @@
 
 ghost use Rattle.std.specs.Prelude.{◌≡◌, ◌<◌, ◌^◌, codes, false, is_some, List, take, true};
 ghost use Rattle.nt_bytes.specs.declared.fault.HiveFault.{HiveFault};
-ghost use Rattle.nt_edge.specs.Host.{HostState};
+ghost use Rattle.nt_edge.specs.Host.{Files, HostState};
 ghost use Rattle.boot_script.specs.declared.stop.ScriptFault.{ScriptFault};
 ghost use Rattle.command_parts.specs.Refusals.{refusal_text};
 ghost use Rattle.command_parts.specs.declared.refusal.Refusal.TheVariants as refusals;
@@ -12,17 +12,17 @@ ghost use Rattle.reason_lines.specs.Files.{option_for, place_of};
 ghost use Rattle.reason_lines.specs.Lines.{absent_for, memory_line};
 ghost use Rattle.reason_lines.specs.Heard.{heard_of, of_boot_ini, of_script};
 ghost use Rattle.refusal_reason.specs.declared.notes.Notes.{Notes};
-ghost use Rattle.refusal_reason.specs.Laws.{SaysHive, SaysScript, absent_line_of, is_refusal, knows, refusal_line};
+ghost use Rattle.refusal_reason.specs.Laws.{SaysHive, SaysScript, absent_line_of, is_fault, is_refusal, refusal_line};
 ghost use Rattle.refusal_reason.specs.Notes.{IsNoted};
 ghost use Rattle.refusal_reason.specs.Reasons.{line_on};
 
-/// The line on a refusal is one of the command line, of what was printed and of the files. Where too little is noted for it, the line says that
-/// memory was lacking.
+/// The line on a refusal is one of the command line, of what was printed and of the files. Where not all could be said, or there was no memory to
+/// note it, the line says that memory was lacking.
 pub fn a_refusal_is_explained_by_words_and_files()
     ensures known { (words : List Text) (state : HostState) (notes : Notes) (status : Status) → IsNoted words state notes → state.tells ≡ true
-        → is_refusal status ≡ true → knows status notes ≡ true → line_on words status notes ≡ refusal_line words status state.said state.files }
-    ensures unknown { (words : List Text) (notes : Notes) (status : Status) → is_refusal status ≡ true → knows status notes ≡ false
-        → line_on words status notes ≡ memory_line }
+        → is_refusal status ≡ true → notes.whole ≡ true → line_on words status notes state.files ≡ refusal_line words status state.said state.files }
+    ensures lost { (words : List Text) (files : Files) (notes : Notes) (status : Status) → is_fault status ≡ true → notes.whole ≡ false
+        → line_on words status notes files ≡ memory_line }
 {}
 
 /// Where the refusal for an absent file was printed, that line has its name, and the first option that names it.

@@ -1,20 +1,17 @@
 //! Why a command was refused, in one line for standard error.
 //!
 //! `Noted` is a host that does what another host does, and notes what a refusal was about: the first bytes that were printed, the file that
-//! was printed as absent, the one that could not be read or written, and whether the hives are dirty. After the command `explain` says the
-//! reason on standard error, where the command line asks for that with `--verbose`: a line made of the command line and the notes, by
-//! `reason_lines`.
+//! could not be read or written, and whether the hives are dirty. After the command `explain` says the reason on standard error, where the
+//! command line asks for that with `--verbose`: a line made of the command line, the notes and the files, by `reason_lines`.
 #![tactic(auto)]
 
 mod explaining;
-mod front;
 mod laws;
 mod line;
 mod noted;
 mod notes;
 
 pub use explaining::explain;
-pub use front::Front;
 pub use laws::{
     a_refusal_is_explained_by_words_and_files, a_refusal_says_its_fault, an_absent_file_is_named,
 };

@@ -6,8 +6,9 @@ ghost use Rattle.refusal_reason.specs.Notes.{IsNoted};
 use crate::notes::Notes;
 use nt_bytes::Bytes;
 use nt_edge::{Host, HostStop};
+use std::alloc::Global;
 
-/// A host that does what the host in it does, and notes what a refusal is about. It takes no memory.
+/// A host that does what the host in it does, and notes what a refusal is about. Where it has no memory for that, it does the same and notes less.
 #[derive(Drop)]
 pub struct Noted<'w, H: Host> {
     host: H,
@@ -18,7 +19,7 @@ pub struct Noted<'w, H: Host> {
 
 impl<'w, H: Host + Drop> Noted<'w, H> {
     /// The host, to which nothing was printed yet, for the command line of these words.
-    pub fn new(host: H, words: &'w [&'w str]) -> Noted<'w, H>
+    pub fn new(alloc: Global, host: H, words: &'w [&'w str]) -> Noted<'w, H>
         requires { (H.state host).tells ≡ true → (H.state host).said ≡ [] }
         ensures host { result.host ≡ host }
         ensures words { result.words.now ≡ words.now }
@@ -26,7 +27,7 @@ impl<'w, H: Host + Drop> Noted<'w, H> {
         Noted {
             host,
             words,
-            notes: Notes::new(),
+            notes: Notes::new(alloc, words),
         }
     }
 
@@ -58,7 +59,7 @@ impl<H: Host + Drop> Host for Noted<'_, H> {
 
     fn say(&mut self, bytes: &[u8]) -> Result<(), HostStop> {
         let said = self.host.say(bytes);
-        self.notes.say(self.words, bytes, said.is_err());
+        self.notes.say(bytes, said.is_err());
         said
     }
 

@@ -1,23 +1,23 @@
 //! What is noted of a command's calls of its host.
 
-ghost use Rattle.std.specs.Prelude.{◌≡◌, ◌&&◌, [], map, None, not, true};
-ghost use Rattle.refusal_reason.specs.Notes.{absent_in, is_empty, is_unwritten, judged, with_end, with_found, with_got, with_put, with_said};
+ghost use Rattle.std.specs.Prelude.{◌≡◌, ◌≤◌, [], length, map, take, OnErr, OnOk};
+ghost use Rattle.refusal_reason.specs.Notes.{is_unwritten, judged, longest, room_for, with_end, with_found, with_got, with_put, with_said, IsSaid};
 
-use crate::front::Front;
 use command_parts::Status;
 use nt_bytes::Bytes;
 use nt_edge::HostStop;
-use reason_lines::{is_dirty, is_option_of, missing_in, place_of};
+use reason_lines::{is_dirty, is_option_of, place_of};
+use std::alloc::{AllocError, Global};
 
 /// What was noted so far. A file is known by its place on the command line.
 #[derive(Drop)]
 pub struct Notes {
+    /// How many of the bytes that are said are noted.
+    pub room: usize,
     /// The first bytes that were said.
-    pub front: Front,
-    /// Whether nothing failed to be said.
+    pub front: Bytes,
+    /// Whether nothing failed to be said, or to be noted for want of memory.
     pub whole: bool,
-    /// The file that was printed as absent, where all was printed at once.
-    pub absent: Option<usize>,
     /// The file that could not be read.
     pub unread: Option<usize>,
     /// The file that was put last.
@@ -41,28 +41,34 @@ fn judged(is_its: bool, bytes: &[u8], before: Option<bool>) -> Option<bool>
     }
 }
 
-/// Whether nothing failed to be said so far, and this did not.
-fn stays_whole(whole: bool, refused: bool) -> bool
-    ensures { result ≡ (whole && not refused) }
+/// The length of the longest word, in bytes.
+fn longest(words: &[&str]) -> usize
+    ensures { result ≡ longest (map (λ w. w.now) words.now) }
 {
-    whole && !refused
+    let mut rest = words;
+    let mut most = 0;
+    'words: while let [word, more @ ..] = rest {
+        most = most.max(word.len());
+        rest = more;
+    }
+    most
 }
 
-/// Whether what is said now is all that was printed.
-fn is_all(front: &Front, whole: bool) -> bool
-    ensures { result ≡ (is_empty front.now && whole) }
+/// How many of the bytes that are said are noted: enough for the line of each fault, and for the one that a file on the command line is absent.
+fn room_for(words: &[&str]) -> usize
+    ensures { result ≡ room_for (map (λ w. w.now) words.now) }
 {
-    front.is_empty() && whole
+    longest(words) + 128
 }
 
-/// The place of the file that is printed as absent, where these bytes are all that was printed.
-fn absent_in(words: &[&str], is_all: bool, bytes: &[u8]) -> Option<usize>
-    ensures { result ≡ absent_in (map (λ w. w.now) words.now) is_all bytes.now }
+/// The first bytes, at most so many.
+pub(crate) fn first(bytes: &[u8], most: usize) -> &[u8]
+    ensures { result.now ≡ take most bytes.now }
 {
-    if is_all {
-        missing_in(words, bytes)
+    if most < bytes.len() {
+        &bytes[..most]
     } else {
-        None
+        bytes
     }
 }
 
@@ -73,18 +79,17 @@ fn is_unwritten(status: Status) -> bool
 }
 
 impl Notes {
-    /// Nothing was noted yet.
-    pub fn new() -> Notes
+    /// Nothing was noted yet of the calls that the command line of these words leads to.
+    pub fn new(alloc: Global, words: &[&str]) -> Notes
+        ensures room { result.room ≡ room_for (map (λ w. w.now) words.now) }
         ensures front { result.front ≡ [] }
-        ensures whole { result.whole ≡ true }
-        ensures absent { result.absent ≡ None }
         ensures dirty { result.dirty ≡ None }
         ensures other_dirty { result.other_dirty ≡ None }
     {
         Notes {
-            front: Front::new(),
+            room: room_for(words),
+            front: Bytes::new(alloc),
             whole: true,
-            absent: None,
             unread: None,
             put: None,
             unwritten: None,
@@ -130,13 +135,24 @@ impl Notes {
         }
     }
 
-    /// Bytes were said.
-    pub(crate) fn say(&mut self, words: &[&str], bytes: &[u8], refused: bool)
-        ensures { self.new ≡ with_said (map (λ w. w.now) words.now) self.old bytes.now refused }
+    /// Bytes were said. It notes them as far as there is room.
+    fn keep(&mut self, bytes: &[u8]) -> Result<(), AllocError>
+        requires { length self.old.front ≤ self.old.room }
+        ensures kept { OnOk result (self.new ≡ with_said self.old bytes.now) }
+        ensures lost { OnErr result (self.new ≡ self.old) }
     {
-        self.whole = stays_whole(self.whole, refused);
-        self.absent = absent_in(words, is_all(&self.front, self.whole), bytes);
-        self.front.extend(bytes);
+        let left = self.room - self.front.len();
+        self.front.append(first(bytes, left))
+    }
+
+    /// Bytes were said, or not all of them.
+    pub(crate) fn say(&mut self, bytes: &[u8], refused: bool)
+        requires { length self.old.front ≤ self.old.room }
+        ensures { IsSaid refused self.old bytes.now self.new }
+    {
+        if refused || self.keep(bytes).is_err() {
+            self.whole = false;
+        }
     }
 
     /// The command answered the one status, and ended with the other once its files were to have their names.

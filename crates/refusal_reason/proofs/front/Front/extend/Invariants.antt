@@ -1,5 +1,0 @@
-use Rattle.std.proofs.Common.{◌≡◌, ◌++◌, take}
-use Rattle.refusal_reason.proofs.front.Front.extend.Given as goal
-
-abbrev pub invariant-loop-byte : goal.invariant-loop-byte
-invariant-loop-byte l = l.self ≡ take 128 (l.fn.self ++ take l.byte-index l.bytes)
