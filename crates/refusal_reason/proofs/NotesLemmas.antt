@@ -3,13 +3,14 @@ use Rattle.std.proofs.Common.{◌≡◌, ◌≤◌, ◌-◌, ◌∙◌, ℕ, zer
 use Rattle.std.specs.Prelude.{IfOk, OnOk, is_err, codes}
 use Rattle.std.proofs.lemmas.Bool.{false≢true}
 use Rattle.std.proofs.lemmas.List.{length-take}
+use Rattle.std.specs.declared.alloc.AllocError.{AllocError}
 use Rattle.nt_edge.specs.Host.{Files, HostState, KeepsHost, KeepsFiles, IsUnsaid}
 use Rattle.nt_edge.specs.declared.host.HostStop.{HostStop}
 use Rattle.reason_lines.specs.Texts.{Text}
 use Rattle.reason_lines.specs.Files.{value_of, names, is_dirty}
 use Rattle.reason_lines.proofs.FileLemmas.{names-same}
 use Rattle.refusal_reason.specs.declared.notes.Notes.{Notes}
-use Rattle.refusal_reason.specs.Notes.{IsNoted, IsSaid, judged, with_found, with_got, with_put, dirty_file}
+use Rattle.refusal_reason.specs.Notes.{IsNoted, IsSaid, judged, with_found, with_got, with_put, with_said, dirty_file}
 
 -- the host shows what it did before
 pub noted-same : (words : List Text) (old new : HostState) (notes : Notes) → IsNoted words old notes
@@ -88,11 +89,22 @@ take-front (suc n) [] b = refl
 take-front (suc n) (x ∷ a) b = ap (λ l. x ∷ l) (take-front n a b)
 
 -- more is added as far as there is room
-pub add-front : (n : ℕ) (front bytes : List ℕ) → length front ≤ n
+add-front : (n : ℕ) (front bytes : List ℕ) → length front ≤ n
     → front ++ take (n - length front) bytes ≡ take n (front ++ bytes)
-add-front n [] bytes fits = refl
+add-front n [] bytes fits = let all : n - 0 ≡ n = omega arith in ap (λ k. take k bytes) all
 add-front zero (x ∷ front) bytes fits = absurd (omega arith)
-add-front (suc n) (x ∷ front) bytes fits = ap (λ l. x ∷ l) (add-front n front bytes (omega arith))
+add-front (suc n) (x ∷ front) bytes fits =
+    let left : suc n - length (x ∷ front) ≡ n - length front = omega arith in
+    ap (λ k. x ∷ (front ++ take k bytes)) left ∙ ap (λ l. x ∷ l) (add-front n front bytes (omega arith))
+
+-- so these notes have more of what was said
+pub added : (notes : Notes) (bytes part : Text) (answer : Result (Unit {0}) AllocError) (front : Text)
+    → length notes.front ≤ notes.room → part ≡ take (notes.room - length notes.front) bytes
+    → OnOk answer (front ≡ notes.front ++ part) → OnOk answer (record notes { front = front } ≡ with_said notes bytes)
+added notes bytes part (Ok done) front fits same is =
+    ap (λ (l : Text). record notes { front = l })
+    (is ∙ ap (λ l. notes.front ++ l) same ∙ add-front notes.room notes.front bytes fits)
+added notes bytes part (Err stop) front fits same is = is
 
 -- bytes were said, and noted or lost
 pub noted-said : (words : List Text) (old new : HostState) (notes : Notes) (bytes : Text)

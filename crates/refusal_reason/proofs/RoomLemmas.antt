@@ -1,6 +1,6 @@
 -- There is room for the line of each file on the command line that it is absent, and a longer text is no such line.
-use Rattle.std.proofs.Common.{◌≡◌, ◌∙◌, ◌<◌, ◌≤◌, ◌+◌, ◌-◌, ◌&&◌, ◌∷◌, ℕ, suc, Bool, true, false, cond, if◌then◌else◌, List, [], length, drop, take, Option, Some, None, option_map, nat_lt, ap, sym, refl, arith}
-use Rattle.std.specs.Prelude.{bytes_eq, nat_le, position, slice_range, slice_index, unwrap_or, codes, ◌==◌}
+use Rattle.std.proofs.Common.{◌≡◌, ◌∙◌, ◌<◌, ◌≤◌, ◌+◌, ◌-◌, ◌&&◌, ◌∷◌, ℕ, Bool, true, false, cond, if◌then◌else◌, List, [], length, drop, take, Option, Some, None, option_map, nat_lt, ap, sym, refl, arith}
+use Rattle.std.specs.Prelude.{bytes_eq, nat_le, not, position, slice_range, slice_index, unwrap_or, codes, ◌==◌}
 use Rattle.std.specs.List.{position_or_len}
 use Rattle.std.proofs.lemmas.Bool.Decides.{nat_tests}
 use Rattle.std.proofs.lemmas.List.{length-take, length-drop, take_all}
@@ -36,8 +36,10 @@ unfound : (words : List Text) (name : Text) → longest words < length name
     → position_or_len (is_named name) words ≡ length words
 unfound [] name short = refl
 unfound (word ∷ words) name short =
-    ap (λ (b : Bool). cond b 0 (suc (position_or_len (is_named name) words))) (other name word (omega arith))
-    ∙ ap suc (unfound words name (omega arith))
+    let more : position_or_len (is_named name) (word ∷ words) ≡ 1 + position_or_len (is_named name) words =
+    ap (λ (b : Bool). cond (not b) (1 + position_or_len (is_named name) words) 0) (other name word (omega arith)) in
+    let rest : position_or_len (is_named name) words ≡ length words = unfound words name (omega arith) in
+    omega arith
 
 unnamed : (words : List Text) (name : Text) → longest words < length name → place_of words name ≡ None
 unnamed words name short =

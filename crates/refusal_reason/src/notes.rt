@@ -43,7 +43,8 @@ fn judged(is_its: bool, bytes: &[u8], before: Option<bool>) -> Option<bool>
 
 /// The length of the longest word, in bytes.
 fn longest(words: &[&str]) -> usize
-    ensures { result ≡ longest (map (λ w. w.now) words.now) }
+    ensures longest { result ≡ longest (map (λ w. w.now) words.now) }
+    ensures bound { result ≤ 9223372036854775807 }
 {
     let mut rest = words;
     let mut most = 0;
