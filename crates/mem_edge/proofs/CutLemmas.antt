@@ -1,7 +1,9 @@
 -- Bytes cut into sectors.
-use Rattle.std.proofs.Common.{◌≡◌, ◌⊎◌, inl, inr, ◌<◌, ◌≤◌, ◌+◌, ◌*◌, ℕ, List, [], ◌∷◌, ◌++◌, length, take, drop, cond, Some, None, sym, ◌∙◌, ap, subst, arith, length-append, length-drop, lt-ltb}
+use Rattle.std.proofs.Common.{◌≡◌, ◌⊎◌, inl, inr, ◌<◌, ◌≤◌, ◌+◌, ◌*◌, ℕ, Global, List, [], ◌∷◌, ◌++◌, length, take, drop, cond, Some, None, sym, ◌∙◌, ap, subst, arith, length-append, length-drop, lt-ltb}
 use Rattle.std.proofs.lemmas.List.{get_or_append_left, drop-drop, drop-append-le, take-append-le, take_all}
 use Rattle.std.proofs.Math.Seq.{get_or-append_seam, drop-append_seam}
+use Rattle.std.specs.Rc.{rc_value}
+use Rattle.std.specs.declared.rc.Rc.{Rc}
 use Rattle.hive_model.specs.Image.{Bytes, bytes_of, padded, sector_of}
 use Rattle.mem_edge.specs.declared.writes.Sector.{Sector}
 use Rattle.mem_edge.specs.declared.writes.Sector.TheVariants.{Absent, Whole}
@@ -18,8 +20,9 @@ which : (n m : ℕ) → n < m + 1 → (n < m) ⊎ (n ≡ m)
 which n m less = grind arith
 
 -- each sector so far is that of the bytes, and so with one more
-pub cut_each : (bytes rest sector : List ℕ) (s t : List Sector) → rest ≡ drop (512 * length s) bytes → 0 < length rest
-    → sector ≡ padded (take 512 rest) → t ≡ s ++ Whole sector ∷ []
+pub cut_each : (bytes rest : List ℕ) (sector : Rc (List ℕ) Global) (s t : List Sector)
+    → rest ≡ drop (512 * length s) bytes → 0 < length rest → rc_value sector ≡ padded (take 512 rest)
+    → t ≡ s ++ Whole sector ∷ []
     → ((n : ℕ) → n < length s → held_in s n ≡ sector_of bytes n) → (n : ℕ) → n < length t
     → held_in t n ≡ sector_of bytes n
 cut_each bytes rest sector s t is more content pushed each n small =

@@ -1,5 +1,6 @@
 -- What the writes in flight bring to an address, over what is held there.
 use Rattle.std.proofs.Common.{◌≡◌, Bool, true, false, List, [], ◌∷◌, ◌++◌, map, cond, Option, Some, None, refl, sym, ◌∙◌, ap}
+use Rattle.std.specs.List.{AllZip}
 use Rattle.hive_model.specs.Image.{Address, Bytes, Content, Image, Write, overlaid, put, same_address}
 use Rattle.nt_edge.proofs.Images.{overlaid_push}
 use Rattle.mem_edge.specs.Views.{flying}
@@ -37,6 +38,13 @@ pub overlaid_else : (image : Image) (ws : List Write) (a : Address)
     → overlaid image ws a ≡ or_else (flying ws a) (image a)
 overlaid_else image ws a =
     over_is image ws a ∙ over_else (image a) ws a ∙ ap (λ x. or_else x (image a)) (sym (over_is (λ _. None) ws a))
+
+-- clones that are the same by a function
+pub map_clones : {A B : Type 0} (f : A → B) (xs ys : List A) → AllZip (λ x y. f y ≡ f x) xs ys → map f ys ≡ map f xs
+map_clones f [] [] same = refl
+map_clones f [] (y ∷ ys) same = absurd same
+map_clones f (x ∷ xs) [] same = absurd same
+map_clones f (x ∷ xs) (y ∷ ys) same = λ i. same.0 i ∷ map_clones f xs ys same.1 i
 
 pub map_push : {A B : Type 0} (f : A → B) (xs : List A) (x : A) → map f (xs ++ x ∷ []) ≡ map f xs ++ f x ∷ []
 map_push f [] x = refl

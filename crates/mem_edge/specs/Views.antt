@@ -2,10 +2,14 @@
 use Rattle.std.specs.Prelude.{◌<◌, ℕ, List, [], ◌∷◌, map, length, Option, Some, None, slice_index_or}
 use Rattle.std.specs.Ordering.{nat_cmp}
 use Rattle.std.specs.BTreeMap as tree
+use Rattle.std.specs.Rc.{rc_value}
+use Rattle.std.specs.declared.rc.Rc.{Rc}
 use Rattle.hive_model.specs.Image.{Content, Bytes, Unreadable, Image, Write, of_file, overlaid}
 use Rattle.nt_edge.specs.Crash.{torn}
 use Rattle.nt_edge.specs.declared.disk.Keep.{Keep}
 use Rattle.nt_edge.specs.declared.disk.Keep.TheVariants.{Nothing, Everything, OddOnes, Torn}
+use Rattle.nt_edge.specs.declared.disk.Presence.{Presence}
+use Rattle.nt_edge.specs.declared.disk.Presence.TheVariants as presences
 use Rattle.mem_edge.specs.declared.image.MemImage.{MemImage}
 use Rattle.mem_edge.specs.declared.writes.InFlight.{InFlight}
 use Rattle.mem_edge.specs.declared.writes.Latest.{Latest}
@@ -15,13 +19,19 @@ use Rattle.mem_edge.specs.declared.writes.Sector.TheVariants as sectors
 -- what a sector has
 abbrev pub content_of : Sector → Option Content
 content_of sectors.Absent = None
-content_of (sectors.Whole bytes) = Some (Bytes bytes)
+content_of (sectors.Whole bytes) = Some (Bytes (rc_value bytes))
 content_of sectors.Unreadable = Some Unreadable
 
 -- these bytes, where there are any
-abbrev pub whole_of : Option (List ℕ) → Option Content
+abbrev pub whole_of : {Z : Type 0} → Option (Rc (List ℕ) Z) → Option Content
 whole_of None = None
-whole_of (Some bytes) = Some (Bytes bytes)
+whole_of (Some bytes) = Some (Bytes (rc_value bytes))
+
+-- what a read found, by its answer and the bytes that it gave out
+abbrev pub found_of : Presence → List ℕ → Option Content
+found_of presences.Absent bytes = None
+found_of presences.Whole bytes = Some (Bytes bytes)
+found_of presences.Unreadable bytes = Some Unreadable
 
 -- what a file's sector has, by its number
 abbrev pub held_in : List Sector → ℕ → Option Content
@@ -37,7 +47,7 @@ latest_of m = λ a. whole_of (tree.get nat_cmp (of_file m.primary m.log a.file) 
 
 -- a write in flight
 abbrev pub write_of : InFlight → Write
-write_of w = (w.at, w.bytes)
+write_of w = (w.at, rc_value w.bytes)
 
 -- the writes in flight
 abbrev pub writes_of : List InFlight → List Write

@@ -9,6 +9,7 @@ use crate::files::{cut_up, joined};
 use crate::image::MemImage;
 use crate::orders::{Armed, Arming};
 use crate::store::{MemDisk, Woke};
+use crate::writes::Flight;
 use nt_bytes::Bytes;
 use nt_edge::{Bench, DiskCall, DiskStop, HiveFile, Keep};
 use std::alloc::AllocError;
@@ -18,9 +19,10 @@ impl MemDisk {
     fn settled(&self) -> Result<MemImage, AllocError>
         ensures { IfOk result (λ m. held_of m ≡ settled (seen_of self.now)) }
     {
+        let flight = self.flight.copied(self.alloc)?;
         let mut image = self.image.copy(self.alloc)?;
-        image.make_room(&self.flight.writes)?;
-        image.settle(&self.flight.writes, self.keep);
+        image.make_room(&flight)?;
+        image.settle(flight, self.keep);
         Ok(image)
     }
 }
@@ -75,7 +77,7 @@ impl Bench for MemDisk {
             return Err(DiskStop::Memory);
         };
         self.image = image;
-        self.flight.clear(self.alloc);
+        self.flight = Flight::new(self.alloc);
         self.takings = self.takings.saturating_add(1);
         Ok(bytes)
     }
@@ -93,19 +95,19 @@ impl Bench for MemDisk {
         let Ok(image) = self.settled() else {
             return Err(DiskStop::Memory);
         };
-        if self.image.make_room(&self.flight.writes).is_err() {
+        let Ok(copy) = image.copy(self.alloc) else {
             return Err(DiskStop::Memory);
-        }
+        };
         let woke = Woke {
-            image,
+            image: copy,
             cuts: self.cuts,
             faults: self.faults,
         };
         if self.wakes.push(woke).is_err() {
             return Err(DiskStop::Memory);
         }
-        self.image.settle(&self.flight.writes, self.keep);
-        self.flight.clear(self.alloc);
+        self.image = image;
+        self.flight = Flight::new(self.alloc);
         self.keep = Keep::Everything;
         self.on = true;
         Ok(())

@@ -7,15 +7,16 @@ ghost use Rattle.nt_edge.specs.declared.disk.DiskStop.TheVariants.{PowerLost, Fa
 ghost use Rattle.mem_edge.specs.Calls.{counts_calls, CountsOne};
 ghost use Rattle.mem_edge.specs.Seen.{seen_of, called, stop_of};
 ghost use Rattle.mem_edge.specs.State.{state_of, calls_of};
-ghost use Rattle.mem_edge.specs.Views.{content_of};
+ghost use Rattle.mem_edge.specs.Views.{found_of};
 ghost use Rattle.mem_edge.specs.Laws.{bounded_law, some_law};
 
 use crate::image::MemImage;
 use crate::orders::{comes, keep_at};
 use crate::store::MemDisk;
-use crate::writes::{Flight, Sector};
+use crate::writes::Flight;
 use nt_edge::{Address, Disk, DiskCall, DiskStop, Keep, Presence};
-use std::alloc::{AllocError, Global};
+use std::alloc::Global;
+use std::mem::replace;
 
 impl MemDisk {
     /// A disk that is off, holds nothing, and to which nothing was done yet. Takes no memory.
@@ -121,27 +122,14 @@ impl MemDisk {
 
     /// Reads what is at an address as it was last written, if it can be read.
     fn find(&self, at: Address, into: &mut [u8; 512]) -> Presence
-        ensures whole { result ≡ Presence.Whole → now_of (state_of self.now) at ≡ Some (Bytes into.new) }
-        ensures absent { result ≡ Presence.Absent → now_of (state_of self.now) at ≡ None }
-        ensures unreadable { result ≡ Presence.Unreadable → now_of (state_of self.now) at ≡ Some Unreadable }
-    {
-        match self.latest(at) {
-            Sector::Whole(bytes) => {
-                *into = bytes;
-                Presence::Whole
-            }
-            Sector::Absent => Presence::Absent,
-            Sector::Unreadable => Presence::Unreadable,
-        }
-    }
-
-    /// What is at an address, as it was last written.
-    fn latest(&self, at: Address) -> Sector
-        ensures { content_of result ≡ now_of (state_of self.now) at }
+        ensures { found_of result into.new ≡ now_of (state_of self.now) at }
     {
         match self.flight.get(at) {
-            Some(bytes) => Sector::Whole(bytes),
-            None => self.image.get(at),
+            Some(bytes) => {
+                *into = **bytes;
+                Presence::Whole
+            }
+            None => self.image.read(at, into),
         }
     }
 }
@@ -215,7 +203,7 @@ impl Disk for MemDisk {
         if let Some(stop) = self.stop(DiskCall::Write) {
             return Err(stop);
         }
-        if self.flight.push(at, bytes).is_err() {
+        if self.flight.push(self.alloc, at, bytes).is_err() {
             self.lacks = self.lacks.saturating_add(1);
             return Err(DiskStop::Memory);
         }
@@ -235,8 +223,8 @@ impl Disk for MemDisk {
             self.lacks = self.lacks.saturating_add(1);
             return Err(DiskStop::Memory);
         }
-        self.image.settle(&self.flight.writes, Keep::Everything);
-        self.flight.clear(self.alloc);
+        let flight = replace(&mut self.flight, Flight::new(self.alloc));
+        self.image.settle(flight.writes, Keep::Everything);
         Ok(())
     }
 

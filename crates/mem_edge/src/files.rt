@@ -8,6 +8,7 @@ ghost use Rattle.mem_edge.specs.Files.{IsJoined};
 use crate::writes::Sector;
 use nt_bytes::Bytes;
 use std::alloc::{AllocError, Global};
+use std::rc::Rc;
 
 /// The sectors of a file, the last one filled with zeros.
 pub fn cut_up(alloc: Global, bytes: &[u8]) -> Result<Vec<Sector>, AllocError>
@@ -17,7 +18,8 @@ pub fn cut_up(alloc: Global, bytes: &[u8]) -> Result<Vec<Sector>, AllocError>
     let mut rest = bytes;
     while !rest.is_empty() {
         let (sector, more) = first_of(rest);
-        sectors.push(Sector::Whole(sector))?;
+        let whole = Rc::new(alloc, sector)?;
+        sectors.push(Sector::Whole(whole))?;
         rest = more;
     }
     Ok(sectors)
@@ -53,14 +55,22 @@ fn count_of(sectors: &[Sector]) -> usize
 }
 
 /// The bytes of a sector, zeros where it is absent or can't be read.
-fn bytes_in(sector: Sector) -> [u8; 512]
-    ensures bytes { result ≡ bytes_of (content_of sector) }
+fn bytes_in(sector: &Sector) -> [u8; 512]
+    ensures bytes { result ≡ bytes_of (content_of sector.now) }
     ensures whole { length result ≡ 512 }
 {
     match sector {
-        Sector::Whole(bytes) => bytes,
+        Sector::Whole(bytes) => copied(bytes),
         Sector::Absent | Sector::Unreadable => [0; 512],
     }
+}
+
+/// A copy of the bytes. That there are 512 is known of them here, and not where an `Rc` holds them.
+fn copied(bytes: &[u8; 512]) -> [u8; 512]
+    ensures same { result ≡ bytes.now }
+    ensures whole { length result ≡ 512 }
+{
+    *bytes
 }
 
 /// The bytes of the sectors up to the last one that is present, zeros for one that is absent or can't be read.
@@ -69,7 +79,7 @@ pub fn joined(alloc: Global, sectors: &[Sector]) -> Result<Bytes, AllocError>
 {
     let mut bytes = Vec::new(alloc);
     for sector in &sectors[..count_of(sectors)] {
-        bytes.extend_from_slice(&bytes_in(*sector))?;
+        bytes.extend_from_slice(&bytes_in(sector))?;
     }
     Ok(Bytes::from_vec(bytes))
 }

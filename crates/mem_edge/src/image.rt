@@ -1,14 +1,16 @@
 //! Images as vectors of sectors, and writes laid over them.
 
 ghost use Rattle.std.specs.Prelude.{◌≡◌, ◌<◌, ◌≤◌, ℕ, length, drop, None, IfOk, OnOk};
+ghost use Rattle.std.specs.Vec.Iter.{into_iter_items};
 ghost use Rattle.hive_model.specs.Image.{put, overlaid, of_file, Address};
 ghost use Rattle.nt_edge.specs.Book.{file_of};
 ghost use Rattle.nt_edge.specs.Crash.{unreadable_at, torn};
-ghost use Rattle.mem_edge.specs.Views.{content_of, held_in, held_of, writes_of, write_of, left, odd_ones, Holds};
+ghost use Rattle.mem_edge.specs.Views.{found_of, held_in, held_of, writes_of, write_of, left, odd_ones, Holds};
 
 use crate::writes::{InFlight, Sector};
-use nt_edge::{Address, HiveFile, Keep};
+use nt_edge::{Address, HiveFile, Keep, Presence};
 use std::alloc::{AllocError, Global};
+use std::vec::IntoIter;
 
 /// The sectors of both files, each at its number.
 #[derive(Drop)]
@@ -29,6 +31,14 @@ fn make_place(file: &mut Vec<Sector>, sector: u32) -> Result<(), AllocError>
     Ok(())
 }
 
+/// The same sectors, with their bytes shared.
+fn copy_of(alloc: Global, file: &[Sector]) -> Result<Vec<Sector>, AllocError>
+    ensures { IfOk result (λ copy. (n : ℕ) → held_in copy.items n ≡ held_in file.now n) }
+{
+    let copy = Vec::from_clones(alloc, file)?;
+    Ok(copy)
+}
+
 impl MemImage {
     /// No sector is there. Takes no memory.
     pub fn new(alloc: Global) -> MemImage
@@ -40,12 +50,13 @@ impl MemImage {
         }
     }
 
+    /// The same sectors, with their bytes shared.
     pub fn copy(&self, alloc: Global) -> Result<MemImage, AllocError>
         ensures { IfOk result (λ m. held_of m ≡ held_of self.now) }
     {
         Ok(MemImage {
-            primary: Vec::from_slice(alloc, &self.primary)?,
-            log: Vec::from_slice(alloc, &self.log)?,
+            primary: copy_of(alloc, &self.primary)?,
+            log: copy_of(alloc, &self.log)?,
         })
     }
 
@@ -59,13 +70,17 @@ impl MemImage {
         }
     }
 
-    /// What a sector has.
-    pub fn get(&self, at: Address) -> Sector
-        ensures { content_of result ≡ held_of self.now at }
+    /// Reads what a sector has.
+    pub fn read(&self, at: Address, into: &mut [u8; 512]) -> Presence
+        ensures { found_of result into.new ≡ held_of self.now at }
     {
         match self.file(at.file).get(at.sector as usize) {
-            Some(sector) => *sector,
-            None => Sector::Absent,
+            Some(Sector::Whole(bytes)) => {
+                *into = **bytes;
+                Presence::Whole
+            }
+            Some(Sector::Unreadable) => Presence::Unreadable,
+            Some(Sector::Absent) | None => Presence::Absent,
         }
     }
 
@@ -97,10 +112,9 @@ impl MemImage {
     }
 
     /// Lays a write over the image, which has a place for it.
-    fn lay(&mut self, w: &InFlight)
-        requires { w.now.at.sector
-            < of_file (length self.old.primary.items) (length self.old.log.items) w.now.at.file }
-        ensures laid { held_of self.new ≡ put (held_of self.old) (write_of w.now) }
+    fn lay(&mut self, w: InFlight)
+        requires { w.at.sector < of_file (length self.old.primary.items) (length self.old.log.items) w.at.file }
+        ensures laid { held_of self.new ≡ put (held_of self.old) (write_of w) }
         ensures primary { length self.new.primary.items ≡ length self.old.primary.items }
         ensures log { length self.new.log.items ≡ length self.old.log.items }
     {
@@ -110,58 +124,55 @@ impl MemImage {
         }
     }
 
-    fn lay_all(&mut self, flight: &[InFlight])
-        requires { Holds self.old flight.now }
-        ensures { held_of self.new ≡ overlaid (held_of self.old) (writes_of flight.now) }
+    fn lay_all(&mut self, flight: Vec<InFlight>)
+        requires { Holds self.old flight.items }
+        ensures { held_of self.new ≡ overlaid (held_of self.old) (writes_of flight.items) }
     {
-        let mut rest = flight;
-        while let [w, more @ ..] = rest {
+        let mut rest = flight.into_iter();
+        while let Some(w) = rest.next() {
             self.lay(w);
-            rest = more;
         }
     }
 
-    fn lay_odd(&mut self, flight: &[InFlight])
-        requires { Holds self.old flight.now }
-        ensures { held_of self.new ≡ overlaid (held_of self.old) (odd_ones (writes_of flight.now)) }
+    fn lay_odd(&mut self, flight: Vec<InFlight>)
+        requires { Holds self.old flight.items }
+        ensures { held_of self.new ≡ overlaid (held_of self.old) (odd_ones (writes_of flight.items)) }
     {
-        let mut rest = flight;
-        while let [w, more @ ..] = rest {
+        let mut rest = flight.into_iter();
+        while let Some(w) = rest.next() {
             self.lay(w);
-            rest = behind(more);
+            skip(&mut rest);
         }
     }
 
-    /// Makes the sector of a write unreadable, for which the image has a place.
-    fn tear(&mut self, w: &InFlight)
-        requires { w.now.at.sector
-            < of_file (length self.old.primary.items) (length self.old.log.items) w.now.at.file }
-        ensures torn { held_of self.new ≡ unreadable_at w.now.at (held_of self.old) }
+    /// Makes a sector unreadable, for which the image has a place.
+    fn tear(&mut self, at: Address)
+        requires { at.sector < of_file (length self.old.primary.items) (length self.old.log.items) at.file }
+        ensures torn { held_of self.new ≡ unreadable_at at (held_of self.old) }
         ensures primary { length self.new.primary.items ≡ length self.old.primary.items }
         ensures log { length self.new.log.items ≡ length self.old.log.items }
     {
-        match w.at.file {
-            HiveFile::Primary => self.primary[w.at.sector as usize] = Sector::Unreadable,
-            HiveFile::Log => self.log[w.at.sector as usize] = Sector::Unreadable,
+        match at.file {
+            HiveFile::Primary => self.primary[at.sector as usize] = Sector::Unreadable,
+            HiveFile::Log => self.log[at.sector as usize] = Sector::Unreadable,
         }
     }
 
-    fn tear_all(&mut self, flight: &[InFlight])
-        requires { Holds self.old flight.now }
-        ensures { held_of self.new ≡ torn (held_of self.old) (writes_of flight.now) }
+    fn tear_all(&mut self, flight: Vec<InFlight>)
+        requires { Holds self.old flight.items }
+        ensures { held_of self.new ≡ torn (held_of self.old) (writes_of flight.items) }
     {
-        let mut rest = flight;
-        while let [w, more @ ..] = rest {
-            self.tear(w);
-            rest = more;
+        let mut rest = flight.into_iter();
+        while let Some(w) = rest.next() {
+            self.tear(w.at);
         }
     }
 
     /// Makes of the image what a cut leaves of it and of the writes in flight. The image has a place for
-    /// each of them, so none is wanted.
-    pub fn settle(&mut self, flight: &[InFlight], keep: Keep)
-        requires { Holds self.old flight.now }
-        ensures { held_of self.new ≡ left keep (held_of self.old) (writes_of flight.now) }
+    /// each of them and takes over their bytes, so no memory is wanted.
+    pub fn settle(&mut self, flight: Vec<InFlight>, keep: Keep)
+        requires { Holds self.old flight.items }
+        ensures { held_of self.new ≡ left keep (held_of self.old) (writes_of flight.items) }
     {
         match keep {
             Keep::Nothing => {}
@@ -172,13 +183,9 @@ impl MemImage {
     }
 }
 
-/// All but the first.
-fn behind(rest: &[InFlight]) -> &[InFlight]
-    ensures value { result.now ≡ drop 1 rest.now }
-    ensures shorter { length result.now ≤ length rest.now }
+/// Leaves the next one out.
+fn skip(rest: &mut IntoIter<InFlight>)
+    ensures { into_iter_items rest.new ≡ drop 1 (into_iter_items rest.old) }
 {
-    match rest {
-        [_, more @ ..] => more,
-        [] => rest,
-    }
+    let _skipped = rest.next();
 }

@@ -10,7 +10,8 @@ use crate::writes::Flight;
 use nt_edge::Keep;
 use std::alloc::Global;
 
-/// What the disk woke up with, and its mark: the counts as they then stood.
+/// What the disk woke up with, and its mark: the counts as they then stood. It shares the bytes of each sector
+/// that wasn't written since.
 #[derive(Drop)]
 pub struct Woke {
     pub image: MemImage,

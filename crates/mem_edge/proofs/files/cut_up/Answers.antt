@@ -13,7 +13,8 @@ loop-rest-preserved c =
     let some : 0 < length c.loop-rest.rest.now = grind (arith, common_steps) in
     record {
       behind = c.first_of.ensures.more ∙ cut_behind _ _ _ _ _ c.loop-rest.invariant.behind c.in_ok-push.ensures.items;
-      each = cut_each c.args.bytes.now c.loop-rest.rest.now c.first_of.result.0 c.loop-rest.sectors.items
-          c.push.new.self.items c.loop-rest.invariant.behind some c.first_of.ensures.sector c.in_ok-push.ensures.items
+      each = cut_each c.args.bytes.now c.loop-rest.rest.now c.in_ok-whole.whole c.loop-rest.sectors.items
+          c.push.new.self.items c.loop-rest.invariant.behind some
+          (c.in_ok-whole.ensures.ok ∙ c.first_of.ensures.sector) c.in_ok-push.ensures.items
           c.loop-rest.invariant.each;
     }

@@ -16,7 +16,7 @@ returns-clause-does c =
     let make : Image → List Write → ℕ → Seen = λ i f n. record (seen_of d) {
       disk = record (state_of d) { held = i; flight = f; history = record (state_of d).history { takings = n } };
     } in
-    ap (λ f. make (held_of c.in-Ok.image) (writes_of f) c.saturating_add-self.result) c.clear.ensures
+    ap (λ f. make (held_of c.in-Ok.image) (writes_of f) c.saturating_add-self.result) c.new.ensures
     ∙ ap (make (held_of c.in-Ok.image) []) c.saturating_add-self.ensures
     ∙ ap (λ i. make i [] (next d.takings)) c.in-Ok.ensures
 

@@ -6,5 +6,5 @@ pub returns : goal.returns
 returns c =
     let d = c.args.self.now in
     c.settle.ensures
-    ∙ ap (λ ws. left d.keep (held_of c.make_room.new.self) (writes_of ws)) c.deref-2.ensures.value
+    ∙ ap (λ ws. left d.keep (held_of c.make_room.new.self) ws) c.in_ok-flight.ensures
     ∙ ap (λ held. left d.keep held (writes_of d.flight.writes.items)) (c.make_room.ensures.same ∙ c.in_ok-image.ensures)
