@@ -1,7 +1,7 @@
 use Rattle.std.proofs.Common.{◌<◌, ℕ, false, List, length, sym, ap, ◌∙◌, subst}
 use Rattle.std.specs.Prelude.{All}
 use Rattle.std.proofs.lemmas.List.{length-replicate}
-use Rattle.wait_cycles.specs.Graph.{row_at, Marks}
+use Rattle.wait_cycles.specs.Graph.{Marks}
 use Rattle.wait_cycles.specs.Working.{IsReaching}
 use Rattle.wait_cycles.proofs.InverseLemmas.{within, on_ok}
 use Rattle.wait_cycles.proofs.ReachLemmas.{reaching_begun}
