@@ -1,5 +1,5 @@
 -- How far has a list of work come?
-use Rattle.std.specs.Prelude.{◌≡◌, ◌⊎◌, ℕ, ◌<◌, Bool, true, not, nat_eq, ◌&&◌, List, length, take, slice_index, Contains}
+use Rattle.std.specs.Prelude.{◌≡◌, ◌⊎◌, ℕ, ◌+◌, ◌*◌, ◌<◌, Bool, true, not, nat_eq, ◌&&◌, List, length, take, slice_index, count_by, sum_by, Contains}
 use Rattle.std.specs.List.{list_any, list_all}
 use Rattle.start_model.specs.Demand.{member}
 use Rattle.wait_cycles.specs.Graph.{row_at, HasEdge, IsClosedFrom, is_ripe, IsMetBy}
@@ -28,3 +28,7 @@ pub record IsSettling (rows : List (List ℕ)) (places : ℕ) (marks : List Bool
 pub record AreFirsts (rows : List (List ℕ)) (marks : List Bool) (firsts : List ℕ) : Type 0 where
   pub len : length firsts ≡ length rows
   pub marked : (u : ℕ) → list_all (member marks) (take (slice_index firsts u) (row_at rows u)) ≡ true
+
+-- what a walk in depth has left: vertices to see, edges to go along (lists of some form, by their lengths) and a path to go back
+abbrev pub to_do : {X : Type 0} → (X → ℕ) → List X → List Bool → List ℕ → ℕ
+to_do size rest seen path = 2 * count_by not seen + sum_by size rest + length path
