@@ -8,7 +8,7 @@ use Rattle.std.proofs.lemmas.List.FromFn.{length-map-range_with_len}
 use Rattle.start_model.specs.Demand.{member, all_sets}
 use Rattle.dependencies.proofs.PulledLemmas.{then_true, then_gives, same_bool, all_true, all_below, any_below, sets_have, listed_member}
 use Rattle.dependencies.proofs.KeptLemmas.{range_push}
-use Rattle.wait_cycles.specs.Waits.{leads, is_next, is_closed_from, comes_to, are_in_cycle, cycle_of, begins_with, cycle_from, cycles_of}
+use Rattle.wait_cycles.specs.Waits.{leads, is_next, is_closed_from, comes_to, cycle_of}
 use Rattle.wait_cycles.specs.Graph.{row_at, AreEdges, AreWaits, IsInverse, IsClosedFrom, IsReach, IsTwoEdges, AreLeads}
 use Rattle.wait_cycles.proofs.InverseLemmas.{none_in, edge_from}
 use Rattle.wait_cycles.proofs.MetLemmas.{first_in, later_in, all_from, all_gives, any_gives, range_in}
@@ -281,46 +281,13 @@ cycle_is rows back places p on to cycle are turned' lp forth back' is waits lead
     are_in_cycle' : ℕ → ℕ → Bool
     are_in_cycle' n q = comes_to (leads waits) n p q && comes_to (leads waits) n q p
 
--- a place that leads nowhere is in no cycle
-pub no_cycle : (rows : List (List ℕ)) (places p : ℕ) → p < places → row_at rows p ≡ []
-    → (waits : List (List (List ℕ))) → AreLeads waits places rows → cycle_from waits p ≡ []
-no_cycle rows places p lp empty waits lead =
-    ap (λ (c : List ℕ). cond (begins_with p c) (c ∷ []) [])
-    (filter_none (are_in_cycle waits p) (range_with_len 0 (length waits)) apart)
-  where
-    n : ℕ
-    n = length waits
-
-    closed : IsClosedBy (leads waits) n p (λ _. false)
-    closed = record {
-      begun = λ q lq s.
-          (let r = lead.edges.made p q lp (omega (arith, lq, lead.count)) s in
-          absurd (none_in r.0 (subst (λ (xs : List ℕ). Contains xs r.0) empty r.1)));
-      closed = λ m q lm lq on s. on;
-    }
-
-    apart : (q : ℕ) → Contains (range_with_len 0 n) q → are_in_cycle waits p q ≡ false
-    apart q i = elim (cases_Bool (are_in_cycle waits p q)) [
-      | inl on ↦ absurd (false≢true (comes_gives (leads waits) n p q
-          (and_parts (comes_to (leads waits) n p q) (comes_to (leads waits) n q p) on).0 (λ _. false) closed (range_in n q i)))
-      | inr off ↦ off
-    ]
-
 pub flat_push : {X : Type 0} (f : ℕ → List X) (xs : List ℕ) (x : ℕ) → flat_map f (xs ++ x ∷ []) ≡ flat_map f xs ++ f x
 flat_push f [] x = append-nil (f x)
 flat_push f (y ∷ ys) x =
     ap (λ zs. f y ++ zs) (flat_push f ys x) ∙ sym (append_assoc (f y) (flat_map f ys) (f x))
 
-pub cycles_more : (waits : List (List (List ℕ))) (p : ℕ) (cs ds : List (List ℕ))
-    → cs ≡ flat_map (cycle_from waits) (range_with_len 0 p) → ds ≡ cs ++ cycle_from waits p
-    → ds ≡ flat_map (cycle_from waits) (range_with_len 0 (p + 1))
-cycles_more waits p cs ds before now =
-    now ∙ ap (λ (xs : List (List ℕ)). xs ++ cycle_from waits p) before
-    ∙ sym (flat_push (cycle_from waits) (range_with_len 0 p) p)
-    ∙ ap (flat_map (cycle_from waits)) (sym (range_push p))
-
-pub cycles_all : (waits : List (List (List ℕ))) (places n : ℕ) (rows cs : List (List ℕ)) → n ≡ places
-    → AreLeads waits places rows → cs ≡ flat_map (cycle_from waits) (range_with_len 0 n) → cs ≡ cycles_of waits
-unfolding cycles_of
-cycles_all waits places n rows cs e lead is =
-    is ∙ ap (λ k. flat_map (cycle_from waits) (range_with_len 0 k)) (e ∙ sym lead.count)
+pub flat_more : {X : Type 0} (f : ℕ → List X) (p : ℕ) (xs ys : List X) → xs ≡ flat_map f (range_with_len 0 p)
+    → ys ≡ xs ++ f p → ys ≡ flat_map f (range_with_len 0 (p + 1))
+flat_more {X} f p xs ys before now =
+    now ∙ ap (λ (zs : List X). zs ++ f p) before ∙ sym (flat_push f (range_with_len 0 p) p)
+    ∙ ap (flat_map f) (sym (range_push p))

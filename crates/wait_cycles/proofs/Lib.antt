@@ -3,3 +3,7 @@ pub mod ReachLemmas
 pub mod MetLemmas
 pub mod CycleLemmas
 pub mod StuckLemmas
+pub mod LeadLemmas
+pub mod WalkLemmas
+pub mod ClassLemmas
+pub mod MemberLemmas

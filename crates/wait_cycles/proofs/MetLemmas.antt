@@ -10,7 +10,7 @@ use Rattle.std.proofs.lemmas.List.FromFn.{get_or-range_with_len, length-range_wi
 use Rattle.std.proofs.lemmas.List.Elements.{Contains-get_or, Contains-push, Contains-push_cases, Contains-append_left, Contains-append_cases}
 use Rattle.start_model.specs.Demand.{member}
 use Rattle.wait_cycles.specs.Graph.{row_at, HasEdge, AreWaits, IsInverse, is_ripe, IsMet, Settles}
-use Rattle.wait_cycles.specs.Working.{is_done, IsSettling}
+use Rattle.wait_cycles.specs.Working.{is_done, IsSettling, AreFirsts}
 use Rattle.wait_cycles.proofs.InverseLemmas.{none_in, edge_from}
 use Rattle.wait_cycles.proofs.ReachLemmas.{member_none, one_fewer, set_mark, still_set}
 
@@ -318,3 +318,12 @@ pub back_within : (rows back : List (List ℕ)) (at : ℕ) (us : List ℕ) → u
 back_within rows back at us e turned k d lt =
     edge_from rows (get_or us k d) at
     (turned.only (get_or us k d) at (subst (λ (xs : List ℕ). Contains xs (get_or us k d)) e (Contains-get_or us k d lt)))
+
+-- what is marked at the front of each list stays so
+pub firsts_kept : (rows : List (List ℕ)) (marks marks' : List Bool) (firsts : List ℕ)
+    → ((k : ℕ) → member marks k ≡ true → member marks' k ≡ true) → AreFirsts rows marks firsts → AreFirsts rows marks' firsts
+firsts_kept rows marks marks' firsts kept is = record {
+  len = is.len;
+  marked = λ u.
+      all_weaker (member marks) (member marks') (take (get_or firsts u 0) (row_at rows u)) (λ x i. kept x) (is.marked u);
+}

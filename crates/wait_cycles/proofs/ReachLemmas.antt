@@ -119,21 +119,23 @@ marks_more row i d m0 w0 m1 w1 m2 w2 lt one two =
 
 -- ---- the whole
 
-pub reaching_start : (rows : List (List ℕ)) (start n : ℕ) (marks : List Bool) (work : List ℕ) → n ≡ length rows
-    → Marks (row_at rows start) (replicate n false) [] marks work → IsReaching rows start marks work
-reaching_start rows start n marks work e is = record {
-  len = is.len ∙ length-replicate n false ∙ e;
+-- where nothing was marked before
+pub reaching_begun : (rows : List (List ℕ)) (start : ℕ) (m0 : List Bool) (w0 : List ℕ) (marks : List Bool) (work : List ℕ)
+    → length m0 ≡ length rows → ((k : ℕ) → member m0 k ≡ false) → w0 ≡ [] → Marks (row_at rows start) m0 w0 marks work
+    → IsReaching rows start marks work
+reaching_begun rows start m0 w0 marks work e none ew is = record {
+  len = is.len ∙ e;
   honest = λ k h. elim (is.noted k h) [
-    | inl none ↦ absurd (none_in k none)
+    | inl before ↦ absurd (none_in k (subst (λ (w : List ℕ). Contains w k) ew before))
     | inr on ↦ on
   ];
   begun = λ v h. is.marked v h;
   closed = λ u h. elim (is.only u h) [
-    | inl old ↦ absurd (false≢true (sym (member_none n u) ∙ old))
+    | inl old ↦ absurd (false≢true (sym (none u) ∙ old))
     | inr new ↦ inl new.1
   ];
   least = λ set closed v h. elim (is.only v h) [
-    | inl old ↦ absurd (false≢true (sym (member_none n v) ∙ old))
+    | inl old ↦ absurd (false≢true (sym (none v) ∙ old))
     | inr new ↦ closed.begun v new.0
   ];
 }
@@ -190,12 +192,3 @@ pub marks_all : (row : List ℕ) (i : ℕ) (m0 : List Bool) (w0 : List ℕ) (m1 
     → Marks (take i row) m0 w0 m1 w1 → Marks row m0 w0 m1 w1
 marks_all row i m0 w0 m1 w1 e is =
     subst (λ (xs : List ℕ). Marks xs m0 w0 m1 w1) (take_all i row (omega (arith, e))) is
-
--- where nothing was marked before
-pub reaching_begun : (rows : List (List ℕ)) (start : ℕ) (m0 : List Bool) (w0 : List ℕ) (marks : List Bool) (work : List ℕ)
-    → m0 ≡ replicate (length rows) false → w0 ≡ [] → Marks (row_at rows start) m0 w0 marks work
-    → IsReaching rows start marks work
-reaching_begun rows start m0 w0 marks work em ew is =
-    reaching_start rows start (length rows) marks work refl
-    (subst (λ (w : List ℕ). Marks (row_at rows start) (replicate (length rows) false) w marks work) ew
-    (subst (λ (m : List Bool). Marks (row_at rows start) m w0 marks work) em is))

@@ -180,7 +180,7 @@ module _ (rows : List (List ℕ)) (places : ℕ) (marks : List Bool) (waits : Ar
 
 -- ---- what is left of the edges
 
-row_left : (p : ℕ → Bool) (rows : List (List ℕ)) (u : ℕ) → get_or (map (filter p) rows) u [] ≡ filter p (get_or rows u [])
+pub row_left : (p : ℕ → Bool) (rows : List (List ℕ)) (u : ℕ) → get_or (map (filter p) rows) u [] ≡ filter p (get_or rows u [])
 row_left p [] u = refl
 row_left p (r ∷ rs) zero = refl
 row_left p (r ∷ rs) (suc u) = row_left p rs u

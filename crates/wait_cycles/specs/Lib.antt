@@ -1,3 +1,4 @@
 pub mod Waits
 pub mod Graph
 pub mod Working
+pub mod Classes

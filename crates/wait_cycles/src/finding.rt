@@ -1,14 +1,16 @@
 //! Places that wait for one another.
 
-ghost use Rattle.std.specs.Prelude.{◌≡◌, ℕ, ◌<◌, ◌&&◌, ◌==◌, ◌++◌, List, not, filter, length, IfOk, OnOk};
-ghost use Rattle.std.specs.List.{range_with_len};
+ghost use Rattle.std.specs.Prelude.{◌≡◌, ℕ, ◌≤◌, [], ◌∷◌, ◌++◌, List, not, filter, length, slice_index, slice_set, IfOk, OnOk};
+ghost use Rattle.std.specs.List.{flat_map, range_with_len};
 ghost use Rattle.start_model.specs.Demand.{member};
-ghost use Rattle.wait_cycles.specs.Waits.{begins_with, cycle_of, cycle_from, cycles_of};
+ghost use Rattle.wait_cycles.specs.Waits.{begins_with, cycles_of};
 ghost use Rattle.wait_cycles.specs.Graph.{AreWaits, AreLeads, IsInverse, row_at, waits_in, left_rows};
+ghost use Rattle.wait_cycles.specs.Classes.{AreMembers, first_from};
 
-use crate::inverse::inverse;
+use crate::classes::classes;
+use crate::inverse::{empty_rows, inverse};
 use crate::met::met;
-use crate::reach::{is_marked, reach, row_at};
+use crate::reach::{is_marked, row_at};
 use nt_bytes::Row;
 use std::alloc::{AllocError, Global};
 
@@ -67,41 +69,63 @@ fn found(
     requires back { IsInverse rows.now back.now }
     ensures { IfOk result (λ cycles. (waits : List (List (List ℕ))) → AreLeads waits places rows.now → cycles ≡ cycles_of waits) }
 {
-    let mut cycles = Row::new(alloc);
-    for place in 0..places {
-        put_cycle(alloc, rows, back, places, place, &mut cycles)?;
-    }
-    Ok(cycles)
+    let classes = classes(alloc, rows, back)?;
+    let members = members(alloc, classes.as_slice(), places)?;
+    cycles_in(alloc, classes.as_slice(), members.as_slice(), places)
 }
 
-/// Appends the cycle that this place is the first of.
-fn put_cycle(
-    alloc: Global,
-    rows: &[Row<usize>],
-    back: &[Row<usize>],
-    places: usize,
-    place: usize,
-    cycles: &mut Row<Row<usize>>,
-) -> Result<(), AllocError>
-    requires rows { AreWaits places rows.now }
-    requires back { IsInverse rows.now back.now }
-    requires place { place < places }
-    ensures { OnOk result ((waits : List (List (List ℕ))) → AreLeads waits places rows.now → cycles.new ≡ cycles.old ++ cycle_from waits place) }
+/// For each class its places, rising.
+fn members(alloc: Global, classes: &[usize], places: usize) -> Result<Vec<Row<usize>>, AllocError>
+    requires { places ≤ length classes.now }
+    ensures { IfOk result (λ members. AreMembers classes.now places members.items) }
 {
-    if leads_nowhere(rows, place) {
-        return Ok(());
+    let mut members = empty_rows(alloc, classes.len())?;
+    for place in 0..places {
+        put_member(place, classes[place], &mut members)?;
     }
-    let cycle = cycle_of(alloc, rows, back, places, place)?;
-    if begins_with(place, cycle.as_slice()) {
-        cycles.push(cycle)?;
+    Ok(members)
+}
+
+/// Puts the place at the end of the list of the class, if there is such a class.
+fn put_member(place: usize, class: usize, members: &mut Vec<Row<usize>>) -> Result<(), AllocError>
+    ensures { OnOk result (members.new.items ≡ slice_set members.old.items class (row_at members.old.items class ++ place ∷ [])) }
+{
+    if class < members.len() {
+        members[class].push(place)?;
     }
     Ok(())
 }
 
-fn leads_nowhere(rows: &[Row<usize>], place: usize) -> bool
-    ensures { result ≡ (length (row_at rows.now place) == 0) }
+/// The list of each class on a cycle, at the first of its places.
+fn cycles_in(
+    alloc: Global,
+    classes: &[usize],
+    members: &[Row<usize>],
+    places: usize,
+) -> Result<Row<Row<usize>>, AllocError>
+    requires { places ≤ length classes.now }
+    ensures { IfOk result (λ cycles. cycles ≡ flat_map (λ p. first_from p (row_at members.now (slice_index classes.now p))) (range_with_len 0 places)) }
 {
-    row_at(rows, place).is_empty()
+    let mut cycles = Row::new(alloc);
+    for place in 0..places {
+        put_cycle(alloc, place, row_at(members, classes[place]), &mut cycles)?;
+    }
+    Ok(cycles)
+}
+
+/// Appends the cycle, if this place is its first.
+fn put_cycle(
+    alloc: Global,
+    place: usize,
+    cycle: &[usize],
+    cycles: &mut Row<Row<usize>>,
+) -> Result<(), AllocError>
+    ensures { OnOk result (cycles.new ≡ cycles.old ++ first_from place cycle.now) }
+{
+    if begins_with(place, cycle) {
+        cycles.push(Row::from_vec(Vec::from_slice(alloc, cycle)?))?;
+    }
+    Ok(())
 }
 
 fn begins_with(place: usize, places: &[usize]) -> bool
@@ -111,41 +135,4 @@ fn begins_with(place: usize, places: &[usize]) -> bool
         Some(first) => place == *first,
         None => false,
     }
-}
-
-/// The places that are in one cycle with this one.
-fn cycle_of(
-    alloc: Global,
-    rows: &[Row<usize>],
-    back: &[Row<usize>],
-    places: usize,
-    place: usize,
-) -> Result<Row<usize>, AllocError>
-    requires rows { AreWaits places rows.now }
-    requires back { IsInverse rows.now back.now }
-    requires place { place < places }
-    ensures { IfOk result (λ cycle. (waits : List (List (List ℕ))) → AreLeads waits places rows.now → cycle ≡ cycle_of waits place) }
-{
-    let on = reach(alloc, rows, place)?;
-    let to = reach(alloc, back, place)?;
-    both(alloc, on.as_slice(), to.as_slice(), places)
-}
-
-/// The places that are marked twice.
-fn both(alloc: Global, on: &[bool], to: &[bool], places: usize) -> Result<Row<usize>, AllocError>
-    ensures { IfOk result (λ both. both ≡ filter (λ q. member on.now q && member to.now q) (range_with_len 0 places)) }
-{
-    let mut both = Row::new(alloc);
-    for place in 0..places {
-        if is_both(on, to, place) {
-            both.push(place)?;
-        }
-    }
-    Ok(both)
-}
-
-fn is_both(on: &[bool], to: &[bool], place: usize) -> bool
-    ensures { result ≡ (member on.now place && member to.now place) }
-{
-    is_marked(on, place) && is_marked(to, place)
 }

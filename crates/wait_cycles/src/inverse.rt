@@ -19,7 +19,7 @@ pub fn inverse(alloc: Global, rows: &[Row<usize>]) -> Result<Vec<Row<usize>>, Al
 }
 
 /// That many empty lists.
-fn empty_rows(alloc: Global, count: usize) -> Result<Vec<Row<usize>>, AllocError>
+pub(crate) fn empty_rows(alloc: Global, count: usize) -> Result<Vec<Row<usize>>, AllocError>
     ensures { IfOk result (λ rows. rows.items ≡ replicate count []) }
 {
     let mut rows = Vec::new(alloc);

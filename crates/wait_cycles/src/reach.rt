@@ -48,7 +48,11 @@ fn mark_all(row: &[usize], marks: &mut Vec<bool>, work: &mut Vec<usize>) -> Resu
     Ok(())
 }
 
-fn mark(at: usize, marks: &mut Vec<bool>, work: &mut Vec<usize>) -> Result<(), AllocError>
+pub(crate) fn mark(
+    at: usize,
+    marks: &mut Vec<bool>,
+    work: &mut Vec<usize>,
+) -> Result<(), AllocError>
     requires { at < length marks.old.items }
     ensures { OnOk result (Marks (at ∷ []) marks.old.items work.old.items marks.new.items work.new.items) }
 {

@@ -9,8 +9,8 @@ pub settle_all-requires-clause-within : goal.settle_all-requires-clause-within
 settle_all-requires-clause-within c =
     places_within c.args.rows.now c.args.places c.as_slice.result.now (c.as_slice.ensures ∙ c.in_ok-all.ensures) c.requires.waits
 
-pub returns : goal.returns
-returns c =
+pub returns-clause-settling : goal.returns-clause-settling
+returns-clause-settling c =
     let rows = c.args.rows.now in
     let old = c.args.marks.now.items in
     let work = c.args.work.now.items in
@@ -19,4 +19,4 @@ returns c =
     on_ok c.settle_all.result (Settles rows c.args.places c.as_slice.result.now old work marks' work')
     (IsSettling rows c.args.places marks' work')
     (settling_begun rows c.args.places c.as_slice.result.now old work marks' work' (c.as_slice.ensures ∙ c.in_ok-all.ensures)
-    c.requires.marks c.requires.work) c.settle_all.ensures
+    c.requires.marks c.requires.work) c.settle_all.ensures.settled

@@ -8,11 +8,13 @@ settle_all-requires-clause-within c =
     back_within c.args.rows.now c.args.back.now c.in-Some.at c.row_at.result.now c.row_at.ensures c.requires.back
 
 pub work-preserved : goal.work-preserved
-work-preserved c =
-    settling_more _ c.args.back.now _ _ _ _ _ _ _ c.requires.back c.in-Some.ensures.items c.work.invariant
-    (rw c.row_at.ensures at c.in_ok-settle_all.ensures)
+work-preserved c = record {
+  settling = settling_more _ c.args.back.now _ _ _ _ _ _ _ c.requires.back c.in-Some.ensures.items c.work.invariant.settling
+      (rw c.row_at.ensures at c.in_ok-settle_all.ensures.settled);
+  firsts = c.in_ok-settle_all.ensures.firsts;
+}
 
 pub returns : goal.returns
 returns c =
     settled_all _ _ _ c.work.work.items (nil_from_length c.work.work.items (omega (arith, c.in_default.ensures.cases)))
-    c.work.invariant
+    c.work.invariant.settling
