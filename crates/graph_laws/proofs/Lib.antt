@@ -1,5 +1,5 @@
 mod NeedLemmas
-mod AttemptLemmas
+pub mod AttemptLemmas
 mod ReachLemmas
 mod NumberLemmas
 mod BegunLemmas
