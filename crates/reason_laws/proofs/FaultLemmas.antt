@@ -7,7 +7,7 @@ use Rattle.reg_text.specs.declared.stop.RegFault.{RegFault}
 use Rattle.reg_text.specs.declared.stop.RegFaultKind.{RegFaultKind}
 use Rattle.reg_text.specs.declared.stop.RegFaultKind.TheVariants as kinds
 use Rattle.command_parts.specs.Kinds.{hive_kind_word}
-use Rattle.text_commands.specs.Exported.{kind_word}
+use Rattle.text_commands.specs.Exported.{fault_text, kind_word}
 use Rattle.reason_lines.specs.Texts.{Text}
 use Rattle.reason_lines.specs.Heard.{Heard}
 use Rattle.reason_lines.specs.Kinds.{part_reason, reason_in, reg_rows}
@@ -25,10 +25,11 @@ reg-known kinds.Line = refl
 reg-known kinds.NotText = refl
 
 -- the line for what is heard
-line-for : List Text → Files → Heard → Text
+abbrev line-for : List Text → Files → Heard → Text
 line-for words files heard = heard_line words heard (is_dirty_at words files (codes "--hive")) (is_dirty_at words files (codes "--with"))
 
 pub reg-explained : (words : List Text) (files : Files) (fault : RegFault) → fault.line < 2 ^ 32 → ExplainsReg words files fault
+unfolding fault_text
 reg-explained words files fault small =
     let known = here (reason_in reg_rows (kind_word fault.kind)) (reg-known fault.kind) in record {
       reason = known.0;
