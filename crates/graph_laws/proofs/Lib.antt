@@ -1,6 +1,6 @@
-mod NeedLemmas
+pub mod NeedLemmas
 pub mod AttemptLemmas
 mod ReachLemmas
-mod NumberLemmas
+pub mod NumberLemmas
 mod BegunLemmas
 mod ToldLemmas
