@@ -1,6 +1,6 @@
 pub mod NeedLemmas
 pub mod AttemptLemmas
-mod ReachLemmas
+pub mod ReachLemmas
 pub mod NumberLemmas
 mod BegunLemmas
 mod ToldLemmas
