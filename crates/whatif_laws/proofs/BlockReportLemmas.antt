@@ -135,8 +135,7 @@ lost_of_off_are_missing choice other placed off taken name o p =
     (by_lines (report_of other off None) (off_told taken name) (tells_off_as_run other off taken name p))
 
 pub lost_of_edited_are_missing : LostOfEditedAreMissing
-lost_of_edited_are_missing choice placed edited taken off name k v o is start made p =
+lost_of_edited_are_missing choice placed edited taken name o off room =
     missing_is name (report_of choice placed None) (report_of choice edited None) (plain_told taken) (off_told taken name)
     (by_lines (report_of choice placed None) (plain_told taken) (tells_as_run choice placed taken None o))
-    (by_lines (report_of choice edited None) (off_told taken name)
-    (tells_edited_as_run choice placed edited taken off name k v o is start made p))
+    (by_lines (report_of choice edited None) (off_told taken name) (tells_edited_as_run choice placed edited taken name o off room))

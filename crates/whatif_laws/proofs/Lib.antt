@@ -9,4 +9,6 @@ pub mod LostLemmas
 pub mod GoLemmas
 pub mod ReportLemmas
 pub mod BlockReportLemmas
+pub mod LighterLemmas
+pub mod BeginningLemmas
 pub mod EditedLemmas

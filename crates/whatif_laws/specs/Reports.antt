@@ -1,9 +1,12 @@
 -- Which lines of a report tell what became of entries? (this project's own)
-use Rattle.std.specs.Prelude.{◌≡◌, ℕ, Bool, true, false, not, ◌&&◌, List, [], ◌∷◌, map, filter, slice_get, Option, Some, None, option_map, Ok, codes}
+use Rattle.std.specs.Prelude.{◌≡◌, ◌⊎◌, ◌≤◌, ℕ, Bool, true, false, not, ◌&&◌, List, [], ◌∷◌, map, filter, slice_get, Option, Some, None, option_map, Ok, codes}
 use Rattle.std.specs.List.{list_any, filter_map}
 use Rattle.std.specs.Int.{w32, to_le_bytes}
 use Rattle.nt_bytes.specs.Folding.{folds_same}
+use Rattle.nt_bytes.specs.declared.version.HiveVersion.{HiveVersion}
 use Rattle.hive_model.specs.Tree.{Item, Tree, find_item, find_key}
+use Rattle.hive_model.specs.Size.{bulk_of}
+use Rattle.hive_model.specs.Valid.{HoldsKeys}
 use Rattle.hive_model.specs.Edit.{value_set}
 use Rattle.start_model.specs.Sets.{set_name}
 use Rattle.start_model.specs.Boot.{Choice, EntryTaken}
@@ -62,6 +65,11 @@ pub record Opens (choice : Option ℕ → Choice) (placed : Woken) (taken : Take
   pub entry : choice None ≡ EntryTaken number path on_good
   pub begun : opening_of placed.state.version placed.state.tree (OnSet on_good) ≡ Begun taken
 
+-- where a hive can hold the tree, it can hold the set that a start takes of it
+abbrev pub TakenIsHeld : Type 0
+TakenIsHeld =
+    (choice : Option ℕ → Choice) (placed : Woken) (taken : Taken) → Opens choice placed taken → HoldsKeys placed.state.tree → HoldsKeys taken.set
+
 -- the entries of a report of that script are those of what is reported of the start, with their words, in one order
 abbrev pub TellsAsRun : Type 0
 TellsAsRun =
@@ -75,15 +83,38 @@ TellsOffAsRun =
     → Opens choice placed (record taken { set = off_set name taken.set })
     → filter is_entry_line (quiet_run_of choice boot_and_go placed).lines ≡ map told_line (off_told taken name)
 
--- and so where the disk loads as the tree in which the value Start of that entry, in the set that is taken, was set to the DWORD 4, and
--- a start takes a set of it
+-- ---- the edited hive
+
+-- the second tree is the first one with the value Start of the entry of a name, in the set of a number, set to the DWORD 4
+pub record IsSwitchedOff (number : ℕ) (name : List ℕ) (t u : Tree) : Type 0 where
+  pub entry : Tree
+  pub start : Item
+  pub there : find_key (set_name number ∷ codes "Services" ∷ name ∷ []) t ≡ Some entry
+  pub has_start : find_item (codes "Start") entry ≡ Some start
+  pub made : value_set (set_name number ∷ codes "Services" ∷ name ∷ []) (codes "Start") 4 (to_le_bytes w32 4) t ≡ Ok u
+
+-- the edited hive is of the same version, as each is that was edited; or of another one, in which its cells may take more, and a start takes
+-- a set of it all the same
+abbrev pub IsRoomy : (Option ℕ → Choice) → Woken → Woken → Type 0
+IsRoomy choice placed edited = (edited.state.version ≡ placed.state.version) ⊎ ((off : Taken) × Opens choice edited off)
+
+-- the edited tree takes no more bytes than it took
+abbrev pub EditIsNoLarger : Type 0
+EditIsNoLarger =
+    (version : HiveVersion) (number : ℕ) (name : List ℕ) (t u : Tree) → IsSwitchedOff number name t u → bulk_of version u ≤ bulk_of version t
+
+-- where a start takes a set, the start of the hive with an entry of that set edited takes the same set with the entry off, on the same terms
+abbrev pub TakesEditedSet : Type 0
+TakesEditedSet =
+    (choice : Option ℕ → Choice) (placed edited : Woken) (taken : Taken) (name : List ℕ) → Opens choice placed taken
+    → IsSwitchedOff taken.number name placed.state.tree edited.state.tree → IsRoomy choice placed edited
+    → Opens choice edited (record taken { set = off_set name taken.set })
+
+-- and its report says what is reported of the start with the entry off
 abbrev pub TellsEditedAsRun : Type 0
 TellsEditedAsRun =
-    (choice : Option ℕ → Choice) (placed edited : Woken) (taken off : Taken) (name : List ℕ) (k : Tree) (v : Item) → Opens choice placed taken
-    → find_key (set_name taken.number ∷ codes "Services" ∷ name ∷ []) placed.state.tree ≡ Some k → find_item (codes "Start") k ≡ Some v
-    → value_set (set_name taken.number ∷ codes "Services" ∷ name ∷ []) (codes "Start") 4 (to_le_bytes w32 4) placed.state.tree
-    ≡ Ok edited.state.tree
-    → Opens choice edited off
+    (choice : Option ℕ → Choice) (placed edited : Woken) (taken : Taken) (name : List ℕ) → Opens choice placed taken
+    → IsSwitchedOff taken.number name placed.state.tree edited.state.tree → IsRoomy choice placed edited
     → filter is_entry_line (quiet_run_of choice boot_and_go edited).lines ≡ map told_line (off_told taken name)
 
 -- ---- blocks by two reports
@@ -134,9 +165,6 @@ LostOfOffAreMissing =
 -- and those that the report of the edited hive doesn't start
 abbrev pub LostOfEditedAreMissing : Type 0
 LostOfEditedAreMissing =
-    (choice : Option ℕ → Choice) (placed edited : Woken) (taken off : Taken) (name : List ℕ) (k : Tree) (v : Item) → Opens choice placed taken
-    → find_key (set_name taken.number ∷ codes "Services" ∷ name ∷ []) placed.state.tree ≡ Some k → find_item (codes "Start") k ≡ Some v
-    → value_set (set_name taken.number ∷ codes "Services" ∷ name ∷ []) (codes "Start") 4 (to_le_bytes w32 4) placed.state.tree
-    ≡ Ok edited.state.tree
-    → Opens choice edited off
+    (choice : Option ℕ → Choice) (placed edited : Woken) (taken : Taken) (name : List ℕ) → Opens choice placed taken
+    → IsSwitchedOff taken.number name placed.state.tree edited.state.tree → IsRoomy choice placed edited
     → lost_of taken name (off_told taken name) ≡ missing_names name (report_of choice placed None) (report_of choice edited None)

@@ -14,4 +14,7 @@ pub use lost::{
     the_lost_of_a_failure_are_unmet_and_lean, the_unmet_of_a_block_are_newly_unmet,
 };
 pub use off::an_entry_that_is_off_has_start_four;
-pub use reports::{a_block_is_what_two_reports_differ_in, what_is_told_is_what_a_run_reports};
+pub use reports::{
+    a_block_is_what_two_reports_differ_in, a_start_takes_a_set_that_can_be_held,
+    a_start_takes_the_set_of_the_edited_hive, what_is_told_is_what_a_run_reports,
+};
