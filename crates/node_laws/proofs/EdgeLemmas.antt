@@ -107,14 +107,14 @@ range_pairs a (suc n) =
 
 -- ---- rows
 
-place_is : (names : List (List ℕ)) (name : List ℕ) (k : ℕ) → place_in names name ≡ Some k
+pub place_is : (names : List (List ℕ)) (name : List ℕ) (k : ℕ) → place_in names name ≡ Some k
     → (found : List ℕ) × (slice_get names k ≡ Some found) × (folds_same name found ≡ true)
 place_is names name k is =
     let at = position-Some (folds_same name) names k [] is in
     (_, slice_get-get_or names k [] at.0, at.1)
 
 -- two names that fold as a third one
-both_fold : (a b x : List ℕ) → folds_same a x ≡ true → folds_same b x ≡ true → folds_same a b ≡ true
+pub both_fold : (a b x : List ℕ) → folds_same a x ≡ true → folds_same b x ≡ true → folds_same a b ≡ true
 both_fold a b x one two = alike a x one b ∙ names_flip x b ∙ two
 
 module _ (r : ViewedRun) (of : Option (List ℕ)) (all : List Entry) where

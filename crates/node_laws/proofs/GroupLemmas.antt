@@ -23,13 +23,13 @@ use Rattle.graph_rule.specs.Rows.{grouped_at, members_of, members_in, parts_by, 
 use Rattle.graph_rule.specs.Shown.{is_group}
 use Rattle.node_laws.specs.Edges.{GroupsLeadToMembers}
 
-mapped : {X Y : Type 0} (f : X → Y) (xs : List X) (k : ℕ) (y : Y) → slice_get (map f xs) k ≡ Some y
+pub mapped : {X Y : Type 0} (f : X → Y) (xs : List X) (k : ℕ) (y : Y) → slice_get (map f xs) k ≡ Some y
     → (x : X) × (slice_get xs k ≡ Some x) × (f x ≡ y)
 mapped f [] k y is = absurd cc
 mapped f (x ∷ xs) zero y is = (x, refl, same_Some (f x) y is)
 mapped f (x ∷ xs) (suc k) y is = mapped f xs k y is
 
-map_at : {X Y : Type 0} (f : X → Y) (xs : List X) (k : ℕ) (x : X) → slice_get xs k ≡ Some x → slice_get (map f xs) k
+pub map_at : {X Y : Type 0} (f : X → Y) (xs : List X) (k : ℕ) (x : X) → slice_get xs k ≡ Some x → slice_get (map f xs) k
     ≡ Some (f x)
 map_at f xs k x is = slice_get-map f xs k ∙ ap (option_map f) is
 

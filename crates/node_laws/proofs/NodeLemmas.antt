@@ -126,7 +126,7 @@ module _ (r : ViewedRun) (of : Option (List ℕ)) where
       (ap (λ (os : List (Option GraphNode)). slice_get os i) (sym (nodes_are_shown r of)) ∙ some)
 
   -- and the other way
-  vertex_node : (i u : ℕ) (node : GraphNode) → slice_get (shown_in r of) i ≡ Some u
+  pub vertex_node : (i u : ℕ) (node : GraphNode) → slice_get (shown_in r of) i ≡ Some u
       → slice_get (whole_of r of).nodes u ≡ Some node → slice_get (drawn (whole_of r of)).nodes i ≡ Some node
   vertex_node i u node at is =
       let some : slice_get (map (slice_get (whole_of r of).nodes) (shown_in r of)) i ≡ Some (Some node) =
@@ -137,7 +137,7 @@ module _ (r : ViewedRun) (of : Option (List ℕ)) where
       m.1 ∙ m.2
 
   -- the vertex of a node of an entry is that of the entry
-  entry_vertex : (u : ℕ) (node : GraphNode) → slice_get (whole_of r of).nodes u ≡ Some node → is_entry node.kind ≡ true
+  pub entry_vertex : (u : ℕ) (node : GraphNode) → slice_get (whole_of r of).nodes u ≡ Some node → is_entry node.kind ≡ true
       → (e : Entry) × (slice_get (entries_in r) u ≡ Some e) × (entry_node r e ≡ node)
   unfolding whole_of
   entry_vertex u node is entry =
