@@ -1,10 +1,10 @@
 //! A whole hive checked, down to its tree.
 
-ghost use Rattle.std.specs.Prelude.{◌≡◌, true, length, IfOk};
+ghost use Rattle.std.specs.Prelude.{◌≡◌, true, length, IfOk, IfSome};
 ghost use Rattle.hive_model.specs.Base.{is_bins_size};
 ghost use Rattle.hive_model.specs.Image.{image_of};
 ghost use Rattle.hive_model.specs.Valid.{IsValid};
-ghost use Rattle.hive_store.specs.Checks.{HoldsAs, HoldsIn, HoldsSome, ChecksAs, ChecksCells, JudgesAs};
+ghost use Rattle.hive_store.specs.Checks.{HoldsAs, HoldsIn, HoldsSome, AreOf, ChecksAs, ChecksCells, JudgesAs};
 
 use hive_cells::read_cells;
 use hive_edit::HiveBytes;
@@ -39,13 +39,54 @@ fn judge_in(alloc: Global, found: Recovered) -> Result<(), ReadStop>
 }
 
 /// The hive of what was recovered, or the first fault of its bins, and then of the tree in them.
-pub(crate) fn hive_in(alloc: Global, found: Recovered) -> Result<HiveBytes, ReadStop>
+fn hive_in(alloc: Global, found: Recovered) -> Result<HiveBytes, ReadStop>
     requires sized { is_bins_size (length found.bins) ≡ true }
     ensures exact { HoldsIn found result }
 {
     let base = found.base;
     let cells = read_cells(alloc, found.bins)?;
     HiveBytes::from_cells(alloc, cells, base.root, base.version())
+}
+
+/// Whether the cells have the bytes, the root and the version of what was recovered. Then they are the cells of that.
+fn are_of(cells: &HiveBytes, found: &Recovered) -> bool
+    ensures { result ≡ true → AreOf found.now cells.now }
+{
+    if cells.root() != found.base.root {
+        return false;
+    }
+    if cells.version() != found.base.version() {
+        return false;
+    }
+    cells.bytes() == found.bins.as_slice()
+}
+
+/// The cells that were judged before, where they are those of what was recovered.
+fn judged_of(judged: Option<HiveBytes>, found: &Recovered) -> Option<HiveBytes>
+    ensures { IfSome result (AreOf found.now) }
+{
+    let Some(cells) = judged else {
+        return None;
+    };
+    if !are_of(&cells, found) {
+        return None;
+    }
+    Some(cells)
+}
+
+/// The hive of what was recovered, or its first fault. Nothing is judged where the cells that were judged before are those of it.
+pub(crate) fn taken_in(
+    alloc: Global,
+    judged: Option<HiveBytes>,
+    found: Recovered,
+) -> Result<HiveBytes, ReadStop>
+    requires sized { is_bins_size (length found.bins) ≡ true }
+    ensures exact { HoldsIn found result }
+{
+    match judged_of(judged, &found) {
+        Some(cells) => Ok(cells),
+        None => hive_in(alloc, found),
+    }
 }
 
 /// The tree, the sequence number and the version of two files, or the first fault. An empty log is an absent

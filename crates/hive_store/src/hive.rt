@@ -69,6 +69,13 @@ impl Hive {
         &self.cells
     }
 
+    /// The hive as its cells, without a copy. Of what the disk carries nothing is said.
+    pub fn into_cells(self) -> HiveBytes
+        ensures { result ≡ self.cells }
+    {
+        self.cells
+    }
+
     /// The number under a name in the key that a path leads to, where there is such a key with a value of type 4
     /// and four bytes.
     pub fn dword(&self, path: &Names, name: &[u16]) -> Option<u32>

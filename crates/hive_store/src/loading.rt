@@ -20,9 +20,10 @@ ghost use Rattle.hive_store.specs.Session.{AreCarried};
 ghost use Rattle.hive_store.specs.Loading.{loaded_state, LoadsFrom, StopsFrom, AreOfLoad};
 
 use crate::Hive;
-use crate::checking::hive_in;
+use crate::checking::taken_in;
 use crate::room::Kept;
 use hive_commit::restore;
+use hive_edit::HiveBytes;
 use hive_log::{LoadStop, Reading, read_recovered};
 use nt_bytes::{Bytes, ReadStop};
 use nt_edge::Disk;
@@ -37,8 +38,8 @@ struct Looked {
     bitmap: Bytes,
 }
 
-/// Reads the session, and checks the whole hive. Nothing is written.
-fn look<D: Disk>(alloc: Global, disk: &mut D) -> Result<Looked, LoadStop>
+/// Reads the session, and checks the whole hive, unless the cells that were judged before are its. Nothing is written.
+fn look<D: Disk>(alloc: Global, disk: &mut D, judged: Option<HiveBytes>) -> Result<Looked, LoadStop>
     requires on { (D.state disk.old).on ≡ true }
     requires still { D.tells ≡ true → (D.state disk.old).flight ≡ [] }
     ensures asked { MakesReads (D.calls disk.old) (D.calls disk.new)
@@ -58,7 +59,7 @@ fn look<D: Disk>(alloc: Global, disk: &mut D) -> Result<Looked, LoadStop>
 {
     let Reading { recovered, bitmap } = read_recovered(alloc, disk)?;
     let (base, dirty) = (recovered.base, recovered.dirty);
-    let cells = match hive_in(alloc, recovered) {
+    let cells = match taken_in(alloc, judged, recovered) {
         Ok(cells) => cells,
         Err(ReadStop::Fault(fault)) => return Err(LoadStop::Fault(fault)),
         Err(ReadStop::Memory) => return Err(LoadStop::Memory),
@@ -107,11 +108,40 @@ impl Hive {
         ensures unwritten { D.tells ≡ true → IsUnwritten (D.state disk.old) (D.state disk.new) result }
         ensures goes { IsLoadOn (D.state disk.old) (D.state disk.new) result }
     {
+        Hive::load_judged(alloc, disk, None)
+    }
+
+    /// The session, and whether the primary was dirty, as `load` answers them with the same reads and writes. Cells that were judged before may
+    /// come along: where the disk holds their bytes, with their root and in their version, they are taken, and the hive is not checked anew.
+    pub fn load_judged<D: Disk>(
+        alloc: Global,
+        disk: &mut D,
+        judged: Option<HiveBytes>,
+    ) -> Result<(Hive, bool), LoadStop>
+        requires on { (D.state disk.old).on ≡ true }
+        requires still { D.tells ≡ true → (D.state disk.old).flight ≡ [] }
+        ensures made { MakesRecovery (D.calls disk.old) (D.calls disk.new)
+            (λ calls. D.tells ≡ true → AreOfLoad (D.state disk.old).held result calls) }
+        ensures exact { D.tells ≡ true → LoadsFrom (D.state disk.old).held result }
+        ensures unchanged { IfOk result (λ x. x.0.changed ≡ false) }
+        ensures still { D.tells ≡ true → OnOk result ((D.state disk.new).flight ≡ []) }
+        ensures carries { D.tells ≡ true → IfOk result (λ x. Carries (D.state disk.new).held x.0.base x.0.bins) }
+        ensures cells { IfOk result (λ x. AreCarried x.0.base x.0.bins x.0.cells) }
+        ensures loads { D.tells ≡ true → IfOk result (λ x. Loads (D.state disk.new).held (loaded_state x.0) false) }
+        ensures crash { D.tells ≡ true → (s : HiveState) (dirty : Bool)
+            → Loads (D.state disk.old).held s dirty
+            → EachCrash (D.state disk.new) (λ (c : Image). LoadsAs c s) }
+        ensures clean { D.tells ≡ true → KeepsClean (D.state disk.old) (D.state disk.new) }
+        ensures faulty { D.tells ≡ true → (fault : HiveFaultModel) → LoadFault (D.state disk.old).held fault
+            → IsUntouched (D.state disk.old) (D.state disk.new) }
+        ensures unwritten { D.tells ≡ true → IsUnwritten (D.state disk.old) (D.state disk.new) result }
+        ensures goes { IsLoadOn (D.state disk.old) (D.state disk.new) result }
+    {
         let Looked {
             hive,
             dirty,
             bitmap,
-        } = look(alloc, disk)?;
+        } = look(alloc, disk, judged)?;
         if dirty {
             let bins = hive.kept.carried(&hive.cells);
             restore(disk, &hive.base, bitmap.as_slice(), bins)?;

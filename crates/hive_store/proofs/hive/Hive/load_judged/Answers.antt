@@ -8,8 +8,8 @@ use Rattle.hive_store.specs.Session.{Session}
 use Rattle.hive_store.specs.Loading.{loaded_state}
 use Rattle.hive_store.proofs.LoadingLemmas.{loads_or_fails, kept_loads, restored_loads, found_again}
 use Rattle.hive_store.proofs.LoadingCalls.{stopped_look, stopped_restore}
-use Rattle.hive_store.proofs.hive.Hive.load.Goals as goal
-use Rattle.hive_store.proofs.hive.Hive.load.Goals.{then-dirty+in_ok-restore, else-dirty}
+use Rattle.hive_store.proofs.hive.Hive.load_judged.Goals as goal
+use Rattle.hive_store.proofs.hive.Hive.load_judged.Goals.{then-dirty+in_ok-restore, else-dirty}
 
 pub returns-in_err-hive-clause-made : goal.returns-in_err-hive-clause-made
 returns-in_err-hive-clause-made g c =
