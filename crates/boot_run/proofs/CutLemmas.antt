@@ -1,7 +1,7 @@
 -- What a cut and an order amount to.
 use Rattle.std.proofs.Common.{◌≡◌, ◌⊎◌, ◌≤◌, ◌+◌, inl, inr, ⊎_elim, ℕ, false, List, [], ◌∷◌, ◌++◌, None, refl, sym, ap, subst, ◌∙◌, append-nil, arith}
 use Rattle.std.proofs.Math.Nat.{eq-or-lt_of_le}
-use Rattle.std.specs.Prelude.{Result, Ok, Err}
+use Rattle.std.specs.Prelude.{Result, Ok, Err, OnOk}
 use Rattle.hive_model.specs.Image.{Arming}
 use Rattle.nt_edge.specs.Disk.{DiskState, IsBounded, next}
 use Rattle.nt_edge.specs.Crash.{EachCrash}
@@ -26,7 +26,8 @@ use Rattle.printed_parts.proofs.LoggedLemmas.{not_empty, logged-none, logged-sto
 use Rattle.printed_parts.proofs.GoesLemmas.{tells-nothing}
 use Rattle.printed_parts.proofs.BreakLemmas.{breaks-silent, breaks-front}
 use Rattle.boot_run.specs.declared.runner.Runner.{Runner}
-use Rattle.boot_run.specs.Agrees.{IsUp, IsLive, Counts, OffLeft}
+use Rattle.boot_run.specs.Agrees.{LoadsAny, IsDown, IsUp, IsLive, IsSound, Counts, OffLeft}
+use Rattle.boot_run.proofs.DiskLemmas.{still_leaves}
 use Rattle.boot_run.proofs.PlayLemmas.{live_left, here_turn}
 
 next_rises : (n : ℕ) → n ≤ 18446744073709551615 → Rises n (next n)
@@ -120,6 +121,16 @@ cut_plays result m s r r' x y d e f bounded up live counts is off machine starts
     let over : Counts (start_over false m) r' =
     record { machine = ap (ended false) counts.machine ∙ sym machine; starts = counts.starts ∙ sym starts } in
     told_plays d f bounded up.marked all result m r' x y over left said
+
+-- the disk is down after a cut, whether the verdict is reported or not
+pub cut_sound : {E : Type 0} → (result : Result (Unit {0}) E) (s : Session) (r' : Runner) (d e f : DiskState)
+    → IsUp s d → e ≡ cut_off d → f ≡ turned_off e → r'.machine.start ≡ None → OnOk result (IsSound r' f None)
+cut_sound (Ok v) s r' d e f up is off none =
+    let P : DiskState → Type 0 = λ t. IsDown t in
+    let down : P (turned_off (cut_off d)) =
+    record { off = refl; loads = still_leaves d LoadsAny up.still up.loads } in
+    (subst P (sym (off ∙ ap turned_off is)) down, none)
+cut_sound (Err stop) s r' d e f up is off none = tt
 
 -- ---- orders
 

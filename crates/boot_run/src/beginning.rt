@@ -163,7 +163,10 @@ fn begin_stepped<H: Host, B: Bench>(
         Ok(()) => begin_committed(alloc, number, on_good, numbers, hive, runner, host, bench),
         Err(stop) => match edit_word(stop) {
             None => Err(RunStop::Memory),
-            Some(_) => end_start(alloc, Verdict::Full, runner, host, bench),
+            Some(_) => {
+                runner.judged = Some(hive.into_cells());
+                end_start(alloc, Verdict::Full, runner, host, bench)
+            }
         },
     }
 }
@@ -283,6 +286,9 @@ pub(crate) fn take_set<H: Host, B: Bench>(
     let found = say_set(alloc, on_good, &hive, &mut runner.summary, host)?;
     match found {
         Ok(plan) => begin_by(alloc, plan, on_good, hive, runner, host, bench),
-        Err(word) => end_start(alloc, word, runner, host, bench),
+        Err(word) => {
+            runner.judged = Some(hive.into_cells());
+            end_start(alloc, word, runner, host, bench)
+        }
     }
 }

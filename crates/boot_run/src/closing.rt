@@ -47,21 +47,24 @@ pub(crate) fn flush<H: Host, B: Bench>(
 fn end_behind<H: Host, B: Bench>(
     alloc: Global,
     word: Verdict,
-    left: &Option<Hive>,
+    left: Option<Hive>,
     runner: &mut Runner,
     host: &mut H,
     bench: &mut B,
 ) -> Result<(), RunStop>
-    requires sound { IsSound runner.old (B.state bench.old) left.now }
+    requires sound { IsSound runner.old (B.state bench.old) left }
     ensures sound { OnOk result (IsSound runner.new (B.state bench.new) None) }
     ensures plays { (m : RunState) (tree : Tree) (rest : Act) → (H.state host.old).tells ≡ true → IsEnding (verdict_of word)
-        → CommitLeft m tree (book.end_with (verdict_of word) false) runner.old (B.state bench.old) left.now rest
+        → CommitLeft m tree (book.end_with (verdict_of word) false) runner.old (B.state bench.old) left rest
         → RunsTo rest (moment (H.state host.old) runner.old (B.state bench.old)) (moment (H.state host.new) runner.new (B.state bench.new))
         result (OffLeft runner.new (B.state bench.new)) }
     ensures host { LeavesHost result (H.state host.old) (H.state host.new) }
 {
     match left {
-        Some(_) => end_with(alloc, word, runner, host, bench),
+        Some(hive) => {
+            runner.judged = Some(hive.into_cells());
+            end_with(alloc, word, runner, host, bench)
+        }
         None => Ok(()),
     }
 }
@@ -83,8 +86,9 @@ pub(crate) fn off<H: Host, B: Bench>(
 {
     let word = runner.machine.ending();
     if !hive.changed() {
+        runner.judged = Some(hive.into_cells());
         return end_with(alloc, word, runner, host, bench);
     }
     let left = commit(alloc, CommitWord::Off, hive, runner, host, bench)?;
-    end_behind(alloc, word, &left, runner, host, bench)
+    end_behind(alloc, word, left, runner, host, bench)
 }

@@ -25,19 +25,20 @@ use std::alloc::Global;
 pub(crate) fn cut<H: Host, B: Bench>(
     alloc: Global,
     keep: Keep,
-    _hive: Hive,
+    hive: Hive,
     runner: &mut Runner,
     host: &mut H,
     bench: &mut B,
 ) -> Result<(), RunStop>
-    requires up { IsUp _hive (B.state bench.old) }
+    requires up { IsUp hive (B.state bench.old) }
     ensures sound { OnOk result (IsSound runner.new (B.state bench.new) None) }
-    ensures plays { (m : RunState) → (H.state host.old).tells ≡ true → Counts m runner.old → IsLive m _hive (B.state bench.old)
+    ensures plays { (m : RunState) → (H.state host.old).tells ≡ true → Counts m runner.old → IsLive m hive (B.state bench.old)
         → RunsTo (cut_act m) (moment (H.state host.old) runner.old (B.state bench.old)) (moment (H.state host.new) runner.new (B.state bench.new))
         result (OffLeft runner.new (B.state bench.new)) }
     ensures host { LeavesHost result (H.state host.old) (H.state host.new) }
 {
     bench.cut(keep);
+    runner.judged = Some(hive.into_cells());
     end_with(alloc, Verdict::Cut, runner, host, bench)
 }
 

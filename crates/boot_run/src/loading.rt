@@ -37,7 +37,8 @@ pub(crate) fn load<H: Host, B: Bench>(
     let Ok(()) = bench.power_on() else {
         return Err(RunStop::Memory);
     };
-    match Hive::load(alloc, bench) {
+    let judged = runner.judged.take();
+    match Hive::load_judged(alloc, bench, judged) {
         Ok((hive, recovered)) => {
             let sequence = hive.sequence();
             let line = Line::Load {

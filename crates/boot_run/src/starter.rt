@@ -85,6 +85,7 @@ fn end_where<H: Host, B: Bench>(
     match verdict {
         None => Ok(Some(hive)),
         Some(word) => {
+            runner.judged = Some(hive.into_cells());
             end_with(alloc, word, runner, host, bench)?;
             Ok(None)
         }
@@ -237,6 +238,7 @@ fn change_phase<H: Host, B: Bench>(
     let Ok(unmet) = runner.machine.unmet(alloc) else {
         return Err(RunStop::Memory);
     };
+    runner.judged = Some(hive.into_cells());
     stop_without(
         alloc,
         unmet.as_slice(),

@@ -30,6 +30,7 @@ use boot_ini::BootIni;
 use boot_machine::Machine;
 use boot_report::Line;
 use boot_script::Event;
+use hive_edit::HiveBytes;
 use line_text::ReportForm;
 use nt_edge::{Bench, Host};
 use std::alloc::Global;
@@ -92,7 +93,8 @@ fn events<H: Host, B: Bench>(
 }
 
 /// Plays a script on a disk that is off, whatever it wakes up with. Each line is printed at once in this form, after the step that it reports.
-/// The disk is off afterwards, whatever the answer.
+/// The disk is off afterwards, whatever the answer. Cells that were judged before may come along: the first load takes them where they are
+/// those of the disk.
 ///
 /// # Errors
 ///
@@ -105,6 +107,7 @@ pub fn run<H: Host, B: Bench>(
     form: ReportForm,
     host: &mut H,
     bench: &mut B,
+    judged: Option<HiveBytes>,
 ) -> Result<Summary, RunStop>
     requires down { IsDown (B.state bench.old) }
     requires counts { All HasCounts script.now }
@@ -121,6 +124,7 @@ pub fn run<H: Host, B: Bench>(
         machine: Machine::new(alloc),
         starts: 0,
         summary: Summary::new(form),
+        judged,
     };
     let played = events(alloc, script, ini, system, &mut runner, host, bench);
     bench.power_off();

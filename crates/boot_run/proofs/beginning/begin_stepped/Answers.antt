@@ -74,8 +74,8 @@ returns-in-None-clause-plays g c = λ m tells counts live.
     (λ image crash. planned_stays c.args.on_good m c.args.plan image (stepped m.version m.live c.args.plan.steps)
     (none_open m c.args.hive d live) (live_left m c.args.hive d c.requires.up live image crash))
 
-pub returns-clause-plays : goal.returns-clause-plays
-returns-clause-plays g c = λ m tells counts live.
+pub returns-in-Some-clause-plays : goal.returns-in-Some-clause-plays
+returns-in-Some-clause-plays g c = λ m tells counts live.
     let x = told_in (g.H.Host.state c.args.host.now) c.args.runner.now in
     let y = told_in (g.H.Host.state c.end_start.new.host) c.end_start.new.runner in
     let d = g.B.Disk.state c.args.bench.now in
@@ -90,5 +90,6 @@ returns-clause-plays g c = λ m tells counts live.
     plays-as c.end_start.result Left Left (end_with lines.Full false m)
     (begin_planned c.args.on_good m c.args.plan (stepped m.version m.live c.args.plan.steps)) x y d e
     (begin_full c.args.on_good m c.args.plan v t why.0 c.requires.some live.version live.live made) (λ w rest k. k)
-    (c.end_start.ensures.plays m tells counts (live_left m c.args.hive d c.requires.up live)
+    (c.end_start.ensures.plays m tells (record { machine = counts.machine; starts = counts.starts })
+    (live_left m c.args.hive d c.requires.up live)
     (record { falls = refl; none = refl }))

@@ -60,7 +60,8 @@ returns-in_err-stop_without-clause-plays g c = λ m s next tells counts live at 
     (sym c.is_empty.ensures ∙ c.if-is_empty.false) c.as_slice.ensures c.as_slice-2.ensures in
     or-breaks _ c.from_residual.result c.from_residual.ensures.0 (phase_step s m next) x y d e
     (breaks_as (say_all said (end_with lines.Stopped false m)) (phase_step s m next) x y.said d e is
-    (c.in_err-stop_without.ensures.plays m tells counts (live_left m c.args.hive d c.requires.sound.0 live)))
+    (c.in_err-stop_without.ensures.plays m tells (record { machine = counts.machine; starts = counts.starts })
+    (live_left m c.args.hive d c.requires.sound.0 live)))
 
 pub returns-clause-plays : goal.returns-clause-plays
 returns-clause-plays g c = λ m s next tells counts live at stays.
@@ -74,4 +75,5 @@ returns-clause-plays g c = λ m s next tells counts live at stays.
     (sym c.is_empty.ensures ∙ c.if-is_empty.false) c.as_slice.ensures c.as_slice-2.ensures in
     let Left : Act → Type 0 = λ a. TurnLeft c.stop_without.new.runner e None a in
     goes_as (say_all said (end_with lines.Stopped false m)) (phase_step s m next) x y d e Left is
-    (c.in_ok-stop_without.ensures.plays m tells counts (live_left m c.args.hive d c.requires.sound.0 live))
+    (c.in_ok-stop_without.ensures.plays m tells (record { machine = counts.machine; starts = counts.starts })
+    (live_left m c.args.hive d c.requires.sound.0 live))
