@@ -1,6 +1,7 @@
 -- What a run leaves: the report, the files that are saved, and the disk.
 use Rattle.nt_bytes.specs.declared.version.HiveVersion.{HiveVersion}
-use Rattle.hive_store.specs.Checks.{JudgesAs}
+use Rattle.hive_edit.specs.Hive.{HiveCells}
+use Rattle.hive_store.specs.Checks.{ChecksCells}
 use Rattle.std.proofs.Common.{◌≡◌, ◌⊎◌, inl, inr, ℕ, true, false, List, [], ◌++◌, map, refl, sym, ap, subst, ◌∙◌}
 use Rattle.std.specs.Prelude.{Result, Ok, Err}
 use Rattle.std.specs.Option.{IsSome}
@@ -315,5 +316,7 @@ well_formed_runs form inputs saves placed disk status old new loads (inl (inr (i
 
 -- ---- a hive that was checked
 
-pub checked : (image : Image) (x : ℕ × HiveVersion) → JudgesAs image (Ok x) → IsChecked image (Ok tt)
-checked image x judged = (record { state = state_of judged.0 x.0 x.1; dirty = judged.1.0 }, judged.1.1)
+pub checked : (image : Image) (cells : HiveCells) (number : ℕ) (version : HiveVersion)
+    → ChecksCells image (Ok (cells, number, version)) → IsChecked image (Ok cells)
+checked image cells number version judged =
+    (record { state = state_of cells.tree number version; dirty = judged.0.0 }, judged.0.1)

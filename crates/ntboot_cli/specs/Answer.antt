@@ -67,8 +67,8 @@ use Rattle.command_parts.specs.Saves.{Saves, no_saves, saved_count, FilesAs, Kee
 -- ---- a run
 
 -- the image loads as some state, or this is its first fault
-abbrev pub IsChecked : Image → Result (Unit {0}) ReadStop → Type 0
-IsChecked image (Ok u) = LoadsAny image
+abbrev pub IsChecked : {T : Type 0} → Image → Result T ReadStop → Type 0
+IsChecked image (Ok x) = LoadsAny image
 IsChecked image (Err (read.Fault f)) = LoadFault image f
 IsChecked image (Err read.Memory) = Unit {0}
 

@@ -74,6 +74,7 @@ fn play<B: Bench>(alloc: Global, usual: &Usual, bench: &mut B) -> Result<Summary
         ReportForm::Text,
         &mut host,
         bench,
+        None,
     ) {
         Ok(summary) => Ok(summary),
         Err(_) => Err(AllocError),

@@ -17,26 +17,28 @@ ghost use Rattle.command_parts.specs.Views.{saves_seen};
 use crate::inputs::{Inputs, inputs_in};
 use boot_run::RunStop;
 use command_parts::{
-    HiveFiles, Obstacle, Refusal, Saves, Status, judge, place, refuse, save, saved, stopped,
+    HiveFiles, Obstacle, Refusal, Saves, Status, judge_cells, place, refuse, save, saved, stopped,
 };
 use command_words::RunWords;
+use hive_edit::HiveBytes;
 use line_text::ReportForm;
 use nt_bytes::ReadStop;
 use nt_edge::{Bench, Host};
 use std::alloc::Global;
 
-/// Checks a whole hive with its log, and keeps no memory.
-fn check(alloc: Global, files: &HiveFiles) -> Result<(), ReadStop>
+/// Checks a whole hive with its log, and keeps its cells.
+fn check(alloc: Global, files: &HiveFiles) -> Result<HiveBytes, ReadStop>
     ensures { IsChecked (image_in files.now) result }
 {
-    let _judged = judge(alloc, files)?;
-    Ok(())
+    let (cells, _number, _version) = judge_cells(alloc, files)?;
+    Ok(cells)
 }
 
-/// Runs the script on the disk, which holds the hive, and saves what it holds then.
+/// Runs the script on the disk, which holds the hive of these cells, and saves what it holds then.
 fn play<H: Host, B: Bench>(
     alloc: Global,
     inputs: &Inputs,
+    judged: HiveBytes,
     saves: Saves<'_>,
     form: ReportForm,
     host: &mut H,
@@ -56,6 +58,7 @@ fn play<H: Host, B: Bench>(
         form,
         host,
         bench,
+        Some(judged),
     ) {
         Ok(_) => saved(save(saves, host, bench)),
         Err(RunStop::Write) => Status::WriteFault,
@@ -67,6 +70,7 @@ fn play<H: Host, B: Bench>(
 fn start<H: Host, B: Bench>(
     alloc: Global,
     inputs: &Inputs,
+    judged: HiveBytes,
     saves: Saves<'_>,
     form: ReportForm,
     host: &mut H,
@@ -78,7 +82,7 @@ fn start<H: Host, B: Bench>(
     ensures { DecidesHive form inputs.now (saves_seen saves.entry) result (H.state host.old) (H.state host.new) (B.state bench.new) }
 {
     match place(&inputs.hive, bench) {
-        Ok(()) => play(alloc, inputs, saves, form, host, bench),
+        Ok(()) => play(alloc, inputs, judged, saves, form, host, bench),
         Err(_) => Status::Memory,
     }
 }
@@ -97,7 +101,7 @@ fn begin<H: Host, B: Bench>(
     ensures { DecidesHive form inputs.now (saves_seen saves.entry) result (H.state host.old) (H.state host.new) (B.state bench.new) }
 {
     match check(alloc, &inputs.hive) {
-        Ok(_) => start(alloc, inputs, saves, form, host, bench),
+        Ok(judged) => start(alloc, inputs, judged, saves, form, host, bench),
         Err(ReadStop::Fault(fault)) => refuse(alloc, host, &Refusal::HiveFault(fault)),
         Err(ReadStop::Memory) => Status::Memory,
     }

@@ -56,6 +56,7 @@ fn play_on<B: Bench>(
         ReportForm::Text,
         &mut host,
         disk,
+        None,
     ) {
         Ok(_) => Bytes::from_slice(alloc, host.said()),
         Err(_) => Err(AllocError),

@@ -5,7 +5,8 @@ use Rattle.nt_bytes.specs.declared.version.HiveVersion.{HiveVersion}
 use Rattle.hive_model.specs.Edit.{Step}
 use Rattle.hive_model.specs.Image.{Image}
 use Rattle.hive_model.specs.Load.{state_of}
-use Rattle.hive_store.specs.Checks.{JudgesAs}
+use Rattle.hive_edit.specs.Hive.{HiveCells}
+use Rattle.hive_store.specs.Checks.{ChecksCells}
 use Rattle.nt_edge.specs.Disk.{DiskState, new_state}
 use Rattle.nt_edge.specs.Host.{Files, HostState, KeepsFiles, Asks, AsksNone}
 use Rattle.nt_edge.specs.declared.host.HostStop.{HostStop}
@@ -201,8 +202,10 @@ stopped_hive files saves how wanted Memory disk old new fresh same unwritten =
 
 -- ---- after the check of the hive
 
-pub checked : (image : Image) (x : ℕ × HiveVersion) → JudgesAs image (Ok x) → IsChecked image (Ok tt)
-checked image x judged = (record { state = state_of judged.0 x.0 x.1; dirty = judged.1.0 }, judged.1.1)
+pub checked : (image : Image) (cells : HiveCells) (number : ℕ) (version : HiveVersion)
+    → ChecksCells image (Ok (cells, number, version)) → IsChecked image (Ok cells)
+checked image cells number version judged =
+    (record { state = state_of cells.tree number version; dirty = judged.0.0 }, judged.0.1)
 
 -- ---- after the search for the hive
 

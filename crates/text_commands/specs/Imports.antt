@@ -143,8 +143,8 @@ EndsEdits files saves how steps disk status old new =
     ⊎ ((status ≡ statuses.Memory) × (new ≡ old) × IsPartDone files 0 disk)
 
 -- the image loads as some state, or this is its first fault
-abbrev pub IsChecked : Image → Result (Unit {0}) ReadStop → Type 0
-IsChecked image (Ok u) = (placed : Woken) × Loads image placed.state placed.dirty
+abbrev pub IsChecked : {T : Type 0} → Image → Result T ReadStop → Type 0
+IsChecked image (Ok x) = (placed : Woken) × Loads image placed.state placed.dirty
 IsChecked image (Err (read.Fault f)) = LoadFault image f
 IsChecked image (Err read.Memory) = Unit {0}
 

@@ -12,20 +12,27 @@ ghost use Rattle.text_commands.specs.Imports.{ChangesHeld, ChangesAwake, Imports
 use crate::making::change_loaded;
 use crate::said::{How, Said};
 use command_parts::{HiveFiles, place};
+use hive_edit::HiveBytes;
 use hive_store::Hive;
 use nt_edge::{Bench, Disk};
 use reg_tree::Steps;
 use std::alloc::{AllocError, Global};
 
-/// Loads the hive that the disk holds, makes the edits and commits it.
-fn change<D: Disk>(alloc: Global, how: How, steps: Steps, disk: &mut D) -> Result<Said, AllocError>
+/// Loads the hive that the disk holds, which was judged before, makes the edits and commits it.
+fn change<D: Disk>(
+    alloc: Global,
+    judged: HiveBytes,
+    how: How,
+    steps: Steps,
+    disk: &mut D,
+) -> Result<Said, AllocError>
     requires on { (D.state disk.old).on ≡ true }
     requires still { D.tells ≡ true → (D.state disk.old).flight ≡ [] }
     requires fits { All Fits (map step_of steps) }
     ensures changed { D.tells ≡ true → IfOk result (ChangesHeld how (D.state disk.old).held (map step_of steps) (D.state disk.new)) }
     ensures unmoved { Unmoved result (D.state disk.old) (D.state disk.new) }
 {
-    match Hive::load(alloc, disk) {
+    match Hive::load_judged(alloc, disk, Some(judged)) {
         Ok((hive, _)) => change_loaded(alloc, hive, how, steps, disk),
         Err(_) => Err(AllocError),
     }
@@ -34,6 +41,7 @@ fn change<D: Disk>(alloc: Global, how: How, steps: Steps, disk: &mut D) -> Resul
 /// Changes the hive on the disk, which is on, and turns it off.
 fn change_awake<B: Bench>(
     alloc: Global,
+    judged: HiveBytes,
     how: How,
     steps: Steps,
     bench: &mut B,
@@ -43,7 +51,7 @@ fn change_awake<B: Bench>(
     requires fits { All Fits (map step_of steps) }
     ensures { ChangesAwake how (map step_of steps) result (B.state bench.old) (B.state bench.new) }
 {
-    let done = change(alloc, how, steps, bench);
+    let done = change(alloc, judged, how, steps, bench);
     bench.power_off();
     done
 }
@@ -51,6 +59,7 @@ fn change_awake<B: Bench>(
 /// Wakes the disk, changes the hive on it, and turns it off.
 fn change_on<B: Bench>(
     alloc: Global,
+    judged: HiveBytes,
     how: How,
     steps: Steps,
     bench: &mut B,
@@ -61,15 +70,16 @@ fn change_on<B: Bench>(
     ensures off { (B.state bench.new).on ≡ false }
 {
     match bench.power_on() {
-        Ok(()) => change_awake(alloc, how, steps, bench),
+        Ok(()) => change_awake(alloc, judged, how, steps, bench),
         Err(_) => Err(AllocError),
     }
 }
 
-/// Places the hive on a new disk, and changes it there.
+/// Places the hive on a new disk, and changes it there. Its cells that were judged before come along.
 pub fn import_into<B: Bench>(
     alloc: Global,
     files: &HiveFiles,
+    judged: HiveBytes,
     how: How,
     steps: Steps,
     bench: &mut B,
@@ -80,7 +90,7 @@ pub fn import_into<B: Bench>(
     ensures off { (B.state bench.new).on ≡ false }
 {
     match place(files, bench) {
-        Ok(()) => change_on(alloc, how, steps, bench),
+        Ok(()) => change_on(alloc, judged, how, steps, bench),
         Err(_) => Err(AllocError),
     }
 }

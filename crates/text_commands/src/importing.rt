@@ -17,10 +17,11 @@ use crate::fault::fault_line;
 use crate::printing::said_lines;
 use crate::said::How;
 use command_parts::{
-    HiveFiles, Obstacle, Refusal, Saves, Status, file_in, finish, hive_in, judge, refuse, stopped,
-    tell,
+    HiveFiles, Obstacle, Refusal, Saves, Status, file_in, finish, hive_in, judge_cells, refuse,
+    stopped, tell,
 };
 use command_words::{AskedEncoding, ImportWords};
+use hive_edit::HiveBytes;
 use import_steps::utf16_of;
 use line_text::ReportForm;
 use nt_bytes::ReadStop;
@@ -33,6 +34,7 @@ use std::alloc::{AllocError, Global};
 fn import_steps<H: Host, B: Bench>(
     alloc: Global,
     files: &HiveFiles,
+    judged: HiveBytes,
     how: How,
     steps: Steps,
     saves: Saves<'_>,
@@ -43,7 +45,7 @@ fn import_steps<H: Host, B: Bench>(
     requires fits { All Fits (map step_of steps) }
     ensures { DecidesEdits files.now (saves_seen saves.entry) how (map step_of steps) result (H.state host.old) (H.state host.new) (B.state bench.new) }
 {
-    let Ok(said) = import_into(alloc, files, how, steps, bench) else {
+    let Ok(said) = import_into(alloc, files, judged, how, steps, bench) else {
         return Status::Memory;
     };
     let Ok(lines) = said_lines(alloc, how.form, said) else {
@@ -91,6 +93,7 @@ fn read_text(alloc: Global, encoding: AskedEncoding, text: &[u8]) -> Result<Step
 fn import_text<H: Host, B: Bench>(
     alloc: Global,
     files: &HiveFiles,
+    judged: HiveBytes,
     how: How,
     text: &[u8],
     saves: Saves<'_>,
@@ -102,7 +105,7 @@ fn import_text<H: Host, B: Bench>(
     ensures { DecidesText files.now (saves_seen saves.entry) how text.now result (H.state host.old) (H.state host.new) (B.state bench.new) }
 {
     match read_text(alloc, how.encoding, text) {
-        Ok(steps) => import_steps(alloc, files, how, steps, saves, host, bench),
+        Ok(steps) => import_steps(alloc, files, judged, how, steps, saves, host, bench),
         Err(RegStop::Fault(fault)) => refuse_text(alloc, fault, host),
         Err(RegStop::Memory) => Status::Memory,
     }
@@ -112,6 +115,7 @@ fn import_text<H: Host, B: Bench>(
 fn import_file<H: Host, B: Bench>(
     alloc: Global,
     files: &HiveFiles,
+    judged: HiveBytes,
     how: How,
     name: &str,
     saves: Saves<'_>,
@@ -123,18 +127,27 @@ fn import_file<H: Host, B: Bench>(
     ensures { DecidesFile files.now (saves_seen saves.entry) how name.now result (H.state host.old) (H.state host.new) (B.state bench.new) }
 {
     match file_in(alloc, host, name) {
-        Ok(text) => import_text(alloc, files, how, text.as_slice(), saves, host, bench),
+        Ok(text) => import_text(
+            alloc,
+            files,
+            judged,
+            how,
+            text.as_slice(),
+            saves,
+            host,
+            bench,
+        ),
         Err(Obstacle::Refused(why)) => refuse(alloc, host, &why),
         Err(Obstacle::Stopped(stop)) => stopped(stop),
     }
 }
 
-/// Checks a whole hive with its log, and keeps no memory.
-fn check(alloc: Global, files: &HiveFiles) -> Result<(), ReadStop>
+/// Checks a whole hive with its log, and keeps its cells.
+fn check(alloc: Global, files: &HiveFiles) -> Result<HiveBytes, ReadStop>
     ensures { IsChecked (image_in files.now) result }
 {
-    let _judged = judge(alloc, files)?;
-    Ok(())
+    let (cells, _number, _version) = judge_cells(alloc, files)?;
+    Ok(cells)
 }
 
 /// Checks the hive, gets the text, and makes its edits.
@@ -151,7 +164,7 @@ fn import_hive<H: Host, B: Bench>(
     ensures { DecidesFile files.now (saves_seen saves.entry) how name.now result (H.state host.old) (H.state host.new) (B.state bench.new) }
 {
     match check(alloc, files) {
-        Ok(()) => import_file(alloc, files, how, name, saves, host, bench),
+        Ok(judged) => import_file(alloc, files, judged, how, name, saves, host, bench),
         Err(ReadStop::Fault(fault)) => refuse(alloc, host, &Refusal::HiveFault(fault)),
         Err(ReadStop::Memory) => Status::Memory,
     }
