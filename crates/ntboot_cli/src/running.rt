@@ -38,7 +38,7 @@ fn check(alloc: Global, files: &HiveFiles) -> Result<HiveBytes, ReadStop>
 fn play<H: Host, B: Bench>(
     alloc: Global,
     inputs: &Inputs,
-    judged: HiveBytes,
+    judged: &mut Option<HiveBytes>,
     saves: Saves<'_>,
     form: ReportForm,
     host: &mut H,
@@ -58,7 +58,7 @@ fn play<H: Host, B: Bench>(
         form,
         host,
         bench,
-        Some(judged),
+        judged.take(),
     ) {
         Ok(_) => saved(save(saves, host, bench)),
         Err(RunStop::Write) => Status::WriteFault,
@@ -70,7 +70,7 @@ fn play<H: Host, B: Bench>(
 fn start<H: Host, B: Bench>(
     alloc: Global,
     inputs: &Inputs,
-    judged: HiveBytes,
+    judged: &mut Option<HiveBytes>,
     saves: Saves<'_>,
     form: ReportForm,
     host: &mut H,
@@ -101,7 +101,10 @@ fn begin<H: Host, B: Bench>(
     ensures { DecidesHive form inputs.now (saves_seen saves.entry) result (H.state host.old) (H.state host.new) (B.state bench.new) }
 {
     match check(alloc, &inputs.hive) {
-        Ok(judged) => start(alloc, inputs, judged, saves, form, host, bench),
+        Ok(cells) => {
+            let mut judged = Some(cells);
+            start(alloc, inputs, &mut judged, saves, form, host, bench)
+        }
         Err(ReadStop::Fault(fault)) => refuse(alloc, host, &Refusal::HiveFault(fault)),
         Err(ReadStop::Memory) => Status::Memory,
     }

@@ -18,10 +18,10 @@ use nt_edge::{Bench, Disk};
 use reg_tree::Steps;
 use std::alloc::{AllocError, Global};
 
-/// Loads the hive that the disk holds, which was judged before, makes the edits and commits it.
+/// Loads the hive that the disk holds, of cells that may have been judged before, makes the edits and commits it.
 fn change<D: Disk>(
     alloc: Global,
-    judged: HiveBytes,
+    judged: &mut Option<HiveBytes>,
     how: How,
     steps: Steps,
     disk: &mut D,
@@ -32,7 +32,7 @@ fn change<D: Disk>(
     ensures changed { D.tells ≡ true → IfOk result (ChangesHeld how (D.state disk.old).held (map step_of steps) (D.state disk.new)) }
     ensures unmoved { Unmoved result (D.state disk.old) (D.state disk.new) }
 {
-    match Hive::load_judged(alloc, disk, Some(judged)) {
+    match Hive::load_judged(alloc, disk, judged.take()) {
         Ok((hive, _)) => change_loaded(alloc, hive, how, steps, disk),
         Err(_) => Err(AllocError),
     }
@@ -41,7 +41,7 @@ fn change<D: Disk>(
 /// Changes the hive on the disk, which is on, and turns it off.
 fn change_awake<B: Bench>(
     alloc: Global,
-    judged: HiveBytes,
+    judged: &mut Option<HiveBytes>,
     how: How,
     steps: Steps,
     bench: &mut B,
@@ -59,7 +59,7 @@ fn change_awake<B: Bench>(
 /// Wakes the disk, changes the hive on it, and turns it off.
 fn change_on<B: Bench>(
     alloc: Global,
-    judged: HiveBytes,
+    judged: &mut Option<HiveBytes>,
     how: How,
     steps: Steps,
     bench: &mut B,
@@ -75,11 +75,11 @@ fn change_on<B: Bench>(
     }
 }
 
-/// Places the hive on a new disk, and changes it there. Its cells that were judged before come along.
+/// Places the hive on a new disk, and changes it there. Its cells that were judged before are taken.
 pub fn import_into<B: Bench>(
     alloc: Global,
     files: &HiveFiles,
-    judged: HiveBytes,
+    judged: &mut Option<HiveBytes>,
     how: How,
     steps: Steps,
     bench: &mut B,

@@ -34,7 +34,7 @@ use std::alloc::{AllocError, Global};
 fn import_steps<H: Host, B: Bench>(
     alloc: Global,
     files: &HiveFiles,
-    judged: HiveBytes,
+    judged: &mut Option<HiveBytes>,
     how: How,
     steps: Steps,
     saves: Saves<'_>,
@@ -93,7 +93,7 @@ fn read_text(alloc: Global, encoding: AskedEncoding, text: &[u8]) -> Result<Step
 fn import_text<H: Host, B: Bench>(
     alloc: Global,
     files: &HiveFiles,
-    judged: HiveBytes,
+    judged: &mut Option<HiveBytes>,
     how: How,
     text: &[u8],
     saves: Saves<'_>,
@@ -115,7 +115,7 @@ fn import_text<H: Host, B: Bench>(
 fn import_file<H: Host, B: Bench>(
     alloc: Global,
     files: &HiveFiles,
-    judged: HiveBytes,
+    judged: &mut Option<HiveBytes>,
     how: How,
     name: &str,
     saves: Saves<'_>,
@@ -164,7 +164,10 @@ fn import_hive<H: Host, B: Bench>(
     ensures { DecidesFile files.now (saves_seen saves.entry) how name.now result (H.state host.old) (H.state host.new) (B.state bench.new) }
 {
     match check(alloc, files) {
-        Ok(judged) => import_file(alloc, files, judged, how, name, saves, host, bench),
+        Ok(cells) => {
+            let mut judged = Some(cells);
+            import_file(alloc, files, &mut judged, how, name, saves, host, bench)
+        }
         Err(ReadStop::Fault(fault)) => refuse(alloc, host, &Refusal::HiveFault(fault)),
         Err(ReadStop::Memory) => Status::Memory,
     }
