@@ -1,0 +1,4 @@
+pub mod PlanLemmas
+pub mod ActLemmas
+pub mod WatchLemmas
+pub mod LoadLemmas
