@@ -1,6 +1,6 @@
 -- What the search leaves of all incomplete keys, in turn.
-use Rattle.std.proofs.Common.{◌≡◌, ℕ, zero, suc, ◌+◌, List, [], ◌∷◌, ◌++◌, Option, Some, None, refl, sym, ap, subst, ◌∙◌, arith}
-use Rattle.std.specs.Prelude.{take, drop, slice_get}
+use Rattle.std.proofs.Common.{◌≡◌, ℕ, zero, suc, ◌+◌, Bool, true, false, List, [], ◌∷◌, ◌++◌, Option, Some, None, refl, sym, ap, subst, ◌∙◌, arith}
+use Rattle.std.specs.Prelude.{◌||◌, take, drop, slice_get}
 use Rattle.hive_model.specs.Tree.{Tree}
 use Rattle.reg_tree.proofs.Unlike.{Each}
 use Rattle.salvage_bins.specs.Ground.{Ground}
@@ -17,9 +17,11 @@ use Rattle.salvage_laws.proofs.Wider.{Upto, upto-adds}
 use Rattle.salvage_laws.proofs.Leaving.{join, nothing-more}
 use Rattle.salvage_laws.proofs.LeavingKeys.{salvage-apart}
 use Rattle.parent_laws.proofs.Apart.{salvaged-apart}
-use Rattle.found_laws.specs.Searched.{SearchLeft, search_end, end_uses, uses_by_parents, IsFoundSalvage, with_found, with_nothing}
+use Rattle.found_laws.specs.Lines.{AreIncomplete}
+use Rattle.found_laws.specs.Searched.{SearchLeft, search_end, end_uses, uses_by_parents, end_notes, notes_by_parents, IsFoundSalvage, with_found, with_nothing}
 use Rattle.found_laws.proofs.Noting.{Within, RootNoted, incomplete-noted, each-so, IsIn, in-below}
-use Rattle.found_laws.proofs.Stepping.{IsSearch, Goes, StepLeft, step-goes, step-left}
+use Rattle.found_laws.proofs.Stepping.{IsSearch, Goes, IsTold, StepLeft, step-goes, step-left, step-tells}
+use Rattle.found_laws.proofs.Telling.{Any, Told, Later, RootTold, incomplete-told}
 
 -- ---- a list from a place on
 
@@ -148,23 +150,23 @@ begun-so hive root t w e = record {
       (subst (RootNoted hive (incomplete hive root)) e (incomplete-noted hive root));
 }
 
-pub found-is : (hive : Ground) (root : ℕ) → IsFoundSalvage hive root (uses_by_parents hive root) (salvaged_by_parents hive root)
+pub found-is : (hive : Ground) (root : ℕ)
+    → IsFoundSalvage hive root (uses_by_parents hive root) (notes_by_parents hive root) (salvaged_by_parents hive root)
 unfolding salvaged_by_parents
 found-is hive root = by (salvaged hive root) refl
   where
     by : (r : Option Tree × Walked) → salvaged hive root ≡ r
-        → IsFoundSalvage hive root (end_uses hive root r) (searched_by hive (incomplete hive root) r)
+        → IsFoundSalvage hive root (end_uses hive root r) (end_notes hive root r) (searched_by hive (incomplete hive root) r)
     by (Some t, w) e =
         let last = search_end hive root t w in
         let i = begun-so hive root t w e in
         let begun = search_from t (without_lines w) (incomplete hive root) in
         let g = search-goes hive hive.slots 0 begun i in
         let l = search-left hive last.used.claims hive.slots 0 begun i ([], nothing-more last.used.claims) in
-        subst (λ (said : List ParentLine). IsFoundSalvage hive root last.used.claims (record { tree = Some last.tree; lines = w.lines; said = said }))
-        (sym l.said_is)
-        (with_found t last.tree w g.more l.uses l.said e l.uses_are
-        (subst (λ (ns : List Incomplete). SearchLeft hive last.used.claims (take hive.slots ns) t last.tree l.uses l.said) g.notes l.means))
-    by (None, w) e = with_nothing w e refl
+        subst (λ (said : List ParentLine). IsFoundSalvage hive root last.used.claims last.notes
+        (record { tree = Some last.tree; lines = w.lines; said = said })) (sym l.said_is)
+        (with_found t last.tree w g.more l.uses l.said e l.uses_are g.notes l.means)
+    by (None, w) e = with_nothing w e refl refl
 
 pub found-apart : (hive : Ground) (root : ℕ) → AreApart (uses_by_parents hive root)
 found-apart hive root = by (salvaged hive root) refl (salvage-apart hive root)
@@ -173,3 +175,35 @@ found-apart hive root = by (salvaged hive root) refl (salvage-apart hive root)
     by (Some t, w) e a =
         (search-goes hive hive.slots 0 (search_from t (without_lines w) (incomplete hive root)) (begun-so hive root t w e)).adds.apart a
     by (None, w) e a = a
+
+search-tells : (hive : Ground) (n place : ℕ) (s : Search) (test : List (List ℕ) → Bool) (walk : Bool) → IsSearch hive s
+    → IsTold hive test walk s → IsTold hive test walk (searched hive n place s)
+unfolding searched
+search-tells hive zero place s test walk i t = t
+search-tells hive (suc n) place s test walk i t =
+    go (slice_get s.notes place) refl (λ r i t. search-tells hive n (place + 1) r test walk i t)
+  where
+    go : (o : Option Incomplete) → slice_get s.notes place ≡ o
+        → ((r : Search) → IsSearch hive r → IsTold hive test walk r → IsTold hive test walk (searched hive n (place + 1) r))
+        → IsTold hive test walk (searched_on (searched hive n (place + 1)) hive s o)
+    go (Some own) e more =
+        let there = at-place (IsIn hive s.tree) s.notes place own i.there e in
+        more (search_step hive own s) (step-goes hive own s i there).is (step-tells hive own s test walk i there t)
+    go None e more = t
+
+pub found-told : (hive : Ground) (root : ℕ) → AreIncomplete (notes_by_parents hive root) (salvaged_by_parents hive root)
+unfolding salvaged_by_parents
+found-told hive root test = by (salvaged hive root) refl (incomplete-told hive test root)
+  where
+    one : (b : Bool) → b ≡ (b || false)
+    one true = refl
+    one false = refl
+
+    by : (r : Option Tree × Walked) → salvaged hive root ≡ r → RootTold hive test (incomplete hive root) r
+        → Any hive test (end_notes hive root r)
+        ≡ (Told hive test (searched_by hive (incomplete hive root) r).lines
+        || Later hive test (searched_by hive (incomplete hive root) r).said)
+    by (Some t, w) e a =
+        search-tells hive hive.slots 0 (search_from t (without_lines w) (incomplete hive root)) test (Told hive test w.lines)
+        (begun-so hive root t w e) (a ∙ one (Told hive test w.lines))
+    by (None, w) e a = sym a ∙ one (Told hive test w.lines)

@@ -4,3 +4,4 @@ pub mod Noting
 pub mod Changing
 pub mod Stepping
 pub mod Ending
+pub mod Telling

@@ -46,8 +46,9 @@ module _ (hive : Ground) where
       subst (λ (r : Option Tree × Walked). Lie hive r.1.claims) e
       (salvage-lies hive root (salvaged hive root).0 (salvaged hive root).1 (salvage-is hive root))
 
-  pub found-lies : (root : ℕ) (used : List Claim) (r : SearchedTree) → IsFoundSalvage hive root used r → Lie hive used
-  found-lies root used r (with_found t u w later uses said e is l) =
+  pub found-lies : (root : ℕ) (used : List Claim) (notes : List Incomplete) (r : SearchedTree) → IsFoundSalvage hive root used notes r
+      → Lie hive used
+  found-lies root used notes r (with_found t u w later uses said e is a l) =
       lie-as hive used (w.claims ++ uses) is (both-lie hive w.claims uses (walk-lies root (Some t) w e)
-      (search-lies used (take hive.slots _) t u uses said l))
-  found-lies root used r (with_nothing w e is) = lie-as hive used w.claims is (walk-lies root None w e)
+      (search-lies used (take hive.slots notes) t u uses said l))
+  found-lies root used notes r (with_nothing w e is a) = lie-as hive used w.claims is (walk-lies root None w e)

@@ -122,11 +122,11 @@ module _ (hive : Ground) where
   }
 
   -- of a child that is judged what is noted is below it; and nothing where it is left out
-  abbrev NotesOf : List (List ℕ) → List Incomplete → List Incomplete → Option Tree × Walked → Type 0
+  abbrev pub NotesOf : List (List ℕ) → List Incomplete → List Incomplete → Option Tree × Walked → Type 0
   NotesOf path old new (Some t, v) = Grown (Within (path ++ key_name t ∷ []) t) old new
   NotesOf path old new (None, v) = new ≡ old
 
-  abbrev NotesWell : Judge → Notes → Type 0
+  abbrev pub NotesWell : Judge → Notes → Type 0
   NotesWell judge more =
       (above : List ℕ) (path names : List (List ℕ)) (i at : ℕ) (w : Walked) (notes : List Incomplete)
       → NotesOf path notes (more above path names i at w notes) (judge above path names i at w)
@@ -207,7 +207,7 @@ module _ (hive : Ground) where
           read.1 ∙ whole.1 ∙ ap done name.1
       payload (Err k) e = absurd cc
 
-  key-noted : (left : ℕ) → NotesWell (judged_key left hive) (notes_key left hive)
+  pub key-noted : (left : ℕ) → NotesWell (judged_key left hive) (notes_key left hive)
   unfolding judged_key notes_key
   key-noted zero above path names i at w notes = refl
   key-noted (suc left) above path names i at w notes =

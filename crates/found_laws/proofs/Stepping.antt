@@ -1,6 +1,6 @@
 -- What the search leaves of one incomplete key.
 use Rattle.std.proofs.Common.{◌≡◌, ℕ, ◌-◌, Bool, true, false, cond, List, [], ◌∷◌, ◌++◌, length, refl, sym, ap, subst, ◌∙◌, arith, length-append}
-use Rattle.std.specs.Prelude.{◌==◌, map, find}
+use Rattle.std.specs.Prelude.{◌||◌, ◌==◌, map, find}
 use Rattle.hive_model.specs.Tree.{Head, Tree, Trees, key, listed, head, is_named, find_key}
 use Rattle.reg_tree.proofs.Unlike.{Each}
 use Rattle.salvage_bins.specs.Ground.{Ground}
@@ -25,6 +25,7 @@ use Rattle.parent_laws.proofs.Searching.{found-apart, step-apart, step-reaches}
 use Rattle.found_laws.specs.Found.{IsNodeOf, KeyFound, levels_below, with_keys_at}
 use Rattle.found_laws.proofs.Nodes.{found-follow, nodes-left}
 use Rattle.found_laws.proofs.Noting.{each-both, each-so, Among, found-noted, IsIn, in-held, in-reached}
+use Rattle.found_laws.proofs.Telling.{or-none, Any, Told, Later, found-told, step-told}
 use Rattle.found_laws.proofs.Changing.{changed-found, found-changed}
 
 -- ---- a state of the search
@@ -41,6 +42,10 @@ pub record Goes (hive : Ground) (s r : Search) : Type 0 where
   pub more : List Incomplete
   pub notes : r.notes ≡ s.notes ++ more
   pub is : IsSearch hive r
+
+-- of the incomplete keys the lines of the walk tell, of which these tell so, or those after it
+abbrev pub IsTold : Ground → (List (List ℕ) → Bool) → Bool → Search → Type 0
+IsTold hive test walk s = Any hive test s.notes ≡ (walk || Later hive test s.said)
 
 -- what was used and printed for one incomplete key
 pub record StepLeft (hive : Ground) (used : List Claim) (own : Incomplete) (s r : Search) : Type 0 where
@@ -159,6 +164,13 @@ module _ (hive : Ground) (own : Incomplete) (s : Search) (h : Head) (ts : Trees)
         };
       }
 
+  made-told : (test : List (List ℕ) → Bool) (walk : Bool) → s.used.lines ≡ [] → IsTold hive test walk s → IsTold hive test walk made
+  made-told test walk silent t =
+      let x = walk || Later hive test s.said in
+      step-told hive test notes walk s.said found.1.lines count own.path
+      (found-told hive test (levels_below own) h.security own.path (naming hive own.at hive.slots) (listed ts) s.used s.notes x
+      (t ∙ sym (or-none x (Told hive test s.used.lines) (ap (Told hive test) silent))))
+
 by-head : (hive : Ground) (own : Incomplete) (s : Search) (P : Search → Type 0) → IsIn hive s.tree own
     → ((h : Head) (ts : Trees) (e : find_key own.path s.tree ≡ some (key h ts)) → IsNodeOf hive own.at h → P (made hive own s h ts e))
     → P (search_step hive own s)
@@ -177,3 +189,8 @@ pub step-left : (hive : Ground) (used : List Claim) (own : Incomplete) (s : Sear
 step-left hive used own s i o u =
     by-head hive own s (λ (r : Search). Upto r.used.claims used → StepLeft hive used own s r) o
     (λ h ts e place u. made-left hive own s h ts e used i.silent place u) u
+
+pub step-tells : (hive : Ground) (own : Incomplete) (s : Search) (test : List (List ℕ) → Bool) (walk : Bool) → IsSearch hive s
+    → IsIn hive s.tree own → IsTold hive test walk s → IsTold hive test walk (search_step hive own s)
+step-tells hive own s test walk i o t =
+    by-head hive own s (IsTold hive test walk) o (λ h ts e place. made-told hive own s h ts e test walk i.silent t)

@@ -45,12 +45,20 @@ end_uses hive root (None, w) = w.claims
 abbrev pub uses_by_parents : Ground → ℕ → List Claim
 uses_by_parents hive root = end_uses hive root (salvaged hive root)
 
--- What is salvaged by the lists of keys, the incomplete keys of it and then those that are found meanwhile, and what is found of as many
--- of them as there are places.
-pub data IsFoundSalvage (hive : Ground) (root : ℕ) (used : List Claim) : SearchedTree → Type 0 where
+abbrev pub end_notes : Ground → ℕ → Option Tree × Walked → List Incomplete
+end_notes hive root (Some t, w) = (search_end hive root t w).notes
+end_notes hive root (None, w) = []
+
+-- all incomplete keys
+abbrev pub notes_by_parents : Ground → ℕ → List Incomplete
+notes_by_parents hive root = end_notes hive root (salvaged hive root)
+
+-- What is salvaged by the lists of keys, and then what is found of the incomplete keys, in turn: those of the walk come first. There are
+-- no more turns than places.
+pub data IsFoundSalvage (hive : Ground) (root : ℕ) (used : List Claim) (notes : List Incomplete) : SearchedTree → Type 0 where
   with_found : (t u : Tree) (w : Walked) (later : List Incomplete) (uses : List Claim) (said : List ParentLine)
-      → salvaged hive root ≡ (Some t, w) → used ≡ w.claims ++ uses
-      → SearchLeft hive used (take hive.slots (incomplete hive root ++ later)) t u uses said
-      → IsFoundSalvage hive root used (record { tree = Some u; lines = w.lines; said = said })
-  with_nothing : (w : Walked) → salvaged hive root ≡ (None, w) → used ≡ w.claims
-      → IsFoundSalvage hive root used (record { tree = None; lines = w.lines; said = [] })
+      → salvaged hive root ≡ (Some t, w) → used ≡ w.claims ++ uses → notes ≡ incomplete hive root ++ later
+      → SearchLeft hive used (take hive.slots notes) t u uses said
+      → IsFoundSalvage hive root used notes (record { tree = Some u; lines = w.lines; said = said })
+  with_nothing : (w : Walked) → salvaged hive root ≡ (None, w) → used ≡ w.claims → notes ≡ []
+      → IsFoundSalvage hive root used notes (record { tree = None; lines = w.lines; said = [] })

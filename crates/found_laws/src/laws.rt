@@ -9,13 +9,16 @@ ghost use Rattle.salvage_parents.specs.Search.{salvaged_by_parents};
 ghost use Rattle.salvage_file.specs.Salvage.{ground_in};
 ghost use Rattle.salvage_laws.specs.Apart.{AreApart};
 ghost use Rattle.salvage_laws.specs.Bytes.{LiesInCell, UseNoByteTwice};
-ghost use Rattle.found_laws.specs.Searched.{uses_by_parents, IsFoundSalvage};
+ghost use Rattle.found_laws.specs.Lines.{AreIncomplete};
+ghost use Rattle.found_laws.specs.Searched.{uses_by_parents, notes_by_parents, IsFoundSalvage};
 
 /// Each key that is found by its parent, and each key and value below it, is in allocated cells that have its form, with these fields, and
 /// nothing else uses them but security. Each other part below it has a line, and its fault is one of the part's own cells, name or level,
 /// or of a cell or name that the result has. There is no other line. A key node that names its parent and isn't found has a fault too.
 pub fn what_is_found_stands_and_the_rest_has_a_line()
-    ensures found { (hive : Ground) (root : ℕ) → IsFoundSalvage hive root (uses_by_parents hive root) (salvaged_by_parents hive root) }
+    ensures found { (hive : Ground) (root : ℕ) → IsFoundSalvage hive root (uses_by_parents hive root) (notes_by_parents hive root)
+        (salvaged_by_parents hive root) }
+    ensures incomplete { (hive : Ground) (root : ℕ) → AreIncomplete (notes_by_parents hive root) (salvaged_by_parents hive root) }
     ensures apart { (hive : Ground) (root : ℕ) → AreApart (uses_by_parents hive root) }
     ensures cells { (hive : Ground) (root : ℕ) → All (LiesInCell hive) (uses_by_parents hive root) }
     ensures bytes { (version : HiveVersion) (bytes : List ℕ) (root : ℕ) → ((k : ℕ) → slice_index bytes k < 256) → length bytes % 8 ≡ 0
