@@ -1,8 +1,11 @@
 -- What the search leaves of all incomplete keys, in turn.
-use Rattle.std.proofs.Common.{◌≡◌, ℕ, zero, suc, ◌+◌, Bool, true, false, List, [], ◌∷◌, ◌++◌, Option, Some, None, refl, sym, ap, subst, ◌∙◌, arith}
-use Rattle.std.specs.Prelude.{◌||◌, take, drop, slice_get}
+use Rattle.std.proofs.Common.{◌≡◌, ℕ, zero, suc, ◌+◌, ◌/◌, ◌≤◌, Bool, true, false, List, [], ◌∷◌, ◌++◌, length, Option, Some, None, refl, sym, ap, subst, ◌∙◌, arith}
+use Rattle.std.specs.Prelude.{◌≢◌, ◌||◌, take, drop, slice_get}
+use Rattle.std.specs.List.{AllPairs}
+use Rattle.nt_bytes.specs.declared.version.HiveVersion.{HiveVersion}
 use Rattle.hive_model.specs.Tree.{Tree}
 use Rattle.reg_tree.proofs.Unlike.{Each}
+use Rattle.salvage_bins.specs.declared.layout.Mark.{Mark}
 use Rattle.salvage_bins.specs.Ground.{Ground}
 use Rattle.salvage_walk.specs.declared.claims.Claim.{Claim}
 use Rattle.salvage_walk.specs.declared.lines.Incomplete.{Incomplete}
@@ -11,6 +14,7 @@ use Rattle.salvage_walk.specs.Keys.{salvaged}
 use Rattle.salvage_walk.specs.Incomplete.{incomplete}
 use Rattle.salvage_parents.specs.declared.search.ParentLine.{ParentLine}
 use Rattle.salvage_parents.specs.Search.{Search, search_step, searched_on, searched, search_from, without_lines, searched_by, salvaged_by_parents}
+use Rattle.salvage_file.specs.Salvage.{ground_in}
 use Rattle.salvage_laws.specs.Apart.{AreApart}
 use Rattle.salvage_laws.proofs.Grows.{adds-none, adds-both}
 use Rattle.salvage_laws.proofs.Wider.{Upto, upto-adds}
@@ -20,7 +24,8 @@ use Rattle.parent_laws.proofs.Apart.{salvaged-apart}
 use Rattle.found_laws.specs.Lines.{AreIncomplete}
 use Rattle.found_laws.specs.Searched.{SearchLeft, search_end, end_uses, uses_by_parents, end_notes, notes_by_parents, IsFoundSalvage, with_found, with_nothing}
 use Rattle.found_laws.proofs.Noting.{Within, RootNoted, incomplete-noted, each-so, IsIn, in-below}
-use Rattle.found_laws.proofs.Stepping.{IsSearch, Goes, IsTold, StepLeft, step-goes, step-left, step-tells}
+use Rattle.found_laws.proofs.Stepping.{IsSearch, Goes, IsTold, IsCounted, StepLeft, step-goes, step-left, step-tells, step-counts}
+use Rattle.found_laws.proofs.Counting.{RootWithin, incomplete-within, noted-apart, no-more}
 use Rattle.found_laws.proofs.Telling.{Any, Told, Later, RootTold, incomplete-told}
 
 -- ---- a list from a place on
@@ -168,32 +173,34 @@ found-is hive root = by (salvaged hive root) refl
         (with_found t last.tree w g.more l.uses l.said e l.uses_are g.notes l.means)
     by (None, w) e = with_nothing w e refl refl
 
-pub found-apart : (hive : Ground) (root : ℕ) → AreApart (uses_by_parents hive root)
-found-apart hive root = by (salvaged hive root) refl (salvage-apart hive root)
+pub all-apart : (hive : Ground) (root : ℕ) → AreApart (uses_by_parents hive root)
+all-apart hive root = by (salvaged hive root) refl (salvage-apart hive root)
   where
     by : (r : Option Tree × Walked) → salvaged hive root ≡ r → AreApart r.1.claims → AreApart (end_uses hive root r)
     by (Some t, w) e a =
         (search-goes hive hive.slots 0 (search_from t (without_lines w) (incomplete hive root)) (begun-so hive root t w e)).adds.apart a
     by (None, w) e a = a
 
-search-tells : (hive : Ground) (n place : ℕ) (s : Search) (test : List (List ℕ) → Bool) (walk : Bool) → IsSearch hive s
-    → IsTold hive test walk s → IsTold hive test walk (searched hive n place s)
+-- what each step keeps the search keeps
+search-keeps : (hive : Ground) (P : Search → Type 0)
+    → ((own : Incomplete) (s : Search) → IsSearch hive s → IsIn hive s.tree own → P s → P (search_step hive own s))
+    → (n place : ℕ) (s : Search) → IsSearch hive s → P s → P (searched hive n place s)
 unfolding searched
-search-tells hive zero place s test walk i t = t
-search-tells hive (suc n) place s test walk i t =
-    go (slice_get s.notes place) refl (λ r i t. search-tells hive n (place + 1) r test walk i t)
+search-keeps hive P step zero place s i p = p
+search-keeps hive P step (suc n) place s i p =
+    go (slice_get s.notes place) refl (λ r i p. search-keeps hive P step n (place + 1) r i p)
   where
     go : (o : Option Incomplete) → slice_get s.notes place ≡ o
-        → ((r : Search) → IsSearch hive r → IsTold hive test walk r → IsTold hive test walk (searched hive n (place + 1) r))
-        → IsTold hive test walk (searched_on (searched hive n (place + 1)) hive s o)
+        → ((r : Search) → IsSearch hive r → P r → P (searched hive n (place + 1) r))
+        → P (searched_on (searched hive n (place + 1)) hive s o)
     go (Some own) e more =
         let there = at-place (IsIn hive s.tree) s.notes place own i.there e in
-        more (search_step hive own s) (step-goes hive own s i there).is (step-tells hive own s test walk i there t)
-    go None e more = t
+        more (search_step hive own s) (step-goes hive own s i there).is (step own s i there p)
+    go None e more = p
 
-pub found-told : (hive : Ground) (root : ℕ) → AreIncomplete (notes_by_parents hive root) (salvaged_by_parents hive root)
+pub all-told : (hive : Ground) (root : ℕ) → AreIncomplete (notes_by_parents hive root) (salvaged_by_parents hive root)
 unfolding salvaged_by_parents
-found-told hive root test = by (salvaged hive root) refl (incomplete-told hive test root)
+all-told hive root test = by (salvaged hive root) refl (incomplete-told hive test root)
   where
     one : (b : Bool) → b ≡ (b || false)
     one true = refl
@@ -204,6 +211,44 @@ found-told hive root test = by (salvaged hive root) refl (incomplete-told hive t
         ≡ (Told hive test (searched_by hive (incomplete hive root) r).lines
         || Later hive test (searched_by hive (incomplete hive root) r).said)
     by (Some t, w) e a =
-        search-tells hive hive.slots 0 (search_from t (without_lines w) (incomplete hive root)) test (Told hive test w.lines)
-        (begun-so hive root t w e) (a ∙ one (Told hive test w.lines))
+        search-keeps hive (IsTold hive test (Told hive test w.lines))
+        (λ own s i o k. step-tells hive own s test (Told hive test w.lines) i o k) hive.slots 0
+        (search_from t (without_lines w) (incomplete hive root)) (begun-so hive root t w e) (a ∙ one (Told hive test w.lines))
     by (None, w) e a = sym a ∙ one (Told hive test w.lines)
+
+-- of each place no more incomplete keys are noted than cells are used
+end-counts : (hive : Ground) (root : ℕ) (t : Tree) (w : Walked) → salvaged hive root ≡ (Some t, w) → (v : ℕ)
+    → IsCounted hive v (search_end hive root t w)
+end-counts hive root t w e v =
+    search-keeps hive (IsCounted hive v) (λ own s i o c. step-counts hive own s v i o c) hive.slots 0
+    (search_from t (without_lines w) (incomplete hive root)) (begun-so hive root t w e)
+    (subst (RootWithin hive v (incomplete hive root)) e (incomplete-within hive v root))
+
+pub all-once : (hive : Ground) (root : ℕ) → AllPairs (λ (a b : Incomplete). a.at ≢ b.at) (notes_by_parents hive root)
+all-once hive root = by (salvaged hive root) refl (salvage-apart hive root)
+  where
+    by : (r : Option Tree × Walked) → salvaged hive root ≡ r → AreApart r.1.claims
+        → AllPairs (λ (a b : Incomplete). a.at ≢ b.at) (end_notes hive root r)
+    by (Some t, w) e a =
+        let begun = search_from t (without_lines w) (incomplete hive root) in
+        let last = search_end hive root t w in
+        noted-apart last.notes last.used.claims ((search-goes hive hive.slots 0 begun (begun-so hive root t w e)).adds.apart a)
+        (end-counts hive root t w e)
+    by (None, w) e a = λ i j d lt within. absurd (omega (arith, within))
+
+-- each incomplete key of bytes has its turn
+pub all-turns : (version : HiveVersion) (bytes : List ℕ) (marks : List Mark) (root : ℕ)
+    → length (notes_by_parents (ground_in version bytes marks) root) ≤ length bytes / 8
+all-turns version bytes marks root =
+    by (salvaged hive root) refl (salvage-apart hive root)
+  where
+    hive : Ground
+    hive = ground_in version bytes marks
+
+    by : (r : Option Tree × Walked) → salvaged hive root ≡ r → AreApart r.1.claims → length (end_notes hive root r) ≤ length bytes / 8
+    by (Some t, w) e a =
+        let begun = search_from t (without_lines w) (incomplete hive root) in
+        let g = search-goes hive hive.slots 0 begun (begun-so hive root t w e) in
+        let last = search_end hive root t w in
+        no-more version bytes marks last.tree last.notes last.used.claims g.is.there (g.adds.apart a) (end-counts hive root t w e)
+    by (None, w) e a = omega arith

@@ -5,3 +5,5 @@ pub mod Changing
 pub mod Stepping
 pub mod Ending
 pub mod Telling
+pub mod Counting
+pub mod Naming

@@ -37,11 +37,11 @@ found-follow judge above path (at ∷ places) keys w h =
     (found-follow judge above path places next.0 next.1 h)
 
 -- what is left out uses nothing
-abbrev UsesNothing : Walked → Option Tree × Walked → Type 0
+abbrev pub UsesNothing : Walked → Option Tree × Walked → Type 0
 UsesNothing w (Some t, v) = Unit {0}
 UsesNothing w (None, v) = v.claims ≡ w.claims
 
-left-unused : (hive : Ground) (left : ℕ) (above : List ℕ) (path names : List (List ℕ)) (i at : ℕ) (w : Walked)
+pub left-unused : (hive : Ground) (left : ℕ) (above : List ℕ) (path names : List (List ℕ)) (i at : ℕ) (w : Walked)
     → UsesNothing w (judged_key left hive above path names i at w)
 left-unused hive left above path names i at w =
     let r = judged_key left hive above path names i at w in

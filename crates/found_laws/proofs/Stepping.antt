@@ -1,5 +1,5 @@
 -- What the search leaves of one incomplete key.
-use Rattle.std.proofs.Common.{◌≡◌, ℕ, ◌-◌, Bool, true, false, cond, List, [], ◌∷◌, ◌++◌, length, refl, sym, ap, subst, ◌∙◌, arith, length-append}
+use Rattle.std.proofs.Common.{◌≡◌, ℕ, ◌-◌, ◌≤◌, Bool, true, false, cond, List, [], ◌∷◌, ◌++◌, length, refl, sym, ap, subst, ◌∙◌, arith, length-append}
 use Rattle.std.specs.Prelude.{◌||◌, ◌==◌, map, find}
 use Rattle.hive_model.specs.Tree.{Head, Tree, Trees, key, listed, head, is_named, find_key}
 use Rattle.reg_tree.proofs.Unlike.{Each}
@@ -26,6 +26,7 @@ use Rattle.found_laws.specs.Found.{IsNodeOf, KeyFound, levels_below, with_keys_a
 use Rattle.found_laws.proofs.Nodes.{found-follow, nodes-left}
 use Rattle.found_laws.proofs.Noting.{each-both, each-so, Among, found-noted, IsIn, in-held, in-reached}
 use Rattle.found_laws.proofs.Telling.{or-none, Any, Told, Later, found-told, step-told}
+use Rattle.found_laws.proofs.Counting.{Noted, Used, found-within}
 use Rattle.found_laws.proofs.Changing.{changed-found, found-changed}
 
 -- ---- a state of the search
@@ -46,6 +47,10 @@ pub record Goes (hive : Ground) (s r : Search) : Type 0 where
 -- of the incomplete keys the lines of the walk tell, of which these tell so, or those after it
 abbrev pub IsTold : Ground → (List (List ℕ) → Bool) → Bool → Search → Type 0
 IsTold hive test walk s = Any hive test s.notes ≡ (walk || Later hive test s.said)
+
+-- of each place no more incomplete keys are noted than cells are used
+abbrev pub IsCounted : Ground → ℕ → Search → Type 0
+IsCounted hive v s = Noted hive v s.notes ≤ Used hive v s.used
 
 -- what was used and printed for one incomplete key
 pub record StepLeft (hive : Ground) (used : List Claim) (own : Incomplete) (s r : Search) : Type 0 where
@@ -171,6 +176,10 @@ module _ (hive : Ground) (own : Incomplete) (s : Search) (h : Head) (ts : Trees)
       (found-told hive test (levels_below own) h.security own.path (naming hive own.at hive.slots) (listed ts) s.used s.notes x
       (t ∙ sym (or-none x (Told hive test s.used.lines) (ap (Told hive test) silent))))
 
+  made-counted : (v : ℕ) → IsCounted hive v s → IsCounted hive v made
+  made-counted v c =
+      omega (arith, c, found-within hive v (levels_below own) h.security own.path (naming hive own.at hive.slots) (listed ts) s.used s.notes)
+
 by-head : (hive : Ground) (own : Incomplete) (s : Search) (P : Search → Type 0) → IsIn hive s.tree own
     → ((h : Head) (ts : Trees) (e : find_key own.path s.tree ≡ some (key h ts)) → IsNodeOf hive own.at h → P (made hive own s h ts e))
     → P (search_step hive own s)
@@ -194,3 +203,8 @@ pub step-tells : (hive : Ground) (own : Incomplete) (s : Search) (test : List (L
     → IsIn hive s.tree own → IsTold hive test walk s → IsTold hive test walk (search_step hive own s)
 step-tells hive own s test walk i o t =
     by-head hive own s (IsTold hive test walk) o (λ h ts e place. made-told hive own s h ts e test walk i.silent t)
+
+pub step-counts : (hive : Ground) (own : Incomplete) (s : Search) (v : ℕ) → IsSearch hive s → IsIn hive s.tree own
+    → IsCounted hive v s → IsCounted hive v (search_step hive own s)
+step-counts hive own s v i o c =
+    by-head hive own s (IsCounted hive v) o (λ h ts e place. made-counted hive own s h ts e v c)

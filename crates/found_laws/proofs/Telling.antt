@@ -32,7 +32,6 @@ use Rattle.salvage_walk.specs.Incomplete.{noted, notes_next, says_more, incomple
 use Rattle.salvage_walk.specs.Found.{unsaid, found_next, found_notes}
 use Rattle.salvage_laws.specs.Left.{ClassLeft, class_stands, class_lost, SecurityLeft, security_none, security_first, security_again, security_lost, short_lines, ItemsLeft, ValuesLeft, values_none, values_listed, values_lost}
 use Rattle.salvage_laws.specs.LeftLists.{ListLeft, list_read, list_lost, LeavesLeft, ListsLeft, own_entries, entries_of_lists, lists_lost, is_silent, count_lines, EntriesLeft, entries_none, entries_named}
-use Rattle.salvage_laws.proofs.PartViews.{PartView, part-view}
 use Rattle.salvage_laws.proofs.Leaving.{nothing-more, class-left, security-left, values-left, entries-left}
 use Rattle.found_laws.specs.Lines.{lacking, tells, tells_later}
 use Rattle.found_laws.proofs.Noting.{NotesOf, key-noted}

@@ -2,7 +2,7 @@
 --
 -- Each key node that names the key as its parent is one more entry of it. It stands with all below it, as a child that a list names does;
 -- or it is left out with a fault that it has, and nothing is printed of it.
-use Rattle.std.specs.Prelude.{◌≡◌, ◌⊎◌, ℕ, ◌-◌, if◌then◌else◌, List, [], ◌∷◌, ◌++◌, length, map, Some, Ok}
+use Rattle.std.specs.Prelude.{◌≡◌, ◌<◌, ◌⊎◌, ℕ, ◌-◌, ◌*◌, if◌then◌else◌, List, [], ◌∷◌, ◌++◌, length, map, Some, Ok}
 use Rattle.nt_bytes.specs.declared.fault.HiveFaultKind.{HiveFaultKind}
 use Rattle.hive_model.specs.KeyNode.{KeyNode, key_node_at}
 use Rattle.hive_model.specs.Stands.{tree_flags}
@@ -20,8 +20,11 @@ use Rattle.salvage_parents.specs.Search.{arranged_if, found_line}
 use Rattle.salvage_laws.specs.Fails.{ChildFails}
 use Rattle.salvage_laws.specs.LeftKeys.{Leaving, NextStands, TreeLeft}
 
--- an allocated cell begins at a place that has the form of a key node and names this parent
-pub record NamesParent (hive : Ground) (parent at : ℕ) : Type 0 where
+-- one of the first n places of eight bytes: an allocated cell begins there that has the form of a key node and names this parent
+pub record NamesParent (hive : Ground) (parent n at : ℕ) : Type 0 where
+  pub place : ℕ
+  pub within : place < n
+  pub at_is : at ≡ 8 * place
   pub node : KeyNode
   pub read : reading key_node_at hive.cells at ≡ Ok node
   pub names : node.parent ≡ parent

@@ -1,14 +1,18 @@
 //! The laws.
 
-ghost use Rattle.std.specs.Prelude.{◌≡◌, ◌<◌, ◌%◌, ℕ, List, length, slice_index};
-ghost use Rattle.std.specs.List.{All};
+ghost use Rattle.std.specs.Prelude.{◌≡◌, ◌≢◌, ◌↔◌, ◌<◌, ◌≤◌, ◌%◌, ℕ, List, length, slice_index};
+ghost use Rattle.std.specs.List.{All, AllPairs, Contains};
 ghost use Rattle.nt_bytes.specs.declared.version.HiveVersion.{HiveVersion};
+ghost use Rattle.salvage_bins.specs.declared.layout.Mark.{Mark};
 ghost use Rattle.salvage_bins.specs.Ground.{Ground};
 ghost use Rattle.salvage_bins.specs.Layout.{layout_of};
+ghost use Rattle.salvage_walk.specs.declared.lines.Incomplete.{Incomplete};
+ghost use Rattle.salvage_parents.specs.Naming.{naming};
 ghost use Rattle.salvage_parents.specs.Search.{salvaged_by_parents};
 ghost use Rattle.salvage_file.specs.Salvage.{ground_in};
 ghost use Rattle.salvage_laws.specs.Apart.{AreApart};
 ghost use Rattle.salvage_laws.specs.Bytes.{LiesInCell, UseNoByteTwice};
+ghost use Rattle.found_laws.specs.Found.{NamesParent};
 ghost use Rattle.found_laws.specs.Lines.{AreIncomplete};
 ghost use Rattle.found_laws.specs.Searched.{uses_by_parents, notes_by_parents, IsFoundSalvage};
 
@@ -19,8 +23,17 @@ pub fn what_is_found_stands_and_the_rest_has_a_line()
     ensures found { (hive : Ground) (root : ℕ) → IsFoundSalvage hive root (uses_by_parents hive root) (notes_by_parents hive root)
         (salvaged_by_parents hive root) }
     ensures incomplete { (hive : Ground) (root : ℕ) → AreIncomplete (notes_by_parents hive root) (salvaged_by_parents hive root) }
+    ensures once { (hive : Ground) (root : ℕ) → AllPairs (λ (a b : Incomplete). a.at ≢ b.at) (notes_by_parents hive root) }
+    ensures turns { (version : HiveVersion) (bytes : List ℕ) (marks : List Mark) (root : ℕ)
+        → length (notes_by_parents (ground_in version bytes marks) root) ≤ (ground_in version bytes marks).slots }
     ensures apart { (hive : Ground) (root : ℕ) → AreApart (uses_by_parents hive root) }
     ensures cells { (hive : Ground) (root : ℕ) → All (LiesInCell hive) (uses_by_parents hive root) }
     ensures bytes { (version : HiveVersion) (bytes : List ℕ) (root : ℕ) → ((k : ℕ) → slice_index bytes k < 256) → length bytes % 8 ≡ 0
         → UseNoByteTwice (uses_by_parents (ground_in version bytes (layout_of bytes).marks) root) }
+{}
+
+/// The nodes that are tried below a key are those that name it as their parent, in the order of their places.
+pub fn the_nodes_that_are_tried_name_their_parent()
+    ensures named { (hive : Ground) (parent at : ℕ) → Contains (naming hive parent hive.slots) at ↔ NamesParent hive parent hive.slots at }
+    ensures rising { (hive : Ground) (parent : ℕ) → AllPairs (λ a b. a < b) (naming hive parent hive.slots) }
 {}

@@ -5,4 +5,6 @@
 
 mod laws;
 
-pub use laws::what_is_found_stands_and_the_rest_has_a_line;
+pub use laws::{
+    the_nodes_that_are_tried_name_their_parent, what_is_found_stands_and_the_rest_has_a_line,
+};
