@@ -275,7 +275,7 @@ total-one f (suc n) x xs p = go (f x == 8 * n) refl (λ q. total-one f n x xs q)
     go false e more = omega (arith, more (p.0, below, p.2))
       where
         below : p.0 < n
-        below = elim (cases_lt p.0 n) [ | inl lt ↦ lt | inr le ↦ absurd (eqb-false (f x) (8 * n) e (omega (arith, le, p.1, p.2))) ]
+        below = elim (cases_lt p.0 n) [ inl lt ↦ lt | inr le ↦ absurd (eqb-false (f x) (8 * n) e (omega (arith, le, p.1, p.2))) ]
 
 total-all : {X : Type 0} (f : X → ℕ) (n : ℕ) (xs : List X) → Each (λ x. AtPlace n (f x)) xs → length xs ≤ total f n xs
 total-all f n [] a = omega arith

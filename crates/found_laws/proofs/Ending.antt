@@ -20,9 +20,11 @@ use Rattle.salvage_laws.proofs.Grows.{adds-none, adds-both}
 use Rattle.salvage_laws.proofs.Wider.{Upto, upto-adds}
 use Rattle.salvage_laws.proofs.Leaving.{join, nothing-more}
 use Rattle.salvage_laws.proofs.LeavingKeys.{salvage-apart}
+use Rattle.salvage_laws.proofs.UsesLie.{Lie}
 use Rattle.parent_laws.proofs.Apart.{salvaged-apart}
 use Rattle.found_laws.specs.Lines.{AreIncomplete}
 use Rattle.found_laws.specs.Searched.{SearchLeft, search_end, end_uses, uses_by_parents, end_notes, notes_by_parents, IsFoundSalvage, with_found, with_nothing}
+use Rattle.found_laws.proofs.Lying.{found-lies}
 use Rattle.found_laws.proofs.Noting.{Within, RootNoted, incomplete-noted, each-so, IsIn, in-below}
 use Rattle.found_laws.proofs.Stepping.{IsSearch, Goes, IsTold, IsCounted, StepLeft, step-goes, step-left, step-tells, step-counts}
 use Rattle.found_laws.proofs.Counting.{RootWithin, incomplete-within, noted-apart, no-more}
@@ -172,6 +174,10 @@ found-is hive root = by (salvaged hive root) refl
         (record { tree = Some last.tree; lines = w.lines; said = said })) (sym l.said_is)
         (with_found t last.tree w g.more l.uses l.said e l.uses_are g.notes l.means)
     by (None, w) e = with_nothing w e refl refl
+
+pub all-lie : (hive : Ground) (root : ℕ) → Lie hive (uses_by_parents hive root)
+all-lie hive root =
+    found-lies hive root (uses_by_parents hive root) (notes_by_parents hive root) (salvaged_by_parents hive root) (found-is hive root)
 
 pub all-apart : (hive : Ground) (root : ℕ) → AreApart (uses_by_parents hive root)
 all-apart hive root = by (salvaged hive root) refl (salvage-apart hive root)

@@ -288,17 +288,17 @@ module _ (hive : Ground) (test : List (List ℕ) → Bool) where
       let c = values-left hive values.1.claims path node security.1 ([], nothing-more values.1.claims) in
       let d = entries-left hive entries.1.claims path node at values.1 ([], nothing-more entries.1.claims) in
       let quiet : Told values.1.lines ≡ Told w.lines =
-          quiet-on security.1 values.1 c.said c.said_is (values-quiet values.1.claims path node values.0 c.uses c.said c.means)
-          ∙ quiet-on class.1 security.1 b.said b.said_is
-          (security-quiet security.1.claims above path node security.0 b.uses b.said b.means)
-          ∙ quiet-on w class.1 a.said a.said_is (class-quiet class.1.claims path node class.0 a.uses a.said a.means) in
+      quiet-on security.1 values.1 c.said c.said_is (values-quiet values.1.claims path node values.0 c.uses c.said c.means)
+      ∙ quiet-on class.1 security.1 b.said b.said_is
+      (security-quiet security.1.claims above path node security.0 b.uses b.said b.means)
+      ∙ quiet-on w class.1 a.said a.said_is (class-quiet class.1.claims path node class.0 a.uses a.said a.means) in
       let told = says_more values.1 entries.1 in
       let more : Told entries.1.lines ≡ (Told w.lines || (told && test path)) =
-          told-both values.1.lines d.said entries.1.lines d.said_is
-          ∙ ap (λ (b : Bool). Told values.1.lines || b)
-          (of-told path d.said (entries-of entries.1.claims path node at entries.0 d.uses d.said d.means)
-          ∙ ap (λ (b : Bool). b && test path) (sym (more-said values.1 entries.1 d.said d.said_is)))
-          ∙ ap (λ (b : Bool). b || (told && test path)) quiet in
+      told-both values.1.lines d.said entries.1.lines d.said_is
+      ∙ ap (λ (b : Bool). Told values.1.lines || b)
+      (of-told path d.said (entries-of entries.1.claims path node at entries.0 d.uses d.said d.means)
+      ∙ ap (λ (b : Bool). b && test path) (sym (more-said values.1 entries.1 d.said d.said_is)))
+      ∙ ap (λ (b : Bool). b || (told && test path)) quiet in
       let one = noted told (incomplete_at at path) notes in
       let any = noted-any told at path notes in
       next-told left at security.0 path 1 entries.0 [] entries.1 told one x each
