@@ -1,6 +1,6 @@
 -- What the search leaves of all incomplete keys, in turn.
-use Rattle.std.proofs.Common.{◌≡◌, ℕ, zero, suc, ◌+◌, ◌/◌, ◌≤◌, Bool, true, false, List, [], ◌∷◌, ◌++◌, length, Option, Some, None, refl, sym, ap, subst, ◌∙◌, arith}
-use Rattle.std.specs.Prelude.{◌≢◌, ◌||◌, take, drop, slice_get}
+use Rattle.std.proofs.Common.{◌≡◌, ℕ, zero, suc, ◌+◌, ◌/◌, ◌≤◌, List, [], ◌∷◌, ◌++◌, length, Option, Some, None, refl, sym, ap, subst, ◌∙◌, arith}
+use Rattle.std.specs.Prelude.{◌≢◌, map, take, drop, slice_get}
 use Rattle.std.specs.List.{AllPairs}
 use Rattle.nt_bytes.specs.declared.version.HiveVersion.{HiveVersion}
 use Rattle.hive_model.specs.Tree.{Tree}
@@ -22,13 +22,13 @@ use Rattle.salvage_laws.proofs.Leaving.{join, nothing-more}
 use Rattle.salvage_laws.proofs.LeavingKeys.{salvage-apart}
 use Rattle.salvage_laws.proofs.UsesLie.{Lie}
 use Rattle.parent_laws.proofs.Apart.{salvaged-apart}
-use Rattle.found_laws.specs.Lines.{AreIncomplete}
+use Rattle.found_laws.specs.Lines.{lacking, AreNoted, AreIncomplete}
 use Rattle.found_laws.specs.Searched.{SearchLeft, search_end, end_uses, uses_by_parents, end_notes, notes_by_parents, IsFoundSalvage, with_found, with_nothing}
 use Rattle.found_laws.proofs.Lying.{found-lies}
 use Rattle.found_laws.proofs.Noting.{Within, RootNoted, incomplete-noted, each-so, IsIn, in-below}
 use Rattle.found_laws.proofs.Stepping.{IsSearch, Goes, IsTold, IsCounted, StepLeft, step-goes, step-left, step-tells, step-counts}
 use Rattle.found_laws.proofs.Counting.{RootWithin, incomplete-within, noted-apart, no-more}
-use Rattle.found_laws.proofs.Telling.{Any, Told, Later, RootTold, incomplete-told}
+use Rattle.found_laws.proofs.Telling.{RootTold, incomplete-told}
 
 -- ---- a list from a place on
 
@@ -206,21 +206,16 @@ search-keeps hive P step (suc n) place s i p =
 
 pub all-told : (hive : Ground) (root : ℕ) → AreIncomplete (notes_by_parents hive root) (salvaged_by_parents hive root)
 unfolding salvaged_by_parents
-all-told hive root test = by (salvaged hive root) refl (incomplete-told hive test root)
+all-told hive root = by (salvaged hive root) refl (incomplete-told hive root)
   where
-    one : (b : Bool) → b ≡ (b || false)
-    one true = refl
-    one false = refl
-
-    by : (r : Option Tree × Walked) → salvaged hive root ≡ r → RootTold hive test (incomplete hive root) r
-        → Any hive test (end_notes hive root r)
-        ≡ (Told hive test (searched_by hive (incomplete hive root) r).lines
-        || Later hive test (searched_by hive (incomplete hive root) r).said)
+    by : (r : Option Tree × Walked) → salvaged hive root ≡ r → RootTold hive (incomplete hive root) r
+        → AreIncomplete (end_notes hive root r) (searched_by hive (incomplete hive root) r)
     by (Some t, w) e a =
-        search-keeps hive (IsTold hive test (Told hive test w.lines))
-        (λ own s i o k. step-tells hive own s test (Told hive test w.lines) i o k) hive.slots 0
-        (search_from t (without_lines w) (incomplete hive root)) (begun-so hive root t w e) (a ∙ one (Told hive test w.lines))
-    by (None, w) e a = sym a ∙ one (Told hive test w.lines)
+        let walk = map lacking w.lines in
+        search-keeps hive (IsTold walk) (λ own s i o k. step-tells hive own s walk i o k) hive.slots 0
+        (search_from t (without_lines w) (incomplete hive root)) (begun-so hive root t w e)
+        (subst (AreNoted (incomplete hive root)) (nothing-more walk) a)
+    by (None, w) e a = subst (AreNoted []) (nothing-more (map lacking w.lines)) a
 
 -- of each place no more incomplete keys are noted than cells are used
 end-counts : (hive : Ground) (root : ℕ) (t : Tree) (w : Walked) → salvaged hive root ≡ (Some t, w) → (v : ℕ)

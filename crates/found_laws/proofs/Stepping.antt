@@ -1,6 +1,6 @@
 -- What the search leaves of one incomplete key.
 use Rattle.std.proofs.Common.{◌≡◌, ℕ, ◌-◌, ◌≤◌, Bool, true, false, cond, List, [], ◌∷◌, ◌++◌, length, refl, sym, ap, subst, ◌∙◌, arith, length-append}
-use Rattle.std.specs.Prelude.{◌||◌, ◌==◌, map, find}
+use Rattle.std.specs.Prelude.{◌==◌, map, find}
 use Rattle.hive_model.specs.Tree.{Head, Tree, Trees, key, listed, head, is_named, find_key}
 use Rattle.reg_tree.proofs.Unlike.{Each}
 use Rattle.salvage_bins.specs.Ground.{Ground}
@@ -18,14 +18,16 @@ use Rattle.salvage_parents.specs.Naming.{naming}
 use Rattle.salvage_parents.specs.Search.{Search, adopted, adopted_none, arranged_if, found_line, search_done, search_step}
 use Rattle.salvage_laws.proofs.Grows.{Adds, judged-follows}
 use Rattle.salvage_laws.proofs.Wider.{Upto}
+use Rattle.salvage_laws.proofs.Leaving.{nothing-more}
 use Rattle.parent_laws.proofs.Apart.{Apart, Siblings, siblings-of, judged-apart, some, some_same}
 use Rattle.parent_laws.proofs.Arranging.{Holds, arranged-holds}
 use Rattle.parent_laws.proofs.Reaching.{Reaches, then-found}
 use Rattle.parent_laws.proofs.Searching.{found-apart, step-apart, step-reaches}
 use Rattle.found_laws.specs.Found.{IsNodeOf, KeyFound, levels_below, with_keys_at}
+use Rattle.found_laws.specs.Lines.{lacking, lacking_later, AreNoted}
 use Rattle.found_laws.proofs.Nodes.{found-follow, nodes-left}
 use Rattle.found_laws.proofs.Noting.{each-both, each-so, Among, found-noted, IsIn, in-held, in-reached}
-use Rattle.found_laws.proofs.Telling.{or-none, Any, Told, Later, found-told, step-told}
+use Rattle.found_laws.proofs.Telling.{Said, found-told, step-told}
 use Rattle.found_laws.proofs.Counting.{Noted, Used, found-within}
 use Rattle.found_laws.proofs.Changing.{changed-found, found-changed}
 
@@ -44,9 +46,9 @@ pub record Goes (hive : Ground) (s r : Search) : Type 0 where
   pub notes : r.notes ≡ s.notes ++ more
   pub is : IsSearch hive r
 
--- of the incomplete keys the lines of the walk tell, of which these tell so, or those after it
-abbrev pub IsTold : Ground → (List (List ℕ) → Bool) → Bool → Search → Type 0
-IsTold hive test walk s = Any hive test s.notes ≡ (walk || Later hive test s.said)
+-- the incomplete keys are noted in the order of the lines of the walk, of which these say so, and of those after it
+abbrev pub IsTold : Said → Search → Type 0
+IsTold walk s = AreNoted s.notes (walk ++ map lacking_later s.said)
 
 -- of each place no more incomplete keys are noted than cells are used
 abbrev pub IsCounted : Ground → ℕ → Search → Type 0
@@ -169,12 +171,12 @@ module _ (hive : Ground) (own : Incomplete) (s : Search) (h : Head) (ts : Trees)
         };
       }
 
-  made-told : (test : List (List ℕ) → Bool) (walk : Bool) → s.used.lines ≡ [] → IsTold hive test walk s → IsTold hive test walk made
-  made-told test walk silent t =
-      let x = walk || Later hive test s.said in
-      step-told hive test notes walk s.said found.1.lines count own.path
-      (found-told hive test (levels_below own) h.security own.path (naming hive own.at hive.slots) (listed ts) s.used s.notes x
-      (t ∙ sym (or-none x (Told hive test s.used.lines) (ap (Told hive test) silent))))
+  made-told : (walk : Said) → s.used.lines ≡ [] → IsTold walk s → IsTold walk made
+  made-told walk silent t =
+      let before = walk ++ map lacking_later s.said in
+      step-told notes walk s.said found.1.lines count own.path
+      (found-told hive before (levels_below own) h.security own.path (naming hive own.at hive.slots) (listed ts) s.used s.notes
+      (subst (AreNoted s.notes) (nothing-more before ∙ ap (λ (ls : List WalkLine). before ++ map lacking ls) (sym silent)) t))
 
   made-counted : (v : ℕ) → IsCounted hive v s → IsCounted hive v made
   made-counted v c =
@@ -199,10 +201,10 @@ step-left hive used own s i o u =
     by-head hive own s (λ (r : Search). Upto r.used.claims used → StepLeft hive used own s r) o
     (λ h ts e place u. made-left hive own s h ts e used i.silent place u) u
 
-pub step-tells : (hive : Ground) (own : Incomplete) (s : Search) (test : List (List ℕ) → Bool) (walk : Bool) → IsSearch hive s
-    → IsIn hive s.tree own → IsTold hive test walk s → IsTold hive test walk (search_step hive own s)
-step-tells hive own s test walk i o t =
-    by-head hive own s (IsTold hive test walk) o (λ h ts e place. made-told hive own s h ts e test walk i.silent t)
+pub step-tells : (hive : Ground) (own : Incomplete) (s : Search) (walk : Said) → IsSearch hive s → IsIn hive s.tree own → IsTold walk s
+    → IsTold walk (search_step hive own s)
+step-tells hive own s walk i o t =
+    by-head hive own s (IsTold walk) o (λ h ts e place. made-told hive own s h ts e walk i.silent t)
 
 pub step-counts : (hive : Ground) (own : Incomplete) (s : Search) (v : ℕ) → IsSearch hive s → IsIn hive s.tree own
     → IsCounted hive v s → IsCounted hive v (search_step hive own s)

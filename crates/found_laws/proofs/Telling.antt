@@ -1,16 +1,16 @@
--- The keys that are noted as incomplete are those of which a line says so.
-use Rattle.std.proofs.Common.{◌≡◌, inl, inr, ℕ, zero, suc, ◌+◌, ◌-◌, Bool, true, false, cond, List, [], ◌∷◌, ◌++◌, length, take, Option, Some, None, Result, Ok, Err, refl, sym, ap, subst, ◌∙◌, arith, length-append, take_at}
+-- The keys that are noted as incomplete are those of which a line says so, in the order of the first such lines.
+use Rattle.std.proofs.Common.{◌≡◌, inl, inr, ℕ, zero, suc, ◌+◌, ◌-◌, Bool, true, false, cond, List, [], ◌∷◌, ◌++◌, length, take, Option, Some, None, Result, Ok, Err, refl, sym, ap, subst, ◌∙◌, append_assoc, arith, length-append, take_at}
 use Rattle.std.specs.Prelude.{◌==◌, ◌&&◌, ◌||◌, not, is_some, map}
-use Rattle.std.specs.Option.{option_map_or}
-use Rattle.std.specs.List.{list_any}
+use Rattle.std.specs.List.{Contains}
 use Rattle.std.proofs.lemmas.Bool.{eq-eqb, eqb-true}
-use Rattle.std.proofs.lemmas.List.Folds.{list_any-append}
+use Rattle.std.proofs.lemmas.List.{map-append}
+use Rattle.std.proofs.lemmas.List.Elements.{Contains-append_left, Contains-push}
 use Rattle.nt_bytes.specs.declared.fault.HiveFault.{HiveFault}
 use Rattle.nt_bytes.specs.declared.fault.HiveFaultKind.{HiveFaultKind}
 use Rattle.nt_bytes.specs.declared.fault.HiveFaultKind.TheVariants.{TooDeep}
 use Rattle.hive_model.specs.Base.{fault_at}
 use Rattle.hive_model.specs.KeyNode.{KeyNode, key_node_at}
-use Rattle.hive_model.specs.KeyValue.{KeyValue}
+use Rattle.hive_model.specs.KeyValue.{KeyValue, key_value_at}
 use Rattle.hive_model.specs.Tree.{Item, Tree}
 use Rattle.hive_model.specs.Walk.{reading}
 use Rattle.reg_tree.proofs.Unlike.{Each}
@@ -33,96 +33,120 @@ use Rattle.salvage_walk.specs.Found.{unsaid, found_next, found_notes}
 use Rattle.salvage_laws.specs.Left.{ClassLeft, class_stands, class_lost, SecurityLeft, security_none, security_first, security_again, security_lost, short_lines, ItemsLeft, ValuesLeft, values_none, values_listed, values_lost}
 use Rattle.salvage_laws.specs.LeftLists.{ListLeft, list_read, list_lost, LeavesLeft, ListsLeft, own_entries, entries_of_lists, lists_lost, is_silent, count_lines, EntriesLeft, entries_none, entries_named}
 use Rattle.salvage_laws.proofs.Leaving.{nothing-more, class-left, security-left, values-left, entries-left}
-use Rattle.found_laws.specs.Lines.{lacking, tells, tells_later}
+use Rattle.found_laws.specs.Lines.{lacking, lacking_later, AreNoted, none_yet, by_none, by_another, by_first}
 use Rattle.found_laws.proofs.Noting.{NotesOf, key-noted}
 
--- ---- tests
+-- ---- notes by lines
 
-or-left : (a b c : Bool) → ((a || b) || c) ≡ (a || (b || c))
-or-left true b c = refl
-or-left false b c = refl
+abbrev pub Said : Type 0
+Said = List (Option (List (List ℕ)))
 
-pub or-none : (a b : Bool) → b ≡ false → (a || b) ≡ a
-or-none true b e = refl
-or-none false b e = e
+abbrev some_path : List (List ℕ) → Option (List (List ℕ))
+some_path path = Some path
 
--- what adds nothing to one adds nothing to more
-or-kept : (a b c : Bool) → (a || c) ≡ a → ((a || b) || c) ≡ (a || b)
-or-kept true b c e = refl
-or-kept false b true e = absurd cc
-or-kept false true false e = refl
-or-kept false false false e = refl
+-- a key of this path was noted
+abbrev IsNoted : List (List ℕ) → List Incomplete → Type 0
+IsNoted path notes = (own : Incomplete) × (own.path ≡ path) × Contains notes own
 
-or-again : (a c : Bool) → ((a || c) || c) ≡ (a || c)
-or-again true c = refl
-or-again false true = refl
-or-again false false = refl
+noted-more : (path : List (List ℕ)) (old more new : List Incomplete) → new ≡ old ++ more → IsNoted path old → IsNoted path new
+noted-more path old more new e n =
+    (n.0, n.1, subst (λ (l : List Incomplete). Contains l n.0) (sym e) (Contains-append_left old more n.0 n.2))
+
+again-so : (path : List (List ℕ)) (notes : List Incomplete) (said : Said) (o : Option (List (List ℕ))) → o ≡ Some path
+    → IsNoted path notes → AreNoted notes said → AreNoted notes (said ++ o ∷ [])
+again-so path notes said o e n a =
+    subst (λ (x : Option (List (List ℕ))). AreNoted notes (said ++ x ∷ [])) (ap some_path n.1 ∙ sym e) (by_another notes said n.0 a n.2)
+
+first-so : (at : ℕ) (path : List (List ℕ)) (notes : List Incomplete) (said : Said) (o : Option (List (List ℕ))) → o ≡ Some path
+    → AreNoted notes said → AreNoted (notes ++ incomplete_at at path ∷ []) (said ++ o ∷ [])
+first-so at path notes said o e a =
+    subst (λ (x : Option (List (List ℕ))). AreNoted (notes ++ incomplete_at at path ∷ []) (said ++ x ∷ [])) (sym e)
+    (by_first notes said (incomplete_at at path) a)
+
+next-said : {A : Type 0} (said : List A) (o : A) (more : List A) → (said ++ o ∷ []) ++ more ≡ said ++ o ∷ more
+next-said said o more = append_assoc said (o ∷ []) more
 
 both-so : (P : WalkLine → Type 0) (xs ys : List WalkLine) → Each P xs → Each P ys → Each P (xs ++ ys)
 both-so P [] ys a b = b
 both-so P (x ∷ xs) ys a b = (a.0, both-so P xs ys a.1 b)
 
-module _ (hive : Ground) (test : List (List ℕ) → Bool) where
-  -- a key that was noted passes the test
-  abbrev pub Any : List Incomplete → Bool
-  Any notes = list_any (λ (own : Incomplete). test own.path) notes
+abbrev AllQuiet : List WalkLine → Type 0
+AllQuiet said = Each (λ line. lacking line ≡ None) said
 
-  -- a line tells of one that does
-  abbrev pub Told : List WalkLine → Bool
-  Told said = list_any (tells test) said
+abbrev AllOf : List (List ℕ) → List WalkLine → Type 0
+AllOf path said = Each (λ line. lacking line ≡ Some path) said
 
-  any-both : (a b c : List Incomplete) → c ≡ a ++ b → Any c ≡ (Any a || Any b)
-  any-both a b c e = ap Any e ∙ list_any-append (λ (own : Incomplete). test own.path) a b
+quiet-lines : (notes : List Incomplete) (before : Said) (said : List WalkLine) → AllQuiet said → AreNoted notes before
+    → AreNoted notes (before ++ map lacking said)
+quiet-lines notes before [] q a = subst (AreNoted notes) (nothing-more before) a
+quiet-lines notes before (line ∷ more) q a =
+    subst (AreNoted notes) (next-said before (lacking line) (map lacking more))
+    (quiet-lines notes (before ++ lacking line ∷ []) more q.1
+    (subst (λ (o : Option (List (List ℕ))). AreNoted notes (before ++ o ∷ [])) (sym q.0) (by_none notes before a)))
 
-  told-both : (a b c : List WalkLine) → c ≡ a ++ b → Told c ≡ (Told a || Told b)
-  told-both a b c e = ap Told e ∙ list_any-append (tells test) a b
+again-lines : (path : List (List ℕ)) (notes : List Incomplete) (before : Said) (said : List WalkLine) → AllOf path said
+    → IsNoted path notes → AreNoted notes before → AreNoted notes (before ++ map lacking said)
+again-lines path notes before [] q n a = subst (AreNoted notes) (nothing-more before) a
+again-lines path notes before (line ∷ more) q n a =
+    subst (AreNoted notes) (next-said before (lacking line) (map lacking more))
+    (again-lines path notes (before ++ lacking line ∷ []) more q.1 n (again-so path notes before (lacking line) q.0 n a))
 
-  -- ---- lines that tell of no key
+own-noted : (b : Bool) (at : ℕ) (path : List (List ℕ)) (notes : List Incomplete) → b ≡ true
+    → IsNoted path (noted b (incomplete_at at path) notes)
+own-noted true at path notes e = (incomplete_at at path, refl, Contains-push notes (incomplete_at at path))
+own-noted false at path notes e = absurd cc
 
+of-lines : (at : ℕ) (path : List (List ℕ)) (notes : List Incomplete) (before : Said) (said : List WalkLine) → AllOf path said
+    → AreNoted notes before → AreNoted (noted (not (is_silent said)) (incomplete_at at path) notes) (before ++ map lacking said)
+of-lines at path notes before [] q a = subst (AreNoted notes) (nothing-more before) a
+of-lines at path notes before (line ∷ more) q a =
+    let new = notes ++ incomplete_at at path ∷ [] in
+    subst (AreNoted new) (next-said before (lacking line) (map lacking more))
+    (again-lines path new (before ++ lacking line ∷ []) more q.1 (own-noted true at path notes refl)
+    (first-so at path notes before (lacking line) q.0 a))
+
+-- ---- lines of a key
+
+module _ (hive : Ground) where
   class-quiet : (used : List Claim) (path : List (List ℕ)) (node : KeyNode) (class : List ℕ) (uses : List Claim) (said : List WalkLine)
-      → ClassLeft hive used path node class uses said → Told said ≡ false
-  class-quiet used path node class uses said (class_stands a b e) = ap Told e
-  class-quiet used path node class uses said (class_lost fault a b c d e) = ap Told e
+      → ClassLeft hive used path node class uses said → AllQuiet said
+  class-quiet used path node class uses said (class_stands a b e) = subst AllQuiet (sym e) tt
+  class-quiet used path node class uses said (class_lost fault a b c d e) = subst AllQuiet (sym e) (refl, tt)
 
   security-quiet : (used : List Claim) (above : List ℕ) (path : List (List ℕ)) (node : KeyNode) (own : List ℕ) (uses : List Claim)
-      (said : List WalkLine) → SecurityLeft hive used above path node own uses said → Told said ≡ false
-  security-quiet used above path node own uses said (security_none a b c e) = ap Told e
-  security-quiet used above path node own uses said (security_first cell a b c d e) = ap Told e
-  security-quiet used above path node own uses said (security_again cell c a b d f g h e) = ap Told e
-  security-quiet used above path node own uses said (security_lost kind a b c d e) = ap Told e
+      (said : List WalkLine) → SecurityLeft hive used above path node own uses said → AllQuiet said
+  security-quiet used above path node own uses said (security_none a b c e) = subst AllQuiet (sym e) tt
+  security-quiet used above path node own uses said (security_first cell a b c d e) = subst AllQuiet (sym e) tt
+  security-quiet used above path node own uses said (security_again cell c a b d f g h e) = subst AllQuiet (sym e) tt
+  security-quiet used above path node own uses said (security_lost kind a b c d e) = subst AllQuiet (sym e) (refl, tt)
 
   items-quiet : (used : List Claim) (path : List (List ℕ)) (i : ℕ) (names : List (List ℕ)) (offsets : List ℕ) (items : List Item)
-      (uses : List Claim) (said : List WalkLine) → ItemsLeft hive used path i names offsets items uses said → Told said ≡ false
-  items-quiet used path i names [] items uses said l = ap Told l.2
+      (uses : List Claim) (said : List WalkLine) → ItemsLeft hive used path i names offsets items uses said → AllQuiet said
+  items-quiet used path i names [] items uses said l = subst AllQuiet (sym l.2) tt
   items-quiet used path i names (at ∷ more) items uses said (inl l) =
       items-quiet used path (i + 1) (names ++ l.0.name ∷ []) more l.1 l.2 said l.7
   items-quiet used path i names (at ∷ more) items uses said (inr l) =
-      ap Told l.2 ∙ ap (λ (b : Bool). b || Told l.1) (line (reading _ hive.cells at))
-      ∙ items-quiet used path (i + 1) names more items uses l.1 l.4
+      subst AllQuiet (sym l.2)
+      (line (reading key_value_at hive.cells at), items-quiet used path (i + 1) names more items uses l.1 l.4)
     where
-      line : (r : Result KeyValue HiveFaultKind) → tells test (value_line path i l.0 r) ≡ false
+      line : (r : Result KeyValue HiveFaultKind) → lacking (value_line path i l.0 r) ≡ None
       line (Ok value) = refl
       line (Err kind) = refl
 
   values-quiet : (used : List Claim) (path : List (List ℕ)) (node : KeyNode) (items : List Item) (uses : List Claim) (said : List WalkLine)
-      → ValuesLeft hive used path node items uses said → Told said ≡ false
-  values-quiet used path node items uses said (values_none a b c e) = ap Told e
+      → ValuesLeft hive used path node items uses said → AllQuiet said
+  values-quiet used path node items uses said (values_none a b c e) = subst AllQuiet (sym e) tt
   values-quiet used path node items uses said (values_listed list later rest a b c e l) =
-      told-both (short_lines list.short parts.Values path node.value_list) rest said e
-      ∙ ap (λ (b : Bool). b || Told rest) (short list.short) ∙ items-quiet used path 1 [] list.offsets items later rest l
+      subst AllQuiet (sym e)
+      (both-so (λ line. lacking line ≡ None) (short_lines list.short parts.Values path node.value_list) rest (short list.short)
+      (items-quiet used path 1 [] list.offsets items later rest l))
     where
-      short : (b : Bool) → Told (short_lines b parts.Values path node.value_list) ≡ false
-      short true = refl
-      short false = refl
-  values-quiet used path node items uses said (values_lost kind a b c d e) = ap Told e
-
-  quiet-on : (w v : Walked) (said : List WalkLine) → v.lines ≡ w.lines ++ said → Told said ≡ false → Told v.lines ≡ Told w.lines
-  quiet-on w v said e q = told-both w.lines said v.lines e ∙ or-none (Told w.lines) (Told said) q
+      short : (b : Bool) → AllQuiet (short_lines b parts.Values path node.value_list)
+      short true = (refl, tt)
+      short false = tt
+  values-quiet used path node items uses said (values_lost kind a b c d e) = subst AllQuiet (sym e) (refl, tt)
 
   -- ---- lines of a key's lists
-
-  abbrev AllOf : List (List ℕ) → List WalkLine → Type 0
-  AllOf path said = Each (λ line. lacking line ≡ Some path) said
 
   short-of : (b : Bool) (path : List (List ℕ)) (at : ℕ) → AllOf path (short_lines b parts.Keys path at)
   short-of true path at = (refl, tt)
@@ -164,17 +188,6 @@ module _ (hive : Ground) (test : List (List ℕ) → Bool) where
       count true = (refl, tt)
       count false = tt
 
-  of-told : (path : List (List ℕ)) (said : List WalkLine) → AllOf path said → Told said ≡ (not (is_silent said) && test path)
-  of-told path [] a = refl
-  of-told path (line ∷ more) a =
-      ap (λ (o : Option (List (List ℕ))). option_map_or test o false || Told more) a.0
-      ∙ ap (λ (b : Bool). test path || b) (of-told path more a.1) ∙ whole (test path) (not (is_silent more))
-    where
-      whole : (a b : Bool) → (a || (b && a)) ≡ a
-      whole true b = refl
-      whole false true = refl
-      whole false false = refl
-
   more-said : (w v : Walked) (said : List WalkLine) → v.lines ≡ w.lines ++ said → says_more w v ≡ not (is_silent said)
   more-said w v [] e =
       ap not (eq-eqb (length w.lines) (length v.lines) (ap length (nothing-more w.lines) ∙ sym (ap length e)))
@@ -188,97 +201,95 @@ module _ (hive : Ground) (test : List (List ℕ) → Bool) where
       go true f = absurd (omega (arith, long, eqb-true (length w.lines) (length v.lines) f))
       go false f = refl
 
-  -- ---- children
+-- ---- children
 
-  above-own : (path : List (List ℕ)) (name : List ℕ) → take (length (path ++ name ∷ []) - 1) (path ++ name ∷ []) ≡ path
-  above-own path name =
-      take_at path (name ∷ []) (length (path ++ name ∷ []) - 1) (omega (arith, length-append path (name ∷ [])))
+above-own : (path : List (List ℕ)) (name : List ℕ) → take (length (path ++ name ∷ []) - 1) (path ++ name ∷ []) ≡ path
+above-own path name =
+    take_at path (name ∷ []) (length (path ++ name ∷ []) - 1) (omega (arith, length-append path (name ∷ [])))
 
-  line-told : (path : List (List ℕ)) (i : ℕ) (fault : HiveFault) (r : Result KeyNode HiveFaultKind)
-      → tells test (key_line path i fault r) ≡ test path
-  line-told path i fault (Ok node) = ap test (above-own path node.name)
-  line-told path i fault (Err kind) = refl
+line-lacks : (path : List (List ℕ)) (i : ℕ) (fault : HiveFault) (r : Result KeyNode HiveFaultKind)
+    → lacking (key_line path i fault r) ≡ Some path
+line-lacks path i fault (Ok node) = ap some_path (above-own path node.name)
+line-lacks path i fault (Err kind) = refl
 
-  one-line : (b : Bool) → (b || false) ≡ b
-  one-line true = refl
-  one-line false = refl
+module _ (hive : Ground) (before : Said) where
+  -- after other lines, the keys that lines say so of are noted
+  abbrev pub Keeps : List Incomplete → Walked → Type 0
+  Keeps notes w = AreNoted notes (before ++ map lacking w.lines)
 
-  said-told : (path : List (List ℕ)) (i : ℕ) (fault : HiveFault) (r : Result KeyNode HiveFaultKind) (w : Walked)
-      → Told (say w (key_line path i fault r)).lines ≡ (Told w.lines || test path)
-  said-told path i fault r w =
-      told-both w.lines (key_line path i fault r ∷ []) (say w (key_line path i fault r)).lines refl
-      ∙ ap (λ (b : Bool). Told w.lines || b) (one-line (tells test (key_line path i fault r)) ∙ line-told path i fault r)
+  kept-on : (notes : List Incomplete) (w v : Walked) (said : List WalkLine) → v.lines ≡ w.lines ++ said
+      → AreNoted notes ((before ++ map lacking w.lines) ++ map lacking said) → Keeps notes v
+  kept-on notes w v said e a =
+      subst (AreNoted notes)
+      (append_assoc before (map lacking w.lines) (map lacking said)
+      ∙ ap (λ (l : Said). before ++ l) (sym (map-append lacking w.lines said) ∙ ap (map lacking) (sym e))) a
 
-  -- a child that stands has noted what its lines tell; one that is left out has a line that tells of its parent
+  quiet-on : (notes : List Incomplete) (w v : Walked) (said : List WalkLine) → v.lines ≡ w.lines ++ said → AllQuiet said → Keeps notes w
+      → Keeps notes v
+  quiet-on notes w v said e q a = kept-on notes w v said e (quiet-lines notes (before ++ map lacking w.lines) said q a)
+
+  -- a child that stands has noted what its lines say; one that is left out has a line of its parent
   abbrev ChildTold : List (List ℕ) → List Incomplete → List Incomplete → Walked → Option Tree × Walked → Type 0
-  ChildTold path old new w (Some t, v) = (x : Bool) → Any old ≡ (x || Told w.lines) → Any new ≡ (x || Told v.lines)
-  ChildTold path old new w (None, v) = (new ≡ old) × (Told v.lines ≡ (Told w.lines || test path))
+  ChildTold path old new w (Some t, v) = Keeps old w → Keeps new v
+  ChildTold path old new w (None, v) =
+      (new ≡ old) × ((line : WalkLine) × (v.lines ≡ w.lines ++ line ∷ []) × (lacking line ≡ Some path))
 
   abbrev JudgesTold : ℕ → Type 0
   JudgesTold left =
       (above : List ℕ) (path names : List (List ℕ)) (i at : ℕ) (w : Walked) (notes : List Incomplete)
       → ChildTold path notes (notes_key left hive above path names i at w notes) w (judged_key left hive above path names i at w)
 
-  noted-any : (b : Bool) (at : ℕ) (path : List (List ℕ)) (notes : List Incomplete)
-      → Any (noted b (incomplete_at at path) notes) ≡ (Any notes || (b && test path))
-  noted-any true at path notes =
-      any-both notes (incomplete_at at path ∷ []) (notes ++ incomplete_at at path ∷ []) refl
-      ∙ ap (λ (b : Bool). Any notes || b) (one-line (test path))
-  noted-any false at path notes = sym (or-none (Any notes) false refl)
-
   next-told : (left : ℕ) (own : ℕ) (above : List ℕ) (path : List (List ℕ)) (i : ℕ) (offsets : List ℕ) (us : List Tree) (w : Walked)
-      (told : Bool) (notes : List Incomplete) (x : Bool) → JudgesTold left → Any notes ≡ (x || Told w.lines)
-      → (told ≡ true → (Any notes || test path) ≡ Any notes)
-      → Any (notes_next (judged_key left hive) (notes_key left hive) (incomplete_at own path) above path i offsets us w told notes)
-      ≡ (x || Told (keys_next (judged_key left hive) above path i offsets us w).1.lines)
+      (told : Bool) (notes : List Incomplete) → JudgesTold left → Keeps notes w → (told ≡ true → IsNoted path notes)
+      → Keeps (notes_next (judged_key left hive) (notes_key left hive) (incomplete_at own path) above path i offsets us w told notes)
+      (keys_next (judged_key left hive) above path i offsets us w).1
   unfolding notes_next keys_next
-  next-told left own above path i [] us w told notes x each e k = e
-  next-told left own above path i (at ∷ rest) us w told notes x each e k =
+  next-told left own above path i [] us w told notes each e k = e
+  next-told left own above path i (at ∷ rest) us w told notes each e k =
       by told (judged_key left hive above path (key_names us) i at w) (key-noted hive left above path (key_names us) i at w notes)
       (each above path (key_names us) i at w notes) k
-      (λ told next notes e k. next-told left own above path (i + 1) rest next.0 next.1 told notes x each e k)
+      (λ told next notes e k. next-told left own above path (i + 1) rest next.0 next.1 told notes each e k)
     where
       one : List Incomplete
       one = notes_key left hive above path (key_names us) i at w notes
 
       after : List Tree × Walked → Bool → List Incomplete → Type 0
       after next told notes =
-          Any (notes_next (judged_key left hive) (notes_key left hive) (incomplete_at own path) above path (i + 1) rest next.0 next.1 told notes)
-          ≡ (x || Told (keys_next (judged_key left hive) above path (i + 1) rest next.0 next.1).1.lines)
+          Keeps
+          (notes_next (judged_key left hive) (notes_key left hive) (incomplete_at own path) above path (i + 1) rest next.0 next.1 told notes)
+          (keys_next (judged_key left hive) above path (i + 1) rest next.0 next.1).1
 
       Rest : Type 0
       Rest =
-          (told : Bool) (next : List Tree × Walked) (notes : List Incomplete) → Any notes ≡ (x || Told next.1.lines)
-          → (told ≡ true → (Any notes || test path) ≡ Any notes) → after next told notes
-
-      lost : (v : Walked) → Told v.lines ≡ (Told w.lines || test path) → (Any notes || test path) ≡ (x || Told v.lines)
-      lost v c =
-          ap (λ (b : Bool). b || test path) e ∙ or-left x (Told w.lines) (test path) ∙ ap (λ (b : Bool). x || b) (sym c)
+          (told : Bool) (next : List Tree × Walked) (notes : List Incomplete) → Keeps notes next.1
+          → (told ≡ true → IsNoted path notes) → after next told notes
 
       by : (told : Bool) (r : Option Tree × Walked) → NotesOf hive path notes one r → ChildTold path notes one w r
-          → (told ≡ true → (Any notes || test path) ≡ Any notes) → Rest
+          → (told ≡ true → IsNoted path notes) → Rest
           → after (with_child us r) (told || not (is_some r.0)) (noted (not told && not (is_some r.0)) (incomplete_at own path) one)
-      by true (Some t, v) n c k h =
-          h true (us ++ t ∷ [], v) one (c x e)
-          (λ f. ap (λ (b : Bool). b || test path) (any-both notes n.more one n.is)
-          ∙ or-kept (Any notes) (Any n.more) (test path) (k refl) ∙ sym (any-both notes n.more one n.is))
-      by false (Some t, v) n c k h = h false (us ++ t ∷ [], v) one (c x e) (λ f. absurd cc)
+      by true (Some t, v) n c k h = h true (us ++ t ∷ [], v) one (c e) (λ f. noted-more path notes n.more one n.is (k refl))
+      by false (Some t, v) n c k h = h false (us ++ t ∷ [], v) one (c e) (λ f. absurd cc)
       by true (None, v) n c k h =
-          h true (us, v) one (ap Any c.0 ∙ sym (k refl) ∙ lost v c.1)
-          (λ f. ap (λ (ns : List Incomplete). Any ns || test path) c.0 ∙ k refl ∙ sym (ap Any c.0))
+          let old = subst (IsNoted path) (sym c.0) (k refl) in
+          h true (us, v) one
+          (kept-on one w v (c.1.0 ∷ []) c.1.1
+          (again-so path one (before ++ map lacking w.lines) (lacking c.1.0) c.1.2 old
+          (subst (λ (ns : List Incomplete). Keeps ns w) (sym c.0) e))) (λ f. old)
       by false (None, v) n c k h =
-          let two = noted-any true own path one ∙ ap (λ (ns : List Incomplete). Any ns || test path) c.0 in
-          h true (us, v) (noted true (incomplete_at own path) one) (two ∙ lost v c.1)
-          (λ f. ap (λ (b : Bool). b || test path) two ∙ or-again (Any notes) (test path) ∙ sym two)
+          h true (us, v) (noted true (incomplete_at own path) one)
+          (kept-on (noted true (incomplete_at own path) one) w v (c.1.0 ∷ []) c.1.1
+          (first-so own path one (before ++ map lacking w.lines) (lacking c.1.0) c.1.2
+          (subst (λ (ns : List Incomplete). Keeps ns w) (sym c.0) e)))
+          (λ f. own-noted true own path one refl)
 
   -- ---- a key
 
   below-told : (left : ℕ) (above : List ℕ) (path : List (List ℕ)) (node : KeyNode) (at : ℕ) (w : Walked) (notes : List Incomplete)
-      (x : Bool) → JudgesTold left → Any notes ≡ (x || Told w.lines)
-      → Any (notes_below (judged_key left hive) (notes_key left hive) hive above path node at w notes)
-      ≡ (x || Told (key_below (judged_key left hive) hive above path node at w).1.lines)
+      → JudgesTold left → Keeps notes w
+      → Keeps (notes_below (judged_key left hive) (notes_key left hive) hive above path node at w notes)
+      (key_below (judged_key left hive) hive above path node at w).1
   unfolding notes_below key_below
-  below-told left above path node at w notes x each e =
+  below-told left above path node at w notes each e =
       let class = class_step hive path node w in
       let security = security_step hive above path node class.1 in
       let values = values_step hive path node security.1 in
@@ -287,70 +298,70 @@ module _ (hive : Ground) (test : List (List ℕ) → Bool) where
       let b = security-left hive security.1.claims above path node class.1 ([], nothing-more security.1.claims) in
       let c = values-left hive values.1.claims path node security.1 ([], nothing-more values.1.claims) in
       let d = entries-left hive entries.1.claims path node at values.1 ([], nothing-more entries.1.claims) in
-      let quiet : Told values.1.lines ≡ Told w.lines =
-      quiet-on security.1 values.1 c.said c.said_is (values-quiet values.1.claims path node values.0 c.uses c.said c.means)
-      ∙ quiet-on class.1 security.1 b.said b.said_is
-      (security-quiet security.1.claims above path node security.0 b.uses b.said b.means)
-      ∙ quiet-on w class.1 a.said a.said_is (class-quiet class.1.claims path node class.0 a.uses a.said a.means) in
+      let kept : Keeps notes values.1 =
+      quiet-on notes security.1 values.1 c.said c.said_is
+      (values-quiet hive values.1.claims path node values.0 c.uses c.said c.means)
+      (quiet-on notes class.1 security.1 b.said b.said_is
+      (security-quiet hive security.1.claims above path node security.0 b.uses b.said b.means)
+      (quiet-on notes w class.1 a.said a.said_is (class-quiet hive class.1.claims path node class.0 a.uses a.said a.means) e)) in
       let told = says_more values.1 entries.1 in
-      let more : Told entries.1.lines ≡ (Told w.lines || (told && test path)) =
-      told-both values.1.lines d.said entries.1.lines d.said_is
-      ∙ ap (λ (b : Bool). Told values.1.lines || b)
-      (of-told path d.said (entries-of entries.1.claims path node at entries.0 d.uses d.said d.means)
-      ∙ ap (λ (b : Bool). b && test path) (sym (more-said values.1 entries.1 d.said d.said_is)))
-      ∙ ap (λ (b : Bool). b || (told && test path)) quiet in
       let one = noted told (incomplete_at at path) notes in
-      let any = noted-any told at path notes in
-      next-told left at security.0 path 1 entries.0 [] entries.1 told one x each
-      (any ∙ ap (λ (b : Bool). b || (told && test path)) e ∙ or-left x (Told w.lines) (told && test path)
-      ∙ ap (λ (b : Bool). x || b) (sym more))
-      (λ t. ap (λ (b : Bool). b || test path) (any ∙ ap (λ (b : Bool). Any notes || (b && test path)) t)
-      ∙ or-again (Any notes) (test path) ∙ sym (any ∙ ap (λ (b : Bool). Any notes || (b && test path)) t))
+      let now : Keeps one entries.1 =
+      kept-on one values.1 entries.1 d.said d.said_is
+      (subst (λ (b : Bool). AreNoted (noted b (incomplete_at at path) notes)
+      ((before ++ map lacking values.1.lines) ++ map lacking d.said)) (sym (more-said hive values.1 entries.1 d.said d.said_is))
+      (of-lines at path notes (before ++ map lacking values.1.lines) d.said
+      (entries-of hive entries.1.claims path node at entries.0 d.uses d.said d.means) kept)) in
+      next-told left at security.0 path 1 entries.0 [] entries.1 told one each now (own-noted told at path notes)
 
   key-told : (left : ℕ) → JudgesTold left
   unfolding judged_key notes_key
   key-told zero above path names i at w notes =
-      (refl, said-told path i (fault_at TooDeep at) (reading key_node_at hive.cells at) w)
+      let r = reading key_node_at hive.cells at in
+      (refl, (key_line path i (fault_at TooDeep at) r, refl, line-lacks path i (fault_at TooDeep at) r))
   key-told (suc left) above path names i at w notes =
       by (key-told left) (part (node_form false names) node_long false hive w.claims at)
     where
       by : JudgesTold left → (r : Result (KeyNode × List Claim) HiveFaultKind)
           → ChildTold path notes (notes_done (judged_key left hive) (notes_key left hive) hive above path at w notes r) w
           (key_done (judged_key left hive) hive above path i at w r)
-      by each (Ok r) = λ x e. below-told left above (path ++ r.0.name ∷ []) r.0 at (using w r.1) notes x each e
-      by each (Err kind) = (refl, said-told path i (fault_at kind at) (reading key_node_at hive.cells at) w)
+      by each (Ok r) = λ e. below-told left above (path ++ r.0.name ∷ []) r.0 at (using w r.1) notes each e
+      by each (Err kind) =
+          let r = reading key_node_at hive.cells at in
+          (refl, (key_line path i (fault_at kind at) r, refl, line-lacks path i (fault_at kind at) r))
 
   -- ---- children that are found
 
   pub found-told : (left : ℕ) (above : List ℕ) (path : List (List ℕ)) (places : List ℕ) (us : List Tree) (w : Walked)
-      (notes : List Incomplete) (x : Bool) → Any notes ≡ (x || Told w.lines)
-      → Any (found_notes (judged_key left hive) (notes_key left hive) above path places us w notes)
-      ≡ (x || Told (found_next (judged_key left hive) above path places us w).1.lines)
+      (notes : List Incomplete) → Keeps notes w
+      → Keeps (found_notes (judged_key left hive) (notes_key left hive) above path places us w notes)
+      (found_next (judged_key left hive) above path places us w).1
   unfolding found_notes found_next
-  found-told left above path [] us w notes x e = e
-  found-told left above path (at ∷ places) us w notes x e =
+  found-told left above path [] us w notes e = e
+  found-told left above path (at ∷ places) us w notes e =
       by (judged_key left hive above path (key_names us) 0 at w) (key-told left above path (key_names us) 0 at w notes)
-      (λ next notes e. found-told left above path places next.0 next.1 notes x e)
+      (λ next notes e. found-told left above path places next.0 next.1 notes e)
     where
       one : List Incomplete
       one = notes_key left hive above path (key_names us) 0 at w notes
 
       after : List Tree × Walked → List Incomplete → Type 0
       after next notes =
-          Any (found_notes (judged_key left hive) (notes_key left hive) above path places next.0 next.1 notes)
-          ≡ (x || Told (found_next (judged_key left hive) above path places next.0 next.1).1.lines)
+          Keeps (found_notes (judged_key left hive) (notes_key left hive) above path places next.0 next.1 notes)
+          (found_next (judged_key left hive) above path places next.0 next.1).1
 
       by : (r : Option Tree × Walked) → ChildTold path notes one w r
-          → ((next : List Tree × Walked) (notes : List Incomplete) → Any notes ≡ (x || Told next.1.lines) → after next notes)
+          → ((next : List Tree × Walked) (notes : List Incomplete) → Keeps notes next.1 → after next notes)
           → after (with_child us (unsaid w r)) one
-      by (Some t, v) c h = h (us ++ t ∷ [], v) one (c x e)
-      by (None, v) c h = h (us, w) one (ap Any c.0 ∙ e)
+      by (Some t, v) c h = h (us ++ t ∷ [], v) one (c e)
+      by (None, v) c h = h (us, w) one (subst (λ (ns : List Incomplete). Keeps ns w) (sym c.0) e)
 
-  -- ---- from the root on
+-- ---- from the root on
 
+module _ (hive : Ground) where
   abbrev pub RootTold : List Incomplete → Option Tree × Walked → Type 0
-  RootTold notes (Some t, w) = Any notes ≡ Told w.lines
-  RootTold notes (None, w) = Told w.lines ≡ false
+  RootTold notes (Some t, w) = AreNoted notes (map lacking w.lines)
+  RootTold notes (None, w) = AreNoted [] (map lacking w.lines)
 
   pub incomplete-told : (root : ℕ) → RootTold (incomplete hive root) (salvaged hive root)
   unfolding incomplete salvaged
@@ -359,48 +370,50 @@ module _ (hive : Ground) (test : List (List ℕ) → Bool) where
       begun : Walked
       begun = record { claims = []; lines = [] }
 
-      from : (at : ℕ) (w : Walked) (r : KeyNode × List Claim) → Told w.lines ≡ false
+      from : (at : ℕ) (w : Walked) (r : KeyNode × List Claim) → AreNoted [] (map lacking w.lines)
           → RootTold (notes_root hive at w [] r) (root_below hive at w r)
-      from at w r q = below-told 511 [] [] r.0 at (using w r.1) [] false (key-told 511) (sym q)
+      from at w r q = below-told hive [] 511 [] [] r.0 at (using w r.1) [] (key-told hive [] 511) q
 
-      there : (at : ℕ) (v : Walked) (r : Result (KeyNode × List Claim) HiveFaultKind) → Told v.lines ≡ false
+      there : (at : ℕ) (v : Walked) (r : Result (KeyNode × List Claim) HiveFaultKind) → AreNoted [] (map lacking v.lines)
           → RootTold (notes_there hive at v [] r) (other_done hive at v r)
       there at v (Ok r) q =
-          from at (say v (lines.RootAt at)) r (quiet-on v (say v (lines.RootAt at)) (lines.RootAt at ∷ []) refl refl ∙ q)
-      there at v (Err k) q = quiet-on v (say v lines.NoRoot) (lines.NoRoot ∷ []) refl refl ∙ q
+          from at (say v (lines.RootAt at)) r (quiet-on hive [] [] v (say v (lines.RootAt at)) (lines.RootAt at ∷ []) refl (refl, tt) q)
+      there at v (Err k) q = quiet-on hive [] [] v (say v lines.NoRoot) (lines.NoRoot ∷ []) refl (refl, tt) q
 
-      other : (o : Option ℕ) (v : Walked) → Told v.lines ≡ false → RootTold (notes_other hive v [] o) (other_root hive v o)
+      other : (o : Option ℕ) (v : Walked) → AreNoted [] (map lacking v.lines) → RootTold (notes_other hive v [] o) (other_root hive v o)
       other (Some at) v q = there at v (root_part hive v.claims at) q
-      other None v q = quiet-on v (say v lines.NoRoot) (lines.NoRoot ∷ []) refl refl ∙ q
+      other None v q = quiet-on hive [] [] v (say v lines.NoRoot) (lines.NoRoot ∷ []) refl (refl, tt) q
 
       by : (r : Result (KeyNode × List Claim) HiveFaultKind) → RootTold (notes_by hive root begun [] r) (root_done hive root begun r)
-      by (Ok r) = from root begun r refl
-      by (Err k) = other (least_root hive hive.slots 0) (say begun (lines.Root (fault_at k root))) refl
+      by (Ok r) = from root begun r none_yet
+      by (Err k) = other (least_root hive hive.slots 0) (say begun (lines.Root (fault_at k root))) (by_none [] [] none_yet)
 
-  -- ---- lines after the walk
+-- ---- lines after the walk
 
-  abbrev pub Later : List ParentLine → Bool
-  Later said = list_any (tells_later test) said
+later-walked : (said : List WalkLine) → map lacking_later (map printed.Walked said) ≡ map lacking said
+later-walked [] = refl
+later-walked (line ∷ more) = ap (λ (l : Said). lacking line ∷ l) (later-walked more)
 
-  later-walked : (said : List WalkLine) → Later (map printed.Walked said) ≡ Told said
-  later-walked [] = refl
-  later-walked (line ∷ more) = ap (λ (b : Bool). tells test line || b) (later-walked more)
+later-found : (notes : List Incomplete) (before : Said) (count : ℕ) (path : List (List ℕ)) → AreNoted notes before
+    → AreNoted notes (before ++ map lacking_later (found_line count path))
+later-found notes before count path a = go (count == 0)
+  where
+    go : (b : Bool) → AreNoted notes (before ++ map lacking_later (cond b [] (printed.Found count path ∷ [])))
+    go true = subst (AreNoted notes) (nothing-more before) a
+    go false = by_none notes before a
 
-  later-found : (count : ℕ) (path : List (List ℕ)) → Later (found_line count path) ≡ false
-  later-found count path = go (count == 0)
-    where
-      go : (b : Bool) → Later (cond b [] (printed.Found count path ∷ [])) ≡ false
-      go true = refl
-      go false = refl
-
-  -- what is noted so far is told in the walk or after it; and so it is after one more key
-  pub step-told : (new : List Incomplete) (x : Bool) (said : List ParentLine) (below : List WalkLine) (count : ℕ)
-      (path : List (List ℕ)) → Any new ≡ ((x || Later said) || Told below)
-      → Any new ≡ (x || Later (said ++ (map printed.Walked below ++ found_line count path)))
-  step-told new x said below count path e =
-      e ∙ or-left x (Later said) (Told below)
-      ∙ ap (λ (b : Bool). x || b)
-      (ap (λ (b : Bool). Later said || b)
-      (sym (list_any-append (tells_later test) (map printed.Walked below) (found_line count path)
-      ∙ or-none (Later (map printed.Walked below)) (Later (found_line count path)) (later-found count path) ∙ later-walked below))
-      ∙ sym (list_any-append (tells_later test) said (map printed.Walked below ++ found_line count path)))
+-- what is noted so far is said in the walk or after it; and so it is after one more key
+pub step-told : (notes : List Incomplete) (walk : Said) (said : List ParentLine) (below : List WalkLine) (count : ℕ)
+    (path : List (List ℕ)) → AreNoted notes ((walk ++ map lacking_later said) ++ map lacking below)
+    → AreNoted notes (walk ++ map lacking_later (said ++ (map printed.Walked below ++ found_line count path)))
+step-told notes walk said below count path a =
+    let end = map lacking_later (found_line count path) in
+    let later = map-append lacking_later (map printed.Walked below) (found_line count path)
+    ∙ ap (λ (l : Said). l ++ end) (later-walked below) in
+    subst (AreNoted notes)
+    (append_assoc (walk ++ map lacking_later said) (map lacking below) end
+    ∙ append_assoc walk (map lacking_later said) (map lacking below ++ end)
+    ∙ ap (λ (l : Said). walk ++ l)
+    (ap (λ (l : Said). map lacking_later said ++ l) (sym later)
+    ∙ sym (map-append lacking_later said (map printed.Walked below ++ found_line count path))))
+    (later-found notes ((walk ++ map lacking_later said) ++ map lacking below) count path a)

@@ -1,7 +1,6 @@
--- Of which keys does a line say that children are missing, perhaps?
-use Rattle.std.specs.Prelude.{◌≡◌, ℕ, ◌-◌, ◌||◌, Bool, false, List, length, take, Option, Some, None}
-use Rattle.std.specs.List.{list_any}
-use Rattle.std.specs.Option.{option_map_or}
+-- Of which keys does a line say that children are missing, perhaps, and in which order are these noted?
+use Rattle.std.specs.Prelude.{ℕ, ◌-◌, List, [], ◌∷◌, ◌++◌, length, map, take, Option, Some, None}
+use Rattle.std.specs.List.{Contains}
 use Rattle.salvage_walk.specs.declared.lines.Incomplete.{Incomplete}
 use Rattle.salvage_walk.specs.declared.lines.KeyPart.{KeyPart}
 use Rattle.salvage_walk.specs.declared.lines.KeyPart.TheVariants as parts
@@ -30,17 +29,20 @@ lacking (lines.Value fault name path) = None
 lacking (lines.ValueAt fault i path) = None
 lacking (lines.Nothing at path) = Some path
 
--- a line says so of a key whose path passes a test
-abbrev pub tells : (List (List ℕ) → Bool) → WalkLine → Bool
-tells test line = option_map_or test (lacking line) false
+abbrev pub lacking_later : ParentLine → Option (List (List ℕ))
+lacking_later (printed.Walked line) = lacking line
+lacking_later (printed.Found count path) = None
 
-abbrev pub tells_later : (List (List ℕ) → Bool) → ParentLine → Bool
-tells_later test (printed.Walked line) = tells test line
-tells_later test (printed.Found count path) = false
+-- Keys in the order of the first line that says so of each: a line that says so of no key notes none, nor does another line of a key that
+-- was noted, and the first line of a key notes it.
+pub data AreNoted : List Incomplete → List (Option (List (List ℕ))) → Type 0 where
+  none_yet : AreNoted [] []
+  by_none : (keys : List Incomplete) (said : List (Option (List (List ℕ)))) → AreNoted keys said → AreNoted keys (said ++ None ∷ [])
+  by_another : (keys : List Incomplete) (said : List (Option (List (List ℕ)))) (own : Incomplete) → AreNoted keys said → Contains keys own
+      → AreNoted keys (said ++ Some own.path ∷ [])
+  by_first : (keys : List Incomplete) (said : List (Option (List (List ℕ)))) (own : Incomplete) → AreNoted keys said
+      → AreNoted (keys ++ own ∷ []) (said ++ Some own.path ∷ [])
 
--- these are the keys of which a line says so: whatever is asked of their paths, it holds of one of them if and only if it holds of one in
--- a line
+-- the incomplete keys of all lines, those of the walk first
 abbrev pub AreIncomplete : List Incomplete → SearchedTree → Type 0
-AreIncomplete keys r =
-    (test : List (List ℕ) → Bool)
-    → list_any (λ (own : Incomplete). test own.path) keys ≡ (list_any (tells test) r.lines || list_any (tells_later test) r.said)
+AreIncomplete keys r = AreNoted keys (map lacking r.lines ++ map lacking_later r.said)

@@ -32,8 +32,8 @@ pub fn the_nodes_that_are_tried_name_their_parent()
     ensures rising { (hive : Ground) (parent : ℕ) → AllPairs (λ a b. a < b) (naming hive parent hive.slots) }
 {}
 
-/// The incomplete keys are those of which a line says that children may be missing. Each is tried once: of bytes there are no more of them
-/// than places.
+/// The incomplete keys are those of which a line says that children may be missing, in the order of the first such line of each. None is
+/// noted twice, and of bytes there are no more of them than places: each has its turn.
 pub fn the_incomplete_keys_are_those_with_a_line()
     ensures told { (hive : Ground) (root : ℕ) → AreIncomplete (notes_by_parents hive root) (salvaged_by_parents hive root) }
     ensures once { (hive : Ground) (root : ℕ) → AllPairs (λ (a b : Incomplete). a.at ≢ b.at) (notes_by_parents hive root) }
