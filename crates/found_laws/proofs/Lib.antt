@@ -4,6 +4,7 @@ pub mod Noting
 pub mod Changing
 pub mod Stepping
 pub mod Ending
+pub mod Saying
 pub mod Telling
 pub mod Counting
 pub mod Naming

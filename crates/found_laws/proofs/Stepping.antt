@@ -27,7 +27,8 @@ use Rattle.found_laws.specs.Found.{IsNodeOf, KeyFound, levels_below, with_keys_a
 use Rattle.found_laws.specs.Lines.{lacking, lacking_later, AreNoted}
 use Rattle.found_laws.proofs.Nodes.{found-follow, nodes-left}
 use Rattle.found_laws.proofs.Noting.{each-both, each-so, Among, found-noted, IsIn, in-held, in-reached}
-use Rattle.found_laws.proofs.Telling.{Said, found-told, step-told}
+use Rattle.found_laws.proofs.Saying.{Said}
+use Rattle.found_laws.proofs.Telling.{found-told, step-told}
 use Rattle.found_laws.proofs.Counting.{Noted, Used, found-within}
 use Rattle.found_laws.proofs.Changing.{changed-found, found-changed}
 
