@@ -18,11 +18,11 @@ use Rattle.parent_laws.proofs.Arranging.{Holds, arranged-apart, arranged-holds}
 
 -- ---- children that are found
 
-unsaid-judged : (names : List (List ℕ)) (w : Walked) (r : Option Tree × Walked) → Judged names r → Judged names (unsaid w r)
+pub unsaid-judged : (names : List (List ℕ)) (w : Walked) (r : Option Tree × Walked) → Judged names r → Judged names (unsaid w r)
 unsaid-judged names w (Some t, after) j = j
 unsaid-judged names w (None, after) j = λ t e. absurd cc
 
-found-apart : (judge : Judge) (above : List ℕ) (path : List (List ℕ)) (places : List ℕ) (us : List Tree) (w : Walked)
+pub found-apart : (judge : Judge) (above : List ℕ) (path : List (List ℕ)) (places : List ℕ) (us : List Tree) (w : Walked)
     → JudgesApart judge → Siblings us → Siblings (found_next judge above path places us w).0
 unfolding found_next
 found-apart judge above path [] us w well s = s
@@ -32,12 +32,12 @@ found-apart judge above path (at ∷ places) us w well s =
     found-apart judge above path places next.0 next.1 well
     (child-apart us (unsaid w r) (unsaid-judged (key_names us) w r (well above path (key_names us) 0 at w)) s)
 
-child-holds : (us : List Tree) (r : Option Tree × Walked) → Holds us (with_child us r).0
+pub child-holds : (us : List Tree) (r : Option Tree × Walked) → Holds us (with_child us r).0
 child-holds us (Some t, w) name c e =
     find-append (is_named name) us (t ∷ []) ∙ ap (λ (o : Option Tree). option_or o (find (is_named name) (t ∷ []))) e
 child-holds us (None, w) name c e = e
 
-found-holds : (judge : Judge) (above : List ℕ) (path : List (List ℕ)) (places : List ℕ) (us : List Tree) (w : Walked)
+pub found-holds : (judge : Judge) (above : List ℕ) (path : List (List ℕ)) (places : List ℕ) (us : List Tree) (w : Walked)
     → Holds us (found_next judge above path places us w).0
 unfolding found_next
 found-holds judge above path [] us w name c e = e
@@ -80,13 +80,13 @@ module _ (hive : Ground) (own : Incomplete) (w : Walked) (notes : List Incomplet
 
 -- ---- the steps
 
-step-apart : (hive : Ground) (own : Incomplete) (s : Search) → Apart s.tree → Apart (search_step hive own s).tree
+pub step-apart : (hive : Ground) (own : Incomplete) (s : Search) → Apart s.tree → Apart (search_step hive own s).tree
 unfolding search_step
 step-apart hive own s a =
     changed-apart own.path (λ (h : Head). adopted hive own s.used s.notes h.security) (adopted_none s.used s.notes)
     (λ h us p. adopted-apart hive own s.used s.notes h us p) s.tree a
 
-step-reaches : (hive : Ground) (own : Incomplete) (s : Search) → Apart s.tree → Reaches s.tree (search_step hive own s).tree
+pub step-reaches : (hive : Ground) (own : Incomplete) (s : Search) → Apart s.tree → Reaches s.tree (search_step hive own s).tree
 unfolding search_step
 step-reaches hive own s a =
     changed-reaches own.path (λ (h : Head). adopted hive own s.used s.notes h.security) (adopted_none s.used s.notes)

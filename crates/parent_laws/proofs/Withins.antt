@@ -19,7 +19,7 @@ use Rattle.parent_laws.proofs.Searching.{searched-reaches}
 
 -- ---- names
 
-folds_itself : (a : List ℕ) → folds_same a a ≡ true
+pub folds_itself : (a : List ℕ) → folds_same a a ≡ true
 folds_itself [] = refl
 folds_itself (x ∷ a) =
     and_from (folded_unit x == folded_unit x) (folds_same a a) (eq-eqb (folded_unit x) (folded_unit x) refl) (folds_itself a)

@@ -1,6 +1,7 @@
 -- No byte of bins data is used twice.
 use Rattle.std.proofs.Common.{◌≡◌, inl, inr, ℕ, ◌+◌, ◌-◌, ◌*◌, ◌/◌, ◌%◌, ◌<◌, ◌≤◌, Bool, true, false, cond, List, length, get_or, Ok, refl, sym, ap, ◌∙◌, arith}
 use Rattle.std.specs.Prelude.{◌==◌, ◌&&◌, nat_le, nat_lt, drop, slice_range}
+use Rattle.std.specs.List.{All}
 use Rattle.std.proofs.lemmas.Bool.{cases_lt, eqb-true, eqb-false, and_parts}
 use Rattle.std.proofs.lemmas.Bool.Decides.{nat_tests}
 use Rattle.std.proofs.lemmas.List.{length-take}
@@ -17,7 +18,7 @@ use Rattle.salvage_bins.specs.Layout.{layout_of}
 use Rattle.salvage_walk.specs.declared.claims.Claim.{Claim}
 use Rattle.salvage_walk.specs.Keys.{salvaged}
 use Rattle.salvage_file.specs.Salvage.{ground_in}
-use Rattle.salvage_laws.specs.Apart.{share_bytes, IsApart}
+use Rattle.salvage_laws.specs.Apart.{share_bytes, IsApart, AreApart}
 use Rattle.salvage_laws.specs.Bytes.{LiesInCell, HaveNoByte, UseNoByteTwice}
 use Rattle.salvage_laws.proofs.PartViews.{done}
 use Rattle.salvage_laws.proofs.LeavingKeys.{salvage-is, salvage-apart}
@@ -141,9 +142,12 @@ module _ (version : HiveVersion) (bytes : List ℕ) (fits : IsBytes bytes) (whol
             tidy.apart (b.at / 8) (a.at / 8) (omega (arith, lt, pa.eight, pb.eight)) pb.mark pa.mark t,
           )
 
+  pub bytes-apart : (claims : List Claim) → All (LiesInCell hive) claims → AreApart claims → UseNoByteTwice claims
+  bytes-apart claims lie apart i j d lt within =
+      pair (get_or claims i d) (get_or claims j d) (placed (get_or claims i d) (lie i d (omega (arith, lt, within))))
+      (placed (get_or claims j d) (lie j d within)) (apart i j d lt within)
+
   pub no-byte-twice : (root : ℕ) → UseNoByteTwice (salvaged hive root).1.claims
-  no-byte-twice root i j d lt within =
-      let lie = salvage-lies hive root (salvaged hive root).0 (salvaged hive root).1 (salvage-is hive root) in
-      pair (get_or (salvaged hive root).1.claims i d) (get_or (salvaged hive root).1.claims j d)
-      (placed (get_or (salvaged hive root).1.claims i d) (lie i d (omega (arith, lt, within))))
-      (placed (get_or (salvaged hive root).1.claims j d) (lie j d within)) (salvage-apart hive root i j d lt within)
+  no-byte-twice root =
+      bytes-apart (salvaged hive root).1.claims
+      (salvage-lies hive root (salvaged hive root).0 (salvaged hive root).1 (salvage-is hive root)) (salvage-apart hive root)

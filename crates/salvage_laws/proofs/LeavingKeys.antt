@@ -49,14 +49,14 @@ module _ (hive : Ground) (used : List Claim) where
   -- ---- children
 
   -- what remains of a child that was judged
-  abbrev ChildLeft : ℕ → List ℕ → List (List ℕ) → List (List ℕ) → ℕ → ℕ → Walked → Option Tree × Walked → Type 0
+  abbrev pub ChildLeft : ℕ → List ℕ → List (List ℕ) → List (List ℕ) → ℕ → ℕ → Walked → Option Tree × Walked → Type 0
   ChildLeft left above path names i at w (Some t, v) =
       Leaves w v (TreeLeft left hive used above path at t) × (list_any (folds_same (head t).name) names ≡ false)
   ChildLeft left above path names i at w (None, v) =
       (kind : HiveFaultKind) × ChildFails left hive used names at kind
       × (v ≡ say w (key_line path i (fault_at kind at) (reading key_node_at hive.cells at)))
 
-  abbrev JudgesLeft : ℕ → Judge → Type 0
+  abbrev pub JudgesLeft : ℕ → Judge → Type 0
   JudgesLeft left judge =
       (above : List ℕ) (path names : List (List ℕ)) (i at : ℕ) (w : Walked) → Upto (judge above path names i at w).1.claims used
       → ChildLeft left above path names i at w (judge above path names i at w)
@@ -244,7 +244,7 @@ module _ (hive : Ground) (used : List Claim) where
   unfolding key_below
   head-named judge above path node at w = refl
 
-  judged-left : (left : ℕ) → JudgesLeft left (judged_key left hive)
+  pub judged-left : (left : ℕ) → JudgesLeft left (judged_key left hive)
   unfolding judged_key
   judged-left zero above path names i at w u = (TooDeep, too_deep refl refl, refl)
   judged-left (suc left) above path names i at w u =

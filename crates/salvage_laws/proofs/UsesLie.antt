@@ -32,19 +32,19 @@ use Rattle.salvage_laws.proofs.Wider.{uses-are, item-uses-are}
 -- ---- each use lies in its cell
 
 module _ (hive : Ground) where
-  abbrev Lie : List Claim → Type 0
+  abbrev pub Lie : List Claim → Type 0
   Lie claims = All (LiesInCell hive) claims
 
-  none-lie : Lie []
+  pub none-lie : Lie []
   none-lie = All-nil (LiesInCell hive)
 
   one-lies : (c : Claim) → LiesInCell hive c → Lie (c ∷ [])
   one-lies c l = All-cons (LiesInCell hive) c [] l none-lie
 
-  both-lie : (a b : List Claim) → Lie a → Lie b → Lie (a ++ b)
+  pub both-lie : (a b : List Claim) → Lie a → Lie b → Lie (a ++ b)
   both-lie a b x y = All-append (LiesInCell hive) a b x y
 
-  lie-as : (a b : List Claim) → a ≡ b → Lie b → Lie a
+  pub lie-as : (a b : List Claim) → a ≡ b → Lie b → Lie a
   lie-as a b e l = subst Lie (sym e) l
 
   -- a form that was read in its cell
@@ -190,7 +190,7 @@ module _ (hive : Ground) where
 
   -- ---- keys
 
-  abbrev AllLie : Leaving → Type 0
+  abbrev pub AllLie : Leaving → Type 0
   AllLie Child = (at : ℕ) (t : Tree) (uses : List Claim) (said : List WalkLine) → Child at t uses said → Lie uses
 
   keys-lie : (Child : Leaving) (left : ℕ) (used : List Claim) (path : List (List ℕ)) (i : ℕ) (names : List (List ℕ)) (offsets : List ℕ)
@@ -224,7 +224,7 @@ module _ (hive : Ground) where
       (keys-lie (Child k.h.security (path k.node)) left used (path k.node) 1 [] k.offsets k.keys k.keys_uses k.keys_said
       (each k.h.security (path k.node)) k.children))))))
 
-  tree-lies : (left : ℕ) (used : List Claim) (own : List ℕ) (path : List (List ℕ)) → AllLie (TreeLeft left hive used own path)
+  pub tree-lies : (left : ℕ) (used : List Claim) (own : List ℕ) (path : List (List ℕ)) → AllLie (TreeLeft left hive used own path)
   tree-lies zero used own path at t uses said l = absurd l
   tree-lies (suc left) used own path at t uses said l =
       key-lies (TreeLeft left hive used) left false used own (λ node. path ++ node.name ∷ []) at t uses said

@@ -1,0 +1,10 @@
+pub mod Nodes
+pub mod Lying
+pub mod Noting
+pub mod Changing
+pub mod Stepping
+pub mod Ending
+pub mod Saying
+pub mod Telling
+pub mod Counting
+pub mod Naming
