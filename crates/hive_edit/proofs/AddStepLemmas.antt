@@ -288,6 +288,7 @@ may_graft h above shared r same small few = record {
       record {
         list = r.says.list ∙ ap (λ (m : KeyNode). m.child_list) z;
         count = r.says.count ∙ ap (λ (m : KeyNode). m.child_count) z;
+        volatile = r.says.volatile ∙ ap (λ (m : KeyNode). m.volatile_count) z;
       };
   shares = record {
     small = small;

@@ -25,6 +25,9 @@ use Rattle.edit_laws.proofs.Pairs.{pairwise_join, pairwise_map, in_map}
 use Rattle.edit_laws.proofs.Held.{are_held}
 use Rattle.edit_laws.proofs.Same.{entries_used, entries_same}
 use Rattle.edit_laws.proofs.FromLists.{children_written, inserts_child, bare_uses, bare_stands}
+use Rattle.edit_laws.proofs.Revalued.{one_node}
+use Rattle.edit_laws.proofs.ParentsKept.{children_name}
+use Rattle.edit_laws.proofs.ChildrenColumn.{places_listed}
 use Rattle.hive_edit.specs.Making.{new_node}
 use Rattle.hive_edit.proofs.ResultLemmas.{done, some}
 use Rattle.hive_edit.proofs.NodeMade.{MayBeNode, node_again, no_flags, security_counted}
@@ -55,11 +58,11 @@ pub record Adds (b m l c : Cells) (root : ℕ) (t : Tree) (p : List (List ℕ)) 
   pub once : Pairwise (λ u v. u ≡ v → ⊥) (used_in (entries_checks l list))
   pub small : list < 2 ^ 32
   pub few : n.child_count + 1 < 2 ^ 32
-  pub volatile : ℕ
+  pub volatile : n.volatile_count < 2 ^ 32
   pub kept_c : (o : ℕ) (q : List ℕ) → l.payload o ≡ done q → (o ≡ x → ⊥)
       → ((n.security ≡ nowhere → ⊥) → o ≡ n.security → ⊥) → c.payload o ≡ done q
   pub node_c : (q : List ℕ) → l.payload x ≡ done q
-      → c.payload x ≡ done (with_part 20 (three_numbers (n.child_count + 1) volatile list) q)
+      → c.payload x ≡ done (with_part 20 (three_numbers (n.child_count + 1) n.volatile_count list) q)
   pub secure_c : (q : List ℕ) → (n.security ≡ nowhere → ⊥) → l.payload n.security ≡ done q
       → (uses : ℕ) × (uses < 2 ^ 32) × (c.payload n.security ≡ done (with_part 12 (to_le_bytes w32 uses) q))
   pub places : child_places b x ≡ front ++ back
@@ -246,17 +249,17 @@ module _ (b m l c : Cells) (root : ℕ) (t : Tree) (p : List (List ℕ)) (x : �
           (λ (z : ⊥). absurd z) (in_cases (secure (security_cell_at b x)) [] v j)
 
   -- ---- the child came
-  noted : HasNewChildren (with_part 20 (three_numbers (n.child_count + 1) g.volatile list) node_there.0) n
+  noted : HasNewChildren (with_part 20 (three_numbers (n.child_count + 1) n.volatile_count list) node_there.0) n
       (length (front ++ y ∷ back)) list
   noted =
       let count : n.child_count + 1 ≡ length (front ++ y ∷ back) = let e = g.count_is in let f =
       length_more front y back in omega (arith, e, f) in
-      subst (λ (z : ℕ). HasNewChildren (with_part 20 (three_numbers (n.child_count + 1) g.volatile list) node_there.0)
+      subst (λ (z : ℕ). HasNewChildren (with_part 20 (three_numbers (n.child_count + 1) n.volatile_count list) node_there.0)
       n z list) count
-      (children_written node_there.0 n (n.child_count + 1) g.volatile list node_there.2 g.few g.small)
+      (children_written node_there.0 n (n.child_count + 1) list node_there.2 g.few g.small g.volatile)
 
   inserted : (left : ℕ) → InsertsChild b c root x (suc left) n front back y
-      (with_part 20 (three_numbers (n.child_count + 1) g.volatile list) node_there.0) list (security_cell_at b x)
+      (with_part 20 (three_numbers (n.child_count + 1) n.volatile_count list) node_there.0) list (security_cell_at b x)
   inserted left = record {
     version = g.version;
     there = g.node_c node_there.0 node_listed;
@@ -267,8 +270,16 @@ module _ (b m l c : Cells) (root : ℕ) (t : Tree) (p : List (List ℕ)) (x : �
     security = descriptors;
     fresh = λ u i. coming u (subst (λ (l : List (ℕ × Bool)). In l u) (all_uses left) i);
     once = subst Once (sym (all_uses left)) each_once;
+    named = record {
+      here = λ m e. ap (λ (z : KeyNode). z.parent)
+          (one_node (reading key_node_at c y) m (new_node x n.stamp n.security name) e new_read);
+      below = children_name c y (λ z i. absurd (subst (λ (l : List ℕ). In l z) no_children i));
+    };
   }
     where
+      no_children : child_places c y ≡ []
+      no_children = places_listed c y (new_node x n.stamp n.security name) [] new_read refl
+
       all_uses : (left : ℕ) → plain (used_in (entries_checks c list)) ++ tree_uses (suc left) c y
           ≡ plain (used_in (entries_checks l list)) ++ ((y, false) ∷ (secure (security_cell_at b x) ++ []))
       all_uses left =
@@ -278,7 +289,7 @@ module _ (b m l c : Cells) (root : ℕ) (t : Tree) (p : List (List ℕ)) (x : �
   pub changes : (left : ℕ) → ChangesChildren b c root x (suc left) front [] (y ∷ []) back (security_cell_at b x)
   changes left =
       inserts_child b c root x (suc left) n front back y
-      (with_part 20 (three_numbers (n.child_count + 1) g.volatile list) node_there.0) list (security_cell_at b x)
+      (with_part 20 (three_numbers (n.child_count + 1) n.volatile_count list) node_there.0) list (security_cell_at b x)
       g.parent.read g.places (inserted left)
 
   secure_kept : security_of c (new_node x n.stamp n.security name) ≡ done (head k).security

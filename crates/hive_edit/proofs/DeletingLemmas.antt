@@ -2,18 +2,16 @@
 use Rattle.std.proofs.Common.{◌≡◌, ◌≤◌, ◌<◌, ℕ, ◌+◌, ◌-◌, ◌||◌, Bool, true, false, List, [], ◌∷◌, ◌++◌, length, Option, Some, None, Result, Ok, Err, inl, inr, ⊎_elim, refl, sym, ap, subst, ◌∙◌, arith}
 use Rattle.std.specs.Prelude.{min, find, ◌==◌}
 use Rattle.std.specs.Option.{is_none, MatchOption}
-use Rattle.std.proofs.lemmas.List.Elements.{Contains-append_left}
 use Rattle.nt_bytes.specs.declared.version.HiveVersion.{HiveVersion}
 use Rattle.hive_model.specs.Bins.{Bin, Cells, bins_size, look_up, spelled}
 use Rattle.hive_model.specs.KeyNode.{KeyNode, key_node_at}
 use Rattle.hive_model.specs.Tree.{Tree, key, head, children, is_named, find_key}
 use Rattle.hive_model.specs.Size.{node_size, class_size, security_size, items_size, list_size, count, size, size_of_all, bulk_of}
-use Rattle.hive_model.specs.Edit.{Step, Refusal, no_key, delete_key, without_key, unless, key_deleted, after_step}
+use Rattle.hive_model.specs.Edit.{Refusal, no_key, delete_key, without_key, unless, key_deleted, after_step}
 use Rattle.hive_model.specs.Walk.{reading}
-use Rattle.hive_model.specs.Footprint.{child_places, step_cells, needed_sizes, room_of, list_strain_of, unless_refused}
+use Rattle.hive_model.specs.Footprint.{child_places, needed_sizes, room_of, list_strain_of, unless_refused}
 use Rattle.hive_model.specs.Stands.{IsWellFormed}
 use Rattle.hive_cells.specs.Held.{held_at}
-use Rattle.hive_cells.proofs.HeldLemmas.{payload_held, held_payload}
 use Rattle.hive_read.proofs.ValidTrees.{AreBytes, well-formed-valid, cells-bytes}
 use Rattle.hive_read.proofs.FormFacts.{IsBytes}
 use Rattle.edit_laws.specs.Done.{IsDone}
@@ -26,7 +24,6 @@ use Rattle.hive_edit.specs.declared.deleting.KeyPair.{KeyPair}
 use Rattle.hive_edit.specs.declared.making.Above.{Above}
 use Rattle.hive_edit.specs.Hive.{HiveCells, cells_in, hive_of, IsHive}
 use Rattle.hive_edit.specs.Standing.{tree_of}
-use Rattle.hive_edit.specs.Edits.{IsEditedInPlace}
 use Rattle.hive_edit.specs.Stepped.{IsStepped, LacksStepRoom}
 use Rattle.hive_edit.specs.Making.{AboveIs}
 use Rattle.hive_edit.specs.Dropped.{AreShortened, left_children}
@@ -232,20 +229,6 @@ pair_refused version bins root t path well none =
     either : (v : Bool) → unless ((v || true, no_key) ∷ []) (without_key path t) ≡ Err no_key
     either true = refl
     either false = refl
-
--- ---- from a step to an edit
-
--- what is stepped is edited in place
-pub stepped_in_place : (old new : HiveCells) (step : Step) → IsStepped old step new
-    → IsEditedInPlace old (step ∷ []) new
-stepped_in_place old new step s = record {
-  kept = λ o p held outside. payload_held new.bins o p
-      (s.done.leaves.rest o p (held_payload old.bins o p held)
-      (λ i. outside (Contains-append_left (step_cells (cells_in old) old.root old.tree step)
-      (unless_refused [] (after_step step old.tree) (λ w. [])) o i)));
-  root = s.root;
-  long = s.long;
-}
 
 -- ---- what the key and those below it used
 

@@ -26,12 +26,13 @@ use Rattle.edit_laws.proofs.Held.{are_held}
 use Rattle.edit_laws.proofs.OwnedUses.{use_owned}
 use Rattle.edit_laws.proofs.Same.{entries_used, entries_same}
 use Rattle.edit_laws.proofs.FromLists.{children_written, inserts_child}
+use Rattle.edit_laws.specs.Parents.{IsChildOf}
 use Rattle.hive_edit.specs.Grafted.{SharesAt}
 use Rattle.hive_edit.proofs.ResultLemmas.{done}
 use Rattle.hive_edit.proofs.NodeMade.{security_counted}
 use Rattle.hive_edit.proofs.ParentLemmas.{Keeps, IsParent, parent_held, list_no_node, list_no_security, node_no_security, list_held, security_listed, security_some, security_in_list}
 use Rattle.hive_edit.proofs.PlacedLemmas.{entries_held}
-use Rattle.hive_edit.proofs.GraftRuns.{IsFormed, KeepsRange, still_stands, still_uses}
+use Rattle.hive_edit.proofs.GraftRuns.{IsFormed, KeepsRange, still_stands, still_named, still_uses}
 use Rattle.hive_edit.proofs.AddedLemmas.{length_more}
 use Rattle.hive_read.proofs.FormFacts.{then-so}
 
@@ -42,6 +43,7 @@ pub record Grafts (b m l c : Cells) (root : ℕ) (t : Tree) (n : KeyNode) (k : T
   pub parent : IsParent b root t [] root t n
   pub shares : SharesAt b root sp s
   pub formed : IsFormed m y size k sp
+  pub named : IsChildOf m root y
   pub low : levels k ≤ 511
   pub kept_m : Keeps b m
   pub version : c.version ≡ b.version
@@ -54,11 +56,11 @@ pub record Grafts (b m l c : Cells) (root : ℕ) (t : Tree) (n : KeyNode) (k : T
   pub once : Pairwise (λ u v. u ≡ v → ⊥) (used_in (entries_checks l list))
   pub small : list < 2 ^ 32
   pub few : n.child_count + 1 < 2 ^ 32
-  pub volatile : ℕ
+  pub volatile : n.volatile_count < 2 ^ 32
   pub kept_c : (o : ℕ) (q : List ℕ) → l.payload o ≡ done q → (o ≡ root → ⊥) → ((sp ≡ nowhere → ⊥) → o ≡ sp → ⊥)
       → c.payload o ≡ done q
   pub node_c : (q : List ℕ) → l.payload root ≡ done q
-      → c.payload root ≡ done (with_part 20 (three_numbers (n.child_count + 1) volatile list) q)
+      → c.payload root ≡ done (with_part 20 (three_numbers (n.child_count + 1) n.volatile_count list) q)
   pub secure_c : (q : List ℕ) → (sp ≡ nowhere → ⊥) → l.payload sp ≡ done q
       → (uses : ℕ) × (uses < 2 ^ 32) × (c.payload sp ≡ done (with_part 12 (to_le_bytes w32 uses) q))
   pub places : child_places b root ≡ front ++ back
@@ -223,14 +225,14 @@ module _ (b m l c : Cells) (root : ℕ) (t : Tree) (n : KeyNode) (k : Tree) (y s
   })
 
   -- ---- the child came
-  noted : HasNewChildren (with_part 20 (three_numbers (n.child_count + 1) g.volatile list) node_there.0) n
+  noted : HasNewChildren (with_part 20 (three_numbers (n.child_count + 1) n.volatile_count list) node_there.0) n
       (length (front ++ y ∷ back)) list
   noted =
       let count : n.child_count + 1 ≡ length (front ++ y ∷ back) = let e = g.count_is in let f =
       length_more front y back in omega (arith, e, f) in
-      subst (λ (z : ℕ). HasNewChildren (with_part 20 (three_numbers (n.child_count + 1) g.volatile list) node_there.0)
+      subst (λ (z : ℕ). HasNewChildren (with_part 20 (three_numbers (n.child_count + 1) n.volatile_count list) node_there.0)
       n z list) count
-      (children_written node_there.0 n (n.child_count + 1) g.volatile list node_there.2 g.few g.small)
+      (children_written node_there.0 n (n.child_count + 1) list node_there.2 g.few g.small g.volatile)
 
   all_uses : plain (used_in (entries_checks c list)) ++ tree_uses 511 c y ≡ plain (used_in (entries_checks l list))
       ++ tree_uses 511 m y
@@ -239,7 +241,7 @@ module _ (b m l c : Cells) (root : ℕ) (t : Tree) (n : KeyNode) (k : Tree) (y s
       ∙ ap (λ (z : List (ℕ × Bool)). plain (used_in (entries_checks l list)) ++ z) uses_new
 
   inserted : InsertsChild b c root root 511 n front back y
-      (with_part 20 (three_numbers (n.child_count + 1) g.volatile list) node_there.0) list (security_listed sp)
+      (with_part 20 (three_numbers (n.child_count + 1) n.volatile_count list) node_there.0) list (security_listed sp)
   inserted = record {
     version = g.version;
     there = g.node_c node_there.0 node_listed;
@@ -250,10 +252,11 @@ module _ (b m l c : Cells) (root : ℕ) (t : Tree) (n : KeyNode) (k : Tree) (y s
     security = descriptors;
     fresh = λ u i. coming u (subst (λ (x : List (ℕ × Bool)). In x u) all_uses i);
     once = subst Once (sym all_uses) each_once;
+    named = still_named m c y size k sp g.formed range root g.named;
   }
 
   pub changes : ChangesChildren b c root root 511 front [] (y ∷ []) back (security_listed sp)
   changes =
       inserts_child b c root root 511 n front back y
-      (with_part 20 (three_numbers (n.child_count + 1) g.volatile list) node_there.0) list (security_listed sp)
+      (with_part 20 (three_numbers (n.child_count + 1) n.volatile_count list) node_there.0) list (security_listed sp)
       g.parent.read g.places inserted

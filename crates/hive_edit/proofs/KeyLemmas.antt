@@ -310,14 +310,15 @@ is_unmade old new root version bulk is held =
 -- ---- what a node says
 
 pub above_is : (cells : Cells) (at : ℕ) (p : List ℕ) (above : Above) → IsKeyAt cells at → p ≡ payload_in cells at
-    → above.list ≡ u32_in p 28 → above.count ≡ u32_in p 20
+    → above.list ≡ u32_in p 28 → above.count ≡ u32_in p 20 → above.volatile ≡ u32_in p 24
     → above.security ≡ u32_in p 44 → (n : KeyNode) → reading key_node_at cells at ≡ Ok n → AboveIs above n
-above_is cells at p above k e l c s n read =
+above_is cells at p above k e l c v s n read =
     let f = node_at_key cells at p k e in
     let same : f.node ≡ n = ok_same f.node n (sym f.read ∙ read) in
     record {
       list = l ∙ sym (ap (λ (m : KeyNode). m.child_list) f.is) ∙ ap (λ (m : KeyNode). m.child_list) same;
       count = c ∙ sym (ap (λ (m : KeyNode). m.child_count) f.is) ∙ ap (λ (m : KeyNode). m.child_count) same;
+      volatile = v ∙ sym (ap (λ (m : KeyNode). m.volatile_count) f.is) ∙ ap (λ (m : KeyNode). m.volatile_count) same;
       security = s ∙ sym (ap (λ (m : KeyNode). m.security) f.is) ∙ ap (λ (m : KeyNode). m.security) same;
     }
 

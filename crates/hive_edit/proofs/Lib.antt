@@ -10,6 +10,7 @@ pub mod HiveLemmas
 pub mod InPlaceLemmas
 pub mod EditLemmas
 pub mod SetLemmas
+pub mod PackedParents
 pub mod AnewLemmas
 pub mod OwnLemmas
 pub mod RunLemmas

@@ -129,16 +129,17 @@ adds version old new root t p x k n above name h says may few a =
           (lists_apart (look_up version a.linked.listed) a.linked.list 1 a.linked.lists.once));
       small = a.linked.small;
       few = omega (arith, few, count);
-      volatile = above.volatile;
+      volatile = subst (λ (z : ℕ). z < 2 ^ 32) says.volatile a.linked.volatile;
       kept_c = λ o q e nx ns. held_payload new o q
           (a.linked.counted.others o (λ used z. ns (λ w. used (security ∙ w)) (z ∙ security))
           ∙ a.linked.fields.others o nx ∙ payload_held a.linked.listed o q e);
-      node_c = λ q e. held_payload new x (patched 20 (child_fields (n.child_count + 1) above.volatile a.linked.list) q)
+      node_c = λ q e. held_payload new x
+          (patched 20 (child_fields (n.child_count + 1) n.volatile_count a.linked.list) q)
           (a.linked.counted.others x (λ used z. node_no_security b root t p x k n p x h h.reached
           (subst (In (security_cell_at b x)) (sym (z ∙ security))
           (security_there b x n h.read (λ w. used (security ∙ w)))))
           ∙ a.linked.fields.here q (payload_held a.linked.listed x q e)
-          ∙ ap (λ (z : ℕ). some (patched 20 (child_fields (z + 1) above.volatile a.linked.list) q)) count);
+          ∙ (λ i. some (patched 20 (child_fields (count i + 1) (says.volatile i) a.linked.list) q)));
       secure_c = λ q used e. (
         recounted true (u32_in q 12),
         count_small (u32_in q 12),

@@ -175,12 +175,13 @@ module _ (version : HiveVersion) (old new : List Bin) (root : ℕ) (t : Tree) (p
     once = λ w os e. pairwise_from (λ u v. u ≡ v → ⊥) (used_in (entries_checks (look_up version r.listed) r.list))
         (subst AreApart (one_list (look_up version r.listed) r.list)
         (Rattle.key_index.proofs.Meeting.lists_apart (look_up version r.listed) r.list 1 (written w os e).once));
-    volatile = above.volatile;
+    volatile = subst (λ (z : ℕ). z < 2 ^ 32) says.volatile r.volatile;
     few = let e = counted in omega (arith, few, e);
     small = r.small;
-    noted = λ q e. held_payload new x (patched 20 (child_fields (length (s.front ++ s.back)) above.volatile r.list) q)
+    noted = λ q e. held_payload new x
+        (patched 20 (child_fields (length (s.front ++ s.back)) n.volatile_count r.list) q)
         (r.dropped.others x apart ∙ r.fields.here q (payload_held r.listed x q e)
-        ∙ ap (λ (z : ℕ). some (patched 20 (child_fields z above.volatile r.list) q)) fewer);
+        ∙ (λ i. some (patched 20 (child_fields (fewer i) (says.volatile i) r.list) q)));
     others = λ o q e nx none. held_payload new o q
         (r.dropped.others o (λ v i. none v (used_so o v i)) ∙ r.fields.others o nx ∙ payload_held r.listed o q e);
     counted = λ o i. descriptor o i;

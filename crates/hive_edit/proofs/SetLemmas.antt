@@ -16,7 +16,7 @@ use Rattle.hive_model.specs.KeyValue.{KeyValue, key_value_at, data_inside, is_in
 use Rattle.hive_model.specs.Size.{bulk_of}
 use Rattle.hive_model.specs.Tree.{Tree, Item, find_item}
 use Rattle.hive_model.specs.Tree.{key as tree_key}
-use Rattle.hive_model.specs.Edit.{set_value, Refusal, full, most_bulk, edited}
+use Rattle.hive_model.specs.Edit.{set_value, Refusal, full, most_bulk, edited, after_step}
 use Rattle.hive_model.specs.Walk.{reading}
 use Rattle.hive_model.specs.Footprint.{key_place, is_value_named}
 use Rattle.hive_model.specs.Stands.{Stands, data_of, item_at, IsWellFormed}
@@ -35,8 +35,8 @@ use Rattle.hive_edit.proofs.PlaceLemmas.{key_there, IsItemAt, place_of_item}
 use Rattle.hive_cells.proofs.HeldLemmas.{payload_held}
 use Rattle.hive_edit.proofs.ItemLemmas.{item_facts, value_facts}
 use Rattle.hive_edit.proofs.HiveLemmas.{hive_opened}
-use Rattle.hive_edit.proofs.InPlaceLemmas.{patched_at, fields_for, set_stands, inside_data, found_among, named_folds}
-use Rattle.hive_edit.proofs.EditLemmas.{folds_length, set_tree, set_edited, same_bulk, in_footprint, kept_in_place, the_tree}
+use Rattle.hive_edit.proofs.InPlaceLemmas.{patched_at, fields_for, set_done, inside_data, found_among, named_folds}
+use Rattle.hive_edit.proofs.EditLemmas.{folds_length, set_tree, set_edited, same_bulk, in_footprint, kept_in_place, the_tree, made}
 
 -- ---- where it is
 
@@ -183,6 +183,7 @@ short_item b name key v k value well e r inside =
 -- the edit, where the value is there and holds its data itself: it is refused for the bulk alone, which stays
 record EditThere (version : HiveVersion) (t : Tree) (path : List (List ℕ)) (name : List ℕ) (kind : ℕ)
     (bytes : List ℕ) : Type 0 where
+  step : after_step (set_value path name kind bytes) t ≡ Ok (set_tree path name kind bytes t)
   edit : edited version t (set_value path name kind bytes ∷ [])
       ≡ cond (nat_lt most_bulk (bulk_of version t)) (Err full) (Ok (set_tree path name kind bytes t))
   bulk : bulk_of version (set_tree path name kind bytes t) ≡ bulk_of version t
@@ -203,9 +204,11 @@ edit_there b version root t path name kind bytes v well i short =
     let there = key_there b path root t i.key well i.place in
     let item = short_item b name i.key v there.there i.value there.well i.named i.read i.inside in
     let bulk = same_bulk version t there.there path name kind bytes item.item there.found item.found item.short short in
+    let few = name_short b name i.key v i.value i.named i.read in
     record {
-      edit = set_edited version t there.there path name kind bytes there.found
-          (name_short b name i.key v i.value i.named i.read) (omega arith)
+      step = made path name kind bytes t (ap is_none there.found) (le-ltb 16383 (length name) few)
+          (le-ltb 1048576 (length bytes) (omega arith));
+      edit = set_edited version t there.there path name kind bytes there.found few (omega arith)
           ∙ ap (λ (n : ℕ). cond (nat_lt most_bulk n) (Err full) (Ok (set_tree path name kind bytes t))) bulk;
       bulk = bulk;
     }
@@ -254,26 +257,26 @@ is_set old new root version bulk h path name kind bytes v is view e short small 
     (subst (λ (g : HiveCells). inside_place (cells_in g) path name g.root ≡ some v) (sym view) e) in
     let d = edit_there b version root t path name kind bytes v is.stands i short in
     let patch = patched_at version old new v 4 (fields_for kind bytes) here others in
-    let stands = set_stands b c root t path name i.key v kind bytes i.value is.stands i.place i.named patch i.read short
-    small fits in
+    let made = set_done b c root t path name i.key v kind bytes i.value is.stands i.place i.named patch i.read short
+    small fits u d.step in
     let within : nat_lt most_bulk (bulk_of version t) ≡ false =
     le-ltb most_bulk (bulk_of version t) (subst (λ (n : ℕ). n ≤ 16773120) is.counted room) in
     let edit : edited version t (set_value path name kind bytes ∷ []) ≡ Ok u =
     d.edit ∙ ap (λ (q : Bool). cond q (Err full) (Ok u)) within in
-    let tree : tree_of c root ≡ u = tree_is c root u stands in
+    let tree : tree_of c root ≡ u = tree_is c root u made.stands in
     let there = key_there b path root t i.key is.stands i.place in
     let node = node_read b i.key there.there there.well.stands in
     let valid = edited_valid version t u (set_value path name kind bytes ∷ []) is.valid
     (All-cons Fits (set_value path name kind bytes) [] tt (All-nil Fits)) edit in
     record {
-      hive = hive_opened new new root version bulk u refl stands valid (is.counted ∙ sym d.bulk);
+      hive = hive_opened new new root version bulk u refl made.stands valid (is.counted ∙ sym d.bulk);
       edit = subst (λ (g : HiveCells). edited g.version g.tree (set_value path name kind bytes ∷ [])
           ≡ the_tree (tree_of c root)) view (edit ∙ sym (ap the_tree tree));
       kept = subst (λ (g : HiveCells). IsEditedInPlace g (set_value path name kind bytes ∷ [])
           (hive_of new root version)) view
           (kept_in_place (hive_of old root version) (hive_of new root version) (set_value path name kind bytes) v
           (in_footprint b root t path name kind bytes i.key v node.0 node.1 i.place i.named) others refl
-          (omega (arith, long)));
+          (omega (arith, long)) made.parents);
     }
   where
     node_read : (cells : Cells) (at : ℕ) (k : Tree) → Stands cells at k

@@ -19,9 +19,10 @@ use Rattle.hive_read.proofs.ValidTrees.{well-formed-valid, cells-bytes}
 use Rattle.reg_tree.specs.declared.stop.EditStop.{EditStop}
 use Rattle.reg_tree.specs.Makes.{IsRefused, Makes, refusal_of}
 use Rattle.edit_laws.specs.Done.{IsDone, AreDone}
+use Rattle.edit_laws.specs.Parents.{NamesParents}
 use Rattle.edit_laws.specs.Sizes.{AreGrown}
 use Rattle.edit_laws.proofs.Grown.{strain_behind}
-use Rattle.edit_laws.proofs.InOrder.{tree_done, left_outside}
+use Rattle.edit_laws.proofs.InOrder.{tree_done, parents_done, left_outside}
 use Rattle.edit_laws.proofs.RoomLemmas.{some_all, strain_one, strain_least}
 use Rattle.hive_edit.specs.Edits.{IsEditedInPlace, IsPackedAnew, IsPackedForRoom}
 use Rattle.hive_edit.specs.Hive.{HiveCells, cells_in, hive_of, IsHive}
@@ -185,6 +186,7 @@ stepped_kept h g step s = record {
       (unless_refused [] (after_step step h.tree) (λ w. [])) o i)));
   root = s.root;
   long = s.long;
+  parents = λ n. subst (NamesParents (cells_in g)) (sym s.root) (s.done.parents n);
 }
 
 pub lacks_over : (h : HiveCells) (u : Tree) (step : Step) → LacksStepRoom h step → after_step step h.tree ≡ the_tree u
@@ -276,6 +278,8 @@ ordered_kept steps a b well m = record {
       (held_payload a.bins o p held) outside);
   root = same_root steps a b m;
   long = longer steps a b m;
+  parents = λ n. subst (NamesParents (cells_in b)) (sym (same_root steps a b m))
+      (parents_done a.root steps (cells_in a) (cells_in b) a.tree b.tree (done_in_order steps a b m) n);
 }
 
 -- ---- their edit, by the bulk at the end

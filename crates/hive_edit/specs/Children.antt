@@ -45,6 +45,7 @@ pub record IsNewChild (h : HiveCells) (k : Tree) : Type 0 where
 pub record ListsAs (above : Above) (n : KeyNode) : Type 0 where
   pub list : above.list ≡ n.child_list
   pub count : above.count ≡ n.child_count
+  pub volatile : above.volatile ≡ n.volatile_count
 
 -- the root's node says so, and some key has the descriptor that a child is to share
 pub record MayGraft (h : HiveCells) (above : Above) (shared : List ℕ) : Type 0 where

@@ -44,6 +44,7 @@ pub record IsLinkedBy (version : HiveVersion) (parent : ℕ) (above : Above) (ch
   pub noted : List Bin
   pub list : ℕ
   pub small : list < 2 ^ 32
+  pub volatile : above.volatile < 2 ^ 32
   pub lists : AreRelisted version (above_lists version above old) (above_children version above child old)
       (hints_in (look_up version old) (above_children version above child old)) old listed list
   pub fields : IsWritten parent 20 (child_fields (above.count + 1) above.volatile list) listed noted

@@ -102,6 +102,7 @@ pub record IsLinked (version : HiveVersion) (parent : ℕ) (above : Above) (chil
   pub noted : List Bin
   pub list : ℕ
   pub small : list < 2 ^ 32
+  pub volatile : above.volatile < 2 ^ 32
   pub lists : AreRelisted version (above_lists version above old) (above_children version above child old)
       (hints_in (look_up version old) (above_children version above child old)) old listed list
   pub fields : IsWritten parent 20 (child_fields (above.count + 1) above.volatile list) listed noted
@@ -147,6 +148,7 @@ pub record IsAdded (version : HiveVersion) (parent : ℕ) (above : Above) (node 
 pub record AboveIs (above : Above) (n : KeyNode) : Type 0 where
   pub list : above.list ≡ n.child_list
   pub count : above.count ≡ n.child_count
+  pub volatile : above.volatile ≡ n.volatile_count
   pub security : above.security ≡ n.security
 
 -- the tree with a key of this name below the key at a path

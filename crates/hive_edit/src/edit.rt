@@ -21,7 +21,7 @@ use crate::hive::HiveBytes;
 use crate::path::key_at;
 use crate::values::{if_inside, value_at};
 use hive_cells::{Source, read_cells};
-use hive_pack::pack;
+use hive_pack::{pack, tree_fits};
 use hive_read::read_tree;
 use nt_bytes::{Bytes, HiveVersion, Names, ReadStop, Row, Units};
 use reg_tree::{EditStop, Key, LONGEST_DATA, MOST_BULK, Steps, TreeStep};
@@ -294,6 +294,7 @@ fn of_packed(alloc: Global, tree: &Key, version: HiveVersion) -> Result<HiveByte
     ensures anew { IfOk result IsPackedAnew }
     ensures memory { IfErr result (λ stop. stop ≡ Memory) }
 {
+    tree_fits(tree);
     let packed = pack(alloc, tree, version)?;
     let cells = match read_cells(alloc, packed) {
         Ok(cells) => cells,

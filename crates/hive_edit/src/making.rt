@@ -123,6 +123,7 @@ pub(crate) fn note(heap: &mut OpenHeap, parent: u32, count: u32, volatile: u32, 
     requires { IsSomeAnd (held_at heap.old parent) (λ p. 76 ≤ length p) }
     ensures written { IsWritten parent 20 (child_fields count volatile list) heap.old heap.new }
     ensures small { list < 2 ^ 32 }
+    ensures volatile { volatile < 2 ^ 32 }
 {
     let fields = child_fields(count, volatile, list);
     heap.patch(parent, 20, &fields);
