@@ -196,6 +196,16 @@ unfolding value_list_at
 list_at_node cells x node r =
     ap (λ (q : Result KeyNode HiveFaultKind). of_read q (λ n. cond (eqb n.value_count 0) [] (n.value_list ∷ []))) r
 
+-- and in that cell alone
+pub one_list_at : (cells : Cells) (x : ℕ) (node : KeyNode) → reading key_node_at cells x ≡ done node → (o : ℕ)
+    → In (value_list_at cells x) o → node.value_list ≡ o
+one_list_at cells x node r o i =
+    go (eqb node.value_count 0) (subst (λ (l : List ℕ). In l o) (list_at_node cells x node r) i)
+  where
+    go : (b : Bool) → In (cond b [] (node.value_list ∷ [])) o → node.value_list ≡ o
+    go true j = absurd j
+    go false j = only_one node.value_list o j
+
 pub places_at_node : (cells : Cells) (x : ℕ) (node : KeyNode) → reading key_node_at cells x ≡ done node
     → value_places cells x ≡ cond (eqb node.value_count 0) []
     (of_read (reading (offsets_in node.value_count) cells node.value_list) (λ os. os))

@@ -1,6 +1,6 @@
 -- A value of a hive that holds its data itself, and gets other such data.
 use Rattle.std.proofs.Common.{◌≡◌, ◌≤◌, ◌<◌, ◌^◌, ℕ, ◌+◌, ◌-◌, Bool, true, false, eqb, cond, List, [], ◌∷◌, length, get_or, take, Option, Some, None, Result, Ok, Err, refl, sym, ap, subst, ◌∙◌, arith}
-use Rattle.std.specs.Prelude.{nat_lt, is_some}
+use Rattle.std.specs.Prelude.{nat_lt, is_some, Contains}
 use Rattle.std.specs.Option.{option_and_then, option_map, IsSomeAnd, is_none}
 use Rattle.std.specs.Int.{w32, to_le_bytes}
 use Rattle.std.proofs.lemmas.Bool.{le-ltb, lt-ltb, ne_eqb}
@@ -17,17 +17,19 @@ use Rattle.hive_model.specs.Size.{bulk_of}
 use Rattle.hive_model.specs.Tree.{Tree, Item, find_item}
 use Rattle.hive_model.specs.Tree.{key as tree_key}
 use Rattle.hive_model.specs.Edit.{set_value, Refusal, full, most_bulk, edited, after_step}
-use Rattle.hive_model.specs.Walk.{reading}
-use Rattle.hive_model.specs.Footprint.{key_place, is_value_named}
+use Rattle.hive_model.specs.Walk.{reading, data_checks}
+use Rattle.hive_model.specs.Footprint.{key_place, is_value_named, of_read, used_in}
 use Rattle.hive_model.specs.Stands.{Stands, data_of, item_at, IsWellFormed}
 use Rattle.hive_cells.specs.Held.{held_at, patched}
 use Rattle.hive_read.proofs.FormFacts.{held-short, value-facts, then-so}
 use Rattle.reg_tree.specs.Fitting.{Fits}
 use Rattle.reg_tree.proofs.Edited.{edited_valid}
 use Rattle.key_index.specs.Lists.{payload_in}
+use Rattle.edit_laws.proofs.Ins.{in_from}
+use Rattle.edit_laws.proofs.FromCells.{data_held_inside}
 use Rattle.hive_edit.specs.Hive.{HiveCells, cells_in, hive_of, IsHive}
 use Rattle.hive_edit.specs.Edits.{value_fields, held_itself, holds_itself, if_inside, inside_place, IsEditedInPlace}
-use Rattle.hive_edit.specs.Places.{IsItemHere, value_place, value_places}
+use Rattle.hive_edit.specs.Places.{IsItemHere, value_place, value_places, data_places}
 use Rattle.hive_edit.specs.Standing.{tree_of}
 use Rattle.hive_edit.proofs.ResultLemmas.{done, some, some_same, ok_same}
 use Rattle.hive_edit.proofs.StandingLemmas.{tree_is}
@@ -37,6 +39,7 @@ use Rattle.hive_edit.proofs.ItemLemmas.{item_facts, value_facts}
 use Rattle.hive_edit.proofs.HiveLemmas.{hive_opened}
 use Rattle.hive_edit.proofs.InPlaceLemmas.{patched_at, fields_for, set_done, inside_data, found_among, named_folds}
 use Rattle.hive_edit.proofs.EditLemmas.{folds_length, set_tree, set_edited, same_bulk, in_footprint, kept_in_place, the_tree, made}
+use Rattle.hive_edit.specs.Freed.{FreesData}
 
 -- ---- where it is
 
@@ -232,6 +235,29 @@ set_full old heap root version bulk h path name kind bytes v is view e short big
     let over : nat_lt most_bulk (bulk_of version t) ≡ true =
     lt-ltb most_bulk (bulk_of version t) (subst (λ (n : ℕ). 16773120 < n) is.counted big) in
     d.edit ∙ ap (λ (q : Bool). cond q (Err full) (Ok (set_tree path name kind bytes t))) over)
+
+-- a value that holds its data itself has no cells of data to free
+pub inside_frees : (h : HiveCells) (path : List (List ℕ)) (name : List ℕ) (v : ℕ)
+    → inside_place (cells_in h) path name h.root ≡ some v → (new : HiveCells) → FreesData h path name new
+inside_frees h path name v e new = λ at there o i.
+    let same : v ≡ at = some_same v at
+    (sym (ap (option_and_then (value_place b name)) k.place ∙ k.named) ∙ there) in
+    absurd (in_from [] o (subst (λ (l : List ℕ). Contains l o)
+    (ap (data_places b) (sym same) ∙ ap (λ (q : Result KeyValue HiveFaultKind). of_read q cells) k.read
+    ∙ none (data_inside k.value) refl k.inside) i))
+  where
+    b : Cells
+    b = cells_in h
+
+    cells : KeyValue → List ℕ
+    cells value = used_in (data_checks b value)
+
+    k : InsideThere b path name h.root v
+    k = inside_there b path name h.root v e
+
+    none : (o : Option (List ℕ)) → data_inside k.value ≡ o → is_some o ≡ true → cells k.value ≡ []
+    none None f g = absurd cc
+    none (Some bytes) f g = (data_held_inside b k.value bytes f).0
 
 -- where the value was written in place
 pub record IsSet (h : HiveCells) (new : List Bin) (root : ℕ) (version : HiveVersion) (bulk : ℕ) (path : List (List ℕ))

@@ -5,6 +5,7 @@ pub mod Places
 pub mod Edits
 pub mod Runs
 pub mod Given
+pub mod Freed
 pub mod Gone
 pub mod Grafted
 pub mod Children

@@ -15,6 +15,7 @@ ghost use Rattle.reg_tree.specs.Makes.{IsRefused, Makes, step_of};
 ghost use Rattle.reg_tree.specs.declared.stop.EditStop.TheVariants.{Full, Memory};
 ghost use Rattle.hive_edit.specs.Hive.{cells_in};
 ghost use Rattle.hive_edit.specs.Edits.{inside_place, value_fields, IsEditedInPlace, IsPackedAnew, IsPackedForRoom, WritesFields};
+ghost use Rattle.hive_edit.specs.Freed.{FreesData};
 
 use crate::give::inside_fields;
 use crate::hive::HiveBytes;
@@ -205,6 +206,7 @@ impl HiveBytes {
         ensures refused { OnErr result (self.new ≡ self.old) }
         ensures version { self.new.version ≡ self.old.version }
         ensures done { result ≡ Ok true → IsEditedInPlace self.old (set_value path.now name.now kind bytes.now ∷ []) self.new }
+        ensures freed { result ≡ Ok true → FreesData self.old path.now name.now self.new }
         ensures no_room { result ≡ Ok false → (u : Tree) → edited self.old.version self.old.tree (set_value path.now name.now kind bytes.now ∷ []) ≡ Ok u
             → 16777216 < strain_of self.old.version (bins_size self.old.bins) self.old.tree (set_value path.now name.now kind bytes.now ∷ []) }
     {
@@ -228,6 +230,8 @@ impl HiveBytes {
         ensures version { self.new.version ≡ self.old.version }
         ensures cells { OnOk result (IsEditedInPlace self.old (set_value path.now name.now kind bytes.now ∷ []) self.new ⊎ IsPackedAnew self.new) }
         ensures room { OnOk result (IsEditedInPlace self.old (set_value path.now name.now kind bytes.now ∷ []) self.new
+            ⊎ IsPackedForRoom self.old (set_value path.now name.now kind bytes.now ∷ []) self.new) }
+        ensures freed { OnOk result (FreesData self.old path.now name.now self.new
             ⊎ IsPackedForRoom self.old (set_value path.now name.now kind bytes.now ∷ []) self.new) }
     {
         if bytes.len() > LONGEST_DATA {
@@ -258,6 +262,8 @@ impl HiveBytes {
         ensures version { self.new.version ≡ self.old.version }
         ensures cells { OnOk result (IsEditedInPlace self.old (set_value path.now name.now kind bytes.now ∷ []) self.new ⊎ IsPackedAnew self.new) }
         ensures room { OnOk result (IsEditedInPlace self.old (set_value path.now name.now kind bytes.now ∷ []) self.new
+            ⊎ IsPackedForRoom self.old (set_value path.now name.now kind bytes.now ∷ []) self.new) }
+        ensures freed { OnOk result (FreesData self.old path.now name.now self.new
             ⊎ IsPackedForRoom self.old (set_value path.now name.now kind bytes.now ∷ []) self.new) }
         ensures in_place { is_some (inside_place (cells_in self.old) path.now name.now self.old.root) ≡ true → length bytes.now ≤ 4
             → OnOk result (IsEditedInPlace self.old (set_value path.now name.now kind bytes.now ∷ []) self.new) }
