@@ -274,9 +274,6 @@ module _ (version : HiveVersion) (old mid : List Bin) (root : ℕ) (t : Tree) (n
           let j = subst (λ (l : List ℕ). In l o) children_still i in
           λ v. is_gt (folded_order (name_same o j v) (key_name v))
 
-count_small : (keys uses : ℕ) → counted_more keys uses < 2 ^ 32
-count_small keys uses = omega arith
-
 -- the changes of the bins, as those of cells
 pub grafts : (version : HiveVersion) (old new : List Bin) (root : ℕ) (t : Tree) (n : KeyNode) (above : Above)
     (shared : List ℕ) (k : Tree) (at : ℕ)
@@ -294,6 +291,13 @@ grafts version old new root t n above shared k at r holds a =
     let still = lists_still version old a.mid root t n above shared k at r a.numbers holds a.put in
     let count = r.says.count in
     let few = r.few in
+    let noted : (q : List ℕ) → (above.security ≡ nowhere → ⊥)
+    → (look_up version a.linked.listed).payload above.security ≡ done q
+    → held_at a.linked.noted above.security ≡ some q = λ q used e.
+    a.linked.fields.others above.security (λ z. let u = r.shares.used used in
+    node_no_security b root t [] root t n u.path u.key r.parent u.reached
+    (subst (In (security_cell_at b u.key)) z u.uses))
+    ∙ payload_held a.linked.listed above.security q e in
     record {
       parent = r.parent;
       shares = r.shares;
@@ -328,16 +332,10 @@ grafts version old new root t n above shared k at r holds a =
           (subst (In (security_cell_at b u.key)) (sym z) u.uses))
           ∙ a.linked.fields.here q (payload_held a.linked.listed root q e)
           ∙ (λ i. some (patched 20 (child_fields (count i + 1) (r.says.volatile i) a.linked.list) q)));
-      secure_c = λ q used e. (
-        counted_more (sharing shared k) (u32_in q 12),
-        count_small (sharing shared k) (u32_in q 12),
-        held_payload new above.security (patched 12 (to_le_bytes w32 (counted_more (sharing shared k) (u32_in q 12))) q)
-            (a.linked.counted.here q used
-            (a.linked.fields.others above.security (λ z. let u = r.shares.used used in
-            node_no_security b root t [] root t n u.path u.key r.parent u.reached
-            (subst (In (security_cell_at b u.key)) z u.uses))
-            ∙ payload_held a.linked.listed above.security q e)),
-      );
+      secure_c = λ q used e.
+          held_payload new above.security (patched 12 (to_le_bytes w32 (counted_more (sharing shared k) (u32_in q 12))) q)
+          (a.linked.counted.here q used (noted q used e));
+      uses_small = λ q used e. a.linked.counted.small q used (noted q used e);
       places = sym (children_still version old a.mid root t n above shared k at r a.numbers holds a.put)
           ∙ sym (take-append-drop (position_or_len (is_behind m (name_in m at)) offs) offs);
       count_is = sym count ∙ sym (siblings_count version old a.mid root t n above shared k at r a.numbers holds a.put)

@@ -45,7 +45,7 @@ use Rattle.hive_edit.proofs.PlaceLemmas.{key_there}
 use Rattle.hive_edit.proofs.NodeLemmas.{node_here as node_at_key}
 use Rattle.hive_edit.proofs.NodeMade.{MayBeNode, node_again, security_text_is}
 use Rattle.hive_edit.proofs.ParentLemmas.{Keeps, kept_well, IsParent, kept_parent, parent_held, siblings_are, lists_apart, list_no_node, list_no_security, node_no_security, security_there, node_stands, security_read}
-use Rattle.hive_edit.proofs.MakingLemmas.{put_keeps, lists_still, key_done}
+use Rattle.hive_edit.proofs.MakingLemmas.{put_keeps, lists_still, key_done, key_secure}
 use Rattle.hive_edit.proofs.JudgeLemmas.{MayTry, step_made, make_room, counted_children}
 use Rattle.hive_edit.proofs.SteppedLemmas.{IsStepMade, stepped, lacks_room}
 use Rattle.key_index.proofs.Tests.{is_ok_of}
@@ -293,6 +293,8 @@ is_made old new root version bulk h parent name place above stamp node is view r
     stepped old new root version bulk place.bulk h u (make_key parent name) is view
     (step_made parent name t r.there r.try) d bytes r.bulk
     (omega (arith, one, two, three, four)) (omega (arith, n, room, three, four, five, six))
+    (key_secure version old new root t parent r.path place.at r.there r.node above name r.parent_is r.says r.may r.few a
+    r.absent r.at)
 
 -- ---- nothing is made
 

@@ -24,6 +24,7 @@ pub mod GoneLemmas
 pub mod UnsetLemmas
 pub mod NodeMade
 pub mod ParentLemmas
+pub mod SecuredLemmas
 pub mod PlacedLemmas
 pub mod AddedLemmas
 pub mod MakingLemmas

@@ -32,7 +32,9 @@ use Rattle.hive_edit.specs.Steps.{AreStepped, AreStrained}
 use Rattle.hive_edit.proofs.EditLemmas.{the_tree}
 use Rattle.hive_edit.proofs.HiveLemmas.{hive_opened}
 use Rattle.hive_edit.proofs.StandingLemmas.{tree_is}
+use Rattle.hive_edit.specs.Secured.{changes_of}
 use Rattle.hive_model.specs.Forms.{◌>>=◌}
+use Rattle.hive_model.specs.InPlace.{KeepsSecurity}
 
 -- ---- one step
 
@@ -53,8 +55,10 @@ pub stepped : (old new : List Bin) (root : ℕ) (version : HiveVersion) (bulk bu
     → IsDone (look_up version old) (look_up version new) root (tree_of (look_up version old) root) u step
     → IsBytes (spelled 0 new) → bulk_then ≡ bulk_of version u
     → bins_size old ≤ bins_size new → IsWithinRoom version old new root step u
+    → KeepsSecurity root (changes_of (look_up version old) root (tree_of (look_up version old) root) step)
+    (look_up version old) (look_up version new)
     → IsStepMade h new root version bulk_then step
-stepped old new root version bulk bulk_then h u step is view ok made bytes counted long room =
+stepped old new root version bulk bulk_then h u step is view ok made bytes counted long room secure =
     let b = look_up version old in
     let c = look_up version new in
     let t = tree_of b root in
@@ -67,6 +71,7 @@ stepped old new root version bulk bulk_then h u step is view ok made bytes count
         root = refl;
         tree = ok ∙ sym (ap the_tree tree);
         done = subst (λ (w : Tree). IsDone b c root t w step) (sym tree) made;
+        secure = secure;
         long = long;
         room = subst (λ (w : Tree). IsWithinRoom version old new root step w) (sym tree) room;
       });

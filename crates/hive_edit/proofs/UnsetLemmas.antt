@@ -56,6 +56,7 @@ use Rattle.hive_edit.proofs.GoneLemmas.{is_held, and_some, at_place, ListFacts, 
 use Rattle.hive_edit.proofs.DataLemmas.{segments_used}
 use Rattle.hive_edit.proofs.KeyLemmas.{node_read}
 use Rattle.hive_edit.specs.Freed.{FreesValue}
+use Rattle.hive_edit.proofs.SecuredLemmas.{none_counted, delete_counts_none}
 use Rattle.key_index.proofs.Tests.{value_of, is_ok_of}
 
 -- ---- the cells of a value's data
@@ -602,6 +603,7 @@ is_unset old new root version bulk after h path name x v is view k e taken bytes
     let long = taken.long in
     stepped old new root version bulk after h u (delete_value path name) is view d made bytes told (omega (arith, long))
     (omega (arith, long))
+    (none_counted b c root t u (delete_value path name) is.stands made (delete_counts_none t path name))
 
 -- its cells are free
 pub frees_value : (old new : List Bin) (root : ℕ) (version : HiveVersion) (h : HiveCells) (path : List (List ℕ))

@@ -13,6 +13,7 @@ pub mod Copying
 pub mod Making
 pub mod NewValue
 pub mod Dropped
-pub mod Stepped
 pub mod Deleting
+pub mod Secured
+pub mod Stepped
 pub mod Steps
