@@ -24,7 +24,7 @@ use Rattle.edit_laws.specs.Sizes.{AreGrown}
 use Rattle.edit_laws.proofs.Grown.{strain_behind}
 use Rattle.edit_laws.proofs.InOrder.{tree_done, parents_done, left_outside}
 use Rattle.edit_laws.proofs.RoomLemmas.{some_all, strain_one, strain_least}
-use Rattle.hive_edit.specs.Edits.{IsEditedInPlace, IsPackedAnew, IsPackedForRoom}
+use Rattle.hive_edit.specs.Edits.{IsEditedInPlace, IsPackedAnew, IsPackedForRoom, KeepsParents}
 use Rattle.hive_edit.specs.Hive.{HiveCells, cells_in, hive_of, IsHive}
 use Rattle.hive_edit.specs.Standing.{tree_of}
 use Rattle.hive_edit.specs.Stepped.{IsStepped, LacksStepRoom}
@@ -365,6 +365,12 @@ pub packed_for_room : (h new : HiveCells) (steps : List Step) (r : Result (Unit 
 packed_for_room h new steps (Ok x) P made anew strained =
     inr (record { packed = anew; strained = strained new.tree made })
 packed_for_room h new steps (Err stop) P made anew strained = tt
+
+-- a repacked tree names its parents
+pub names_anew : (old new : HiveCells) (r : Result (Unit {0}) EditStop) → OnOk r (IsPackedAnew new)
+    → OnOk r (KeepsParents old new)
+names_anew old new (Ok x) anew = λ n. anew.parents
+names_anew old new (Err stop) anew = tt
 
 -- ---- the steps so far
 

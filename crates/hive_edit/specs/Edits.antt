@@ -15,6 +15,10 @@ use Rattle.edit_laws.specs.Parents.{NamesParents}
 use Rattle.hive_edit.specs.Hive.{HiveCells, cells_in}
 use Rattle.hive_edit.specs.Places.{value_place}
 
+-- where each key below another named the node of that one as its parent, each does
+abbrev pub KeepsParents : HiveCells → HiveCells → Type 0
+KeepsParents old new = NamesParents (cells_in old) old.root → NamesParents (cells_in new) new.root
+
 -- in place: each cell that was allocated, and is in the footprint of no step, has its offset and its payload, the root is where it was,
 -- the bins data are as long as before, or longer, and where each key below another named the node of that one as its parent, each does
 pub record IsEditedInPlace (old : HiveCells) (steps : List Step) (new : HiveCells) : Type 0 where
@@ -22,7 +26,7 @@ pub record IsEditedInPlace (old : HiveCells) (steps : List Step) (new : HiveCell
       → held_at new.bins o ≡ Some p
   pub root : new.root ≡ old.root
   pub long : bins_size old.bins ≤ bins_size new.bins
-  pub parents : NamesParents (cells_in old) old.root → NamesParents (cells_in new) new.root
+  pub parents : KeepsParents old new
 
 -- repacked: the cells are those of the packed form of the tree, and each key below another names the node of that one as its parent
 pub record IsPackedAnew (h : HiveCells) : Type 0 where

@@ -14,7 +14,7 @@ ghost use Rattle.hive_model.specs.Stands.{IsWellFormed};
 ghost use Rattle.reg_tree.specs.Makes.{IsRefused, Makes, step_of};
 ghost use Rattle.reg_tree.specs.declared.stop.EditStop.TheVariants.{Full, Memory};
 ghost use Rattle.hive_edit.specs.Hive.{cells_in};
-ghost use Rattle.hive_edit.specs.Edits.{inside_place, value_fields, IsEditedInPlace, IsPackedAnew, IsPackedForRoom, WritesFields};
+ghost use Rattle.hive_edit.specs.Edits.{inside_place, value_fields, IsEditedInPlace, IsPackedAnew, IsPackedForRoom, KeepsParents, WritesFields};
 ghost use Rattle.hive_edit.specs.Freed.{FreesData};
 
 use crate::give::inside_fields;
@@ -131,6 +131,7 @@ impl HiveBytes {
         ensures refused { OnErr result (self.new ≡ self.old) }
         ensures version { self.new.version ≡ self.old.version }
         ensures cells { OnOk result (IsEditedInPlace self.old (map step_of steps) self.new ⊎ IsPackedForRoom self.old (map step_of steps) self.new) }
+        ensures parents { OnOk result (KeepsParents self.old self.new) }
     {
         self.stands();
         let mut draft = self.copy(alloc)?;
@@ -154,6 +155,7 @@ impl HiveBytes {
         ensures refused { OnErr result (self.new ≡ self.old) }
         ensures version { self.new.version ≡ self.old.version }
         ensures cells { OnOk result (IsEditedInPlace self.old (map step_of steps) self.new ⊎ IsPackedForRoom self.old (map step_of steps) self.new) }
+        ensures parents { OnOk result (KeepsParents self.old self.new) }
     {
         match steps.as_slice() {
             [
@@ -231,6 +233,7 @@ impl HiveBytes {
         ensures cells { OnOk result (IsEditedInPlace self.old (set_value path.now name.now kind bytes.now ∷ []) self.new ⊎ IsPackedAnew self.new) }
         ensures room { OnOk result (IsEditedInPlace self.old (set_value path.now name.now kind bytes.now ∷ []) self.new
             ⊎ IsPackedForRoom self.old (set_value path.now name.now kind bytes.now ∷ []) self.new) }
+        ensures parents { OnOk result (KeepsParents self.old self.new) }
         ensures freed { OnOk result (FreesData self.old path.now name.now self.new
             ⊎ IsPackedForRoom self.old (set_value path.now name.now kind bytes.now ∷ []) self.new) }
     {
@@ -263,6 +266,7 @@ impl HiveBytes {
         ensures cells { OnOk result (IsEditedInPlace self.old (set_value path.now name.now kind bytes.now ∷ []) self.new ⊎ IsPackedAnew self.new) }
         ensures room { OnOk result (IsEditedInPlace self.old (set_value path.now name.now kind bytes.now ∷ []) self.new
             ⊎ IsPackedForRoom self.old (set_value path.now name.now kind bytes.now ∷ []) self.new) }
+        ensures parents { OnOk result (KeepsParents self.old self.new) }
         ensures freed { OnOk result (FreesData self.old path.now name.now self.new
             ⊎ IsPackedForRoom self.old (set_value path.now name.now kind bytes.now ∷ []) self.new) }
         ensures in_place { is_some (inside_place (cells_in self.old) path.now name.now self.old.root) ≡ true → length bytes.now ≤ 4

@@ -2,7 +2,7 @@ use Rattle.std.proofs.Common.{◌≡◌, Bool, [], ◌∷◌, Ok, ap, subst, inl
 use Rattle.hive_model.specs.Edit.{edited, set_value}
 use Rattle.reg_tree.specs.Makes.{Makes}
 use Rattle.hive_edit.specs.Hive.{HiveCells}
-use Rattle.hive_edit.proofs.SteppedLemmas.{packed_for_room}
+use Rattle.hive_edit.proofs.SteppedLemmas.{names_anew, packed_for_room}
 use Rattle.hive_edit.proofs.StrainLemmas.{too_long}
 use Rattle.hive_edit.proofs.hive.HiveBytes.set_or_pack.Goals as goal
 
@@ -45,3 +45,14 @@ returns-clause-freed c =
     (edited g.version g.tree (step ∷ []))) same c.set_anew-2.ensures.made)
     c.set_anew-2.ensures.anew
     (λ u e. c.in_ok-set_in_place.ensures.no_room (ap (λ (b : Bool). Ok b) c.if-branch.false) u e)
+
+pub returns-then-bytes-gt-LONGEST_DATA-clause-parents : goal.returns-then-bytes-gt-LONGEST_DATA-clause-parents
+returns-then-bytes-gt-LONGEST_DATA-clause-parents c =
+    names_anew c.args.self.now c.set_anew.new.self c.set_anew.result c.set_anew.ensures.anew
+
+pub returns-then-branch-clause-parents : goal.returns-then-branch-clause-parents
+returns-then-branch-clause-parents c =
+    (c.in_ok-set_in_place.ensures.done (ap (λ (b : Bool). Ok b) c.if-branch.true)).parents
+
+pub returns-clause-parents : goal.returns-clause-parents
+returns-clause-parents c = names_anew c.args.self.now c.set_anew-2.new.self c.set_anew-2.result c.set_anew-2.ensures.anew

@@ -96,3 +96,12 @@ returns-else-bulk-gt-MOST_BULK-clause-freed c =
     let i = c.self.inside in
     inl (inside_frees c.args.self.now c.args.path.now c.args.name.now c.in-Some.at (sym c.in-Some.ensures)
     (hive_of c.patch.new.self i.root i.version))
+
+pub returns-else-bulk-gt-MOST_BULK-clause-parents : goal.returns-else-bulk-gt-MOST_BULK-clause-parents
+returns-else-bulk-gt-MOST_BULK-clause-parents c =
+    let i = c.self.inside in
+    (is_set i.cells c.patch.new.self i.root i.version i.bulk c.args.self.now c.args.path.now c.args.name.now c.args.kind
+    c.args.bytes.now c.in-Some.at
+    c.self.invariant c.self.view_is (sym c.in-Some.ensures) (omega arith) (λ k. omega (arith, c.type_inv.bytes k))
+    (omega arith) c.if-bulk-gt-MOST_BULK.false
+    (rw c.inside_fields-fields.ensures at c.patch.ensures.here) c.patch.ensures.others c.patch.ensures.long).kept.parents
