@@ -1,1 +1,2 @@
+pub mod LoadingCalls
 pub mod MendingLemmas

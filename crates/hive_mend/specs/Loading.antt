@@ -1,10 +1,12 @@
--- What does a load of a hive answer? (This project's own.)
-use Rattle.std.specs.Prelude.{◌≡◌, Bool, Result, Ok, Err}
+-- What does a load of a hive answer, and which calls does it make? (This project's own.)
+use Rattle.std.specs.Prelude.{◌≡◌, Bool, List, Result, Ok, Err}
 use Rattle.hive_model.specs.Image.{Image}
 use Rattle.hive_model.specs.Recovery.{recovered_of}
 use Rattle.hive_model.specs.Load.{Loads}
+use Rattle.nt_edge.specs.Calls.{Made}
 use Rattle.hive_log.specs.declared.stops.LoadStop.{LoadStop}
-use Rattle.hive_store.specs.Loading.{StopsFrom}
+use Rattle.hive_commit.specs.Calls.{recovery_calls}
+use Rattle.hive_store.specs.Loading.{StopsFrom, AreOfLoad as AreOfSession}
 use Rattle.hive_mend.specs.Loaded.{Loaded, loaded_state}
 
 -- the image is recovered as the base block and the bins data of the hive, dirty or not, and loads as its tree under its number
@@ -16,3 +18,8 @@ pub record IsLoadOf (image : Image) (hive : Loaded) (dirty : Bool) : Type 0 wher
 abbrev pub LoadsFrom : Image → Result (Loaded × Bool) LoadStop → Type 0
 LoadsFrom image (Ok x) = IsLoadOf image x.0 x.1
 LoadsFrom image (Err stop) = StopsFrom image stop
+
+-- the calls are those of one recovery; after a stop they are those of a session's load
+abbrev pub AreOfLoad : Image → Result (Loaded × Bool) LoadStop → List Made → Type 0
+AreOfLoad image (Ok x) calls = calls ≡ recovery_calls image
+AreOfLoad image (Err stop) calls = AreOfSession image (Err stop) calls

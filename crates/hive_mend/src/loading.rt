@@ -1,20 +1,23 @@
 //! A hive loaded from a disk.
 
-ghost use Rattle.std.specs.Prelude.{◌≡◌, Bool, true, false, [], length, IfOk, OnOk, MatchResult};
+ghost use Rattle.std.specs.Prelude.{◌≡◌, Bool, true, false, ℕ, List, [], length, IfOk, OnOk, MatchResult};
 ghost use Rattle.nt_bytes.specs.declared.fault.HiveFault.{HiveFault as HiveFaultModel};
-ghost use Rattle.hive_model.specs.Base.{is_bins_size};
+ghost use Rattle.hive_model.specs.Asked.{asked_of};
+ghost use Rattle.hive_model.specs.Base.{Base, is_bins_size};
 ghost use Rattle.hive_model.specs.Image.{Image};
-ghost use Rattle.hive_model.specs.Carries.{Carries};
+ghost use Rattle.hive_model.specs.Carries.{Carries, IsRecoveredAs};
 ghost use Rattle.hive_model.specs.State.{HiveState};
 ghost use Rattle.hive_model.specs.Load.{Loads, LoadsAs, LoadFault};
 ghost use Rattle.nt_edge.specs.Crash.{EachCrash};
+ghost use Rattle.hive_log.specs.Asked.{MakesReads, IsAsked};
 ghost use Rattle.hive_log.specs.Found.{Found};
 ghost use Rattle.hive_log.specs.Stops.{IsLookAt, IsLoadOn};
-ghost use Rattle.hive_commit.specs.Alone.{KeepsClean};
+ghost use Rattle.hive_commit.specs.Alone.{KeepsLog, KeepsRest, KeepsClean};
+ghost use Rattle.hive_commit.specs.Calls.{MakesRecovery};
 ghost use Rattle.hive_commit.specs.Untouched.{IsUntouched, IsUnwritten};
 ghost use Rattle.hive_store.specs.Loading.{StopsFrom};
 ghost use Rattle.hive_mend.specs.Loaded.{loaded_state};
-ghost use Rattle.hive_mend.specs.Loading.{LoadsFrom, IsLoadOf};
+ghost use Rattle.hive_mend.specs.Loading.{LoadsFrom, IsLoadOf, AreOfLoad};
 
 use crate::LoadedHive;
 use hive_commit::restore;
@@ -37,6 +40,8 @@ struct Unmended {
 fn read_unmended<D: Disk>(alloc: Global, disk: &mut D) -> Result<Unmended, LoadStop>
     requires on { (D.state disk.old).on ≡ true }
     requires still { D.tells ≡ true → (D.state disk.old).flight ≡ [] }
+    ensures asked { MakesReads (D.calls disk.old) (D.calls disk.new)
+        (λ sectors. D.tells ≡ true → IsAsked (asked_of (D.state disk.old).held) result sectors) }
     ensures exact { D.tells ≡ true → MatchResult result
         (λ x. IsLoadOf (D.state disk.old).held x.hive x.dirty) (StopsFrom (D.state disk.old).held) }
     ensures carries { D.tells ≡ true → IfOk result (λ x. x.dirty ≡ false
@@ -66,6 +71,10 @@ impl LoadedHive {
     pub fn load<D: Disk>(alloc: Global, disk: &mut D) -> Result<(LoadedHive, bool), LoadStop>
         requires on { (D.state disk.old).on ≡ true }
         requires still { D.tells ≡ true → (D.state disk.old).flight ≡ [] }
+        // It makes the calls of one recovery and no other: the reads, and then the writes of a dirty hive; of a
+        // hive with a fault the reads alone. Which sectors, is said of a disk that shows what it holds.
+        ensures made { MakesRecovery (D.calls disk.old) (D.calls disk.new)
+            (λ calls. D.tells ≡ true → AreOfLoad (D.state disk.old).held result calls) }
         // At Ok the hive is what the disk holds, and so is whether it was dirty; a fault is its first.
         ensures exact { D.tells ≡ true → LoadsFrom (D.state disk.old).held result }
         // Then the disk is clean, and carries the hive's base block and bins data.
@@ -76,6 +85,10 @@ impl LoadedHive {
         ensures crash { D.tells ≡ true → (s : HiveState) (dirty : Bool)
             → Loads (D.state disk.old).held s dirty
             → EachCrash (D.state disk.new) (λ (c : Image). LoadsAs c s) }
+        // And the log as it was, and sectors 1 to 7 of the primary and those after what is recovered.
+        ensures log { D.tells ≡ true → EachCrash (D.state disk.new) (KeepsLog (D.state disk.old).held) }
+        ensures rest { D.tells ≡ true → (base : Base) (bins : List ℕ) → IsRecoveredAs (D.state disk.old).held base bins
+            → EachCrash (D.state disk.new) (KeepsRest (length bins) (D.state disk.old).held) }
         // Where the primary was clean, all is as it was, whatever the answer.
         ensures clean { D.tells ≡ true → KeepsClean (D.state disk.old) (D.state disk.new) }
         // A hive with a fault is not written, whatever the answer.

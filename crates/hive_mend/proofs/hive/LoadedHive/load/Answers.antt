@@ -1,9 +1,72 @@
-use Rattle.std.proofs.Common.{◌∙◌, refl, ap}
-use Rattle.hive_model.specs.Recovery.{Recovered}
+use Rattle.std.proofs.Common.{◌++◌, ◌∙◌, [], length, refl, sym, ap}
+use Rattle.std.proofs.lemmas.List.{append-nil}
+use Rattle.hive_model.specs.Recovery.{Recovered, bit}
+use Rattle.nt_edge.specs.Calls.{reads_of}
+use Rattle.hive_commit.specs.Calls.{closing_calls}
+use Rattle.hive_commit.proofs.Kept.{kept_log, log_behind}
+use Rattle.hive_commit.proofs.RecoveryCalls.{only_read, read_then, restored_front, restored_all, clean_all}
+use Rattle.hive_commit.proofs.Rest.{rest_kept, rest_restored}
 use Rattle.hive_mend.specs.Loaded.{Loaded, loaded_state}
 use Rattle.hive_store.proofs.LoadingLemmas.{loads_or_fails, kept_loads, restored_loads, found_again}
+use Rattle.hive_mend.proofs.LoadingCalls.{stopped_look, stopped_restore}
 use Rattle.hive_mend.proofs.hive.LoadedHive.load.Goals as goal
 use Rattle.hive_mend.proofs.hive.LoadedHive.load.Goals.{then-dirty+in_ok-restore, else-dirty}
+
+pub returns-in_err-hive-clause-made : goal.returns-in_err-hive-clause-made
+returns-in_err-hive-clause-made g c =
+    let asked = c.in_err-hive.ensures.asked in
+    only_read (g.D.Disk.calls c.args.disk.now) (g.D.Disk.calls c.read_unmended.new.disk) _ asked.sectors asked.made
+    (λ tells. stopped_look (g.D.Disk.state c.args.disk.now).held c.from_residual.result c.in_err-hive.field-0.0
+    asked.sectors c.from_residual.ensures.1 (asked.are tells))
+
+pub returns-in_err-restore-clause-made : goal.returns-in_err-restore-clause-made
+returns-in_err-restore-clause-made g c =
+    let image = (g.D.Disk.state c.args.disk.now).held in
+    let looked = c.in_ok-hive.field-0 in
+    let view : Recovered = record { base = looked.hive.base; bins = looked.hive.bins; dirty = looked.dirty } in
+    let asked = c.in_ok-hive.ensures.asked in
+    let closed = c.hive.inside.base in
+    let bitmap = c.as_slice.result.now in
+    let bins = c.as_slice-then-dirty.result.now in
+    let made = c.in_err-restore.ensures.made in
+    read_then (g.D.Disk.calls c.args.disk.now) (g.D.Disk.calls c.read_unmended.new.disk) _ asked.sectors asked.made
+    (g.D.Disk.calls c.restore.new.disk) closed (bit bitmap) bins made
+    (λ tells. stopped_restore image c.from_residual-in_err-restore.result c.in_err-restore.field-0.0
+    (reads_of asked.sectors ++ made.front) c.from_residual-in_err-restore.ensures.1
+    (restored_front image asked.sectors (asked.are tells) view (c.in_ok-hive.ensures.exact tells).recovered
+    closed bitmap bins looked.bitmap c.if-dirty.true (c.in_ok-hive.ensures.dirty tells c.if-dirty.true)
+    (ap (λ (h : Loaded). h.base) c.hive.view_is) c.as_slice.ensures
+    (c.as_slice-then-dirty.ensures ∙ ap (λ (h : Loaded). h.bins) c.hive.view_is)
+    made.front (record { rest = made.rest; cut = made.cut }))
+    (λ fault. loads_or_fails image (loaded_state looked.hive) looked.dirty fault
+    (c.in_ok-hive.ensures.exact tells).loads))
+
+pub returns-clause-made : goal.returns-clause-made
+returns-clause-made g c =
+    let start = g.D.Disk.calls c.args.disk.now in
+    let one = g.D.Disk.calls c.read_unmended.new.disk in
+    let image = (g.D.Disk.state c.args.disk.now).held in
+    let looked = c.in_ok-hive.field-0 in
+    let view : Recovered = record { base = looked.hive.base; bins = looked.hive.bins; dirty = looked.dirty } in
+    let asked = c.in_ok-hive.ensures.asked in
+    elim c.if-dirty.branch [
+      | then-dirty+in_ok-restore w ↦
+          let closed = c.hive.inside.base in
+          let bitmap = w.as_slice.result.now in
+          let bins = w.as_slice-then-dirty.result.now in
+          let calls = closing_calls closed (bit bitmap) bins in
+          rw w.disk-is
+          (read_then start one _ asked.sectors asked.made (g.D.Disk.calls w.restore.new.disk) closed (bit bitmap) bins
+          (record { front = calls; rest = []; cut = sym (append-nil calls); made = w.in_ok-restore.ensures.made })
+          (λ tells. restored_all image asked.sectors (asked.are tells) view (c.in_ok-hive.ensures.exact tells).recovered
+          closed bitmap bins looked.bitmap w.if-dirty.true (c.in_ok-hive.ensures.dirty tells w.if-dirty.true)
+          (ap (λ (h : Loaded). h.base) c.hive.view_is) w.as_slice.ensures
+          (w.as_slice-then-dirty.ensures ∙ ap (λ (h : Loaded). h.bins) c.hive.view_is)))
+      | else-dirty w ↦ rw w.disk-is
+          (only_read start one _ asked.sectors asked.made
+          (λ tells. clean_all image asked.sectors (asked.are tells) view (c.in_ok-hive.ensures.exact tells).recovered
+          w.if-dirty.false))
+    ]
 
 pub returns-in_err-hive-clause-crash : goal.returns-in_err-hive-clause-crash
 returns-in_err-hive-clause-crash g c = λ tells.
@@ -65,3 +128,53 @@ returns-clause-faulty g c = λ tells fault fails.
     let looked = c.in_ok-hive.field-0 in
     absurd (loads_or_fails (g.D.Disk.state c.args.disk.now).held (loaded_state looked.hive) looked.dirty fault
     (c.in_ok-hive.ensures.exact tells).loads fails)
+
+pub returns-in_err-hive-clause-rest : goal.returns-in_err-hive-clause-rest
+returns-in_err-hive-clause-rest g c = λ tells base bins is.
+    let look = c.read_unmended.ensures.look in
+    rest_kept (g.D.Disk.state c.args.disk.now) (g.D.Disk.state c.read_unmended.new.disk) (length bins) (look.held tells)
+    (look.flight tells ∙ c.requires.still tells)
+
+pub returns-in_err-restore-clause-log : goal.returns-in_err-restore-clause-log
+returns-in_err-restore-clause-log g c = λ tells.
+    log_behind (g.D.Disk.state c.args.disk.now).held (g.D.Disk.state c.read_unmended.new.disk).held
+    (g.D.Disk.state c.restore.new.disk) (c.read_unmended.ensures.look.held tells) (c.restore.ensures.log tells)
+
+pub returns-clause-log : goal.returns-clause-log
+returns-clause-log g c = λ tells.
+    let s0 = g.D.Disk.state c.args.disk.now in
+    let s1 = g.D.Disk.state c.read_unmended.new.disk in
+    let look = c.read_unmended.ensures.look in
+    elim c.if-dirty.branch [
+      | then-dirty+in_ok-restore w ↦ rw w.disk-is
+          (log_behind s0.held s1.held (g.D.Disk.state w.restore.new.disk) (look.held tells)
+          (w.restore.ensures.log tells))
+      | else-dirty w ↦ rw w.disk-is (kept_log s0 s1 (look.held tells) (look.flight tells ∙ c.requires.still tells))
+    ]
+
+pub returns-in_err-restore-clause-rest : goal.returns-in_err-restore-clause-rest
+returns-in_err-restore-clause-rest g c = λ tells base bins is.
+    let looked = c.in_ok-hive.field-0 in
+    rest_restored (g.D.Disk.state c.args.disk.now) (g.D.Disk.state c.restore.new.disk)
+    (g.D.Disk.state c.read_unmended.new.disk).held base bins
+    (record { base = looked.hive.base; bins = looked.hive.bins; dirty = looked.dirty })
+    c.as_slice-then-dirty.result.now (c.read_unmended.ensures.look.held tells)
+    (c.in_ok-hive.ensures.exact tells).recovered
+    (c.as_slice-then-dirty.ensures ∙ ap (λ (h : Loaded). h.bins) c.hive.view_is) is (c.restore.ensures.rest tells)
+
+pub returns-clause-rest : goal.returns-clause-rest
+returns-clause-rest g c = λ tells base bins is.
+    let s0 = g.D.Disk.state c.args.disk.now in
+    let s1 = g.D.Disk.state c.read_unmended.new.disk in
+    let look = c.read_unmended.ensures.look in
+    let looked = c.in_ok-hive.field-0 in
+    elim c.if-dirty.branch [
+      | then-dirty+in_ok-restore w ↦ rw w.disk-is
+          (rest_restored s0 (g.D.Disk.state w.restore.new.disk) s1.held base bins
+          (record { base = looked.hive.base; bins = looked.hive.bins; dirty = looked.dirty })
+          w.as_slice-then-dirty.result.now (look.held tells) (c.in_ok-hive.ensures.exact tells).recovered
+          (w.as_slice-then-dirty.ensures ∙ ap (λ (h : Loaded). h.bins) c.hive.view_is) is
+          (w.restore.ensures.rest tells))
+      | else-dirty w ↦ rw w.disk-is
+          (rest_kept s0 s1 (length bins) (look.held tells) (look.flight tells ∙ c.requires.still tells))
+    ]
