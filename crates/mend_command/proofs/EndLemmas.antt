@@ -106,5 +106,7 @@ disk_same status s ends cut device = record {
   };
   cut = λ e. absurd (cut e);
   fault = λ e. absurd (device e);
+  no_cut = λ other. inr refl;
+  no_fault = λ other more. inr refl;
   off = λ e. absurd (cut e);
 }

@@ -120,9 +120,13 @@ pub record IsMended (image : Image) (disk : DiskState) : Type 0 where
   pub has : HasMended hive disk
 
 -- The record stays, no count falls, a stop of the disk had its cause, a count that rose, and the disk is off where its power was lost.
+-- A count rises for no other reason, unless the host or the memory stopped the line that would say so: that of cuts only at `Cut`, that
+-- of faults only at `Device` or, since both may be due at one call, at `Cut`.
 pub record DiskGoes (status : MendStatus) (old new : DiskState) : Type 0 where
   pub history : new.history ≡ old.history
   pub counts : CountsGrow old new
   pub cut : status ≡ Cut → Rises old.cuts new.cuts
   pub fault : status ≡ Device → Rises old.faults new.faults
+  pub no_cut : (status ≡ Cut → ⊥) → IsStopped status ⊎ (new.cuts ≡ old.cuts)
+  pub no_fault : (status ≡ Cut → ⊥) → (status ≡ Device → ⊥) → IsStopped status ⊎ (new.faults ≡ old.faults)
   pub off : status ≡ Cut → new.on ≡ false
