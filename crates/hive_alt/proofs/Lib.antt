@@ -1,9 +1,11 @@
 pub mod EditingLemmas
 pub mod ChangeLemmas
+pub mod CopyCalls
 pub mod CopyLemmas
 pub mod KeptLemmas
 pub mod LoadLemmas
 pub mod LogLemmas
+pub mod PairCalls
 pub mod PairLemmas
 pub mod ReadingLemmas
 pub mod SeenLemmas
