@@ -3,6 +3,7 @@ pub mod ChangeLemmas
 pub mod CopyCalls
 pub mod CopyLemmas
 pub mod KeptLemmas
+pub mod LoadCalls
 pub mod LoadLemmas
 pub mod LogLemmas
 pub mod PairCalls

@@ -1,15 +1,17 @@
 -- Which calls of the disk are made where a copy is written, where two copies are changed and where one is repaired, and in
 -- which order? (This project's own.)
-use Rattle.std.specs.Prelude.{◌+◌, ◌/◌, Bool, true, false, ℕ, List, [], ◌∷◌, ◌++◌, length, map, filter}
+use Rattle.std.specs.Prelude.{◌≡◌, ◌+◌, ◌/◌, ◌==◌, not, if◌then◌else◌, Bool, true, false, ℕ, List, [], ◌∷◌, ◌++◌, length, map, filter, Option, Some, None, Result, Ok, Err}
 use Rattle.std.specs.List.{range_with_len}
+use Rattle.nt_bytes.specs.declared.fault.HiveFault.{HiveFault}
 use Rattle.hive_model.specs.Base.{Base, base_text}
-use Rattle.hive_model.specs.Image.{File, Primary, Log, Write}
+use Rattle.hive_model.specs.Image.{Image, File, Primary, Log, Address, Write}
 use Rattle.hive_model.specs.Log.{dirty}
-use Rattle.hive_model.specs.Recovery.{sector}
-use Rattle.nt_edge.specs.Calls.{Made, Synced, Wrote, writes_of}
+use Rattle.hive_model.specs.Recovery.{Recovered, sector, base_in}
+use Rattle.nt_edge.specs.Calls.{Made, Synced, Wrote, reads_of, writes_of}
+use Rattle.hive_commit.specs.Calls.{closing_calls}
 use Rattle.hive_commit.specs.Stages.{opened_of, closed_of}
 use Rattle.hive_alt.specs.Copies.{unfinished_of}
-use Rattle.hive_alt.specs.Twin.{copy_at}
+use Rattle.hive_alt.specs.Twin.{copy_at, twin_of}
 
 -- bins sector i of a copy gets that of these data
 abbrev pub bin_write : File → List ℕ → ℕ → Write
@@ -46,3 +48,33 @@ pair_calls base old new root =
 abbrev pub mend_calls : Bool → Base → List ℕ → List Made
 mend_calls true base bins = copy_closing_calls Primary base (λ i. true) bins
 mend_calls false base bins = rewrite_calls Log (unfinished_of base) base (λ i. true) bins
+
+-- the calls of the repair of some image
+pub record IsMending (calls : List Made) : Type 0 where
+  pub second : Bool
+  pub base : Base
+  pub bins : List ℕ
+  pub calls_are : calls ≡ mend_calls second base bins
+
+-- the second copy stands: the primary's base block can't be read, or has two numbers
+abbrev pub second_stands : Result (Option Base) HiveFault → Bool
+second_stands (Ok None) = true
+second_stands (Ok (Some base)) = not (base.first == base.second)
+second_stands (Err fault) = false
+
+-- what is found is repaired, where something is to be
+abbrev pub mending_as : Image → Result Recovered HiveFault → List Made
+mending_as image (Ok found) = if found.dirty then mend_calls (second_stands (base_in image)) found.base found.bins else []
+mending_as image (Err fault) = []
+
+-- a load of two copies: sectors are read, and then what is found is repaired
+pub record IsPairLoad (image : Image) (calls : List Made) : Type 0 where
+  pub sectors : List Address
+  pub calls_are : calls ≡ reads_of sectors ++ mending_as image (twin_of image)
+
+-- with a log: the calls that close the recovery of some image
+pub record IsRestoring (calls : List Made) : Type 0 where
+  pub closed : Base
+  pub bits : ℕ → Bool
+  pub bins : List ℕ
+  pub calls_are : calls ≡ closing_calls closed bits bins

@@ -10,9 +10,9 @@ ghost use Rattle.nt_edge.specs.Crash.{EachCrash};
 ghost use Rattle.nt_edge.specs.Frames.{Goes};
 ghost use Rattle.hive_log.specs.Stops.{Reads, IsLoadOn};
 ghost use Rattle.hive_commit.specs.Untouched.{IsUntouched};
-ghost use Rattle.hive_alt.specs.Calls.{mend_calls};
+ghost use Rattle.hive_alt.specs.Calls.{mend_calls, IsMending, IsPairLoad};
 ghost use Rattle.hive_alt.specs.Copies.{HasCopy, IsPair, IsBehind, unfinished_of};
-ghost use Rattle.hive_alt.specs.Schemes.{IsKeptAs};
+ghost use Rattle.hive_alt.specs.Schemes.{IsKeptAs, AreOf, MakesLoad};
 ghost use Rattle.hive_alt.specs.Twin.{twin_of};
 
 use crate::pair::{Seen, read_pair};
@@ -109,6 +109,8 @@ fn mend<D: Disk>(disk: &mut D, second: bool, base: &BaseBlock, bins: &[u8]) -> R
 pub(crate) fn load_pair<D: Disk>(alloc: Global, disk: &mut D) -> Result<Recovered, LoadStop>
     requires on { (D.state disk.old).on ≡ true }
     requires still { D.tells ≡ true → (D.state disk.old).flight ≡ [] }
+    ensures made { MakesLoad (D.calls disk.old) (D.calls disk.new) IsMending
+        (λ calls. D.tells ≡ true → AreOf (IsPairLoad (D.state disk.old).held) result calls) }
     ensures exact { D.tells ≡ true → Reads result (twin_of (D.state disk.old).held) }
     ensures sized { IfOk result (λ r. is_bins_size (length r.bins) ≡ true) }
     ensures still { D.tells ≡ true → OnOk result ((D.state disk.new).flight ≡ []) }
