@@ -1,5 +1,4 @@
 pub mod Owned
-pub mod Parents
 pub mod Framed
 pub mod Sound
 pub mod Pairs

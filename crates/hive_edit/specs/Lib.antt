@@ -5,7 +5,6 @@ pub mod Places
 pub mod Edits
 pub mod Runs
 pub mod Given
-pub mod Freed
 pub mod Gone
 pub mod Grafted
 pub mod Children
@@ -13,7 +12,6 @@ pub mod Copying
 pub mod Making
 pub mod NewValue
 pub mod Dropped
-pub mod Deleting
-pub mod Secured
 pub mod Stepped
+pub mod Deleting
 pub mod Steps
