@@ -14,6 +14,7 @@ use Rattle.hive_model.specs.Stands.{items_at, values_of, ListsChildren, Stands, 
 use Rattle.edit_laws.specs.Owned.{Role, node, class, security, value_list, value, lists, In, node_name, value_places, value_list_at, class_cell_at, HasRole, HasValue, Reaches, Owns}
 use Rattle.edit_laws.specs.Pairs.{Pairwise}
 use Rattle.edit_laws.specs.Revalues.{cells_of_values, all_value_cells}
+use Rattle.edit_laws.specs.Parents.{IsChildOf, NamesParents}
 use Rattle.edit_laws.specs.Uses.{plain, secure, tree_uses}
 use Rattle.edit_laws.specs.Relists.{SaysTheRest, ChangesChildren}
 use Rattle.edit_laws.proofs.Ins.{in_left, in_right, in_cases, in_flat_from}
@@ -24,6 +25,7 @@ use Rattle.edit_laws.proofs.Relisted.{IsNodeKept, AreValuesKept, class_kept, sec
 use Rattle.edit_laws.proofs.SameTree.{IsSameKey, value_list_is, values_are, values_of_same, all_same, values_used_same, uses_over, uses_same}
 use Rattle.edit_laws.proofs.Replaced.{trees_listed, apart_with, most_each, each_most, Unlike, names_in}
 use Rattle.edit_laws.proofs.Revalued.{one_node}
+use Rattle.edit_laws.proofs.ParentsKept.{children_name, child_names, parent_kept, child_still}
 use Rattle.edit_laws.proofs.One.{first_one}
 use Rattle.edit_laws.specs.Woven.{Woven}
 use Rattle.edit_laws.specs.Rewrites.{is_secure, RewritesKey}
@@ -62,7 +64,7 @@ both_stand cells xs ys [] vs a b = subst (λ (l : List ℕ). AllStand cells (l +
 both_stand cells xs ys (u ∷ us) vs a b =
     (a.0, a.1 ++ ys, ap (λ (l : List ℕ). l ++ ys) a.2, a.3, both_stand cells a.1 ys us vs a.4 b)
 
-places_listed : (cells : Cells) (at : ℕ) (n : KeyNode) (offsets : List ℕ) → reading key_node_at cells at ≡ Ok n
+pub places_listed : (cells : Cells) (at : ℕ) (n : KeyNode) (offsets : List ℕ) → reading key_node_at cells at ≡ Ok n
     → ListsChildren cells n offsets → child_places cells at ≡ offsets
 unfolding child_places
 places_listed cells at n offsets read l =
@@ -322,6 +324,9 @@ module _ (b c : Cells) (root : ℕ) (t : Tree) (p : List (List ℕ)) (x left : �
     once = g.once;
     owned = owned;
     name = name_kept b c x kept g.same.name;
+    parent = parent_kept b c x kept g.same.parent;
+    parents = λ names. children_name c x
+        (λ y i. comes names y (in_cases front (put ++ back) y (subst (λ (l : List ℕ). In l y) places i)));
     stands = (
       front ++ (put ++ back),
       key_stands b c root t p x left old rest counted column kept in_class hd s.0 (front ++ (put ++ back)) hd.values
@@ -338,6 +343,13 @@ module _ (b c : Cells) (root : ℕ) (t : Tree) (p : List (List ℕ)) (x left : �
     low = let l = most_each (one.left ++ (come ++ two.right)) left low_each in omega (arith, l);
   }
     where
+      stays_named : (y : ℕ) → NamesParents b x → In front y ⊎ In back y → IsChildOf c x y
+      stays_named y names i = child_still b c x y (child y i) (child_names b x y names (listed_there y i))
+
+      comes : NamesParents b x → (y : ℕ) → In front y ⊎ In (put ++ back) y → IsChildOf c x y
+      comes names y (inl i) = stays_named y names (inl i)
+      comes names y (inr i) = ⊎_elim (λ j. g.named y j) (λ j. stays_named y names (inr j)) (in_cases put back y i)
+
       old_low : (u : Tree) → In (listed ts) u → levels u ≤ left
       old_low u i =
           let e = each_most ts u i in

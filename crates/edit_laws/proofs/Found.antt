@@ -1,5 +1,5 @@
 -- The key at a path in the tree and in the cells, and trees that are changed there alike.
-use Rattle.std.proofs.Common.{◌≡◌, ℕ, Bool, true, false, cond, List, [], ◌∷◌, refl, sym, ◌∙◌, ap, subst, inl, inr, Option, Some, None}
+use Rattle.std.proofs.Common.{◌≡◌, ℕ, Bool, true, false, cond, List, [], ◌∷◌, refl, sym, ◌∙◌, ap, subst, inl, inr, Some}
 use Rattle.std.specs.Prelude.{find, option_and_then}
 use Rattle.nt_bytes.specs.Folding.{folds_same}
 use Rattle.hive_model.specs.Bins.{Cells}
@@ -91,20 +91,6 @@ found_there cells (name ∷ path) (m ∷ p) at x (key h ts) s n f r =
       stands = deep.stands;
       names = deep.names;
     }
-
--- the names of a key that is found are apart where those of the tree are
-pub found_names : (path : List (List ℕ)) (t k : Tree) → HasApartNames t → find_key path t ≡ Some k → HasApartNames k
-found_names [] t k n e = subst HasApartNames (some_one t k e) n
-  where
-    some_one : (a b : Tree) → Some a ≡ Some b → a ≡ b
-    some_one a b e = cc
-found_names (name ∷ path) (key h ts) k n e =
-    go (find (is_named name) (listed ts)) refl e (λ u a f. found_names path u k a f)
-  where
-    go : (o : Option Tree) → find (is_named name) (listed ts) ≡ o → option_and_then (find_key path) o ≡ Some k
-        → ((u : Tree) → HasApartNames u → find_key path u ≡ Some k → HasApartNames k) → HasApartNames k
-    go None is e deep = absurd cc
-    go (Some u) is e deep = deep u (have_each ts u n.3 (found_in (is_named name) (listed ts) u is).0) e
 
 -- ---- changed alike
 

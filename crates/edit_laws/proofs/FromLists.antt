@@ -1,8 +1,9 @@
 -- What changed of a key's children, from the cells that were patched, written or freed.
-use Rattle.std.proofs.Common.{◌≡◌, ℕ, suc, ◌+◌, ◌<◌, ◌≤◌, ◌^◌, Bool, true, false, cond, List, [], ◌∷◌, ◌++◌, length, refl, sym, ◌∙◌, ap, subst, inl, inr, ⊎_elim, Result, Ok, arith}
-use Rattle.std.specs.Prelude.{◌⊎◌, MatchBool, ◌==◌, slice_range, if◌then◌else◌, flat_map}
+use Rattle.std.proofs.Common.{◌≡◌, ℕ, suc, ◌+◌, ◌<◌, ◌^◌, Bool, true, false, cond, List, [], ◌∷◌, ◌++◌, length, refl, sym, ◌∙◌, ap, subst, inl, inr, ⊎_elim, Result, Ok, arith}
+use Rattle.std.specs.Prelude.{◌⊎◌, MatchBool, ◌==◌, if◌then◌else◌, flat_map}
 use Rattle.std.specs.Int.{w16, w32, w64, from_le_bytes}
 use Rattle.std.proofs.lemmas.List.{append-nil}
+use Rattle.nt_bytes.specs.Fields.{u32_in}
 use Rattle.nt_bytes.specs.declared.fault.HiveFaultKind.{HiveFaultKind}
 use Rattle.hive_model.specs.Bins.{Cells}
 use Rattle.hive_model.specs.Tree.{Tree, head}
@@ -15,6 +16,7 @@ use Rattle.hive_model.specs.Footprint.{used_in, of_read, child_places, list_cell
 use Rattle.hive_model.specs.Stands.{ListsChildren, Stands, class_of, items_at, security_of, tree_flags, values_of}
 use Rattle.edit_laws.specs.Owned.{In, class_cell_at, value_list_at, value_places}
 use Rattle.edit_laws.specs.Framed.{IsUnheld}
+use Rattle.edit_laws.specs.Parents.{IsChildOf}
 use Rattle.edit_laws.specs.Uses.{Once, plain, secure, tree_uses}
 use Rattle.edit_laws.specs.Revalues.{cells_of_values, all_value_cells}
 use Rattle.edit_laws.specs.Written.{with_part, three_numbers}
@@ -28,62 +30,52 @@ use Rattle.std.proofs.lemmas.Nat.{from_le_bytes-to_le_bytes_4}
 
 -- ---- the node
 
--- where the part is that of the count and the list of children, or of the greatest of their names, the node says the
+-- where the part is that of the counts and the list of children, and counts as many volatile ones, the node says the
 -- same of all else
-pub part_says_rest : (from to : ℕ) (p q : List ℕ) (n : KeyNode) → key_node_at p ≡ Ok n → IsPatchOf from to p q
-    → (20 ≤ from) × (to ≤ 36) ⊎ (52 ≤ from) × (to ≤ 72) → SaysTheRest n (key_node_in q n.name)
-part_says_rest from to p q n e patch within = record {
+part_says_rest : (p q : List ℕ) (n : KeyNode) → key_node_at p ≡ Ok n → IsPatchOf 20 32 p q
+    → u32_in q 24 ≡ n.volatile_count → SaysTheRest n (key_node_in q n.name)
+part_says_rest p q n e patch volatile = record {
   name = refl;
-  flags = ap (from_le_bytes w16) (patch.before 2 2 (omega (arith, low))) ∙ sym (ap (λ (m : KeyNode). m.flags) fields);
-  stamp = ap (from_le_bytes w64) (patch.before 4 8 (omega (arith, low))) ∙ sym (ap (λ (m : KeyNode). m.stamp) fields);
-  value_count = ap (from_le_bytes w32) (mid 36 within (omega arith) (omega arith))
+  flags = ap (from_le_bytes w16) (patch.before 2 2 (omega arith)) ∙ sym (ap (λ (m : KeyNode). m.flags) fields);
+  stamp = ap (from_le_bytes w64) (patch.before 4 8 (omega arith)) ∙ sym (ap (λ (m : KeyNode). m.stamp) fields);
+  parent = ap (from_le_bytes w32) (patch.before 16 4 (omega arith)) ∙ sym (ap (λ (m : KeyNode). m.parent) fields);
+  volatile_count = volatile;
+  volatile_list = ap (from_le_bytes w32) (patch.behind 32 4 (omega arith))
+      ∙ sym (ap (λ (m : KeyNode). m.volatile_list) fields);
+  value_count = ap (from_le_bytes w32) (patch.behind 36 4 (omega arith))
       ∙ sym (ap (λ (m : KeyNode). m.value_count) fields);
-  value_list = ap (from_le_bytes w32) (mid 40 within (omega arith) (omega arith))
+  value_list = ap (from_le_bytes w32) (patch.behind 40 4 (omega arith))
       ∙ sym (ap (λ (m : KeyNode). m.value_list) fields);
-  security = ap (from_le_bytes w32) (mid 44 within (omega arith) (omega arith))
-      ∙ sym (ap (λ (m : KeyNode). m.security) fields);
-  class = ap (from_le_bytes w32) (mid 48 within (omega arith) (omega arith))
-      ∙ sym (ap (λ (m : KeyNode). m.class) fields);
-  class_length = ap (from_le_bytes w16) (patch.behind 74 2 (omega (arith, high)))
+  security = ap (from_le_bytes w32) (patch.behind 44 4 (omega arith)) ∙ sym (ap (λ (m : KeyNode). m.security) fields);
+  class = ap (from_le_bytes w32) (patch.behind 48 4 (omega arith)) ∙ sym (ap (λ (m : KeyNode). m.class) fields);
+  class_length = ap (from_le_bytes w16) (patch.behind 74 2 (omega arith))
       ∙ sym (ap (λ (m : KeyNode). m.class_length) fields);
 }
   where
     fields : n ≡ key_node_in p n.name
     fields = (node_text p n e).fields
 
-    low : 20 ≤ from
-    low =
-        ⊎_elim (λ (w : (20 ≤ from) × (to ≤ 36)). w.0) (λ (w : (52 ≤ from) × (to ≤ 72)). let l = w.0 in omega (arith, l))
-        within
-
-    high : to ≤ 72
-    high =
-        ⊎_elim (λ (w : (20 ≤ from) × (to ≤ 36)). let l = w.1 in omega (arith, l)) (λ (w : (52 ≤ from) × (to ≤ 72)). w.1)
-        within
-
-    mid : (i : ℕ) → (20 ≤ from) × (to ≤ 36) ⊎ (52 ≤ from) × (to ≤ 72) → 36 ≤ i → i ≤ 48
-        → slice_range q i (i + 4) ≡ slice_range p i (i + 4)
-    mid i (inl w) l h = let t = w.1 in patch.behind i 4 (omega (arith, l, t))
-    mid i (inr w) l h = let t = w.0 in patch.before i 4 (omega (arith, h, t))
-
--- a node's count of children, of volatile ones and the list of children are written over
-pub children_written : (p : List ℕ) (n : KeyNode) (count volatile list : ℕ) → key_node_at p ≡ Ok n → count < 2 ^ 32
-    → list < 2 ^ 32 → HasNewChildren (with_part 20 (three_numbers count volatile list) p) n count list
-children_written p n count volatile list e c l =
+-- a node's count of children and their list are written over, and its count of volatile ones is written again
+pub children_written : (p : List ℕ) (n : KeyNode) (count list : ℕ) → key_node_at p ≡ Ok n → count < 2 ^ 32
+    → list < 2 ^ 32 → n.volatile_count < 2 ^ 32
+    → HasNewChildren (with_part 20 (three_numbers count n.volatile_count list) p) n count list
+children_written p n count list e c l v =
     let t = (node_text p n e).long in
-    let patch : IsPatchOf 20 32 p (with_part 20 (three_numbers count volatile list) p) =
-    part_patches 20 (three_numbers count volatile list) p (omega (arith, t)) in
+    let patch : IsPatchOf 20 32 p (with_part 20 (three_numbers count n.volatile_count list) p) =
+    part_patches 20 (three_numbers count n.volatile_count list) p (omega (arith, t)) in
     record {
-      new = key_node_in (with_part 20 (three_numbers count volatile list) p) n.name;
-      read = node_patched 20 32 p (with_part 20 (three_numbers count volatile list) p) n e patch (omega arith)
+      new = key_node_in (with_part 20 (three_numbers count n.volatile_count list) p) n.name;
+      read = node_patched 20 32 p (with_part 20 (three_numbers count n.volatile_count list) p) n e patch (omega arith)
           (omega arith);
-      same = part_says_rest 20 32 p (with_part 20 (three_numbers count volatile list) p) n e patch
-          (inl (omega arith, omega arith));
+      same = part_says_rest p (with_part 20 (three_numbers count n.volatile_count list) p) n e patch
+          (ap (from_le_bytes w32)
+          (in_part 20 (three_numbers count n.volatile_count list) p 4 4 (omega (arith, t)) (omega arith))
+          ∙ from_le_bytes-to_le_bytes_4 n.volatile_count v);
       count_is = ap (from_le_bytes w32)
-          (in_part 20 (three_numbers count volatile list) p 0 4 (omega (arith, t)) (omega arith))
+          (in_part 20 (three_numbers count n.volatile_count list) p 0 4 (omega (arith, t)) (omega arith))
           ∙ from_le_bytes-to_le_bytes_4 count c;
       list_is = ap (from_le_bytes w32)
-          (in_part 20 (three_numbers count volatile list) p 8 4 (omega (arith, t)) (omega arith))
+          (in_part 20 (three_numbers count n.volatile_count list) p 8 4 (omega (arith, t)) (omega arith))
           ∙ from_le_bytes-to_le_bytes_4 list l;
     }
 
@@ -129,6 +121,7 @@ inserts_child b c root x left n front back y q list counted read places g = reco
   security = g.security;
   used = λ u i. inr (g.fresh u (subst (λ (l : List (ℕ × Bool)). In l u) new_uses i));
   once = subst Once (sym new_uses) g.once;
+  named = λ z i. ⊎_elim (λ (e : y ≡ z). subst (IsChildOf c x) e g.named) (λ (n : ⊥). absurd n) i;
 }
   where
     read_new : reading key_node_at c x ≡ Ok g.node.new
@@ -164,6 +157,7 @@ removes_child b c root x left n front back y q list counted read places g = reco
   security = g.security;
   used = λ u i. fresh (front ++ back) refl u (in_cases (plain (list_cells_at c x)) [] u i);
   once = subst Once (sym (append-nil (plain (list_cells_at c x)))) (once (front ++ back) refl);
+  named = λ z i. absurd i;
 }
   where
     read_new : reading key_node_at c x ≡ Ok g.node.new

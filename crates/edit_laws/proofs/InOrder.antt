@@ -10,6 +10,7 @@ use Rattle.hive_model.specs.Footprint.{has_key, IsInFootprint}
 use Rattle.hive_model.specs.Stands.{IsWellFormed}
 use Rattle.edit_laws.specs.Framed.{Edits}
 use Rattle.edit_laws.specs.Done.{IsDone, AreDone}
+use Rattle.edit_laws.specs.Parents.{NamesParents}
 use Rattle.edit_laws.proofs.Whole.{edited_outside}
 use Rattle.edit_laws.proofs.Replaced.{trees_listed}
 use Rattle.hive_model.specs.Forms.{◌>>=◌}
@@ -36,6 +37,11 @@ pub stands_done : (root : ℕ) (steps : List Step) (b c : Cells) (t u : Tree) �
 stands_done root [] b c t u well d =
     subst (IsWellFormed c root) d.1 (subst (λ (cells : Cells). IsWellFormed cells root t) d.0 well)
 stands_done root (step ∷ steps) b c t u well d = stands_done root steps d.1 c d.0 u d.3.stands d.4
+
+pub parents_done : (root : ℕ) (steps : List Step) (b c : Cells) (t u : Tree) → AreDone root b t steps c u
+    → NamesParents b root → NamesParents c root
+parents_done root [] b c t u d n = subst (λ (cells : Cells). NamesParents cells root) d.0 n
+parents_done root (step ∷ steps) b c t u d n = parents_done root steps d.1 c d.0 u d.4 (d.3.parents n)
 
 -- Steps that are done in order leave each allocated cell outside their footprint.
 pub left_outside : (b c : Cells) (root : ℕ) (t u : Tree) (steps : List Step) → IsWellFormed b root t
@@ -81,6 +87,7 @@ nothing_done b root t u step well same = record {
   stands = subst (IsWellFormed b root) same well;
   leaves = record { version = refl; rest = λ o q held out. held };
   framed = record { owned = λ path role o own. inl own; rest = λ o q held out. held };
+  parents = λ n. n;
 }
 
 -- A key that is made where one of its name is stays as it is.

@@ -16,6 +16,7 @@ pub mod Made
 pub mod Pairs
 pub mod Uses
 pub mod SameTree
+pub mod ParentsKept
 pub mod Around
 pub mod Replaced
 pub mod Revalued

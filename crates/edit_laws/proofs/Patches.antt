@@ -1,6 +1,6 @@
 -- A part of a payload is rewritten: every other field is read as before, and a node or a value with it.
-use Rattle.std.proofs.Common.{◌≡◌, ℕ, zero, suc, ◌+◌, ◌-◌, ◌<◌, ◌≤◌, ◌^◌, Bool, true, false, cond, List, [], ◌∷◌, ◌++◌, length, take, drop, refl, sym, ◌∙◌, ap, subst, inl, inr, ⊎_elim, Result, Ok, Err, arith, length-append, length-drop}
-use Rattle.std.specs.Prelude.{◌⊎◌, ◌==◌, nat_lt, if◌then◌else◌, slice_range}
+use Rattle.std.proofs.Common.{◌≡◌, ℕ, zero, suc, ◌+◌, ◌-◌, ◌<◌, ◌≤◌, ◌^◌, Bool, true, false, cond, List, [], ◌∷◌, ◌++◌, length, take, drop, refl, sym, ◌∙◌, ap, subst, Result, Ok, Err, arith, length-append, length-drop}
+use Rattle.std.specs.Prelude.{◌==◌, nat_lt, if◌then◌else◌, slice_range}
 use Rattle.std.specs.Int.{w16, w32, w64, from_le_bytes}
 use Rattle.std.proofs.lemmas.Bool.{ltb-false, eqb-true}
 use Rattle.std.proofs.lemmas.List.{take-append-drop, length-take}
@@ -177,43 +177,30 @@ node_patched from to p q n e patch low high =
     (ap (λ (f : ℕ). key_name_at (is_narrow_key f) (slice_range q 76 (76 + u16_in q 72))) flags
     ∙ ap (key_name_at (is_narrow_key (u16_in p 2))) bytes ∙ t.name)
 
--- where the part is that of the count and the list of values, or of the greatest of names and sizes, the node says
--- the same of all else
-pub part_says : (from to : ℕ) (p q : List ℕ) (n : KeyNode) → key_node_at p ≡ Ok n → IsPatchOf from to p q
-    → (36 ≤ from) × (to ≤ 44) ⊎ (52 ≤ from) × (to ≤ 68) → SaysTheSame n (key_node_in q n.name)
-part_says from to p q n e patch within = record {
+-- where the part is that of the count and the list of values, the node says the same of all else
+part_says : (p q : List ℕ) (n : KeyNode) → key_node_at p ≡ Ok n → IsPatchOf 36 44 p q
+    → SaysTheSame n (key_node_in q n.name)
+part_says p q n e patch = record {
   name = refl;
-  flags = ap (from_le_bytes w16) (patch.before 2 2 (omega (arith, low))) ∙ sym (ap (λ (m : KeyNode). m.flags) fields);
-  stamp = ap (from_le_bytes w64) (patch.before 4 8 (omega (arith, low))) ∙ sym (ap (λ (m : KeyNode). m.stamp) fields);
-  child_count = ap (from_le_bytes w32) (patch.before 20 4 (omega (arith, low)))
+  flags = ap (from_le_bytes w16) (patch.before 2 2 (omega arith)) ∙ sym (ap (λ (m : KeyNode). m.flags) fields);
+  stamp = ap (from_le_bytes w64) (patch.before 4 8 (omega arith)) ∙ sym (ap (λ (m : KeyNode). m.stamp) fields);
+  parent = ap (from_le_bytes w32) (patch.before 16 4 (omega arith)) ∙ sym (ap (λ (m : KeyNode). m.parent) fields);
+  child_count = ap (from_le_bytes w32) (patch.before 20 4 (omega arith))
       ∙ sym (ap (λ (m : KeyNode). m.child_count) fields);
-  child_list = ap (from_le_bytes w32) (patch.before 28 4 (omega (arith, low)))
+  volatile_count = ap (from_le_bytes w32) (patch.before 24 4 (omega arith))
+      ∙ sym (ap (λ (m : KeyNode). m.volatile_count) fields);
+  child_list = ap (from_le_bytes w32) (patch.before 28 4 (omega arith))
       ∙ sym (ap (λ (m : KeyNode). m.child_list) fields);
-  security = ap (from_le_bytes w32) (mid 44 within (omega arith) (omega arith))
-      ∙ sym (ap (λ (m : KeyNode). m.security) fields);
-  class = ap (from_le_bytes w32) (mid 48 within (omega arith) (omega arith))
-      ∙ sym (ap (λ (m : KeyNode). m.class) fields);
-  class_length = ap (from_le_bytes w16) (patch.behind 74 2 (omega (arith, high)))
+  volatile_list = ap (from_le_bytes w32) (patch.before 32 4 (omega arith))
+      ∙ sym (ap (λ (m : KeyNode). m.volatile_list) fields);
+  security = ap (from_le_bytes w32) (patch.behind 44 4 (omega arith)) ∙ sym (ap (λ (m : KeyNode). m.security) fields);
+  class = ap (from_le_bytes w32) (patch.behind 48 4 (omega arith)) ∙ sym (ap (λ (m : KeyNode). m.class) fields);
+  class_length = ap (from_le_bytes w16) (patch.behind 74 2 (omega arith))
       ∙ sym (ap (λ (m : KeyNode). m.class_length) fields);
 }
   where
     fields : n ≡ key_node_in p n.name
     fields = (node_text p n e).fields
-
-    low : 36 ≤ from
-    low =
-        ⊎_elim (λ (w : (36 ≤ from) × (to ≤ 44)). w.0) (λ (w : (52 ≤ from) × (to ≤ 68)). let l = w.0 in omega (arith, l))
-        within
-
-    high : to ≤ 68
-    high =
-        ⊎_elim (λ (w : (36 ≤ from) × (to ≤ 44)). let l = w.1 in omega (arith, l)) (λ (w : (52 ≤ from) × (to ≤ 68)). w.1)
-        within
-
-    mid : (i : ℕ) → (36 ≤ from) × (to ≤ 44) ⊎ (52 ≤ from) × (to ≤ 68) → 44 ≤ i → i ≤ 48
-        → slice_range q i (i + 4) ≡ slice_range p i (i + 4)
-    mid i (inl w) l h = let t = w.1 in patch.behind i 4 (omega (arith, l, t))
-    mid i (inr w) l h = let t = w.0 in patch.before i 4 (omega (arith, h, t))
 
 -- ---- numbers
 
@@ -238,7 +225,7 @@ values_written p n count list e c l =
     record {
       new = key_node_in (with_part 36 (two_numbers count list) p) n.name;
       read = node_patched 36 44 p (with_part 36 (two_numbers count list) p) n e patch (omega arith) (omega arith);
-      same = part_says 36 44 p (with_part 36 (two_numbers count list) p) n e patch (inl (omega arith, omega arith));
+      same = part_says p (with_part 36 (two_numbers count list) p) n e patch;
       count_is = first_of_two 36 count list p (omega (arith, t)) c;
       list_is = second_of_two 36 count list p (omega (arith, t)) l;
     }

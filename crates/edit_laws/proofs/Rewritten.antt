@@ -27,6 +27,7 @@ use Rattle.edit_laws.proofs.Around.{IsSwapped, above, above_is, around, once_two
 use Rattle.edit_laws.proofs.Replaced.{replaced_stands, replaced_names, replaced_levels}
 use Rattle.edit_laws.proofs.Found.{changed_alike}
 use Rattle.edit_laws.proofs.Revalued.{folds_length, reach_on}
+use Rattle.edit_laws.proofs.ParentsKept.{named_through}
 use Rattle.edit_laws.specs.Woven.{Woven}
 use Rattle.edit_laws.specs.Rewrites.{is_secure, RewritesKey, ChangesTo, IsRewritten}
 use Rattle.edit_laws.proofs.Weaving.{AreOnceBoth, kept_front, kept_back, woven_old, woven_kept, woven_parts, woven_once}
@@ -260,6 +261,8 @@ rewritten b c root t u step path p x left old counted well ok f h deep r key_nam
             omega (arith, s, e, deep)) own;
         rest = rest;
       };
+      parents = named_through b c path p root x (sound_hive b root t well).all f h
+          (elsewhere b c root t r.key path p x left old r.new counted well f h w) w.parent w.parents;
     }
   where
     w : RewritesKey b c root x left r.key old r.new counted

@@ -202,7 +202,7 @@ module _ (b l c : Cells) (root : ℕ) (t : Tree) (p : List (List ℕ)) (x left :
   uses_are w os e = entries_used l c list (list_same w os e list list_first)
 
   pub noted : List ℕ
-  noted = with_part 20 (three_numbers (length (front ++ back)) g.volatile list) node_there.0
+  noted = with_part 20 (three_numbers (length (front ++ back)) n.volatile_count list) node_there.0
 
   node_stays : l.payload x ≡ Ok node_there.0
   node_stays = g.relisted x node_there.0 node_there.1
@@ -216,7 +216,7 @@ module _ (b l c : Cells) (root : ℕ) (t : Tree) (p : List (List ℕ)) (x left :
   removed = record {
     version = g.version;
     there = g.noted node_there.0 node_stays;
-    node = children_written node_there.0 n (length (front ++ back)) g.volatile list node_there.2 g.few g.small;
+    node = children_written node_there.0 n (length (front ++ back)) list node_there.2 g.few g.small g.volatile;
     lists = λ w os e. entries_same l c list (list_same w os e) ∙ g.lists w os e;
     others = λ o r held nx nl ng nc. g.others o r (g.relisted o r held nl) nx ng;
     counted_are = counted_there;

@@ -21,12 +21,12 @@ use Rattle.edit_laws.proofs.Ins.{in_left, in_right, in_cases, in_flat}
 use Rattle.edit_laws.proofs.Pairs.{pairwise_from, pairwise_parts}
 use Rattle.edit_laws.proofs.Wellformed.{first_part, item_value, not_named, ok_items, sound_hive, HasItems, items_are}
 use Rattle.edit_laws.proofs.Out.{IsPlaced, placed_at}
-use Rattle.edit_laws.proofs.Found.{IsThere, found_there, found_names}
+use Rattle.edit_laws.proofs.Found.{IsThere, found_there}
 use Rattle.edit_laws.proofs.Items.{with_item_differ, without_item_differ}
 use Rattle.edit_laws.proofs.ChangedValues.{ReadsBoth, items_both}
 use Rattle.edit_laws.specs.Rewrites.{IsRewritten}
 use Rattle.edit_laws.proofs.OwnedUses.{from_plain}
-use Rattle.edit_laws.proofs.Rewritten.{still_well, rewritten}
+use Rattle.edit_laws.proofs.Rewritten.{rewritten}
 use Rattle.edit_laws.proofs.ValuesColumn.{values_rewritten}
 
 -- a step that is not refused gives its result
@@ -258,19 +258,6 @@ value_set b c root t k path p x v front put back name kind bytes well reached fo
         ∙ first_behind (is_item name) (λ i. record i { kind = kind; bytes = bytes })
         before behind m.0.item m.0.apart m.0.named
         ∙ ap (λ (l : List Item). before ++ l) (as_item behind m.0.item.name (value_name b v) m.2)
-
--- where it is set, the cells are well-formed
-pub set_there : (b c : Cells) (root : ℕ) (t k : Tree) (path p : List (List ℕ)) (x v : ℕ) (front put back : List ℕ)
-    (name : List ℕ) (kind : ℕ) (bytes : List ℕ) → IsWellFormed b root t → Folds path p → Reaches b root p x
-    → find_key path t ≡ Some k → Stands b x k → folds_same name (value_name b v) ≡ true
-    → ChangesValues b c x front (v ∷ []) put back (record { name = value_name b v; kind = kind; bytes = bytes } ∷ [])
-    → IsWellFormed c root (at_key path (of_items (with_item name kind bytes)) t)
-set_there b c root t k path p x v front put back name kind bytes well folds reached found stood named g =
-    still_well b c root t (at_key path (of_items (with_item name kind bytes)) t) path p x (suc (511 - length p))
-    (plain (value_list_at b x ++ cells_of_values b (v ∷ []))) [] well folds reached
-    (levels_left b root t p x well reached)
-    (value_set b c root t k path p x v front put back name kind bytes well reached found stood
-    (found_names path t k well.names found) named g)
 
 -- A value that is there is set: its cells gave way to others, and the list names these.
 pub a_value_set : (b c : Cells) (root : ℕ) (t u : Tree) (path : List (List ℕ)) (name : List ℕ) (kind : ℕ)

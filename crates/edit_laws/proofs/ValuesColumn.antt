@@ -24,6 +24,7 @@ use Rattle.edit_laws.proofs.Same.{IsValueSame, first_used, value_used_same, same
 use Rattle.edit_laws.proofs.Relisted.{IsNodeKept, AreChildrenKept, class_kept, security_kept, lists_kept, children_kept}
 use Rattle.edit_laws.proofs.SameTree.{IsSameKey, lists_are, children_same, all_same, items_same, values_used_same, uses_over, uses_same}
 use Rattle.edit_laws.proofs.Revalued.{one_node}
+use Rattle.edit_laws.proofs.ParentsKept.{children_name, child_names, parent_kept, child_still}
 use Rattle.edit_laws.proofs.Pairs.{pairwise_map}
 use Rattle.edit_laws.proofs.ChangedValues.{listed_values, listed_places, both_items}
 use Rattle.edit_laws.specs.Woven.{Woven}
@@ -282,6 +283,10 @@ module _ (b c : Cells) (root : ℕ) (t : Tree) (p : List (List ℕ)) (x left : �
       once = once_plain (value_list_at c x ++ cells_of_values c put) g.once;
       owned = owned;
       name = name_kept b c x kept g.same.name;
+      parent = parent_kept b c x kept g.same.parent;
+      parents = λ names. children_name c x (λ y i.
+          let j = subst (λ (l : List ℕ). In l y) (children_kept b c x kept children_there) i in
+          child_still b c x y (child y j) (child_names b x y names j));
       stands = (
         s.0,
         key_stands b c root t p x left old rest [] column kept in_class hd s.0 s.0 (before ++ (come ++ behind)) s.1

@@ -1,4 +1,5 @@
 pub mod Owned
+pub mod Parents
 pub mod Framed
 pub mod Sound
 pub mod Pairs

@@ -6,6 +6,7 @@ use Rattle.hive_model.specs.Walk.{entries_at, entries_checks}
 use Rattle.hive_model.specs.Footprint.{used_in, list_cells_at}
 use Rattle.edit_laws.specs.Owned.{In}
 use Rattle.edit_laws.specs.Framed.{IsUnheld}
+use Rattle.edit_laws.specs.Parents.{IsChildOf}
 use Rattle.edit_laws.specs.Uses.{Once, plain, tree_uses}
 use Rattle.edit_laws.specs.Relists.{descriptor_at, IsSecurityCell, SaysTheRest}
 
@@ -18,7 +19,7 @@ pub record HasNewChildren (q : List ℕ) (n : KeyNode) (count list : ℕ) : Type
   pub list_is : new.child_list ≡ list
 
 -- A key is at an offset, and the node at x counts it and names new lists, with it between these: lists and key are in cells that
--- were none, but for cells of security that are counted again, and the old lists may be gone.
+-- were none, but for cells of security that are counted again, and the old lists may be gone. The key names x as its parent.
 pub record InsertsChild (b c : Cells) (root x left : ℕ) (n : KeyNode) (front back : List ℕ) (y : ℕ) (q : List ℕ) (list : ℕ) (counted : List ℕ) : Type 0 where
   pub version : c.version ≡ b.version
   pub there : c.payload x ≡ Ok q
@@ -30,6 +31,7 @@ pub record InsertsChild (b c : Cells) (root x left : ℕ) (n : KeyNode) (front b
   pub fresh : (u : ℕ × Bool) → In (plain (used_in (entries_checks c list)) ++ tree_uses left c y) u
       → IsUnheld b u.0 ⊎ ((u.1 ≡ true) × In counted u.0)
   pub once : Once (plain (used_in (entries_checks c list)) ++ tree_uses left c y)
+  pub named : IsChildOf c x y
 
 -- The key at an offset is no more counted by the node at x, and the others are in new lists, in cells that were none; without
 -- others there is no list. The cells of the key and of all below it may be gone, but those of security, and so may the old lists.

@@ -12,6 +12,7 @@ use Rattle.hive_model.specs.Footprint.{child_places, security_cell_at, list_cell
 use Rattle.hive_model.specs.Stands.{ListsChildren}
 use Rattle.edit_laws.specs.Owned.{security, In, node_name, Reaches, Extends, Owns}
 use Rattle.edit_laws.specs.Framed.{IsUnheld}
+use Rattle.edit_laws.specs.Parents.{IsChildOf}
 use Rattle.edit_laws.specs.Uses.{Once, plain, tree_uses}
 
 -- the descriptor in the security cell at an offset
@@ -30,6 +31,9 @@ pub record SaysTheRest (old new : KeyNode) : Type 0 where
   pub name : new.name ≡ old.name
   pub flags : new.flags ≡ old.flags
   pub stamp : new.stamp ≡ old.stamp
+  pub parent : new.parent ≡ old.parent
+  pub volatile_count : new.volatile_count ≡ old.volatile_count
+  pub volatile_list : new.volatile_list ≡ old.volatile_list
   pub value_count : new.value_count ≡ old.value_count
   pub value_list : new.value_list ≡ old.value_list
   pub security : new.security ≡ old.security
@@ -40,7 +44,7 @@ pub record SaysTheRest (old new : KeyNode) : Type 0 where
 -- where that many levels are left for them: of the cells that are allocated in b none changes but its node, its lists, those of the
 -- children that go and of all below these, and cells of security that are counted again, which keep their descriptors. What the lists
 -- and the children that come use in c, the lists and the children that go used in b, or it was not allocated there, or is counted again
--- and used as security; and they use each cell once.
+-- and used as security; and they use each cell once. The children that come name this key as their parent.
 pub record ChangesChildren (b c : Cells) (root x left : ℕ) (front gone put back counted : List ℕ) : Type 0 where
   pub version : c.version ≡ b.version
   pub old : KeyNode
@@ -57,6 +61,7 @@ pub record ChangesChildren (b c : Cells) (root x left : ℕ) (front gone put bac
   pub used : (u : ℕ × Bool) → In (plain (list_cells_at c x) ++ flat_map (tree_uses left c) put) u
       → In (plain (list_cells_at b x) ++ flat_map (tree_uses left b) gone) u ⊎ (IsUnheld b u.0 ⊎ ((u.1 ≡ true) × In counted u.0))
   pub once : Once (plain (list_cells_at c x) ++ flat_map (tree_uses left c) put)
+  pub named : (y : ℕ) → In put y → IsChildOf c x y
 
 -- the first of these names, if there is one, folds greater than a name
 abbrev pub StandsBefore : List ℕ → List (List ℕ) → Type 0

@@ -24,8 +24,11 @@ pub record SaysTheSame (old new : KeyNode) : Type 0 where
   pub name : new.name ≡ old.name
   pub flags : new.flags ≡ old.flags
   pub stamp : new.stamp ≡ old.stamp
+  pub parent : new.parent ≡ old.parent
   pub child_count : new.child_count ≡ old.child_count
+  pub volatile_count : new.volatile_count ≡ old.volatile_count
   pub child_list : new.child_list ≡ old.child_list
+  pub volatile_list : new.volatile_list ≡ old.volatile_list
   pub security : new.security ≡ old.security
   pub class : new.class ≡ old.class
   pub class_length : new.class_length ≡ old.class_length

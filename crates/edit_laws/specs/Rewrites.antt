@@ -7,6 +7,7 @@ use Rattle.hive_model.specs.Valid.{levels}
 use Rattle.hive_model.specs.Stands.{Stands, HasApartNames}
 use Rattle.edit_laws.specs.Owned.{Role, node, class, security, value_list, value, lists, In, node_name, Owns}
 use Rattle.edit_laws.specs.Framed.{IsUnheld}
+use Rattle.edit_laws.specs.Parents.{KeepsParent, NamesParents}
 use Rattle.edit_laws.specs.Uses.{Once, tree_uses}
 use Rattle.edit_laws.specs.Relists.{IsSecurityCell, descriptor_at}
 use Rattle.edit_laws.specs.Woven.{Woven}
@@ -23,7 +24,8 @@ is_secure lists = false
 -- From cells b to cells c the key at x is rewritten, and this tree stands there then, under the name that stood there. Of what it and
 -- the keys below it used, some is kept, and some (old) gave way to something new, that was old or was in no cell, or is security that is
 -- counted again; new is used once. Of the cells that are allocated in b none changes but its node, the old ones, and cells of security
--- that are counted again, which keep their descriptors.
+-- that are counted again, which keep their descriptors. The key's node names the parent that it named, and the keys below it name
+-- theirs where they did.
 pub record RewritesKey (b c : Cells) (root x left : ℕ) (k : Tree) (old new : List (ℕ × Bool)) (counted : List ℕ) : Type 0 where
   pub kept : List (ℕ × Bool)
   pub version : c.version ≡ b.version
@@ -37,6 +39,8 @@ pub record RewritesKey (b c : Cells) (root x left : ℕ) (k : Tree) (old new : L
   pub once : Once new
   pub owned : (q : List (List ℕ)) (r : Role) (o : ℕ) → length q < left → Owns c x q r o → Owns b x q r o ⊎ In new (o, is_secure r)
   pub name : node_name c x ≡ node_name b x
+  pub parent : KeepsParent b c x
+  pub parents : NamesParents b x → NamesParents c x
   pub stands : Stands c x k
   pub names : HasApartNames k
   pub low : levels k ≤ left

@@ -22,9 +22,9 @@ pub record TakesChild (b l c : Cells) (x left : ℕ) (n : KeyNode) (front back :
   pub lists : (w : ℕ) (os : List ℕ) → front ++ back ≡ w ∷ os → entries_at l list ≡ Ok (front ++ back)
   pub fresh : (w : ℕ) (os : List ℕ) → front ++ back ≡ w ∷ os → (o : ℕ) → In (used_in (entries_checks l list)) o → IsUnheld b o
   pub once : (w : ℕ) (os : List ℕ) → front ++ back ≡ w ∷ os → Pairwise (λ p q. p ≡ q → ⊥) (used_in (entries_checks l list))
-  pub volatile : ℕ
   pub few : length (front ++ back) < 2 ^ 32
   pub small : list < 2 ^ 32
-  pub noted : (q : List ℕ) → l.payload x ≡ Ok q → c.payload x ≡ Ok (with_part 20 (three_numbers (length (front ++ back)) volatile list) q)
+  pub volatile : n.volatile_count < 2 ^ 32
+  pub noted : (q : List ℕ) → l.payload x ≡ Ok q → c.payload x ≡ Ok (with_part 20 (three_numbers (length (front ++ back)) n.volatile_count list) q)
   pub others : (o : ℕ) (q : List ℕ) → l.payload o ≡ Ok q → (o ≡ x → ⊥) → ((s : Bool) → In (tree_uses left b y) (o, s) → ⊥) → c.payload o ≡ Ok q
   pub counted : (o : ℕ) → In (tree_uses left b y) (o, true) → descriptor_at c o ≡ descriptor_at b o

@@ -8,6 +8,7 @@ ghost use Rattle.hive_model.specs.Footprint.{step_cells, IsInFootprint};
 ghost use Rattle.hive_model.specs.Stands.{IsWellFormed};
 ghost use Rattle.edit_laws.specs.Owned.{IsMatched};
 ghost use Rattle.edit_laws.specs.Framed.{Edits};
+ghost use Rattle.edit_laws.specs.Parents.{NamesParents};
 ghost use Rattle.edit_laws.specs.Sound.{IsSoundHive};
 ghost use Rattle.edit_laws.specs.Done.{AreDone};
 
@@ -27,10 +28,12 @@ pub fn a_step_has_the_cells_that_it_names()
 {}
 
 /// Steps that are done in sequence make the tree that they make in order, which is in the cells after them, and
-/// leave each allocated cell outside their footprint.
+/// leave each allocated cell outside their footprint. Where each key below another named the node of that one as its
+/// parent, each does after them.
 pub fn steps_are_done_in_order()
     ensures tree { (root : ℕ) (steps : List Step) (b c : Cells) (t u : Tree) → AreDone root b t steps c u → after_steps t steps ≡ Ok u }
     ensures stands { (root : ℕ) (steps : List Step) (b c : Cells) (t u : Tree) → IsWellFormed b root t → AreDone root b t steps c u → IsWellFormed c root u }
+    ensures parents { (root : ℕ) (steps : List Step) (b c : Cells) (t u : Tree) → AreDone root b t steps c u → NamesParents b root → NamesParents c root }
     ensures left { (b c : Cells) (root : ℕ) (t u : Tree) (steps : List Step) → IsWellFormed b root t → AreDone root b t steps c u
         → (o : ℕ) (q : List ℕ) → b.payload o ≡ Ok q → (IsInFootprint b root t steps o → ⊥) → c.payload o ≡ Ok q }
 {}

@@ -1,9 +1,12 @@
 pub mod EditingLemmas
 pub mod ChangeLemmas
+pub mod CopyCalls
 pub mod CopyLemmas
 pub mod KeptLemmas
+pub mod LoadCalls
 pub mod LoadLemmas
 pub mod LogLemmas
+pub mod PairCalls
 pub mod PairLemmas
 pub mod ReadingLemmas
 pub mod SeenLemmas

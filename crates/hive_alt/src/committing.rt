@@ -2,10 +2,12 @@
 
 ghost use Rattle.std.specs.Prelude.{◌≡◌, true, [], length, IfOk, OnOk, IsOk};
 ghost use Rattle.hive_model.specs.Base.{is_bins_size};
+ghost use Rattle.nt_edge.specs.Calls.{MakesUntil};
 ghost use Rattle.nt_edge.specs.Crash.{EachCrash};
 ghost use Rattle.nt_edge.specs.Frames.{Goes};
 ghost use Rattle.nt_bytes.specs.Counts.{Rises};
 ghost use Rattle.hive_commit.specs.Stages.{closed_of};
+ghost use Rattle.hive_alt.specs.Calls.{pair_calls};
 ghost use Rattle.hive_alt.specs.Copies.{IsPair};
 ghost use Rattle.hive_alt.specs.Schemes.{IsKeptAsEither};
 ghost use Rattle.hive_alt.specs.Twin.{twin_of};
@@ -30,6 +32,8 @@ pub(crate) fn change_pair<D: Disk>(
     requires still { D.tells ≡ true → (D.state disk.old).flight ≡ [] }
     requires settled { D.tells ≡ true → IsPair (D.state disk.old).held base.now old.now }
     requires sized { is_bins_size (length new.now) ≡ true }
+    // It makes these calls and no other; after a refusal a prefix of them.
+    ensures made { MakesUntil (D.calls disk.old) (D.calls disk.new) (pair_calls base.now old.now new.now root) result }
     ensures answered { IfOk result (λ b. b ≡ closed_of base.now new.now root) }
     ensures still { D.tells ≡ true → OnOk result ((D.state disk.new).flight ≡ []) }
     ensures settled { D.tells ≡ true → OnOk result (IsPair (D.state disk.new).held (closed_of base.now new.now root) new.now) }

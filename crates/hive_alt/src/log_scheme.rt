@@ -12,12 +12,21 @@ use std::alloc::Global;
 pub struct LogScheme;
 
 impl Scheme for LogScheme {
+    ghost use Rattle.std.specs.Prelude.{◌≡◌};
     ghost use Rattle.hive_model.specs.Recovery.{recovered_of};
     ghost use Rattle.hive_model.specs.Carries.{Carries};
+    ghost use Rattle.hive_commit.specs.Calls.{recovery_calls, change_calls};
+    ghost use Rattle.hive_alt.specs.Calls.{IsRestoring};
 
     ghost stands = { recovered_of };
 
     ghost settled = { Carries };
+
+    ghost repairs = { IsRestoring };
+
+    ghost loads = { λ image calls. calls ≡ recovery_calls image };
+
+    ghost commits = { change_calls };
 
     fn look<D: Disk>(alloc: Global, disk: &mut D) -> Result<Recovered, LoadStop> {
         hive_commit::look(alloc, disk)

@@ -5,12 +5,14 @@ ghost use Rattle.nt_bytes.specs.declared.fault.HiveFault.{HiveFault};
 ghost use Rattle.hive_model.specs.Base.{Base, is_bins_size};
 ghost use Rattle.hive_model.specs.Image.{Primary, Log};
 ghost use Rattle.hive_model.specs.Recovery.{bit};
+ghost use Rattle.nt_edge.specs.Calls.{MakesUntil};
 ghost use Rattle.nt_edge.specs.Crash.{EachCrash};
 ghost use Rattle.nt_edge.specs.Frames.{Goes};
 ghost use Rattle.hive_log.specs.Stops.{Reads, IsLoadOn};
 ghost use Rattle.hive_commit.specs.Untouched.{IsUntouched};
+ghost use Rattle.hive_alt.specs.Calls.{mend_calls, IsMending, IsPairLoad};
 ghost use Rattle.hive_alt.specs.Copies.{HasCopy, IsPair, IsBehind, unfinished_of};
-ghost use Rattle.hive_alt.specs.Schemes.{IsKeptAs};
+ghost use Rattle.hive_alt.specs.Schemes.{IsKeptAs, AreOf, MakesLoad};
 ghost use Rattle.hive_alt.specs.Twin.{twin_of};
 
 use crate::pair::{Seen, read_pair};
@@ -45,6 +47,7 @@ fn mend_second<D: Disk>(disk: &mut D, base: &BaseBlock, bins: &[u8]) -> Result<(
     requires still { D.tells ≡ true → (D.state disk.old).flight ≡ [] }
     requires first { D.tells ≡ true → HasCopy Primary (D.state disk.old).held base.now bins.now }
     requires sized { is_bins_size (length bins.now) ≡ true }
+    ensures made { MakesUntil (D.calls disk.old) (D.calls disk.new) (mend_calls false base.now bins.now) result }
     ensures crash { D.tells ≡ true → EachCrash (D.state disk.new) (IsKeptAs twin_of base.now bins.now) }
     ensures still { D.tells ≡ true → OnOk result ((D.state disk.new).flight ≡ []) }
     ensures pair { D.tells ≡ true → OnOk result (IsPair (D.state disk.new).held base.now bins.now) }
@@ -66,6 +69,7 @@ fn mend_first<D: Disk>(disk: &mut D, base: &BaseBlock, bins: &[u8]) -> Result<()
     requires behind { D.tells ≡ true → IsBehind (D.state disk.old).held base.now }
     requires second { D.tells ≡ true → HasCopy Log (D.state disk.old).held base.now bins.now }
     requires sized { is_bins_size (length bins.now) ≡ true }
+    ensures made { MakesUntil (D.calls disk.old) (D.calls disk.new) (mend_calls true base.now bins.now) result }
     ensures crash { D.tells ≡ true → EachCrash (D.state disk.new) (IsKeptAs twin_of base.now bins.now) }
     ensures still { D.tells ≡ true → OnOk result ((D.state disk.new).flight ≡ []) }
     ensures pair { D.tells ≡ true → OnOk result (IsPair (D.state disk.new).held base.now bins.now) }
@@ -88,6 +92,7 @@ fn mend<D: Disk>(disk: &mut D, second: bool, base: &BaseBlock, bins: &[u8]) -> R
     requires behind { D.tells ≡ true → second ≡ true → IsBehind (D.state disk.old).held base.now }
     requires second { D.tells ≡ true → second ≡ true → HasCopy Log (D.state disk.old).held base.now bins.now }
     requires sized { is_bins_size (length bins.now) ≡ true }
+    ensures made { MakesUntil (D.calls disk.old) (D.calls disk.new) (mend_calls second base.now bins.now) result }
     ensures crash { D.tells ≡ true → EachCrash (D.state disk.new) (IsKeptAs twin_of base.now bins.now) }
     ensures still { D.tells ≡ true → OnOk result ((D.state disk.new).flight ≡ []) }
     ensures pair { D.tells ≡ true → OnOk result (IsPair (D.state disk.new).held base.now bins.now) }
@@ -104,6 +109,8 @@ fn mend<D: Disk>(disk: &mut D, second: bool, base: &BaseBlock, bins: &[u8]) -> R
 pub(crate) fn load_pair<D: Disk>(alloc: Global, disk: &mut D) -> Result<Recovered, LoadStop>
     requires on { (D.state disk.old).on ≡ true }
     requires still { D.tells ≡ true → (D.state disk.old).flight ≡ [] }
+    ensures made { MakesLoad (D.calls disk.old) (D.calls disk.new) IsMending
+        (λ calls. D.tells ≡ true → AreOf (IsPairLoad (D.state disk.old).held) result calls) }
     ensures exact { D.tells ≡ true → Reads result (twin_of (D.state disk.old).held) }
     ensures sized { IfOk result (λ r. is_bins_size (length r.bins) ≡ true) }
     ensures still { D.tells ≡ true → OnOk result ((D.state disk.new).flight ≡ []) }

@@ -4,8 +4,10 @@ ghost use Rattle.std.specs.Prelude.{◌≡◌, ◌<◌, ◌≤◌, ◌+◌, ◌*
 ghost use Rattle.hive_model.specs.Image as book;
 ghost use Rattle.hive_model.specs.Recovery.{bit, sector};
 ghost use Rattle.nt_edge.specs.Book.{file_of};
+ghost use Rattle.nt_edge.specs.Calls.{MakesUntil};
 ghost use Rattle.nt_edge.specs.Frames.{Goes};
 ghost use Rattle.nt_edge.specs.Crash.{EachCrash, AgreeOutside};
+ghost use Rattle.hive_alt.specs.Calls.{rewrite_calls};
 ghost use Rattle.hive_alt.specs.Copies.{in_copy, IsWritten, IsRewriting};
 ghost use Rattle.hive_alt.specs.Twin.{copy_at};
 
@@ -29,6 +31,9 @@ pub(crate) fn rewrite<D: Disk>(
     requires few { length new.now ≤ 16777216 }
     requires stays { D.tells ≡ true → (i : ℕ) → 512 * i < length new.now → bit bitmap.now i ≡ false
         → (D.state disk.old).held (copy_at (file_of file) (8 + i)) ≡ Some (book.Bytes (sector new.now i)) }
+    // Each stage's writes and its sync, and no other call; after a refusal a prefix of them.
+    ensures made { MakesUntil (D.calls disk.old) (D.calls disk.new)
+        (rewrite_calls (file_of file) opened.now closed.now (bit bitmap.now) new.now) result }
     // Whatever a cut leaves has the other copy as it was.
     ensures other { D.tells ≡ true → EachCrash (D.state disk.new) (AgreeOutside (in_copy (file_of file)) (D.state disk.old).held) }
     ensures crash { D.tells ≡ true → EachCrash (D.state disk.new)

@@ -4,13 +4,14 @@ ghost use Rattle.std.specs.Prelude.{◌≡◌, true, false, ℕ, List, [], lengt
 ghost use Rattle.nt_bytes.specs.declared.fault.HiveFault.{HiveFault};
 ghost use Rattle.hive_model.specs.Base.{Base, is_bins_size};
 ghost use Rattle.hive_model.specs.Image.{Image, image_of};
+ghost use Rattle.nt_edge.specs.Calls.{Made, MakesUntil};
 ghost use Rattle.nt_edge.specs.Crash.{EachCrash};
 ghost use Rattle.nt_bytes.specs.Counts.{Rises};
 ghost use Rattle.hive_log.specs.Stops.{Reads, ReadsFiles, IsLookAt, IsLoadOn};
 ghost use Rattle.hive_commit.specs.Stages.{closed_of};
 ghost use Rattle.hive_commit.specs.Stops.{IsCommitOn};
 ghost use Rattle.hive_commit.specs.Untouched.{IsUntouched};
-ghost use Rattle.hive_alt.specs.Schemes.{Standing, IsKeptAs, IsKeptAsEither, OnlyReads};
+ghost use Rattle.hive_alt.specs.Schemes.{Standing, IsKeptAs, IsKeptAsEither, OnlyReads, AreOf, MakesLoad};
 
 use hive_commit::{CommitStop, LoadStop, Recovered};
 use nt_bytes::ReadStop;
@@ -26,6 +27,15 @@ pub trait Scheme {
 
     /// The state between two calls: the image is clean, and has this base block and these bins data.
     ghost settled: { Image → Base → List ℕ → Type 0 };
+
+    /// The calls of a repair, of some image.
+    ghost repairs: { List Made → Type 0 };
+
+    /// The calls of a load of an image: it reads, and then repairs what is to be repaired.
+    ghost loads: { Image → List Made → Type 0 };
+
+    /// The calls of a commit: of the base block and the old data, and the new data with their root.
+    ghost commits: { Base → List ℕ → List ℕ → ℕ → List Made };
 
     /// Reads what the disk stands for, and makes no call but reads. `Fault` is the first check that fails; out
     /// of memory alone is free.
@@ -46,6 +56,10 @@ pub trait Scheme {
     fn load<D: Disk>(alloc: Global, disk: &mut D) -> Result<Recovered, LoadStop>
         requires on { (D.state disk.old).on ≡ true }
         requires still { D.tells ≡ true → (D.state disk.old).flight ≡ [] }
+        // It makes the calls of one load and no other, after a fault the reads alone, and after another stop a prefix
+        // of them. Which ones, is said of a disk that shows what it holds.
+        ensures made { MakesLoad (D.calls disk.old) (D.calls disk.new) repairs
+            (λ calls. D.tells ≡ true → AreOf (loads (D.state disk.old).held) result calls) }
         ensures exact { D.tells ≡ true → Reads result (stands (D.state disk.old).held) }
         ensures sized { IfOk result (λ r. is_bins_size (length r.bins) ≡ true) }
         ensures still { D.tells ≡ true → OnOk result ((D.state disk.new).flight ≡ []) }
@@ -74,6 +88,8 @@ pub trait Scheme {
         requires still { D.tells ≡ true → (D.state disk.old).flight ≡ [] }
         requires settled { D.tells ≡ true → settled (D.state disk.old).held base.now old.now }
         requires sized { is_bins_size (length new.now) ≡ true }
+        // It makes these calls and no other; after a refusal a prefix of them.
+        ensures made { MakesUntil (D.calls disk.old) (D.calls disk.new) (commits base.now old.now new.now root) result }
         ensures answered { IfOk result (λ b. b ≡ closed_of base.now new.now root) }
         ensures still { D.tells ≡ true → OnOk result ((D.state disk.new).flight ≡ []) }
         ensures settled { D.tells ≡ true → OnOk result (settled (D.state disk.new).held (closed_of base.now new.now root) new.now) }

@@ -21,12 +21,19 @@ use std::alloc::Global;
 pub struct TwinScheme;
 
 impl Scheme for TwinScheme {
+    ghost use Rattle.hive_alt.specs.Calls.{IsMending, IsPairLoad, pair_calls};
     ghost use Rattle.hive_alt.specs.Copies.{IsPair};
     ghost use Rattle.hive_alt.specs.Twin.{twin_of};
 
     ghost stands = { twin_of };
 
     ghost settled = { IsPair };
+
+    ghost repairs = { IsMending };
+
+    ghost loads = { IsPairLoad };
+
+    ghost commits = { pair_calls };
 
     fn look<D: Disk>(alloc: Global, disk: &mut D) -> Result<Recovered, LoadStop> {
         let Seen { found, second: _ } = read_pair(alloc, disk)?;

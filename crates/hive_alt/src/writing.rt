@@ -1,15 +1,17 @@
 //! The two stages of a copy, its base block and its bins sectors.
 
-ghost use Rattle.std.specs.Prelude.{◌≡◌, ◌<◌, ◌≤◌, ◌+◌, ◌*◌, ◌/◌, true, Some, [], length, OnOk};
+ghost use Rattle.std.specs.Prelude.{◌≡◌, ◌<◌, ◌≤◌, ◌+◌, ◌*◌, ◌/◌, true, Some, [], ◌∷◌, ◌++◌, length, OnOk};
 ghost use Rattle.hive_model.specs.Base.{base_text};
 ghost use Rattle.hive_model.specs.Image as book;
 ghost use Rattle.hive_model.specs.Recovery.{bit, sector};
 ghost use Rattle.nt_edge.specs.Book.{file_of};
+ghost use Rattle.nt_edge.specs.Calls.{Synced, MakesUntil, writes_of};
 ghost use Rattle.nt_edge.specs.Disk.{DiskState, now_of};
 ghost use Rattle.nt_edge.specs.Frames.{Goes};
 ghost use Rattle.nt_edge.specs.Crash.{EachCrash, AgreeOutside, Writing};
 ghost use Rattle.hive_commit.specs.Growing.{HasMarkedBelow};
 ghost use Rattle.hive_commit.specs.Stages.{HasMarked};
+ghost use Rattle.hive_alt.specs.Calls.{copy_writes, copy_block_calls};
 ghost use Rattle.hive_alt.specs.Copies.{copy_in, is_block, is_bin, BlockIsBeforeOr};
 ghost use Rattle.hive_alt.specs.Twin.{copy_at};
 
@@ -28,6 +30,8 @@ fn write_copy_marked<D: Disk>(
     requires on { (D.state disk.old).on ≡ true }
     requires whole { 512 * (length new.now / 512) ≡ length new.now }
     requires few { length new.now ≤ 16777216 }
+    ensures made { MakesUntil (D.calls disk.old) (D.calls disk.new)
+        (writes_of (copy_writes (file_of file) (bit bitmap.now) new.now)) result }
     ensures writing { D.tells ≡ true → (first : DiskState)
         → Writing (is_bin (file_of file) (length new.now) (bit bitmap.now)) first (D.state disk.old)
         → Writing (is_bin (file_of file) (length new.now) (bit bitmap.now)) first (D.state disk.new) }
@@ -61,6 +65,8 @@ pub(crate) fn write_copy_bins<D: Disk>(
     requires still { D.tells ≡ true → (D.state disk.old).flight ≡ [] }
     requires whole { 512 * (length new.now / 512) ≡ length new.now }
     requires few { length new.now ≤ 16777216 }
+    ensures made { MakesUntil (D.calls disk.old) (D.calls disk.new)
+        (writes_of (copy_writes (file_of file) (bit bitmap.now) new.now) ++ Synced ∷ []) result }
     // Whatever a cut leaves has all else as it was.
     ensures crash { D.tells ≡ true → EachCrash (D.state disk.new)
         (AgreeOutside (is_bin (file_of file) (length new.now) (bit bitmap.now)) (D.state disk.old).held) }
@@ -80,6 +86,7 @@ pub(crate) fn write_copy_block<D: Disk>(
 ) -> Result<(), DiskStop>
     requires on { (D.state disk.old).on ≡ true }
     requires still { D.tells ≡ true → (D.state disk.old).flight ≡ [] }
+    ensures made { MakesUntil (D.calls disk.old) (D.calls disk.new) (copy_block_calls (file_of file) base.now) result }
     // Whatever a cut leaves has the old base block or this one, or none that can be read, and all else as it was.
     ensures crash { D.tells ≡ true → EachCrash (D.state disk.new) (AgreeOutside (is_block (file_of file)) (D.state disk.old).held) }
     ensures block { D.tells ≡ true → EachCrash (D.state disk.new) (BlockIsBeforeOr (file_of file) (D.state disk.old).held base.now) }

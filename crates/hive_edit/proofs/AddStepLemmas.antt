@@ -16,6 +16,7 @@ use Rattle.hive_model.specs.Packed.{rounded}
 use Rattle.hive_model.specs.Edit.{add_child, Refusal, bad_name, name_too_long, exists, too_deep, unless, has_child, is_bad_name, placed, renamed, with_child, after_step}
 use Rattle.hive_model.specs.Footprint.{child_places, security_cell_at, is_node_named, list_sizes, sizes, room_of, needed_sizes, added_sizes_in}
 use Rattle.hive_model.specs.Stands.{IsWellFormed, security_of}
+use Rattle.hive_model.specs.InPlace.{IsKeptSecurity}
 use Rattle.hive_cells.specs.Holes.{new_bin_size}
 use Rattle.hive_pack.proofs.Formed.{apart}
 use Rattle.reg_tree.specs.Makes.{IsRefused, refusal_of}
@@ -31,7 +32,7 @@ use Rattle.edit_laws.proofs.RoomLemmas.{added_needs, room_for}
 use Rattle.edit_laws.proofs.Totals.{tree_total, placed_length, found_placed}
 use Rattle.hive_edit.specs.declared.making.Above.{Above}
 use Rattle.hive_edit.specs.Making.{AboveIs}
-use Rattle.hive_edit.specs.Grafted.{descriptor_of}
+use Rattle.hive_edit.specs.Grafted.{descriptor_of, sharing}
 use Rattle.hive_edit.specs.Children.{IsFreeName, RefusesName, IsNewChild, MayGraft, IsGraftedIn, LacksGraftRoom, IsAddedIn, security_listed}
 use Rattle.hive_edit.specs.Hive.{HiveCells, cells_in, hive_of, IsHive}
 use Rattle.hive_edit.specs.Stepped.{IsStepped, LacksStepRoom}
@@ -41,6 +42,8 @@ use Rattle.hive_edit.proofs.JudgeLemmas.{key_present, key_absent, counted_childr
 use Rattle.hive_edit.proofs.KeyLemmas.{node_read, no_slash}
 use Rattle.hive_edit.proofs.ParentLemmas.{IsParent, node_stands, security_at_node, security_there}
 use Rattle.hive_edit.proofs.ResultLemmas.{done, ok_same}
+use Rattle.hive_edit.proofs.SecuredLemmas.{keeps_security}
+use Rattle.hive_edit.specs.Secured.{changes_of, comers}
 use Rattle.reg_tree.proofs.Sound.{some_size}
 use Rattle.key_index.proofs.Tests.{is_ok_of}
 
@@ -155,6 +158,11 @@ pub with_again : (name : List ℕ) (k t : Tree)
     → with_child (head (renamed name k)).name (renamed name k) t ≡ with_child name k t
 with_again name (key hd ts) (key g us) = refl
 
+-- as many keys share a descriptor under another name
+pub sharing_renamed : (s name : List ℕ) (k : Tree) → sharing s (renamed name k) ≡ sharing s k
+sharing_renamed [] name k = refl
+sharing_renamed (b ∷ s) name (key hd ts) = refl
+
 pub add_stepped : (old new : HiveCells) (name : List ℕ) (k : Tree) → IsWellFormed (cells_in old) old.root old.tree
     → IsFreeName old name → HoldsKeys k → levels k ≤ 511
     → IsAddedIn old (renamed name k) new → IsStepped old (add_child name k) new
@@ -168,7 +176,7 @@ add_stepped old new name k well f holds low a =
     let needs = needs_both old.version name k t f.absent in
     let made : IsDone (cells_in old) (cells_in new) old.root t u (add_child name k) =
     a_child_added (cells_in old) (cells_in new) old.root t u k name g.at g.front g.back (security_listed a.security)
-    well ok (apart k holds) g.changes a.counts g.stands
+    well ok (apart k holds) g.changes (λ o i. subst (λ (l : List ℕ). In l o) a.same i) g.stands
     (subst (λ (z : List ℕ). Rattle.edit_laws.specs.Relists.HasPlace (cells_in old) z g.front g.back)
     (renamed_name name k) g.place) in
     record {
@@ -176,6 +184,10 @@ add_stepped old new name k well f holds low a =
       root = g.root;
       tree = ok ∙ sym (ap the_tree tree);
       done = subst (λ (w : Tree). IsDone (cells_in old) (cells_in new) old.root t w (add_child name k)) (sym tree) made;
+      secure = keeps_security (cells_in old) (cells_in new) old.root t
+          (changes_of (cells_in old) old.root t (add_child name k)) well
+          (λ o s. subst (λ (l : List Bool). IsKeptSecurity (cells_in old) (cells_in new) l o)
+          (λ i. comers (sharing_renamed (head t).security name k i) (a.same i) o) (g.secure o s));
       long = g.long;
       room = subst (λ (w : Tree). bins_size new.bins ≤ bins_size old.bins
           + room_of (needed_sizes old.version t (add_child name k) w)) (sym tree)
@@ -288,6 +300,7 @@ may_graft h above shared r same small few = record {
       record {
         list = r.says.list ∙ ap (λ (m : KeyNode). m.child_list) z;
         count = r.says.count ∙ ap (λ (m : KeyNode). m.child_count) z;
+        volatile = r.says.volatile ∙ ap (λ (m : KeyNode). m.volatile_count) z;
       };
   shares = record {
     small = small;
@@ -311,8 +324,8 @@ pub added_if : {E : Type 0} (r : Result Bool E) (h new : HiveCells) (above : Abo
 added_if (Ok true) h new above shared k says same g = record {
   security = above.security;
   grafted = subst (λ (z : List ℕ). IsGraftedIn h above.security z k new) same g;
-  counts = λ o i. subst (λ (l : List ℕ). In l o) (sym (security_at_node (cells_in h) h.root says.node says.parent.read))
-      (subst (λ (z : ℕ). In (security_listed z) o) says.says.security i);
+  same = ap security_listed says.says.security
+      ∙ sym (security_at_node (cells_in h) h.root says.node says.parent.read);
 }
 added_if (Ok false) h new above shared k says same g = subst (λ (z : List ℕ). LacksGraftRoom h z k) same g
 added_if (Err e) h new above shared k says same g = tt

@@ -4,6 +4,7 @@ use Rattle.std.specs.Prelude.{◌==◌, ◌⊎◌, Contains}
 use Rattle.std.specs.Int.{w32, to_le_bytes}
 use Rattle.std.proofs.lemmas.Bool.{eqb-true, eqb-false}
 use Rattle.nt_bytes.specs.declared.fault.HiveFaultKind.{HiveFaultKind}
+use Rattle.nt_bytes.specs.Fields.{u32_in}
 use Rattle.hive_model.specs.Bins.{Cells}
 use Rattle.hive_model.specs.Forms.{◌>>=◌}
 use Rattle.hive_model.specs.KeyNode.{KeyNode, key_node_at, key_node_text}
@@ -13,6 +14,7 @@ use Rattle.hive_model.specs.Edit.{new_key}
 use Rattle.hive_model.specs.Walk.{reading, nowhere, entries_at, entries_checks}
 use Rattle.hive_model.specs.Footprint.{used_in, child_places, security_cell_at, list_cells_at}
 use Rattle.hive_model.specs.Stands.{Stands, security_of}
+use Rattle.hive_model.specs.InPlace.{recounted, IsKeptSecurity}
 use Rattle.edit_laws.specs.Owned.{In, security}
 use Rattle.edit_laws.specs.Framed.{IsUnheld}
 use Rattle.edit_laws.specs.Pairs.{Pairwise}
@@ -25,11 +27,16 @@ use Rattle.edit_laws.proofs.Pairs.{pairwise_join, pairwise_map, in_map}
 use Rattle.edit_laws.proofs.Held.{are_held}
 use Rattle.edit_laws.proofs.Same.{entries_used, entries_same}
 use Rattle.edit_laws.proofs.FromLists.{children_written, inserts_child, bare_uses, bare_stands}
+use Rattle.edit_laws.proofs.Revalued.{one_node}
+use Rattle.edit_laws.proofs.ParentsKept.{children_name}
+use Rattle.edit_laws.proofs.ChildrenColumn.{places_listed}
 use Rattle.hive_edit.specs.Making.{new_node}
 use Rattle.hive_edit.proofs.ResultLemmas.{done, some}
-use Rattle.hive_edit.proofs.NodeMade.{MayBeNode, node_again, no_flags, security_counted}
+use Rattle.hive_edit.proofs.NodeMade.{MayBeNode, node_again, no_flags}
 use Rattle.hive_edit.proofs.ParentLemmas.{Keeps, IsParent, parent_held, list_no_node, list_no_security, node_no_security, list_held, security_listed, security_at_node, security_some, security_there, node_stands, security_read}
 use Rattle.hive_edit.proofs.PlacedLemmas.{entries_held}
+use Rattle.hive_edit.proofs.SecuredLemmas.{secure_counted, secure_own, secure_same, descriptor_kept, uses_in}
+use Rattle.hive_edit.specs.Secured.{comers}
 use Rattle.hive_read.proofs.FormFacts.{then-so}
 
 pub no_some : (o : Option (List ℕ)) (q : List ℕ) → o ≡ None → o ≡ some q → ⊥
@@ -55,13 +62,13 @@ pub record Adds (b m l c : Cells) (root : ℕ) (t : Tree) (p : List (List ℕ)) 
   pub once : Pairwise (λ u v. u ≡ v → ⊥) (used_in (entries_checks l list))
   pub small : list < 2 ^ 32
   pub few : n.child_count + 1 < 2 ^ 32
-  pub volatile : ℕ
+  pub volatile : n.volatile_count < 2 ^ 32
   pub kept_c : (o : ℕ) (q : List ℕ) → l.payload o ≡ done q → (o ≡ x → ⊥)
       → ((n.security ≡ nowhere → ⊥) → o ≡ n.security → ⊥) → c.payload o ≡ done q
   pub node_c : (q : List ℕ) → l.payload x ≡ done q
-      → c.payload x ≡ done (with_part 20 (three_numbers (n.child_count + 1) volatile list) q)
+      → c.payload x ≡ done (with_part 20 (three_numbers (n.child_count + 1) n.volatile_count list) q)
   pub secure_c : (q : List ℕ) → (n.security ≡ nowhere → ⊥) → l.payload n.security ≡ done q
-      → (uses : ℕ) × (uses < 2 ^ 32) × (c.payload n.security ≡ done (with_part 12 (to_le_bytes w32 uses) q))
+      → c.payload n.security ≡ done (with_part 12 (to_le_bytes w32 (recounted true (u32_in q 12))) q)
   pub places : child_places b x ≡ front ++ back
   pub count_is : n.child_count ≡ length (front ++ back)
 
@@ -130,43 +137,44 @@ module _ (b m l c : Cells) (root : ℕ) (t : Tree) (p : List (List ℕ)) (x : �
   secure_read some = security_read b n (head k).security
       (node_stands b x k n g.parent.below.stands g.parent.read).security some
 
-  raised : (n.security ≡ nowhere → ⊥) → descriptor_at c n.security ≡ descriptor_at b n.security
+  raised : (n.security ≡ nowhere → ⊥) → IsKeptSecurity b c (true ∷ []) n.security
   raised some =
       let s = secure_read some in
       let q = then-so (b.payload n.security) security_at s.0 s.1 in
       let i = security_there b x n g.parent.read some in
       let listed = g.kept_l n.security q.0 (g.kept_m.held n.security q.0 q.1)
       (λ j. list_no_security b root t p x k n p x n.security g.parent g.parent.reached i (g.gone_is n.security j)) in
-      let w = g.secure_c q.0 some listed in
-      let now = ap (λ (r : Result (List ℕ) HiveFaultKind). r >>= security_at) w.2
-      ∙ security_counted q.0 s.0 w.0 q.2 w.1 in
-      ap (λ (r : Result SecurityCell HiveFaultKind). r >>= λ z. Ok z.descriptor) now
-      ∙ sym (ap (λ (r : Result SecurityCell HiveFaultKind). r >>= λ z. Ok z.descriptor) s.1)
+      secure_counted b c n.security (recounted true (u32_in q.0 12)) q.0 (true ∷ []) s.0 q.1 q.2 (omega arith)
+      (ap (recounted true) (uses_in q.0 s.0 q.2)) (g.secure_c q.0 some listed)
 
-  descriptors : (o : ℕ) → IsSecurityCell b root o → descriptor_at c o ≡ descriptor_at b o
-  descriptors o s = go (n.security == nowhere) refl (eqb o n.security) refl
+  pub kept_secure : (o : ℕ) → IsSecurityCell b root o → IsKeptSecurity b c (comers 1 (security_cell_at b x) o) o
+  kept_secure o s =
+      subst (λ (l : List ℕ). IsKeptSecurity b c (comers 1 l o) o) (sym (security_at_node b x n g.parent.read))
+      (go (n.security == nowhere) refl (eqb n.security o) refl)
     where
-      plain_one : (In (security_cell_at b x) o → ⊥) → descriptor_at c o ≡ descriptor_at b o
+      plain_one : (In (security_listed n.security) o → ⊥) → IsKeptSecurity b c [] o
       plain_one none =
-          let q = (are_held b root t g.parent.well).held s.path security o
-          (record { at = s.key; reached = s.reached; has = s.uses }) in
-          let same = rest o q.0 q.1
+          let q = (are_held b root t g.parent.well).held s.path security o (secure_own b root o s) in
+          secure_same b c root t g.parent.well o s
+          (rest o q.0 q.1
           (λ e. node_no_security b root t p x k n s.path s.key g.parent s.reached
           (subst (In (security_cell_at b s.key)) e s.uses))
-          (λ i. list_no_security b root t p x k n s.path s.key o g.parent s.reached s.uses i) none ∙ sym q.1 in
-          ap (λ (r : Result (List ℕ) HiveFaultKind). r >>= security_at >>= λ z. Ok z.descriptor) same
+          (λ i. list_no_security b root t p x k n s.path s.key o g.parent s.reached s.uses i)
+          (λ i. none (subst (λ (l : List ℕ). In l o) (security_at_node b x n g.parent.read) i)) ∙ sym q.1)
 
-      is_not : (In (security_listed n.security) o → ⊥) → In (security_cell_at b x) o → ⊥
-      is_not none i = none (subst (λ (l : List ℕ). In l o) (security_at_node b x n g.parent.read) i)
+      at_one : (w : Bool) → eqb n.security o ≡ w → IsKeptSecurity b c (cond w (true ∷ []) []) o
+          → IsKeptSecurity b c (cond (eqb n.security o) (true ∷ []) []) o
+      at_one w f = subst (λ (z : Bool). IsKeptSecurity b c (cond z (true ∷ []) []) o) (sym f)
 
-      go : (v : Bool) → (n.security == nowhere) ≡ v → (w : Bool) → eqb o n.security ≡ w
-          → descriptor_at c o ≡ descriptor_at b o
-      go true e w f = plain_one (is_not (λ i. (security_some n.security o i).1 (eqb-true n.security nowhere e)))
-      go false e true f =
-          let same : o ≡ n.security = eqb-true o n.security f in
-          subst (λ (z : ℕ). descriptor_at c z ≡ descriptor_at b z) (sym same)
-          (raised (λ z. absurd (eqb-false n.security nowhere e z)))
-      go false e false f = plain_one (is_not (λ i. eqb-false o n.security f (sym (security_some n.security o i).0)))
+      go : (v : Bool) → (n.security == nowhere) ≡ v → (w : Bool) → eqb n.security o ≡ w
+          → IsKeptSecurity b c (comers 1 (cond v [] (n.security ∷ [])) o) o
+      go true e w f = plain_one (λ i. (security_some n.security o i).1 (eqb-true n.security nowhere e))
+      go false e true f = at_one true f (subst (IsKeptSecurity b c (true ∷ [])) (eqb-true n.security o f)
+          (raised (λ z. absurd (eqb-false n.security nowhere e z))))
+      go false e false f = at_one false f (plain_one (λ i. eqb-false n.security o f (security_some n.security o i).0))
+
+  descriptors : (o : ℕ) → IsSecurityCell b root o → descriptor_at c o ≡ descriptor_at b o
+  descriptors o s = descriptor_kept b c (comers 1 (security_cell_at b x) o) o (kept_secure o s)
 
   -- ---- what the new cells use
   new_secure : security_cell_at c y ≡ security_cell_at b x
@@ -246,17 +254,17 @@ module _ (b m l c : Cells) (root : ℕ) (t : Tree) (p : List (List ℕ)) (x : �
           (λ (z : ⊥). absurd z) (in_cases (secure (security_cell_at b x)) [] v j)
 
   -- ---- the child came
-  noted : HasNewChildren (with_part 20 (three_numbers (n.child_count + 1) g.volatile list) node_there.0) n
+  noted : HasNewChildren (with_part 20 (three_numbers (n.child_count + 1) n.volatile_count list) node_there.0) n
       (length (front ++ y ∷ back)) list
   noted =
       let count : n.child_count + 1 ≡ length (front ++ y ∷ back) = let e = g.count_is in let f =
       length_more front y back in omega (arith, e, f) in
-      subst (λ (z : ℕ). HasNewChildren (with_part 20 (three_numbers (n.child_count + 1) g.volatile list) node_there.0)
+      subst (λ (z : ℕ). HasNewChildren (with_part 20 (three_numbers (n.child_count + 1) n.volatile_count list) node_there.0)
       n z list) count
-      (children_written node_there.0 n (n.child_count + 1) g.volatile list node_there.2 g.few g.small)
+      (children_written node_there.0 n (n.child_count + 1) list node_there.2 g.few g.small g.volatile)
 
   inserted : (left : ℕ) → InsertsChild b c root x (suc left) n front back y
-      (with_part 20 (three_numbers (n.child_count + 1) g.volatile list) node_there.0) list (security_cell_at b x)
+      (with_part 20 (three_numbers (n.child_count + 1) n.volatile_count list) node_there.0) list (security_cell_at b x)
   inserted left = record {
     version = g.version;
     there = g.node_c node_there.0 node_listed;
@@ -267,8 +275,16 @@ module _ (b m l c : Cells) (root : ℕ) (t : Tree) (p : List (List ℕ)) (x : �
     security = descriptors;
     fresh = λ u i. coming u (subst (λ (l : List (ℕ × Bool)). In l u) (all_uses left) i);
     once = subst Once (sym (all_uses left)) each_once;
+    named = record {
+      here = λ m e. ap (λ (z : KeyNode). z.parent)
+          (one_node (reading key_node_at c y) m (new_node x n.stamp n.security name) e new_read);
+      below = children_name c y (λ z i. absurd (subst (λ (l : List ℕ). In l z) no_children i));
+    };
   }
     where
+      no_children : child_places c y ≡ []
+      no_children = places_listed c y (new_node x n.stamp n.security name) [] new_read refl
+
       all_uses : (left : ℕ) → plain (used_in (entries_checks c list)) ++ tree_uses (suc left) c y
           ≡ plain (used_in (entries_checks l list)) ++ ((y, false) ∷ (secure (security_cell_at b x) ++ []))
       all_uses left =
@@ -278,7 +294,7 @@ module _ (b m l c : Cells) (root : ℕ) (t : Tree) (p : List (List ℕ)) (x : �
   pub changes : (left : ℕ) → ChangesChildren b c root x (suc left) front [] (y ∷ []) back (security_cell_at b x)
   changes left =
       inserts_child b c root x (suc left) n front back y
-      (with_part 20 (three_numbers (n.child_count + 1) g.volatile list) node_there.0) list (security_cell_at b x)
+      (with_part 20 (three_numbers (n.child_count + 1) n.volatile_count list) node_there.0) list (security_cell_at b x)
       g.parent.read g.places (inserted left)
 
   secure_kept : security_of c (new_node x n.stamp n.security name) ≡ done (head k).security
@@ -289,7 +305,8 @@ module _ (b m l c : Cells) (root : ℕ) (t : Tree) (p : List (List ℕ)) (x : �
           → cond v (Ok []) (descriptor_at b n.security) ≡ done (head k).security
           → cond v (Ok []) (descriptor_at c n.security) ≡ done (head k).security
       go true e f = f
-      go false e f = raised (λ z. absurd (eqb-false n.security nowhere e z)) ∙ f
+      go false e f =
+          descriptor_kept b c (true ∷ []) n.security (raised (λ z. absurd (eqb-false n.security nowhere e z))) ∙ f
 
   pub stands_new : Stands c y (new_key name k)
   stands_new =

@@ -13,6 +13,7 @@ use Rattle.hive_cells.proofs.Again.{one_list}
 use Rattle.reg_tree.specs.declared.stop.EditStop.{EditStop}
 use Rattle.reg_tree.specs.declared.stop.EditStop.TheVariants.{Memory}
 use Rattle.reg_tree.specs.Makes.{IsRefused}
+use Rattle.edit_laws.specs.Parents.{NamesParents}
 use Rattle.hive_edit.specs.Hive.{hive_of, IsHive}
 use Rattle.hive_edit.specs.Edits.{IsPackedAnew}
 use Rattle.hive_edit.specs.Standing.{tree_of}
@@ -27,8 +28,9 @@ pub record PackedHere (version : HiveVersion) (heap : List Bin) (t : Tree) : Typ
 
 pub packed_here : (version : HiveVersion) (text : List ℕ) (bins heap : List Bin) (t : Tree)
     → IsBins text (packed_bins version t) → IsBins text bins
-    → IsWellFormed (look_up version (packed_bins version t)) 32 t → heap ≡ bins → PackedHere version heap t
-packed_here version text bins heap t is was well e =
+    → IsWellFormed (look_up version (packed_bins version t)) 32 t → heap ≡ bins
+    → NamesParents (look_up version (packed_bins version t)) 32 → PackedHere version heap t
+packed_here version text bins heap t is was well e names =
     let same : heap ≡ packed_bins version t =
     e ∙ sym (one_list (packed_bins version t) bins is.0 was.0 (sym is.1 ∙ was.1)) in
     let stands = subst (λ (bs : List Bin). IsWellFormed (look_up version bs) 32 t) (sym same) well in
@@ -36,7 +38,11 @@ packed_here version text bins heap t is was well e =
     record {
       stands = stands;
       tree = tree;
-      anew = record { bins = same ∙ ap (packed_bins version) (sym tree); root = refl };
+      anew = record {
+        bins = same ∙ ap (packed_bins version) (sym tree);
+        root = refl;
+        parents = subst (λ (bs : List Bin). NamesParents (look_up version bs) 32) (sym same) names;
+      };
     }
 
 pub packed_hive : (version : HiveVersion) (heap : List Bin) (bulk : ℕ) (t : Tree) → PackedHere version heap t

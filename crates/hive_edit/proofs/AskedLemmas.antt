@@ -1,5 +1,5 @@
 -- What judging whether a key may be made answers, by the hive's cells.
-use Rattle.std.proofs.Common.{◌≡◌, ◌≤◌, ◌<◌, ℕ, ◌+◌, ◌-◌, true, false, List, length, Option, Some, None, Result, Ok, Err, refl, sym, ap, subst, ◌∙◌, arith}
+use Rattle.std.proofs.Common.{◌≡◌, ◌≤◌, ◌<◌, ℕ, ◌+◌, ◌-◌, true, false, List, length, Option, Some, None, Result, Ok, Err, refl, sym, ap, subst, ◌∙◌, arith, Bool, cond, []}
 use Rattle.std.specs.Prelude.{find, is_some}
 use Rattle.nt_bytes.specs.declared.version.HiveVersion.{HiveVersion}
 use Rattle.hive_model.specs.Bins.{Bin, Cells, bins_size, look_up}
@@ -8,8 +8,9 @@ use Rattle.hive_model.specs.Tree.{Tree, children, find_key}
 use Rattle.hive_model.specs.Size.{cell, name_bytes, list_size, bulk_of}
 use Rattle.hive_model.specs.Edit.{Refusal, make_key, no_key, bad_name, name_too_long, too_deep, is_bad_name, after_step}
 use Rattle.hive_model.specs.Walk.{reading}
-use Rattle.hive_model.specs.Footprint.{key_place, child_places, is_node_named, has_key}
+use Rattle.hive_model.specs.Footprint.{key_place, child_places, is_node_named, has_key, of_key, security_cell_at}
 use Rattle.hive_model.specs.Stands.{IsWellFormed}
+use Rattle.hive_model.specs.InPlace.{IsKeptSecurity}
 use Rattle.edit_laws.proofs.InOrder.{a_key_there}
 use Rattle.edit_laws.proofs.Out.{placed_at}
 use Rattle.hive_edit.specs.Hive.{HiveCells, cells_in, hive_of, IsHive}
@@ -24,6 +25,8 @@ use Rattle.hive_edit.proofs.LowLemmas.{bulk_is}
 use Rattle.hive_edit.proofs.SteppedLemmas.{lacks_room}
 use Rattle.hive_edit.proofs.JudgeLemmas.{refused_key, refused_name, refused_long, refused_deep, MayTry, step_made, key_present, key_absent, nothing_made, Grows, grows, grown_is, lists_over, make_room, counted_children}
 use Rattle.hive_edit.proofs.KeyLemmas.{node_read}
+use Rattle.hive_edit.specs.Secured.{changes_of, comers}
+use Rattle.hive_edit.proofs.SecuredLemmas.{keeps_security, secure_same}
 use Rattle.tree_draft.proofs.SlotLemmas.{none_from}
 
 abbrev pub none_there : Option ℕ
@@ -178,6 +181,12 @@ already_stepped bins root version bulk h parent name is view m =
       tree = m.step;
       done = a_key_there (cells_in h) h.root h.tree h.tree m.key parent name well
           (nothing_made parent name h.tree m.key m.found m.present) m.found m.present;
+      secure = keeps_security (cells_in h) (cells_in h) h.root h.tree
+          (changes_of (cells_in h) h.root h.tree (make_key parent name)) well
+          (λ o s. subst (λ (l : List Bool). IsKeptSecurity (cells_in h) (cells_in h) l o)
+          (sym (ap (λ (v : Bool). cond v []
+          (comers 1 (of_key (cells_in h) h.root parent (security_cell_at (cells_in h))) o)) m.present))
+          (secure_same (cells_in h) (cells_in h) h.root h.tree well o s refl));
       long = omega arith;
       room = omega arith;
     }

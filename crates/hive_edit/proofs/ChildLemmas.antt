@@ -38,7 +38,7 @@ use Rattle.hive_edit.proofs.KeyLemmas.{node_read}
 use Rattle.hive_edit.proofs.ParentLemmas.{Keeps, kept_well}
 use Rattle.hive_edit.proofs.StandingLemmas.{tree_is}
 use Rattle.hive_edit.proofs.GraftRuns.{graft_run, run_there}
-use Rattle.hive_edit.proofs.GraftLemmas.{changes, stands_new}
+use Rattle.hive_edit.proofs.GraftLemmas.{changes, stands_new, kept_secure}
 use Rattle.hive_edit.proofs.GraftedLemmas.{Ready, linkable, front, back, placed, siblings_count, grafts}
 
 -- ---- the root
@@ -212,6 +212,7 @@ graft_made old new root version bulk count own after h above shared k at is view
         changes = ch;
         stands = stands;
         place = place;
+        secure = kept_secure b m l c root t n k at sz sp a.linked.list shared fr bk g;
         long = omega (arith, noted, counted, put_least, lists_least);
         room = total (bins_size old) (bins_size a.mid) (bins_size a.linked.listed) (bins_size a.linked.noted)
             (bins_size new) (new_bin_size sz)

@@ -15,6 +15,7 @@ use Rattle.hive_model.specs.Edit.{copy_child, Refusal, no_key, bad_name, name_to
 use Rattle.hive_model.specs.Walk.{reading}
 use Rattle.hive_model.specs.Footprint.{child_places, is_node_named, key_place, security_cell_at, list_sizes, room_of, needed_sizes}
 use Rattle.hive_model.specs.Stands.{IsWellFormed, security_of}
+use Rattle.hive_model.specs.InPlace.{IsKeptSecurity}
 use Rattle.hive_cells.specs.Holes.{new_bin_size}
 use Rattle.hive_pack.proofs.Formed.{apart}
 use Rattle.reg_tree.specs.Makes.{IsRefused, refusal_of}
@@ -24,7 +25,7 @@ use Rattle.edit_laws.specs.Done.{IsDone}
 use Rattle.edit_laws.specs.Relists.{HasPlace}
 use Rattle.edit_laws.proofs.KeySteps.{a_child_copied, renamed_name}
 use Rattle.edit_laws.proofs.Out.{placed_at}
-use Rattle.hive_edit.specs.Grafted.{descriptor_of}
+use Rattle.hive_edit.specs.Grafted.{descriptor_of, sharing}
 use Rattle.hive_edit.specs.Children.{IsFreeName, RefusesName, LacksGraftRoom, security_listed}
 use Rattle.hive_edit.specs.Copying.{SharesChild, IsCopiedIn}
 use Rattle.hive_edit.specs.Hive.{HiveCells, cells_in, hive_of, IsHive}
@@ -35,7 +36,9 @@ use Rattle.hive_edit.proofs.KeyLemmas.{node_read}
 use Rattle.hive_edit.proofs.ParentLemmas.{node_stands, security_at_node, security_there}
 use Rattle.hive_edit.proofs.PlaceLemmas.{key_there}
 use Rattle.hive_edit.proofs.ResultLemmas.{done, some, some_same}
-use Rattle.hive_edit.proofs.AddStepLemmas.{needs_both, with_again}
+use Rattle.hive_edit.proofs.AddStepLemmas.{needs_both, with_again, sharing_renamed}
+use Rattle.hive_edit.proofs.SecuredLemmas.{keeps_security}
+use Rattle.hive_edit.specs.Secured.{changes_of, comers}
 
 -- ---- the step is judged
 
@@ -126,6 +129,8 @@ shares_child bins heap root version bulk h from at place is view same found says
               (subst (λ (z : ℕ). In (security_listed z) o) place_is i);
         },
       );
+      same = ap security_listed place_is ∙ sym (security_at_node (look_up version bins) at node.0 node.1)
+          ∙ sym (ap (λ (o : Option ℕ). option_map_or (security_cell_at (look_up version bins)) o []) key_at);
     })
   where
     t : Tree
@@ -156,6 +161,9 @@ shares_child bins heap root version bulk h from at place is view same found says
 
 -- ---- the step is made
 
+security_renamed : (name : List ℕ) (k : Tree) → (head (renamed name k)).security ≡ (head k).security
+security_renamed name (key hd ts) = refl
+
 pub copy_stepped : (old new : HiveCells) (from to : List ℕ) (k : Tree) → IsWellFormed (cells_in old) old.root old.tree
     → find (is_named from) (children old.tree) ≡ Some k
     → IsFreeName old to → HoldsKeys k → levels k ≤ 511 → IsCopiedIn old from (renamed to k) new
@@ -170,6 +178,10 @@ copy_stepped old new from to k well found f holds low a =
     let room = g.room in
     let needs = needs_both old.version to k t f.absent in
     let less = size_less old.version (head t).security w in
+    let count : sharing (head w).security w
+    ≡ option_map_or (λ j. sharing (head j).security j) (find (is_named from) (children t)) 0 =
+    (λ i. sharing (security_renamed to k i) w) ∙ sharing_renamed (head k).security to k
+    ∙ sym (ap (λ (o : Option Tree). option_map_or (λ j. sharing (head j).security j) o 0) found) in
     let made : IsDone (cells_in old) (cells_in new) old.root t u (copy_child from to) =
     a_child_copied (cells_in old) (cells_in new) old.root t u k from to g.at g.front g.back (security_listed a.place)
     well ok found (apart k holds) low g.changes a.counts g.stands
@@ -180,6 +192,10 @@ copy_stepped old new from to k well found f holds low a =
       tree = ok ∙ sym (ap the_tree tree);
       done = subst (λ (x : Tree). IsDone (cells_in old) (cells_in new) old.root t x (copy_child from to)) (sym tree)
           made;
+      secure = keeps_security (cells_in old) (cells_in new) old.root t
+          (changes_of (cells_in old) old.root t (copy_child from to)) well
+          (λ o s. subst (λ (l : List Bool). IsKeptSecurity (cells_in old) (cells_in new) l o)
+          (λ i. comers (count i) (a.same i) o) (g.secure o s));
       long = g.long;
       room = subst (λ (x : Tree). bins_size new.bins ≤ bins_size old.bins
           + room_of (needed_sizes old.version t (copy_child from to) x)) (sym tree)

@@ -15,8 +15,7 @@ use Rattle.hive_edit.specs.Edits.{IsPackedAnew, IsPackedForRoom}
 use Rattle.hive_edit.specs.Stepped.{IsStepped, LacksStepRoom}
 use Rattle.hive_edit.specs.Deleting.{DropsUses, IsDeletedInPlace}
 use Rattle.hive_edit.proofs.EditLemmas.{the_tree}
-use Rattle.hive_edit.proofs.SteppedLemmas.{packed_for_room, step_within, step_full}
-use Rattle.hive_edit.proofs.DeletingLemmas.{stepped_in_place}
+use Rattle.hive_edit.proofs.SteppedLemmas.{packed_for_room, step_within, step_full, stepped_kept}
 use Rattle.hive_model.specs.Forms.{◌>>=◌}
 
 -- ---- one step as an edit
@@ -64,7 +63,7 @@ pub deleted_in_place : (old new : HiveCells) (path : List (List ℕ)) → IsStep
 deleted_in_place old new path s d small = record {
   edit = step_within old.version old.tree new.tree (delete_key path) s.tree small;
   version = s.version;
-  kept = stepped_in_place old new (delete_key path) s;
+  kept = stepped_kept old new (delete_key path) s;
   drops = d;
 }
 

@@ -1,21 +1,25 @@
 -- A key that was taken out of the cells of a hive: the hive is that of the tree without it.
-use Rattle.std.proofs.Common.{◌≡◌, ◌≤◌, ◌<◌, ℕ, ◌+◌, ◌-◌, ◌||◌, Bool, true, false, List, [], ◌∷◌, ◌++◌, length, Option, Some, None, Result, Ok, Err, inl, inr, ⊎_elim, refl, sym, ap, subst, ◌∙◌, arith}
-use Rattle.std.specs.Prelude.{min, find, ◌==◌}
-use Rattle.std.specs.Option.{is_none, MatchOption}
-use Rattle.std.proofs.lemmas.List.Elements.{Contains-append_left}
+use Rattle.std.proofs.Common.{◌≡◌, ◌≤◌, ◌<◌, ℕ, ◌+◌, ◌-◌, ◌||◌, Bool, true, false, List, [], ◌∷◌, ◌++◌, length, Option, Some, None, Result, Ok, Err, inl, inr, ⊎_elim, refl, sym, ap, subst, ◌∙◌, arith, cond, eqb, ◌⊎◌, suc}
+use Rattle.std.specs.Prelude.{min, find, ◌==◌, replicate}
+use Rattle.std.specs.Option.{is_none, MatchOption, option_map_or}
+use Rattle.std.proofs.lemmas.Bool.{eqb-true, eqb-false}
 use Rattle.nt_bytes.specs.declared.version.HiveVersion.{HiveVersion}
+use Rattle.nt_bytes.specs.declared.fault.HiveFaultKind.{HiveFaultKind}
 use Rattle.hive_model.specs.Bins.{Bin, Cells, bins_size, look_up, spelled}
 use Rattle.hive_model.specs.KeyNode.{KeyNode, key_node_at}
 use Rattle.hive_model.specs.Tree.{Tree, key, head, children, is_named, find_key}
 use Rattle.hive_model.specs.Size.{node_size, class_size, security_size, items_size, list_size, count, size, size_of_all, bulk_of}
-use Rattle.hive_model.specs.Edit.{Step, Refusal, no_key, delete_key, without_key, unless, key_deleted, after_step}
+use Rattle.hive_model.specs.Edit.{Refusal, no_key, delete_key, without_key, unless, key_deleted, after_step}
 use Rattle.hive_model.specs.Walk.{reading}
-use Rattle.hive_model.specs.Footprint.{child_places, step_cells, needed_sizes, room_of, list_strain_of, unless_refused}
+use Rattle.hive_model.specs.Footprint.{child_places, needed_sizes, room_of, list_strain_of, unless_refused, security_cell_at}
 use Rattle.hive_model.specs.Stands.{IsWellFormed}
+use Rattle.hive_model.specs.InPlace.{IsKeptSecurity, KeepsSecurity}
+use Rattle.hive_model.specs.Security.{security_at}
+use Rattle.hive_model.specs.Forms.{◌>>=◌}
 use Rattle.hive_cells.specs.Held.{held_at}
 use Rattle.hive_cells.proofs.HeldLemmas.{payload_held, held_payload}
 use Rattle.hive_read.proofs.ValidTrees.{AreBytes, well-formed-valid, cells-bytes}
-use Rattle.hive_read.proofs.FormFacts.{IsBytes}
+use Rattle.hive_read.proofs.FormFacts.{IsBytes, then-so}
 use Rattle.edit_laws.specs.Done.{IsDone}
 use Rattle.edit_laws.specs.Lessened.{HasChildThere}
 use Rattle.edit_laws.specs.Uses.{tree_uses}
@@ -26,21 +30,27 @@ use Rattle.hive_edit.specs.declared.deleting.KeyPair.{KeyPair}
 use Rattle.hive_edit.specs.declared.making.Above.{Above}
 use Rattle.hive_edit.specs.Hive.{HiveCells, cells_in, hive_of, IsHive}
 use Rattle.hive_edit.specs.Standing.{tree_of}
-use Rattle.hive_edit.specs.Edits.{IsEditedInPlace}
 use Rattle.hive_edit.specs.Stepped.{IsStepped, LacksStepRoom}
 use Rattle.hive_edit.specs.Making.{AboveIs}
-use Rattle.hive_edit.specs.Dropped.{AreShortened, left_children}
+use Rattle.hive_edit.specs.Dropped.{AreShortened, left_children, times}
 use Rattle.hive_edit.specs.Deleting.{pair_place, levels_left, DropsUses, IsPairTaken, IsPairKept}
 use Rattle.hive_edit.proofs.StandingLemmas.{tree_is}
 use Rattle.hive_edit.proofs.HiveLemmas.{hive_opened}
 use Rattle.hive_edit.proofs.EditLemmas.{the_tree}
-use Rattle.hive_edit.proofs.ParentLemmas.{children_are}
+use Rattle.hive_edit.proofs.ParentLemmas.{children_are, node_no_security, list_no_security}
 use Rattle.hive_edit.proofs.JudgeLemmas.{counted_children}
-use Rattle.edit_laws.specs.Owned.{In}
+use Rattle.edit_laws.specs.Owned.{In, security}
 use Rattle.hive_edit.proofs.DroppedLemmas.{shortened_keeps}
 use Rattle.hive_edit.proofs.RemovedLemmas.{SplitsAt, split_one, kids_apart, takes}
-use Rattle.hive_edit.proofs.PairLemmas.{a_pair, no_pair, PairHere, pair_here, pair_absent, no_node, no_list, secure_cells, in_lists, can_remove}
+use Rattle.hive_edit.proofs.PairLemmas.{a_pair, no_pair, PairHere, pair_here, pair_absent, no_node, no_list, secure_cells, in_lists, can_remove, in_hive}
+use Rattle.hive_edit.specs.Secured.{changes_of}
+use Rattle.hive_edit.proofs.SecuredLemmas.{keeps_security, secure_reads, secure_own, secure_same, many_go}
+use Rattle.hive_edit.proofs.ResultLemmas.{done}
 use Rattle.edit_laws.proofs.FromLists.{length_more}
+use Rattle.edit_laws.proofs.Around.{once_two, hive_uses, hive_once}
+use Rattle.edit_laws.proofs.OwnedUses.{secure_there}
+use Rattle.edit_laws.proofs.Held.{are_held}
+use Rattle.edit_laws.specs.Relists.{IsSecurityCell}
 
 -- ---- what the step makes of the tree
 
@@ -156,6 +166,89 @@ pair_done version old new root t path p well place g =
       room = omega (arith, lists.1, fields, dropped, room, fewer);
     }
 
+-- ---- the counts
+
+in_or_none : (us : List (ℕ × Bool)) (o : ℕ) → In us (o, true) ⊎ ((In us (o, true) → ⊥) × (times o us ≡ 0))
+in_or_none [] o = inr (λ i. i, refl)
+in_or_none (u ∷ us) o = go u.1 refl (eqb u.0 o) refl (in_or_none us o)
+  where
+    as_used : Bool → ℕ
+    as_used w = cond w (suc (times o us)) (times o us)
+
+    go : (s : Bool) → u.1 ≡ s → (w : Bool) → eqb u.0 o ≡ w
+        → In us (o, true) ⊎ ((In us (o, true) → ⊥) × (times o us ≡ 0))
+        → In (u ∷ us) (o, true) ⊎ ((In (u ∷ us) (o, true) → ⊥) × (times o (u ∷ us) ≡ 0))
+    go s e w f (inl j) = inl (inr j)
+    go true e true f (inr n) = inl (inl (λ i. (eqb-true u.0 o f i, e i)))
+    go true e false f (inr n) = inr (
+      λ i. ⊎_elim (λ (d : u ≡ (o, true)). eqb-false u.0 o f (ap (λ (z : ℕ × Bool). z.0) d)) n.0 i,
+      ap as_used (ap (λ (s : Bool). cond s (eqb u.0 o) false) e ∙ f) ∙ n.1,
+    )
+    go false e w f (inr n) = inr (
+      λ i. ⊎_elim (λ (d : u ≡ (o, true)). absurd (let x : false ≡ true = sym e ∙ ap (λ (z : ℕ × Bool). z.1) d in cc)) n.0 i,
+      ap as_used (ap (λ (s : Bool). cond s (eqb u.0 o) false) e) ∙ n.1,
+    )
+
+-- each cell of security counts those no more that used it at the key or below it
+pair_secure : (version : HiveVersion) (old new : List Bin) (root : ℕ) (t : Tree) (path : List (List ℕ)) (p : KeyPair)
+    → IsWellFormed (look_up version old) root t → pair_place (look_up version old) path root ≡ a_pair p
+    → IsPairTaken version path p old new
+    → KeepsSecurity root (changes_of (look_up version old) root t (delete_key path)) (look_up version old)
+    (look_up version new)
+pair_secure version old new root t path p well place g =
+    keeps_security b c root t (changes_of b root t (delete_key path)) well
+    (λ o s. subst (λ (l : List Bool). IsKeptSecurity b c l o)
+    (sym (λ i. replicate (option_map_or (λ q. times o (tree_uses (levels_left path) b q.at)) (place i) 0) false))
+    (each o s (in_or_none us o)))
+  where
+    b : Cells
+    b = look_up version old
+
+    c : Cells
+    c = look_up version new
+
+    h : PairHere b root t path p
+    h = pair_here b root t path p well place
+
+    us : List (ℕ × Bool)
+    us = tree_uses (levels_left path) b p.at
+
+    noted : (o : ℕ) (q : List ℕ) → IsSecurityCell b root o → held_at old o ≡ Some q → held_at g.removed.noted o ≡ Some q
+    noted o q s held =
+        g.removed.fields.others o
+        (λ e. node_no_security b root t h.stored p.above h.there h.node s.path s.key h.parent_is s.reached
+        (subst (In (security_cell_at b s.key)) e s.uses))
+        ∙ shortened_keeps version g.above p.at old g.removed.listed g.removed.list g.removed.lists o q held
+        (λ j. list_no_security b root t h.stored p.above h.there h.node s.path s.key o h.parent_is s.reached s.uses
+        (in_lists version old root t path p g.above h (g.says h.node h.parent_is.read) o j))
+
+    unused : (o : ℕ) → IsSecurityCell b root o → (In us (o, true) → ⊥) → (v : Bool) → In us (o, v) → ⊥
+    unused o s none true j = none j
+    unused o s none false j = ⊎_elim (λ (e : (o, false) ≡ (o, true)). absurd (let d : false ≡ true = ap (λ (z : ℕ × Bool). z.1) e in cc))
+        (λ (d : (false ≡ true) × (true ≡ true)). absurd (let x : false ≡ true = d.0 in cc))
+        (once_two (hive_uses b root) (o, false) (o, true) (hive_once b root t well.stands well.names well.once)
+        (in_hive b root t path p h (o, false) j) (secure_there b root t o well s) refl)
+
+    each : (o : ℕ) → IsSecurityCell b root o → In us (o, true) ⊎ ((In us (o, true) → ⊥) × (times o us ≡ 0))
+        → IsKeptSecurity b c (replicate (times o us) false) o
+    each o s (inl i) =
+        let z = secure_reads b root t well o s in
+        let q = then-so (b.payload o) security_at z.0 z.1 in
+        let now = g.removed.dropped.counted o q.0 i (noted o q.0 s (payload_held old o q.0 q.1)) in
+        record {
+          cell = z.0;
+          was = z.1;
+          stays = ap (λ (r : Result (List ℕ) HiveFaultKind). r >>= security_at) (held_payload new o now.0 now.1)
+              ∙ now.2.says z.0 q.2
+              ∙ ap (λ (n : ℕ). done (record z.0 { uses = n })) (sym (many_go (times o us) z.0.uses));
+        }
+    each o s (inr n) =
+        let q = (are_held b root t well).held s.path security o (secure_own b root o s) in
+        let same : held_at new o ≡ Some q.0 = g.removed.dropped.others o (unused o s n.0)
+        ∙ noted o q.0 s (payload_held old o q.0 q.1) in
+        subst (λ (k : ℕ). IsKeptSecurity b c (replicate k false) o) (sym n.1)
+        (secure_same b c root t well o s (held_payload new o q.0 same ∙ sym q.1))
+
 -- ---- the hive
 
 -- the bins and the bulk are those of a hive in which the key was deleted
@@ -187,6 +280,7 @@ pair_gone old new root version bulk bulk_then h path p is view place taken bytes
         root = refl;
         tree = d.step ∙ ap the_tree (sym tree);
         done = subst (λ (v : Tree). IsDone b c root t v (delete_key path)) (sym tree) d.made;
+        secure = pair_secure version old new root t path p is.stands place taken;
         long = d.long;
         room = subst (λ (v : Tree). bins_size new ≤ bins_size old
             + room_of (needed_sizes version t (delete_key path) v)) (sym tree) d.room;
@@ -232,20 +326,6 @@ pair_refused version bins root t path well none =
     either : (v : Bool) → unless ((v || true, no_key) ∷ []) (without_key path t) ≡ Err no_key
     either true = refl
     either false = refl
-
--- ---- from a step to an edit
-
--- what is stepped is edited in place
-pub stepped_in_place : (old new : HiveCells) (step : Step) → IsStepped old step new
-    → IsEditedInPlace old (step ∷ []) new
-stepped_in_place old new step s = record {
-  kept = λ o p held outside. payload_held new.bins o p
-      (s.done.leaves.rest o p (held_payload old.bins o p held)
-      (λ i. outside (Contains-append_left (step_cells (cells_in old) old.root old.tree step)
-      (unless_refused [] (after_step step old.tree) (λ w. [])) o i)));
-  root = s.root;
-  long = s.long;
-}
 
 -- ---- what the key and those below it used
 

@@ -21,6 +21,7 @@ use Rattle.hive_pack.proofs.Items.{not_big}
 use Rattle.edit_laws.specs.Owned.{In}
 use Rattle.edit_laws.proofs.Ins.{contains_from}
 use Rattle.edit_laws.proofs.Sizes.{revalued_size}
+use Rattle.edit_laws.specs.Parents.{NamesParents}
 use Rattle.hive_edit.specs.Hive.{HiveCells, cells_in}
 use Rattle.hive_edit.specs.Edits.{IsEditedInPlace}
 use Rattle.hive_edit.specs.Places.{value_places, value_place}
@@ -181,11 +182,13 @@ in_footprint b root t path name kind bytes key v node r k e =
 pub kept_in_place : (old new : HiveCells) (step : Step) (v : ℕ)
     → IsInFootprint (cells_in old) old.root old.tree (step ∷ []) v
     → ((o : ℕ) → (o ≡ v → ⊥) → held_at new.bins o ≡ held_at old.bins o) → new.root ≡ old.root
-    → bins_size old.bins ≤ bins_size new.bins → IsEditedInPlace old (step ∷ []) new
-kept_in_place old new step v foot others root long = record {
+    → bins_size old.bins ≤ bins_size new.bins
+    → (NamesParents (cells_in old) old.root → NamesParents (cells_in new) new.root) → IsEditedInPlace old (step ∷ []) new
+kept_in_place old new step v foot others root long parents = record {
   kept = λ o p held outside. go o p held outside (eqb o v) refl;
   root = root;
   long = long;
+  parents = parents;
 }
   where
     go : (o : ℕ) (p : List ℕ) → held_at old.bins o ≡ Some p

@@ -288,9 +288,9 @@ one_only (x ∷ y ∷ xs) offset l i = absurd (omega (arith, l))
 -- the only one
 pub last_unlisted : (old new : List Bin) (list count now : ℕ) (offsets : List ℕ) (offset : ℕ)
     → HasOffsets old list count offsets → In offsets offset → count ≡ 1
-    → ((o : ℕ) → (o ≡ list → ⊥) → held_at new o ≡ held_at old o) → bins_size new ≡ bins_size old
-    → Unlists old new list now offsets offset
-last_unlisted old new list count now offsets offset h i one others long =
+    → held_at new list ≡ None → ((o : ℕ) → (o ≡ list → ⊥) → held_at new o ≡ held_at old o)
+    → bins_size new ≡ bins_size old → Unlists old new list now offsets offset
+last_unlisted old new list count now offsets offset h i one gone others long =
     let f = list_facts old list count offsets h in
     record {
       front = [];
@@ -298,18 +298,19 @@ last_unlisted old new list count now offsets offset h i one others long =
       whole = one_only offsets offset (f.number ∙ one) i;
       stays = λ n. absurd (n refl);
       lists = λ n. absurd (n refl);
+      gone = λ none. gone;
       others = others;
       long = long;
     }
 
 -- one of several
 pub one_unlisted : (old new : List Bin) (list count place : ℕ) (offsets : List ℕ) (offset : ℕ)
-    → HasOffsets old list count offsets → place < count
+    → HasOffsets old list count offsets → (count ≡ 1 → ⊥) → place < count
     → ((p : List ℕ) → held_at old list ≡ Some p → u32_in p (4 * place) ≡ offset)
     → ClosesGap place (count - 1) list old new
     → Unlists old new list list offsets offset
 unfolding offsets_in
-one_unlisted old new list count place offsets offset h lt here g =
+one_unlisted old new list count place offsets offset h more lt here g =
     let f = list_facts old list count offsets h in
     let within : place < length offsets = omega (arith, f.number) in
     let q = g.here h.text h.there in
@@ -331,6 +332,7 @@ one_unlisted old new list count place offsets offset h lt here g =
       whole = split_here offsets place within ∙ ap (λ (x : ℕ). take place offsets ++ (x ∷ drop (suc place) offsets)) is;
       stays = λ n. refl;
       lists = λ n. record { text = q.0; there = q.1; read = ap (λ (k : ℕ). offsets_in k q.0) fewer ∙ read };
+      gone = λ none. absurd (more (let e = ap length none in omega (arith, e, fewer, lt)));
       others = g.others;
       long = g.long;
     }

@@ -1,9 +1,10 @@
 -- A key whose run was put into cells that were none, and which new lists of the root name, is a child that came.
 use Rattle.std.proofs.Common.{◌≡◌, ◌≤◌, ◌<◌, ◌^◌, ℕ, ◌+◌, Bool, true, false, eqb, cond, List, [], ◌∷◌, ◌++◌, length, Result, Ok, refl, sym, ap, subst, ◌∙◌, inl, inr, ⊎_elim, arith}
-use Rattle.std.specs.Prelude.{◌==◌, ◌⊎◌, Contains}
+use Rattle.std.specs.Prelude.{◌==◌, ◌⊎◌, Contains, min, replicate}
 use Rattle.std.specs.Int.{w32, to_le_bytes}
 use Rattle.std.proofs.lemmas.Bool.{eqb-true, eqb-false, ne_eqb}
 use Rattle.nt_bytes.specs.declared.fault.HiveFaultKind.{HiveFaultKind}
+use Rattle.nt_bytes.specs.Fields.{u32_in}
 use Rattle.hive_model.specs.Bins.{Cells}
 use Rattle.hive_model.specs.Forms.{◌>>=◌}
 use Rattle.hive_model.specs.KeyNode.{KeyNode, key_node_at}
@@ -13,6 +14,7 @@ use Rattle.hive_model.specs.Valid.{levels}
 use Rattle.hive_model.specs.Walk.{reading, nowhere, entries_at, entries_checks}
 use Rattle.hive_model.specs.Footprint.{used_in, child_places, security_cell_at, list_cells_at}
 use Rattle.hive_model.specs.Stands.{Stands}
+use Rattle.hive_model.specs.InPlace.{count_after, IsKeptSecurity}
 use Rattle.edit_laws.specs.Owned.{In, security}
 use Rattle.edit_laws.specs.Framed.{IsUnheld}
 use Rattle.edit_laws.specs.Pairs.{Pairwise}
@@ -26,13 +28,15 @@ use Rattle.edit_laws.proofs.Held.{are_held}
 use Rattle.edit_laws.proofs.OwnedUses.{use_owned}
 use Rattle.edit_laws.proofs.Same.{entries_used, entries_same}
 use Rattle.edit_laws.proofs.FromLists.{children_written, inserts_child}
-use Rattle.hive_edit.specs.Grafted.{SharesAt}
+use Rattle.edit_laws.specs.Parents.{IsChildOf}
+use Rattle.hive_edit.specs.Grafted.{SharesAt, counted_more, sharing}
 use Rattle.hive_edit.proofs.ResultLemmas.{done}
-use Rattle.hive_edit.proofs.NodeMade.{security_counted}
 use Rattle.hive_edit.proofs.ParentLemmas.{Keeps, IsParent, parent_held, list_no_node, list_no_security, node_no_security, list_held, security_listed, security_some, security_in_list}
 use Rattle.hive_edit.proofs.PlacedLemmas.{entries_held}
-use Rattle.hive_edit.proofs.GraftRuns.{IsFormed, KeepsRange, still_stands, still_uses}
+use Rattle.hive_edit.proofs.GraftRuns.{IsFormed, KeepsRange, still_stands, still_named, still_uses}
 use Rattle.hive_edit.proofs.AddedLemmas.{length_more}
+use Rattle.hive_edit.proofs.SecuredLemmas.{secure_counted, secure_same, descriptor_kept, uses_in, many_come}
+use Rattle.hive_edit.specs.Secured.{comers}
 use Rattle.hive_read.proofs.FormFacts.{then-so}
 
 -- From cells b the run of a key is put into cells that were none (m), new lists name it (l), and the root's node and
@@ -42,6 +46,7 @@ pub record Grafts (b m l c : Cells) (root : ℕ) (t : Tree) (n : KeyNode) (k : T
   pub parent : IsParent b root t [] root t n
   pub shares : SharesAt b root sp s
   pub formed : IsFormed m y size k sp
+  pub named : IsChildOf m root y
   pub low : levels k ≤ 511
   pub kept_m : Keeps b m
   pub version : c.version ≡ b.version
@@ -54,13 +59,14 @@ pub record Grafts (b m l c : Cells) (root : ℕ) (t : Tree) (n : KeyNode) (k : T
   pub once : Pairwise (λ u v. u ≡ v → ⊥) (used_in (entries_checks l list))
   pub small : list < 2 ^ 32
   pub few : n.child_count + 1 < 2 ^ 32
-  pub volatile : ℕ
+  pub volatile : n.volatile_count < 2 ^ 32
   pub kept_c : (o : ℕ) (q : List ℕ) → l.payload o ≡ done q → (o ≡ root → ⊥) → ((sp ≡ nowhere → ⊥) → o ≡ sp → ⊥)
       → c.payload o ≡ done q
   pub node_c : (q : List ℕ) → l.payload root ≡ done q
-      → c.payload root ≡ done (with_part 20 (three_numbers (n.child_count + 1) volatile list) q)
+      → c.payload root ≡ done (with_part 20 (three_numbers (n.child_count + 1) n.volatile_count list) q)
   pub secure_c : (q : List ℕ) → (sp ≡ nowhere → ⊥) → l.payload sp ≡ done q
-      → (uses : ℕ) × (uses < 2 ^ 32) × (c.payload sp ≡ done (with_part 12 (to_le_bytes w32 uses) q))
+      → c.payload sp ≡ done (with_part 12 (to_le_bytes w32 (counted_more (sharing s k) (u32_in q 12))) q)
+  pub uses_small : (q : List ℕ) → (sp ≡ nowhere → ⊥) → l.payload sp ≡ done q → u32_in q 12 < 2 ^ 32
   pub places : child_places b root ≡ front ++ back
   pub count_is : n.child_count ≡ length (front ++ back)
 
@@ -109,38 +115,50 @@ module _ (b m l c : Cells) (root : ℕ) (t : Tree) (n : KeyNode) (k : Tree) (y s
       let z = then-so (reading security_at b sp) (λ d. Ok d.descriptor) s f in
       (z.0, z.1)
 
-  raised : (sp ≡ nowhere → ⊥) → descriptor_at c sp ≡ descriptor_at b sp
+  abbrev come : List Bool
+  come = replicate (sharing s k) true
+
+  raised : (sp ≡ nowhere → ⊥) → IsKeptSecurity b c come sp
   raised some =
       let z = secure_read some in
       let q = then-so (b.payload sp) security_at z.0 z.1 in
       let u = g.shares.used some in
       let listed = g.kept_l sp q.0 (g.kept_m.held sp q.0 q.1)
       (λ j. list_no_security b root t [] root t n u.path u.key sp g.parent u.reached u.uses (g.gone_is sp j)) in
-      let w = g.secure_c q.0 some listed in
-      let now = ap (λ (r : Result (List ℕ) HiveFaultKind). r >>= security_at) w.2
-      ∙ security_counted q.0 z.0 w.0 q.2 w.1 in
-      ap (λ (r : Result SecurityCell HiveFaultKind). r >>= λ d. Ok d.descriptor) now
-      ∙ sym (ap (λ (r : Result SecurityCell HiveFaultKind). r >>= λ d. Ok d.descriptor) z.1)
-
-  descriptors : (o : ℕ) → IsSecurityCell b root o → descriptor_at c o ≡ descriptor_at b o
-  descriptors o z = go (sp == nowhere) refl (eqb o sp) refl
+      secure_counted b c sp (counted_more (sharing s k) (u32_in q.0 12)) q.0 come z.0 q.1 q.2
+      (below (u32_in q.0 12 + sharing s k))
+      (sym (many_come (sharing s k) (u32_in q.0 12) (g.uses_small q.0 some listed))
+      ∙ ap (count_after come) (uses_in q.0 z.0 q.2)) (g.secure_c q.0 some listed)
     where
-      plain_one : (In (security_listed sp) o → ⊥) → descriptor_at c o ≡ descriptor_at b o
+      below : (n : ℕ) → min n 4294967295 < 2 ^ 32
+      below n = omega arith
+
+  pub kept_secure : (o : ℕ) → IsSecurityCell b root o
+      → IsKeptSecurity b c (comers (sharing s k) (security_listed sp) o) o
+  kept_secure o z = go (sp == nowhere) refl (eqb sp o) refl
+    where
+      plain_one : (In (security_listed sp) o → ⊥) → IsKeptSecurity b c [] o
       plain_one none =
           let q = cell_held o z in
-          let same = rest o q.0 q.1
+          secure_same b c root t g.parent.well o z
+          (rest o q.0 q.1
           (λ e. node_no_security b root t [] root t n z.path z.key g.parent z.reached
           (subst (In (security_cell_at b z.key)) e z.uses))
-          (λ i. list_no_security b root t [] root t n z.path z.key o g.parent z.reached z.uses i) none ∙ sym q.1 in
-          ap (λ (r : Result (List ℕ) HiveFaultKind). r >>= security_at >>= λ d. Ok d.descriptor) same
+          (λ i. list_no_security b root t [] root t n z.path z.key o g.parent z.reached z.uses i) none ∙ sym q.1)
 
-      go : (v : Bool) → (sp == nowhere) ≡ v → (w : Bool) → eqb o sp ≡ w → descriptor_at c o ≡ descriptor_at b o
+      at_one : (w : Bool) → eqb sp o ≡ w → IsKeptSecurity b c (cond w come []) o
+          → IsKeptSecurity b c (cond (eqb sp o) come []) o
+      at_one w f = subst (λ (v : Bool). IsKeptSecurity b c (cond v come []) o) (sym f)
+
+      go : (v : Bool) → (sp == nowhere) ≡ v → (w : Bool) → eqb sp o ≡ w
+          → IsKeptSecurity b c (comers (sharing s k) (cond v [] (sp ∷ [])) o) o
       go true e w f = plain_one (λ i. (security_some sp o i).1 (eqb-true sp nowhere e))
-      go false e true f =
-          let same : o ≡ sp = eqb-true o sp f in
-          subst (λ (x : ℕ). descriptor_at c x ≡ descriptor_at b x) (sym same)
-          (raised (λ x. absurd (eqb-false sp nowhere e x)))
-      go false e false f = plain_one (λ i. eqb-false o sp f (sym (security_some sp o i).0))
+      go false e true f = at_one true f (subst (IsKeptSecurity b c come) (eqb-true sp o f)
+          (raised (λ x. absurd (eqb-false sp nowhere e x))))
+      go false e false f = at_one false f (plain_one (λ i. eqb-false sp o f (security_some sp o i).0))
+
+  descriptors : (o : ℕ) → IsSecurityCell b root o → descriptor_at c o ≡ descriptor_at b o
+  descriptors o z = descriptor_kept b c (comers (sharing s k) (security_listed sp) o) o (kept_secure o z)
 
   -- ---- the range of the run
   outside : (o : ℕ) (q : List ℕ) → b.payload o ≡ done q → (z : ℕ) → y ≤ z → z < y + size → z ≡ o → ⊥
@@ -163,7 +181,7 @@ module _ (b m l c : Cells) (root : ℕ) (t : Tree) (n : KeyNode) (k : Tree) (y s
     version = g.version ∙ sym g.kept_m.version;
     held = in_run;
     security = λ lt. let some : sp ≡ nowhere → ⊥ = λ e. omega (arith, e, lt) in
-        raised some ∙ sym (kept_descriptor some);
+        descriptor_kept b c come sp (raised some) ∙ sym (kept_descriptor some);
   }
 
   pub stands_new : Stands c y k
@@ -223,14 +241,14 @@ module _ (b m l c : Cells) (root : ℕ) (t : Tree) (n : KeyNode) (k : Tree) (y s
   })
 
   -- ---- the child came
-  noted : HasNewChildren (with_part 20 (three_numbers (n.child_count + 1) g.volatile list) node_there.0) n
+  noted : HasNewChildren (with_part 20 (three_numbers (n.child_count + 1) n.volatile_count list) node_there.0) n
       (length (front ++ y ∷ back)) list
   noted =
       let count : n.child_count + 1 ≡ length (front ++ y ∷ back) = let e = g.count_is in let f =
       length_more front y back in omega (arith, e, f) in
-      subst (λ (z : ℕ). HasNewChildren (with_part 20 (three_numbers (n.child_count + 1) g.volatile list) node_there.0)
+      subst (λ (z : ℕ). HasNewChildren (with_part 20 (three_numbers (n.child_count + 1) n.volatile_count list) node_there.0)
       n z list) count
-      (children_written node_there.0 n (n.child_count + 1) g.volatile list node_there.2 g.few g.small)
+      (children_written node_there.0 n (n.child_count + 1) list node_there.2 g.few g.small g.volatile)
 
   all_uses : plain (used_in (entries_checks c list)) ++ tree_uses 511 c y ≡ plain (used_in (entries_checks l list))
       ++ tree_uses 511 m y
@@ -239,7 +257,7 @@ module _ (b m l c : Cells) (root : ℕ) (t : Tree) (n : KeyNode) (k : Tree) (y s
       ∙ ap (λ (z : List (ℕ × Bool)). plain (used_in (entries_checks l list)) ++ z) uses_new
 
   inserted : InsertsChild b c root root 511 n front back y
-      (with_part 20 (three_numbers (n.child_count + 1) g.volatile list) node_there.0) list (security_listed sp)
+      (with_part 20 (three_numbers (n.child_count + 1) n.volatile_count list) node_there.0) list (security_listed sp)
   inserted = record {
     version = g.version;
     there = g.node_c node_there.0 node_listed;
@@ -250,10 +268,11 @@ module _ (b m l c : Cells) (root : ℕ) (t : Tree) (n : KeyNode) (k : Tree) (y s
     security = descriptors;
     fresh = λ u i. coming u (subst (λ (x : List (ℕ × Bool)). In x u) all_uses i);
     once = subst Once (sym all_uses) each_once;
+    named = still_named m c y size k sp g.formed range root g.named;
   }
 
   pub changes : ChangesChildren b c root root 511 front [] (y ∷ []) back (security_listed sp)
   changes =
       inserts_child b c root root 511 n front back y
-      (with_part 20 (three_numbers (n.child_count + 1) g.volatile list) node_there.0) list (security_listed sp)
+      (with_part 20 (three_numbers (n.child_count + 1) n.volatile_count list) node_there.0) list (security_listed sp)
       g.parent.read g.places inserted

@@ -25,6 +25,7 @@ use Rattle.hive_pack.proofs.Formed.{apart}
 use Rattle.hive_pack.proofs.Beside
 use Rattle.hive_pack.proofs.Beside.{Outside, Within, WithinCheck}
 use Rattle.edit_laws.specs.Owned.{Role, In, IsSecurity, HasRole, Reaches, Owns}
+use Rattle.edit_laws.specs.Parents.{IsChildOf}
 use Rattle.edit_laws.specs.Uses.{Once, tree_uses}
 use Rattle.edit_laws.specs.Relists.{descriptor_at}
 use Rattle.edit_laws.proofs.Uses.{mark_to, once_from, walk_uses, marks}
@@ -34,6 +35,7 @@ use Rattle.edit_laws.proofs.Wellformed.{sound_tree, sound_hive}
 use Rattle.edit_laws.specs.Rewrites.{is_secure}
 use Rattle.edit_laws.proofs.OwnedUses.{secure_is, owned_use, use_owned}
 use Rattle.edit_laws.proofs.SameTree.{IsSameKey, tree_same, uses_same}
+use Rattle.edit_laws.proofs.ParentsKept.{child_still}
 use Rattle.key_index.proofs.Runs.{among_from, has_held, run_is}
 use Rattle.hive_edit.specs.Runs.{IsRunPutAt}
 use Rattle.hive_edit.proofs.ResultLemmas.{done, some}
@@ -216,6 +218,9 @@ module _ (m c : Cells) (at size : ℕ) (k : Tree) (sp : ℕ) (f : IsFormed m at 
 
   pub still_stands : Stands c at k
   still_stands = tree_same m c at k f.well.stands kept_key
+
+  pub still_named : (x : ℕ) → IsChildOf m x at → IsChildOf c x at
+  still_named x = child_still m c x at kept_key
 
   pub still_uses : (left : ℕ) → tree_uses left c at ≡ tree_uses left m at
   still_uses left = uses_same left m c at kept_key

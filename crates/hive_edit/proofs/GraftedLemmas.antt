@@ -37,6 +37,7 @@ use Rattle.edit_laws.proofs.Out.{plain_node}
 use Rattle.edit_laws.proofs.Held.{are_held}
 use Rattle.edit_laws.proofs.Wellformed.{sound_hive, tree_name}
 use Rattle.edit_laws.proofs.Same.{lists_same, places_same}
+use Rattle.edit_laws.specs.Parents.{IsChildOf}
 use Rattle.key_index.specs.Lists.{children_at, lists_at, name_in, is_behind, payload_in, IsNode, ListsSiblings}
 use Rattle.key_index.specs.Relists.{AreApart}
 use Rattle.key_index.proofs.Meeting.{lists_apart}
@@ -54,6 +55,7 @@ use Rattle.hive_edit.proofs.KeyLemmas.{node_read}
 use Rattle.hive_edit.proofs.AddedLemmas.{no_some}
 use Rattle.hive_edit.proofs.GraftRuns.{IsFormed, IsRunThere, run_there, formed}
 use Rattle.hive_edit.proofs.GraftLemmas.{Grafts}
+use Rattle.hive_edit.proofs.PackedParents.{packed_names}
 use Rattle.key_index.proofs.Tests.{is_ok_of}
 use Rattle.hive_read.proofs.FormFacts.{then-so}
 
@@ -144,6 +146,11 @@ module _ (version : HiveVersion) (old mid : List Bin) (root : ℕ) (t : Tree) (n
       let low = r.low in
       formed (look_up version mid) (beside version root shared above.security at k)
       at k r.inside stands_above beside_run there.has holds numbers (omega (arith, low))
+
+  pub is_named : IsChildOf (look_up version mid) root at
+  is_named =
+      packed_names (look_up version mid) (beside version root shared above.security at k) at k stands_above there.has
+      holds numbers r.inside
 
   parent_mid : IsParent (look_up version mid) root t [] root t n
   parent_mid = kept_parent (look_up version old) (look_up version mid) root t [] root t n r.parent there.kept
@@ -267,9 +274,6 @@ module _ (version : HiveVersion) (old mid : List Bin) (root : ℕ) (t : Tree) (n
           let j = subst (λ (l : List ℕ). In l o) children_still i in
           λ v. is_gt (folded_order (name_same o j v) (key_name v))
 
-count_small : (keys uses : ℕ) → counted_more keys uses < 2 ^ 32
-count_small keys uses = omega arith
-
 -- the changes of the bins, as those of cells
 pub grafts : (version : HiveVersion) (old new : List Bin) (root : ℕ) (t : Tree) (n : KeyNode) (above : Above)
     (shared : List ℕ) (k : Tree) (at : ℕ)
@@ -287,10 +291,18 @@ grafts version old new root t n above shared k at r holds a =
     let still = lists_still version old a.mid root t n above shared k at r a.numbers holds a.put in
     let count = r.says.count in
     let few = r.few in
+    let noted : (q : List ℕ) → (above.security ≡ nowhere → ⊥)
+    → (look_up version a.linked.listed).payload above.security ≡ done q
+    → held_at a.linked.noted above.security ≡ some q = λ q used e.
+    a.linked.fields.others above.security (λ z. let u = r.shares.used used in
+    node_no_security b root t [] root t n u.path u.key r.parent u.reached
+    (subst (In (security_cell_at b u.key)) z u.uses))
+    ∙ payload_held a.linked.listed above.security q e in
     record {
       parent = r.parent;
       shares = r.shares;
       formed = is_formed version old a.mid root t n above shared k at r a.numbers holds a.put;
+      named = is_named version old a.mid root t n above shared k at r a.numbers holds a.put;
       low = r.low;
       kept_m = keeps version old a.mid root t n above shared k at r a.numbers holds a.put;
       version = refl;
@@ -309,27 +321,21 @@ grafts version old new root t n above shared k at r holds a =
           (lists_apart (look_up version a.linked.listed) a.linked.list 1 a.linked.lists.once));
       small = a.linked.small;
       few = omega (arith, few, count);
-      volatile = above.volatile;
+      volatile = subst (λ (z : ℕ). z < 2 ^ 32) r.says.volatile a.linked.volatile;
       kept_c = λ o q e nx ns. held_payload new o q
           (a.linked.counted.others o (λ used z. ns used z) ∙ a.linked.fields.others o nx
           ∙ payload_held a.linked.listed o q e);
       node_c = λ q e. held_payload new root
-          (patched 20 (child_fields (n.child_count + 1) above.volatile a.linked.list) q)
+          (patched 20 (child_fields (n.child_count + 1) n.volatile_count a.linked.list) q)
           (a.linked.counted.others root (λ used z. let u = r.shares.used used in
           node_no_security b root t [] root t n u.path u.key r.parent u.reached
           (subst (In (security_cell_at b u.key)) (sym z) u.uses))
           ∙ a.linked.fields.here q (payload_held a.linked.listed root q e)
-          ∙ ap (λ (z : ℕ). some (patched 20 (child_fields (z + 1) above.volatile a.linked.list) q)) count);
-      secure_c = λ q used e. (
-        counted_more (sharing shared k) (u32_in q 12),
-        count_small (sharing shared k) (u32_in q 12),
-        held_payload new above.security (patched 12 (to_le_bytes w32 (counted_more (sharing shared k) (u32_in q 12))) q)
-            (a.linked.counted.here q used
-            (a.linked.fields.others above.security (λ z. let u = r.shares.used used in
-            node_no_security b root t [] root t n u.path u.key r.parent u.reached
-            (subst (In (security_cell_at b u.key)) z u.uses))
-            ∙ payload_held a.linked.listed above.security q e)),
-      );
+          ∙ (λ i. some (patched 20 (child_fields (count i + 1) (r.says.volatile i) a.linked.list) q)));
+      secure_c = λ q used e.
+          held_payload new above.security (patched 12 (to_le_bytes w32 (counted_more (sharing shared k) (u32_in q 12))) q)
+          (a.linked.counted.here q used (noted q used e));
+      uses_small = λ q used e. a.linked.counted.small q used (noted q used e);
       places = sym (children_still version old a.mid root t n above shared k at r a.numbers holds a.put)
           ∙ sym (take-append-drop (position_or_len (is_behind m (name_in m at)) offs) offs);
       count_is = sym count ∙ sym (siblings_count version old a.mid root t n above shared k at r a.numbers holds a.put)

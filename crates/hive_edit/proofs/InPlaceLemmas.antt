@@ -16,7 +16,7 @@ use Rattle.hive_model.specs.Lists.{offsets_in}
 use Rattle.hive_model.specs.Size.{is_big}
 use Rattle.hive_model.specs.Tree.{Tree, Item}
 use Rattle.hive_model.specs.Tree.{key as tree_key}
-use Rattle.hive_model.specs.Edit.{of_items, at_key, with_item}
+use Rattle.hive_model.specs.Edit.{set_value, after_step}
 use Rattle.hive_model.specs.Walk.{below_of, name_check, use_as, reading, names_of, big_checks, data_checks, value_checks}
 use Rattle.hive_model.specs.Footprint.{of_read, used_in, is_value_named, key_place}
 use Rattle.hive_model.specs.Stands.{data_or, big_bytes_at, data_of, item_at, items_at, Stands, IsWellFormed}
@@ -33,7 +33,8 @@ use Rattle.hive_edit.specs.Places.{value_places, value_place}
 use Rattle.hive_edit.specs.Edits.{value_fields}
 use Rattle.hive_edit.proofs.ResultLemmas.{done, some, some_same}
 use Rattle.edit_laws.proofs.Out.{placed_at}
-use Rattle.edit_laws.proofs.ValueSteps.{set_there}
+use Rattle.edit_laws.specs.Done.{IsDone}
+use Rattle.edit_laws.proofs.ValueSteps.{a_value_set}
 use Rattle.hive_edit.proofs.PlaceLemmas.{key_there}
 use Rattle.edit_laws.proofs.Patches.{value_written}
 use Rattle.std.proofs.Math.Bool.{or-false}
@@ -195,6 +196,16 @@ unfolding value_list_at
 list_at_node cells x node r =
     ap (λ (q : Result KeyNode HiveFaultKind). of_read q (λ n. cond (eqb n.value_count 0) [] (n.value_list ∷ []))) r
 
+-- and in that cell alone
+pub one_list_at : (cells : Cells) (x : ℕ) (node : KeyNode) → reading key_node_at cells x ≡ done node → (o : ℕ)
+    → In (value_list_at cells x) o → node.value_list ≡ o
+one_list_at cells x node r o i =
+    go (eqb node.value_count 0) (subst (λ (l : List ℕ). In l o) (list_at_node cells x node r) i)
+  where
+    go : (b : Bool) → In (cond b [] (node.value_list ∷ [])) o → node.value_list ≡ o
+    go true j = absurd j
+    go false j = only_one node.value_list o j
+
 pub places_at_node : (cells : Cells) (x : ℕ) (node : KeyNode) → reading key_node_at cells x ≡ done node
     → value_places cells x ≡ cond (eqb node.value_count 0) []
     (of_read (reading (offsets_in node.value_count) cells node.value_list) (λ os. os))
@@ -345,8 +356,11 @@ changes_value b c root t p x v kind bytes front back node well reaches r places 
         name = refl;
         flags = refl;
         stamp = refl;
+        parent = refl;
         child_count = refl;
+        volatile_count = refl;
         child_list = refl;
+        volatile_list = refl;
         security = refl;
         class = refl;
         class_length = refl;
@@ -386,22 +400,21 @@ named_folds cells n u f read passes =
     ∙ sym (ap (λ (q : Result KeyValue HiveFaultKind). list_any (folds_same n) (names_of (λ (z : KeyValue). z.name) q))
     read) ∙ passes
 
--- the cells stand for the tree with the value set
-pub set_stands : (b c : Cells) (root : ℕ) (t : Tree) (path : List (List ℕ)) (name : List ℕ) (key v kind : ℕ)
+-- the step that sets the value is done
+pub set_done : (b c : Cells) (root : ℕ) (t : Tree) (path : List (List ℕ)) (name : List ℕ) (key v kind : ℕ)
     (bytes : List ℕ) (value : KeyValue) → IsWellFormed b root t
     → key_place b path root ≡ some key → value_place b name key ≡ some v → IsPatchedAt b c v 4 (fields_for kind bytes)
     → reading key_value_at b v ≡ done value
-    → length bytes ≤ 4 → ((i : ℕ) → get_or bytes i 0 < 256) → kind < 2 ^ 32
-    → IsWellFormed c root (at_key path (of_items (with_item name kind bytes)) t)
-set_stands b c root t path name key v kind bytes value well k e h r short small fits =
+    → length bytes ≤ 4 → ((i : ℕ) → get_or bytes i 0 < 256) → kind < 2 ^ 32 → (u : Tree)
+    → after_step (set_value path name kind bytes) t ≡ Ok u → IsDone b c root t u (set_value path name kind bytes)
+set_done b c root t path name key v kind bytes value well k e h r short small fits u ok =
     let there = key_there b path root t key well k in
     let placed = placed_at b path root key k in
     let among = found_among (is_value_named b name) (value_places b key) v e in
     let node = node_read b key there.there there.well.stands in
     let g = changes_value b c root t placed.stored key v kind bytes among.front among.back node.0 well placed.reached
     node.1 among.whole h (rewritten b c v kind bytes value h r short small fits) in
-    set_there b c root t there.there path placed.stored key v among.front (v ∷ [])
-    among.back name kind bytes well placed.folds placed.reached there.found there.well.stands
+    a_value_set b c root t u path name kind bytes key v among.front (v ∷ []) among.back well ok k
     (ap (folds_same name) (name_there b v value r) ∙ named_folds b name v value r among.passes) g
   where
     node_read : (cells : Cells) (at : ℕ) (u : Tree) → Stands cells at u

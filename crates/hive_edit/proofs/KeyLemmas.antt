@@ -45,7 +45,7 @@ use Rattle.hive_edit.proofs.PlaceLemmas.{key_there}
 use Rattle.hive_edit.proofs.NodeLemmas.{node_here as node_at_key}
 use Rattle.hive_edit.proofs.NodeMade.{MayBeNode, node_again, security_text_is}
 use Rattle.hive_edit.proofs.ParentLemmas.{Keeps, kept_well, IsParent, kept_parent, parent_held, siblings_are, lists_apart, list_no_node, list_no_security, node_no_security, security_there, node_stands, security_read}
-use Rattle.hive_edit.proofs.MakingLemmas.{put_keeps, lists_still, key_done}
+use Rattle.hive_edit.proofs.MakingLemmas.{put_keeps, lists_still, key_done, key_secure}
 use Rattle.hive_edit.proofs.JudgeLemmas.{MayTry, step_made, make_room, counted_children}
 use Rattle.hive_edit.proofs.SteppedLemmas.{IsStepMade, stepped, lacks_room}
 use Rattle.key_index.proofs.Tests.{is_ok_of}
@@ -293,6 +293,8 @@ is_made old new root version bulk h parent name place above stamp node is view r
     stepped old new root version bulk place.bulk h u (make_key parent name) is view
     (step_made parent name t r.there r.try) d bytes r.bulk
     (omega (arith, one, two, three, four)) (omega (arith, n, room, three, four, five, six))
+    (key_secure version old new root t parent r.path place.at r.there r.node above name r.parent_is r.says r.may r.few a
+    r.absent r.at)
 
 -- ---- nothing is made
 
@@ -310,14 +312,15 @@ is_unmade old new root version bulk is held =
 -- ---- what a node says
 
 pub above_is : (cells : Cells) (at : ℕ) (p : List ℕ) (above : Above) → IsKeyAt cells at → p ≡ payload_in cells at
-    → above.list ≡ u32_in p 28 → above.count ≡ u32_in p 20
+    → above.list ≡ u32_in p 28 → above.count ≡ u32_in p 20 → above.volatile ≡ u32_in p 24
     → above.security ≡ u32_in p 44 → (n : KeyNode) → reading key_node_at cells at ≡ Ok n → AboveIs above n
-above_is cells at p above k e l c s n read =
+above_is cells at p above k e l c v s n read =
     let f = node_at_key cells at p k e in
     let same : f.node ≡ n = ok_same f.node n (sym f.read ∙ read) in
     record {
       list = l ∙ sym (ap (λ (m : KeyNode). m.child_list) f.is) ∙ ap (λ (m : KeyNode). m.child_list) same;
       count = c ∙ sym (ap (λ (m : KeyNode). m.child_count) f.is) ∙ ap (λ (m : KeyNode). m.child_count) same;
+      volatile = v ∙ sym (ap (λ (m : KeyNode). m.volatile_count) f.is) ∙ ap (λ (m : KeyNode). m.volatile_count) same;
       security = s ∙ sym (ap (λ (m : KeyNode). m.security) f.is) ∙ ap (λ (m : KeyNode). m.security) same;
     }
 

@@ -10,6 +10,7 @@ pub mod HiveLemmas
 pub mod InPlaceLemmas
 pub mod EditLemmas
 pub mod SetLemmas
+pub mod PackedParents
 pub mod AnewLemmas
 pub mod OwnLemmas
 pub mod RunLemmas
@@ -23,6 +24,7 @@ pub mod GoneLemmas
 pub mod UnsetLemmas
 pub mod NodeMade
 pub mod ParentLemmas
+pub mod SecuredLemmas
 pub mod PlacedLemmas
 pub mod AddedLemmas
 pub mod MakingLemmas

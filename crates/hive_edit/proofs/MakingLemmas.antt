@@ -1,9 +1,10 @@
 -- What the changes of bins amount to, where a key's node is put into them and named by its parent.
-use Rattle.std.proofs.Common.{◌≡◌, ◌≤◌, ◌<◌, ◌^◌, ℕ, suc, ◌+◌, ◌-◌, true, false, List, ◌++◌, length, take, drop, Some, Result, Ok, refl, sym, ap, subst, ◌∙◌, arith}
+use Rattle.std.proofs.Common.{◌≡◌, ◌≤◌, ◌<◌, ◌^◌, ℕ, suc, ◌+◌, ◌-◌, true, false, List, ◌++◌, length, take, drop, Some, Result, Ok, refl, sym, ap, subst, ◌∙◌, arith, Bool, cond, []}
 use Rattle.std.specs.List.{position_or_len}
 use Rattle.std.specs.Ordering.{is_gt}
 use Rattle.std.specs.Int.{w32, to_le_bytes}
 use Rattle.std.proofs.lemmas.List.{take-append-drop}
+use Rattle.std.specs.Option.{option_map_or}
 use Rattle.nt_bytes.specs.declared.fault.HiveFaultKind.{HiveFaultKind}
 use Rattle.nt_bytes.specs.declared.version.HiveVersion.{HiveVersion}
 use Rattle.nt_bytes.specs.Fields.{u32_in}
@@ -15,7 +16,7 @@ use Rattle.hive_model.specs.Tree.{Tree, find_key}
 use Rattle.hive_model.specs.Edit.{make_key, after_step}
 use Rattle.hive_model.specs.Walk.{entries_checks}
 use Rattle.hive_model.specs.Footprint.{used_in, child_places, security_cell_at, list_cells_at, key_place, has_key}
-use Rattle.hive_model.specs.InPlace.{recounted}
+use Rattle.hive_model.specs.InPlace.{recounted, IsKeptSecurity, KeepsSecurity}
 use Rattle.hive_cells.specs.Held.{held_at, patched}
 use Rattle.hive_cells.proofs.HeldLemmas.{payload_held, held_payload}
 use Rattle.edit_laws.specs.Owned.{In, node_name}
@@ -36,7 +37,9 @@ use Rattle.hive_edit.proofs.ResultLemmas.{some}
 use Rattle.hive_edit.proofs.NodeMade.{MayBeNode, node_again}
 use Rattle.hive_edit.proofs.ParentLemmas.{Keeps, IsParent, kept_parent, parent_held, lists_are, children_are, siblings_are, list_held, node_no_security, security_there}
 use Rattle.hive_edit.proofs.PlacedLemmas.{name_read, node_name_read, has_place}
-use Rattle.hive_edit.proofs.AddedLemmas.{no_some, Adds, changes, stands_new}
+use Rattle.hive_edit.proofs.AddedLemmas.{no_some, Adds, changes, stands_new, kept_secure}
+use Rattle.hive_edit.proofs.SecuredLemmas.{keeps_security}
+use Rattle.hive_edit.specs.Secured.{changes_of, comers}
 use Rattle.hive_read.proofs.FormFacts.{then-so}
 
 -- where a payload was put into a cell that was none, all that was held is
@@ -77,9 +80,6 @@ children_still b m root t p x k n above h keeps says =
 pub one_list : (cells : Cells) (at : ℕ) → lists_at cells at 1 ≡ used_in (entries_checks cells at)
 unfolding lists_at
 one_list cells at = refl
-
-count_small : (uses : ℕ) → recounted true uses < 2 ^ 32
-count_small uses = omega arith
 
 abbrev place_in : Cells → ℕ → Above → ℕ
 place_in m y above = position_or_len (is_behind m (name_in m y)) (children_at m above.list above.count)
@@ -129,29 +129,27 @@ adds version old new root t p x k n above name h says may few a =
           (lists_apart (look_up version a.linked.listed) a.linked.list 1 a.linked.lists.once));
       small = a.linked.small;
       few = omega (arith, few, count);
-      volatile = above.volatile;
+      volatile = subst (λ (z : ℕ). z < 2 ^ 32) says.volatile a.linked.volatile;
       kept_c = λ o q e nx ns. held_payload new o q
           (a.linked.counted.others o (λ used z. ns (λ w. used (security ∙ w)) (z ∙ security))
           ∙ a.linked.fields.others o nx ∙ payload_held a.linked.listed o q e);
-      node_c = λ q e. held_payload new x (patched 20 (child_fields (n.child_count + 1) above.volatile a.linked.list) q)
+      node_c = λ q e. held_payload new x
+          (patched 20 (child_fields (n.child_count + 1) n.volatile_count a.linked.list) q)
           (a.linked.counted.others x (λ used z. node_no_security b root t p x k n p x h h.reached
           (subst (In (security_cell_at b x)) (sym (z ∙ security))
           (security_there b x n h.read (λ w. used (security ∙ w)))))
           ∙ a.linked.fields.here q (payload_held a.linked.listed x q e)
-          ∙ ap (λ (z : ℕ). some (patched 20 (child_fields (z + 1) above.volatile a.linked.list) q)) count);
-      secure_c = λ q used e. (
-        recounted true (u32_in q 12),
-        count_small (u32_in q 12),
-        held_payload new n.security (patched 12 (to_le_bytes w32 (recounted true (u32_in q 12))) q)
-            (subst (λ (z : ℕ). held_at new z ≡ some (patched 12 (to_le_bytes w32 (recounted true (u32_in q 12))) q))
-            security
-            (a.linked.counted.here q (λ w. used (sym security ∙ w))
-            (ap (held_at a.linked.noted) security
-            ∙ a.linked.fields.others n.security
-            (λ z. node_no_security b root t p x k n p x h h.reached
-            (subst (In (security_cell_at b x)) z (security_there b x n h.read used)))
-            ∙ payload_held a.linked.listed n.security q e))),
-      );
+          ∙ (λ i. some (patched 20 (child_fields (count i + 1) (says.volatile i) a.linked.list) q)));
+      secure_c = λ q used e.
+          held_payload new n.security (patched 12 (to_le_bytes w32 (recounted true (u32_in q 12))) q)
+          (subst (λ (z : ℕ). held_at new z ≡ some (patched 12 (to_le_bytes w32 (recounted true (u32_in q 12))) q))
+          security
+          (a.linked.counted.here q (λ w. used (sym security ∙ w))
+          (ap (held_at a.linked.noted) security
+          ∙ a.linked.fields.others n.security
+          (λ z. node_no_security b root t p x k n p x h h.reached
+          (subst (In (security_cell_at b x)) z (security_there b x n h.read used)))
+          ∙ payload_held a.linked.listed n.security q e)));
       places = sym (children_still b m root t p x k n above h keeps says)
           ∙ sym (take-append-drop (place_in m a.child above) offs);
       count_is = sym (siblings_are m root t p x k n (kept_parent b m root t p x k n h keeps)).number
@@ -221,3 +219,22 @@ key_done version old new root t u parent p x k n above name h says may few a ok 
     (changes b m l c root t p x k n name a.child a.linked.list front back g left) (λ o i. i)
     (stands_new b m l c root t p x k n name a.child a.linked.list front back g)
     (placed_there version old a.mid root t p x k n above name a.child h says may a.put)
+
+-- and the security of the key above counts it
+pub key_secure : (version : HiveVersion) (old new : List Bin) (root : ℕ) (t : Tree) (parent p : List (List ℕ)) (x : ℕ)
+    (k : Tree) (n : KeyNode) (above : Above) (name : List ℕ)
+    → IsParent (look_up version old) root t p x k n → AboveIs above n → MayBeNode x n.stamp n.security name
+    → above.count ≤ 2097150
+    → IsAdded version x above (key_node_text (new_node x n.stamp n.security name)) old new
+    → has_key parent name t ≡ false → key_place (look_up version old) parent root ≡ some x
+    → KeepsSecurity root (changes_of (look_up version old) root t (make_key parent name)) (look_up version old)
+    (look_up version new)
+key_secure version old new root t parent p x k n above name h says may few a absent place =
+    let b = look_up version old in
+    let m = look_up version a.mid in
+    let g = adds version old new root t p x k n above name h says may few a in
+    keeps_security b (look_up version new) root t (changes_of b root t (make_key parent name)) h.well
+    (λ o s. subst (λ (l : List Bool). IsKeptSecurity b (look_up version new) l o)
+    (sym (λ i. cond (absent i) [] (comers 1 (option_map_or (security_cell_at b) (place i) []) o)))
+    (kept_secure b m (look_up version a.linked.listed) (look_up version new) root t p x k n name a.child a.linked.list
+    (front_of m a.child above) (back_of m a.child above) g o s))

@@ -47,6 +47,7 @@ use Rattle.hive_edit.proofs.ResultLemmas.{done, some, ok_same}
 use Rattle.hive_edit.proofs.LowLemmas.{items_length, bulk_is, bulk_then}
 use Rattle.hive_edit.proofs.SteppedLemmas.{IsStepMade, stepped, lacks_room}
 use Rattle.hive_edit.proofs.UnsetLemmas.{held_offsets, sized, none_named}
+use Rattle.hive_edit.proofs.SecuredLemmas.{none_counted, set_counts_none}
 
 -- ---- the values of a key
 
@@ -378,6 +379,8 @@ new_set old new root version bulk after h path name x kind bytes is view isnew f
     let l = put.long in
     stepped old new root version bulk after h u (set_value path name kind bytes)
     is view d.step made_of small told put.least (omega (arith, l, r))
+    (none_counted b c root t u (set_value path name kind bytes) is.stands made_of
+    (set_counts_none t path name kind bytes))
 
 -- where a new bin for the run is not to be had
 pub new_lacks : (bins : List Bin) (root : ℕ) (version : HiveVersion) (bulk : ℕ) (h : HiveCells) (path : List (List ℕ))

@@ -16,7 +16,7 @@ use Rattle.hive_model.specs.Footprint.{child_places, is_node_named, key_place, l
 use Rattle.hive_model.specs.Stands.{security_of, IsWellFormed}
 use Rattle.hive_cells.specs.Held.{held_at}
 use Rattle.hive_cells.proofs.HeldLemmas.{payload_held}
-use Rattle.edit_laws.specs.Owned.{Role, node, class, security, value_list, value, lists, In, node_name, class_cell_at, HasRole, Reaches, Folds, IsSecurity}
+use Rattle.edit_laws.specs.Owned.{node, security, In, node_name, class_cell_at, Reaches, Folds}
 use Rattle.edit_laws.specs.Relists.{IsSecurityCell}
 use Rattle.edit_laws.specs.Uses.{Agree, Once, plain, secure, own_uses, tree_uses}
 use Rattle.edit_laws.specs.Revalues.{all_value_cells}
@@ -46,7 +46,7 @@ use Rattle.hive_edit.proofs.PlaceLemmas.{IsPlaceOf, child_place, key_there}
 use Rattle.hive_edit.proofs.KeyLemmas.{node_read}
 use Rattle.hive_edit.proofs.NodeLemmas.{node_here}
 use Rattle.hive_edit.proofs.ParentLemmas.{IsParent, node_stands, security_read, parent_held, lists_are, children_are, siblings_are, lists_apart, list_no_node}
-use Rattle.hive_edit.proofs.RemovedLemmas.{security_reads}
+use Rattle.hive_edit.proofs.SecuredLemmas.{role_security, secure_reads}
 use Rattle.hive_read.proofs.FormFacts.{then-so}
 
 -- ---- the search
@@ -228,16 +228,6 @@ one_of f xs x i once =
     (pairwise_parts Agree (f x) (flat_map f a.behind)
     (pairwise_parts Agree (flat_map f a.before) (f x ++ flat_map f a.behind) whole).right).left
 
--- what owns it as the walk uses it, owns it as security
-role_security : (cells : Cells) (at o : ℕ) (r : Role) → HasRole cells at r o → IsSecurity r
-    → In (security_cell_at cells at) o
-role_security cells at o node h s = absurd s
-role_security cells at o class h s = absurd s
-role_security cells at o security h s = h
-role_security cells at o value_list h s = absurd s
-role_security cells at o (value m) h s = absurd s
-role_security cells at o lists h s = absurd s
-
 -- a key uses its lists
 list_used : (cells : Cells) (at o : ℕ) → In (list_cells_at cells at) o → In (own_uses cells at) (o, false)
 list_used cells at o i =
@@ -331,7 +321,7 @@ can_remove version bins root t path p above h says = record {
     held = λ o i. let r = used_held b root t h.parent_is.well (o, false) (in_hive b root t path p h (o, false) i) in
         is_held (held_at bins o) r.0 (payload_held bins o r.0 r.1);
     secure = λ o i.
-        let z = security_reads b root t h.stored p.above h.there h.node h.parent_is o
+        let z = secure_reads b root t h.parent_is.well o
         (secure_cells b root t path p h o i) in
         let r = then-so (b.payload o) security_at z.0 z.1 in
         let size = ltb-false (length r.0) 20 (security_text_is r.0 z.0 r.2).head in

@@ -9,7 +9,8 @@ use Rattle.hive_model.specs.Packed.{filled, allocated_cell, cell_text}
 use Rattle.hive_cells.specs.Held.{held_at, held_among, allocated_payload, run_cells, IsRun}
 use Rattle.hive_cells.specs.Holes.{new_bin_size, FindsRoom}
 use Rattle.hive_pack.proofs.Rows.{length_text}
-use Rattle.key_index.proofs.Runs.{run_is, room_longer}
+use Rattle.key_index.specs.Relists.{IsFirstFit}
+use Rattle.key_index.proofs.Runs.{run_is, room_longer, first_fit}
 use Rattle.hive_edit.specs.Making.{IsPutAt}
 use Rattle.hive_edit.proofs.ResultLemmas.{some}
 
@@ -51,4 +52,5 @@ put_is p run old mid new at size e short size_is room same long held fresh still
       long = let l : bins_size new ≤ bins_size old + new_bin_size size = omega (arith, long, still) in
           subst (λ (n : ℕ). bins_size new ≤ bins_size old + new_bin_size n) (size_is ∙ many) l;
       least = omega (arith, grown, still);
+      first = subst (λ (n : ℕ). IsFirstFit n old new at) (size_is ∙ many) (first_fit size old mid new at room still);
     }

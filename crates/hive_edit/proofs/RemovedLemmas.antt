@@ -10,7 +10,7 @@ use Rattle.hive_model.specs.Forms.{◌>>=◌}
 use Rattle.hive_model.specs.KeyNode.{KeyNode}
 use Rattle.hive_model.specs.Security.{SecurityCell, security_at}
 use Rattle.hive_model.specs.Tree.{Tree}
-use Rattle.hive_model.specs.Walk.{reading, entries_checks}
+use Rattle.hive_model.specs.Walk.{entries_checks}
 use Rattle.hive_model.specs.Footprint.{used_in, child_places, list_cells_at}
 use Rattle.hive_cells.specs.Held.{held_at, patched}
 use Rattle.hive_cells.proofs.HeldLemmas.{held_payload, payload_held}
@@ -22,17 +22,17 @@ use Rattle.edit_laws.specs.Takes.{TakesChild}
 use Rattle.edit_laws.proofs.Ins.{in_from, contains_from}
 use Rattle.edit_laws.proofs.Pairs.{pairwise_from}
 use Rattle.edit_laws.proofs.Patch.{folds_itself}
-use Rattle.edit_laws.proofs.Wellformed.{standing}
 use Rattle.key_index.specs.Lists.{children_at, lists_at, name_in, without_child}
 use Rattle.key_index.specs.Relists.{AreApart}
 use Rattle.hive_edit.specs.declared.making.Above.{Above}
 use Rattle.hive_edit.specs.Making.{AboveIs, child_fields}
 use Rattle.hive_edit.specs.Dropped.{IsRemoved, left_children}
 use Rattle.hive_edit.proofs.ResultLemmas.{done, some}
-use Rattle.hive_edit.proofs.ParentLemmas.{IsParent, lists_are, children_are, siblings_are, security_at_node, security_some, security_read}
+use Rattle.hive_edit.proofs.ParentLemmas.{IsParent, lists_are, children_are, siblings_are}
 use Rattle.hive_edit.proofs.AddedLemmas.{no_some}
 use Rattle.hive_edit.proofs.DroppedLemmas.{shortened_keeps}
 use Rattle.hive_edit.proofs.MakingLemmas.{one_list}
+use Rattle.hive_edit.proofs.SecuredLemmas.{secure_reads}
 use Rattle.hive_read.proofs.FormFacts.{then-so}
 
 -- ---- children without one
@@ -87,25 +87,6 @@ kids_apart b root t p x k n h =
     (pairwise_from (λ a c. folds_same (name_in b c) (name_in b a) ≡ false) (child_places b x)
     (subst (λ (os : List ℕ). Rattle.key_index.specs.Lists.NamesDiffer b os) (children_are b root t p x k n h)
     (siblings_are b root t p x k n h).apart))
-
--- ---- security
-
--- a cell of security that a key of the tree uses is read
-pub security_reads : (b : Cells) (root : ℕ) (t : Tree) (p : List (List ℕ)) (x : ℕ) (k : Tree) (n : KeyNode)
-    → IsParent b root t p x k n
-    → (o : ℕ) → IsSecurityCell b root o → (s : SecurityCell) × (reading security_at b o ≡ done s)
-security_reads b root t p x k n h o u =
-    let there = standing b u.path root u.key t h.well.stands h.well.names u.reached in
-    go there.tree there.stands
-  where
-    go : (w : Tree) → Rattle.hive_model.specs.Stands.Stands b u.key w
-        → (s : SecurityCell) × (reading security_at b o ≡ done s)
-    go (Rattle.hive_model.specs.Tree.key hd ts) stands =
-        let m = stands.1.node in
-        let listed = security_some m.security o
-        (subst (λ (l : List ℕ). In l o) (security_at_node b u.key m stands.1.read) u.uses) in
-        let s = security_read b m hd.security stands.1.security listed.1 in
-        (s.0, ap (reading security_at b) (sym listed.0) ∙ s.1)
 
 -- ---- the child is taken out
 
@@ -175,12 +156,13 @@ module _ (version : HiveVersion) (old new : List Bin) (root : ℕ) (t : Tree) (p
     once = λ w os e. pairwise_from (λ u v. u ≡ v → ⊥) (used_in (entries_checks (look_up version r.listed) r.list))
         (subst AreApart (one_list (look_up version r.listed) r.list)
         (Rattle.key_index.proofs.Meeting.lists_apart (look_up version r.listed) r.list 1 (written w os e).once));
-    volatile = above.volatile;
+    volatile = subst (λ (z : ℕ). z < 2 ^ 32) says.volatile r.volatile;
     few = let e = counted in omega (arith, few, e);
     small = r.small;
-    noted = λ q e. held_payload new x (patched 20 (child_fields (length (s.front ++ s.back)) above.volatile r.list) q)
+    noted = λ q e. held_payload new x
+        (patched 20 (child_fields (length (s.front ++ s.back)) n.volatile_count r.list) q)
         (r.dropped.others x apart ∙ r.fields.here q (payload_held r.listed x q e)
-        ∙ ap (λ (z : ℕ). some (patched 20 (child_fields z above.volatile r.list) q)) fewer);
+        ∙ (λ i. some (patched 20 (child_fields (fewer i) (says.volatile i) r.list) q)));
     others = λ o q e nx none. held_payload new o q
         (r.dropped.others o (λ v i. none v (used_so o v i)) ∙ r.fields.others o nx ∙ payload_held r.listed o q e);
     counted = λ o i. descriptor o i;
@@ -189,7 +171,7 @@ module _ (version : HiveVersion) (old new : List Bin) (root : ℕ) (t : Tree) (p
       descriptor : (o : ℕ) → In (tree_uses left cells_old y) (o, true)
           → descriptor_at (look_up version new) o ≡ descriptor_at cells_old o
       descriptor o i =
-          let z = security_reads cells_old root t p x k n h o (secure_there o i) in
+          let z = secure_reads cells_old root t h.well o (secure_there o i) in
           let q = then-so (cells_old.payload o) security_at z.0 z.1 in
           let held = payload_held old o q.0 q.1 in
           let nx : o ≡ x → ⊥ = λ same. apart true (subst (λ (w : ℕ). In uses (w, true)) same (used_there o true i)) in

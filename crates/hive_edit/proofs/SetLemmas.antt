@@ -1,7 +1,7 @@
 -- A value of a hive that holds its data itself, and gets other such data.
 use Rattle.std.proofs.Common.{◌≡◌, ◌≤◌, ◌<◌, ◌^◌, ℕ, ◌+◌, ◌-◌, Bool, true, false, eqb, cond, List, [], ◌∷◌, length, get_or, take, Option, Some, None, Result, Ok, Err, refl, sym, ap, subst, ◌∙◌, arith}
-use Rattle.std.specs.Prelude.{nat_lt, is_some}
-use Rattle.std.specs.Option.{option_and_then, option_map, IsSomeAnd}
+use Rattle.std.specs.Prelude.{nat_lt, is_some, Contains}
+use Rattle.std.specs.Option.{option_and_then, option_map, IsSomeAnd, is_none}
 use Rattle.std.specs.Int.{w32, to_le_bytes}
 use Rattle.std.proofs.lemmas.Bool.{le-ltb, lt-ltb, ne_eqb}
 use Rattle.std.proofs.lemmas.Bool.Decides.{nat_tests}
@@ -16,18 +16,20 @@ use Rattle.hive_model.specs.KeyValue.{KeyValue, key_value_at, data_inside, is_in
 use Rattle.hive_model.specs.Size.{bulk_of}
 use Rattle.hive_model.specs.Tree.{Tree, Item, find_item}
 use Rattle.hive_model.specs.Tree.{key as tree_key}
-use Rattle.hive_model.specs.Edit.{set_value, Refusal, full, most_bulk, edited}
-use Rattle.hive_model.specs.Walk.{reading}
-use Rattle.hive_model.specs.Footprint.{key_place, is_value_named}
+use Rattle.hive_model.specs.Edit.{set_value, Refusal, full, most_bulk, edited, after_step}
+use Rattle.hive_model.specs.Walk.{reading, data_checks}
+use Rattle.hive_model.specs.Footprint.{key_place, is_value_named, of_read, used_in}
 use Rattle.hive_model.specs.Stands.{Stands, data_of, item_at, IsWellFormed}
 use Rattle.hive_cells.specs.Held.{held_at, patched}
 use Rattle.hive_read.proofs.FormFacts.{held-short, value-facts, then-so}
 use Rattle.reg_tree.specs.Fitting.{Fits}
 use Rattle.reg_tree.proofs.Edited.{edited_valid}
 use Rattle.key_index.specs.Lists.{payload_in}
+use Rattle.edit_laws.proofs.Ins.{in_from}
+use Rattle.edit_laws.proofs.FromCells.{data_held_inside}
 use Rattle.hive_edit.specs.Hive.{HiveCells, cells_in, hive_of, IsHive}
 use Rattle.hive_edit.specs.Edits.{value_fields, held_itself, holds_itself, if_inside, inside_place, IsEditedInPlace}
-use Rattle.hive_edit.specs.Places.{IsItemHere, value_place, value_places}
+use Rattle.hive_edit.specs.Places.{IsItemHere, value_place, value_places, data_places}
 use Rattle.hive_edit.specs.Standing.{tree_of}
 use Rattle.hive_edit.proofs.ResultLemmas.{done, some, some_same, ok_same}
 use Rattle.hive_edit.proofs.StandingLemmas.{tree_is}
@@ -35,8 +37,9 @@ use Rattle.hive_edit.proofs.PlaceLemmas.{key_there, IsItemAt, place_of_item}
 use Rattle.hive_cells.proofs.HeldLemmas.{payload_held}
 use Rattle.hive_edit.proofs.ItemLemmas.{item_facts, value_facts}
 use Rattle.hive_edit.proofs.HiveLemmas.{hive_opened}
-use Rattle.hive_edit.proofs.InPlaceLemmas.{patched_at, fields_for, set_stands, inside_data, found_among, named_folds}
-use Rattle.hive_edit.proofs.EditLemmas.{folds_length, set_tree, set_edited, same_bulk, in_footprint, kept_in_place, the_tree}
+use Rattle.hive_edit.proofs.InPlaceLemmas.{patched_at, fields_for, set_done, inside_data, found_among, named_folds}
+use Rattle.hive_edit.proofs.EditLemmas.{folds_length, set_tree, set_edited, same_bulk, in_footprint, kept_in_place, the_tree, made}
+use Rattle.hive_edit.specs.Freed.{FreesData}
 
 -- ---- where it is
 
@@ -183,6 +186,7 @@ short_item b name key v k value well e r inside =
 -- the edit, where the value is there and holds its data itself: it is refused for the bulk alone, which stays
 record EditThere (version : HiveVersion) (t : Tree) (path : List (List ℕ)) (name : List ℕ) (kind : ℕ)
     (bytes : List ℕ) : Type 0 where
+  step : after_step (set_value path name kind bytes) t ≡ Ok (set_tree path name kind bytes t)
   edit : edited version t (set_value path name kind bytes ∷ [])
       ≡ cond (nat_lt most_bulk (bulk_of version t)) (Err full) (Ok (set_tree path name kind bytes t))
   bulk : bulk_of version (set_tree path name kind bytes t) ≡ bulk_of version t
@@ -203,9 +207,11 @@ edit_there b version root t path name kind bytes v well i short =
     let there = key_there b path root t i.key well i.place in
     let item = short_item b name i.key v there.there i.value there.well i.named i.read i.inside in
     let bulk = same_bulk version t there.there path name kind bytes item.item there.found item.found item.short short in
+    let few = name_short b name i.key v i.value i.named i.read in
     record {
-      edit = set_edited version t there.there path name kind bytes there.found
-          (name_short b name i.key v i.value i.named i.read) (omega arith)
+      step = made path name kind bytes t (ap is_none there.found) (le-ltb 16383 (length name) few)
+          (le-ltb 1048576 (length bytes) (omega arith));
+      edit = set_edited version t there.there path name kind bytes there.found few (omega arith)
           ∙ ap (λ (n : ℕ). cond (nat_lt most_bulk n) (Err full) (Ok (set_tree path name kind bytes t))) bulk;
       bulk = bulk;
     }
@@ -229,6 +235,29 @@ set_full old heap root version bulk h path name kind bytes v is view e short big
     let over : nat_lt most_bulk (bulk_of version t) ≡ true =
     lt-ltb most_bulk (bulk_of version t) (subst (λ (n : ℕ). 16773120 < n) is.counted big) in
     d.edit ∙ ap (λ (q : Bool). cond q (Err full) (Ok (set_tree path name kind bytes t))) over)
+
+-- a value that holds its data itself has no cells of data to free
+pub inside_frees : (h : HiveCells) (path : List (List ℕ)) (name : List ℕ) (v : ℕ)
+    → inside_place (cells_in h) path name h.root ≡ some v → (new : HiveCells) → FreesData h path name new
+inside_frees h path name v e new = λ at there o i.
+    let same : v ≡ at = some_same v at
+    (sym (ap (option_and_then (value_place b name)) k.place ∙ k.named) ∙ there) in
+    absurd (in_from [] o (subst (λ (l : List ℕ). Contains l o)
+    (ap (data_places b) (sym same) ∙ ap (λ (q : Result KeyValue HiveFaultKind). of_read q cells) k.read
+    ∙ none (data_inside k.value) refl k.inside) i))
+  where
+    b : Cells
+    b = cells_in h
+
+    cells : KeyValue → List ℕ
+    cells value = used_in (data_checks b value)
+
+    k : InsideThere b path name h.root v
+    k = inside_there b path name h.root v e
+
+    none : (o : Option (List ℕ)) → data_inside k.value ≡ o → is_some o ≡ true → cells k.value ≡ []
+    none None f g = absurd cc
+    none (Some bytes) f g = (data_held_inside b k.value bytes f).0
 
 -- where the value was written in place
 pub record IsSet (h : HiveCells) (new : List Bin) (root : ℕ) (version : HiveVersion) (bulk : ℕ) (path : List (List ℕ))
@@ -254,26 +283,26 @@ is_set old new root version bulk h path name kind bytes v is view e short small 
     (subst (λ (g : HiveCells). inside_place (cells_in g) path name g.root ≡ some v) (sym view) e) in
     let d = edit_there b version root t path name kind bytes v is.stands i short in
     let patch = patched_at version old new v 4 (fields_for kind bytes) here others in
-    let stands = set_stands b c root t path name i.key v kind bytes i.value is.stands i.place i.named patch i.read short
-    small fits in
+    let made = set_done b c root t path name i.key v kind bytes i.value is.stands i.place i.named patch i.read short
+    small fits u d.step in
     let within : nat_lt most_bulk (bulk_of version t) ≡ false =
     le-ltb most_bulk (bulk_of version t) (subst (λ (n : ℕ). n ≤ 16773120) is.counted room) in
     let edit : edited version t (set_value path name kind bytes ∷ []) ≡ Ok u =
     d.edit ∙ ap (λ (q : Bool). cond q (Err full) (Ok u)) within in
-    let tree : tree_of c root ≡ u = tree_is c root u stands in
+    let tree : tree_of c root ≡ u = tree_is c root u made.stands in
     let there = key_there b path root t i.key is.stands i.place in
     let node = node_read b i.key there.there there.well.stands in
     let valid = edited_valid version t u (set_value path name kind bytes ∷ []) is.valid
     (All-cons Fits (set_value path name kind bytes) [] tt (All-nil Fits)) edit in
     record {
-      hive = hive_opened new new root version bulk u refl stands valid (is.counted ∙ sym d.bulk);
+      hive = hive_opened new new root version bulk u refl made.stands valid (is.counted ∙ sym d.bulk);
       edit = subst (λ (g : HiveCells). edited g.version g.tree (set_value path name kind bytes ∷ [])
           ≡ the_tree (tree_of c root)) view (edit ∙ sym (ap the_tree tree));
       kept = subst (λ (g : HiveCells). IsEditedInPlace g (set_value path name kind bytes ∷ [])
           (hive_of new root version)) view
           (kept_in_place (hive_of old root version) (hive_of new root version) (set_value path name kind bytes) v
           (in_footprint b root t path name kind bytes i.key v node.0 node.1 i.place i.named) others refl
-          (omega (arith, long)));
+          (omega (arith, long)) made.parents);
     }
   where
     node_read : (cells : Cells) (at : ℕ) (k : Tree) → Stands cells at k

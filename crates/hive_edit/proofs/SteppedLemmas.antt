@@ -19,11 +19,12 @@ use Rattle.hive_read.proofs.ValidTrees.{well-formed-valid, cells-bytes}
 use Rattle.reg_tree.specs.declared.stop.EditStop.{EditStop}
 use Rattle.reg_tree.specs.Makes.{IsRefused, Makes, refusal_of}
 use Rattle.edit_laws.specs.Done.{IsDone, AreDone}
+use Rattle.edit_laws.specs.Parents.{NamesParents}
 use Rattle.edit_laws.specs.Sizes.{AreGrown}
 use Rattle.edit_laws.proofs.Grown.{strain_behind}
-use Rattle.edit_laws.proofs.InOrder.{tree_done, left_outside}
+use Rattle.edit_laws.proofs.InOrder.{tree_done, parents_done, left_outside}
 use Rattle.edit_laws.proofs.RoomLemmas.{some_all, strain_one, strain_least}
-use Rattle.hive_edit.specs.Edits.{IsEditedInPlace, IsPackedAnew, IsPackedForRoom}
+use Rattle.hive_edit.specs.Edits.{IsEditedInPlace, IsPackedAnew, IsPackedForRoom, KeepsParents}
 use Rattle.hive_edit.specs.Hive.{HiveCells, cells_in, hive_of, IsHive}
 use Rattle.hive_edit.specs.Standing.{tree_of}
 use Rattle.hive_edit.specs.Stepped.{IsStepped, LacksStepRoom}
@@ -31,7 +32,9 @@ use Rattle.hive_edit.specs.Steps.{AreStepped, AreStrained}
 use Rattle.hive_edit.proofs.EditLemmas.{the_tree}
 use Rattle.hive_edit.proofs.HiveLemmas.{hive_opened}
 use Rattle.hive_edit.proofs.StandingLemmas.{tree_is}
+use Rattle.hive_edit.specs.Secured.{changes_of}
 use Rattle.hive_model.specs.Forms.{◌>>=◌}
+use Rattle.hive_model.specs.InPlace.{KeepsSecurity}
 
 -- ---- one step
 
@@ -52,8 +55,10 @@ pub stepped : (old new : List Bin) (root : ℕ) (version : HiveVersion) (bulk bu
     → IsDone (look_up version old) (look_up version new) root (tree_of (look_up version old) root) u step
     → IsBytes (spelled 0 new) → bulk_then ≡ bulk_of version u
     → bins_size old ≤ bins_size new → IsWithinRoom version old new root step u
+    → KeepsSecurity root (changes_of (look_up version old) root (tree_of (look_up version old) root) step)
+    (look_up version old) (look_up version new)
     → IsStepMade h new root version bulk_then step
-stepped old new root version bulk bulk_then h u step is view ok made bytes counted long room =
+stepped old new root version bulk bulk_then h u step is view ok made bytes counted long room secure =
     let b = look_up version old in
     let c = look_up version new in
     let t = tree_of b root in
@@ -66,6 +71,7 @@ stepped old new root version bulk bulk_then h u step is view ok made bytes count
         root = refl;
         tree = ok ∙ sym (ap the_tree tree);
         done = subst (λ (w : Tree). IsDone b c root t w step) (sym tree) made;
+        secure = secure;
         long = long;
         room = subst (λ (w : Tree). IsWithinRoom version old new root step w) (sym tree) room;
       });
@@ -185,6 +191,7 @@ stepped_kept h g step s = record {
       (unless_refused [] (after_step step h.tree) (λ w. [])) o i)));
   root = s.root;
   long = s.long;
+  parents = λ n. subst (NamesParents (cells_in g)) (sym s.root) (s.done.parents n);
 }
 
 pub lacks_over : (h : HiveCells) (u : Tree) (step : Step) → LacksStepRoom h step → after_step step h.tree ≡ the_tree u
@@ -276,6 +283,8 @@ ordered_kept steps a b well m = record {
       (held_payload a.bins o p held) outside);
   root = same_root steps a b m;
   long = longer steps a b m;
+  parents = λ n. subst (NamesParents (cells_in b)) (sym (same_root steps a b m))
+      (parents_done a.root steps (cells_in a) (cells_in b) a.tree b.tree (done_in_order steps a b m) n);
 }
 
 -- ---- their edit, by the bulk at the end
@@ -356,6 +365,12 @@ pub packed_for_room : (h new : HiveCells) (steps : List Step) (r : Result (Unit 
 packed_for_room h new steps (Ok x) P made anew strained =
     inr (record { packed = anew; strained = strained new.tree made })
 packed_for_room h new steps (Err stop) P made anew strained = tt
+
+-- a repacked tree names its parents
+pub names_anew : (old new : HiveCells) (r : Result (Unit {0}) EditStop) → OnOk r (IsPackedAnew new)
+    → OnOk r (KeepsParents old new)
+names_anew old new (Ok x) anew = λ n. anew.parents
+names_anew old new (Err stop) anew = tt
 
 -- ---- the steps so far
 

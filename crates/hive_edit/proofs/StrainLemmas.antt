@@ -30,6 +30,7 @@ use Rattle.hive_edit.proofs.GiveLemmas.{some_size}
 use Rattle.hive_edit.proofs.SteppedLemmas.{IsStepMade, IsWithinRoom, stepped, lacks_room}
 use Rattle.hive_edit.proofs.ThereLemmas.{ThereIs, there_in, edit_there, there_done}
 use Rattle.hive_edit.proofs.NewValueLemmas.{kept_name}
+use Rattle.hive_edit.proofs.SecuredLemmas.{none_counted, set_counts_none}
 use Rattle.hive_model.specs.Forms.{◌>>=◌}
 
 abbrev become : ℕ → List ℕ → Item → Item
@@ -136,6 +137,9 @@ there_set old new root version bulk after h path name kind bytes v is view e few
     (there_done old new root version bulk h path name kind bytes v is view e few kind_fits g) small told g.least
     (by_length (nat_lt 4 (length bytes)) refl g.long
     (λ long. data_within version b root t path name kind bytes v i few long))
+    (none_counted b (look_up version new) root t u (set_value path name kind bytes) is.stands
+    (there_done old new root version bulk h path name kind bytes v is view e few kind_fits g)
+    (set_counts_none t path name kind bytes))
   where
     by_length : (q : Bool) → nat_lt 4 (length bytes) ≡ q
         → bins_size new ≤ bins_size old + cond q (new_bin_size (data_size version bytes)) 0

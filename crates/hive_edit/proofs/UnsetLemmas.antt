@@ -48,13 +48,15 @@ use Rattle.hive_edit.specs.Standing.{tree_of}
 use Rattle.hive_edit.proofs.ResultLemmas.{done, some, ok_same, only_if}
 use Rattle.hive_edit.proofs.PlaceLemmas.{KeyThere, key_there, no_place, IsItemAt, place_of_item, items_stand}
 use Rattle.hive_edit.proofs.ItemLemmas.{item_facts}
-use Rattle.hive_edit.proofs.InPlaceLemmas.{found_among, listed_values, places_same, named_folds}
+use Rattle.hive_edit.proofs.InPlaceLemmas.{found_among, listed_values, places_same, named_folds, one_list_at}
 use Rattle.hive_edit.proofs.EditLemmas.{the_tree}
 use Rattle.hive_edit.proofs.LowLemmas.{items_length, bulk_is}
 use Rattle.hive_edit.proofs.SteppedLemmas.{IsStepMade, stepped}
 use Rattle.hive_edit.proofs.GoneLemmas.{is_held, and_some, at_place, ListFacts, list_facts}
 use Rattle.hive_edit.proofs.DataLemmas.{segments_used}
 use Rattle.hive_edit.proofs.KeyLemmas.{node_read}
+use Rattle.hive_edit.specs.Freed.{FreesValue}
+use Rattle.hive_edit.proofs.SecuredLemmas.{none_counted, delete_counts_none}
 use Rattle.key_index.proofs.Tests.{value_of, is_ok_of}
 
 -- ---- the cells of a value's data
@@ -311,6 +313,10 @@ takes_out version old m1 m2 new x v count now fields t g u c small fits is here 
         (λ s. no_list (subst (In (value_list_at (look_up version old) x)) (sym s) t.list)) ∙ g.others o no_value
         ∙ payload_held old o r e);
   };
+  freed = λ o i. others o (t.node_apart o (inr i)) ∙ u.others o (λ e. t.can.apart.0 o i (sym e)) ∙ g.freed o i;
+  unlisted = λ none o i. subst (λ (k : ℕ). held_at new k ≡ None)
+      (one_list_at (look_up version old) x t.node t.read o i)
+      (others t.node.value_list (t.node_apart t.node.value_list (inl refl)) ∙ u.gone none);
   long = long ∙ u.long ∙ g.long;
 }
   where
@@ -597,3 +603,26 @@ is_unset old new root version bulk after h path name x v is view k e taken bytes
     let long = taken.long in
     stepped old new root version bulk after h u (delete_value path name) is view d made bytes told (omega (arith, long))
     (omega (arith, long))
+    (none_counted b c root t u (delete_value path name) is.stands made (delete_counts_none t path name))
+
+-- its cells are free
+pub frees_value : (old new : List Bin) (root : ℕ) (version : HiveVersion) (h : HiveCells) (path : List (List ℕ))
+    (name : List ℕ) (x v : ℕ) → hive_of old root version ≡ h → key_place (cells_in h) path h.root ≡ some x
+    → value_place (cells_in h) name x ≡ some v → TakesOut version old new x v
+    → FreesValue h path name (hive_of new root version)
+frees_value old new root version h path name x v view at place t = record {
+  key = x;
+  value = v;
+  at = at;
+  place = place;
+  freed = λ o i. t.freed o (subst (λ (g : HiveCells). In (used_in (value_checks (cells_in g) [] v)) o) (sym view) i);
+  list = λ only o i. t.unlisted
+      (alone t.front t.back (sym t.places
+      ∙ subst (λ (g : HiveCells). owned_places (cells_in g) x ≡ v ∷ []) (sym view) only))
+      o (subst (λ (g : HiveCells). In (value_list_at (cells_in g) x) o) (sym view) i);
+}
+  where
+    alone : (front back : List ℕ) → front ++ (v ∷ back) ≡ v ∷ [] → front ++ back ≡ []
+    alone [] back e = cc
+    alone (y ∷ []) back e = absurd cc
+    alone (y ∷ z ∷ front) back e = absurd cc

@@ -10,14 +10,15 @@ use Rattle.hive_model.specs.KeyNode.{KeyNode, key_node_at}
 use Rattle.hive_model.specs.Walk.{reading, nowhere}
 use Rattle.hive_model.specs.Footprint.{list_sizes, room_of, security_cell_at}
 use Rattle.hive_model.specs.Stands.{Stands}
+use Rattle.hive_model.specs.InPlace.{IsKeptSecurity}
 use Rattle.hive_cells.specs.Holes.{new_bin_size}
 use Rattle.reg_tree.specs.Makes.{refusal_of}
 use Rattle.reg_tree.specs.declared.stop.EditStop.{EditStop}
-use Rattle.edit_laws.specs.Owned.{In}
-use Rattle.edit_laws.specs.Relists.{ChangesChildren, HasPlace}
+use Rattle.edit_laws.specs.Relists.{ChangesChildren, HasPlace, IsSecurityCell}
 use Rattle.hive_edit.specs.declared.making.Above.{Above}
-use Rattle.hive_edit.specs.Grafted.{SharesAt}
+use Rattle.hive_edit.specs.Grafted.{SharesAt, sharing}
 use Rattle.hive_edit.specs.Hive.{HiveCells, cells_in}
+use Rattle.hive_edit.specs.Secured.{comers}
 
 -- ---- what is judged
 
@@ -45,6 +46,7 @@ pub record IsNewChild (h : HiveCells) (k : Tree) : Type 0 where
 pub record ListsAs (above : Above) (n : KeyNode) : Type 0 where
   pub list : above.list ≡ n.child_list
   pub count : above.count ≡ n.child_count
+  pub volatile : above.volatile ≡ n.volatile_count
 
 -- the root's node says so, and some key has the descriptor that a child is to share
 pub record MayGraft (h : HiveCells) (above : Above) (shared : List ℕ) : Type 0 where
@@ -56,8 +58,8 @@ pub record MayGraft (h : HiveCells) (above : Above) (shared : List ℕ) : Type 0
 abbrev pub security_listed : ℕ → List ℕ
 security_listed at = if at == nowhere then [] else at ∷ []
 
--- The key is the root's child: it is in cells that were none, and the security at an offset, if there is one, counts it. The bins
--- data are longer by at most a bin for its run and one for each list.
+-- The key is the root's child: it is in cells that were none, and the security at an offset, if there is one, counts it and each key
+-- below it that shares the descriptor. The bins data are longer by at most a bin for its run and one for each list.
 pub record IsGraftedIn (old : HiveCells) (security : ℕ) (shared : List ℕ) (k : Tree) (new : HiveCells) : Type 0 where
   pub version : new.version ≡ old.version
   pub root : new.root ≡ old.root
@@ -68,6 +70,8 @@ pub record IsGraftedIn (old : HiveCells) (security : ℕ) (shared : List ℕ) (k
   pub changes : ChangesChildren (cells_in old) (cells_in new) old.root old.root 511 front [] (at ∷ []) back (security_listed security)
   pub stands : Stands (cells_in new) at k
   pub place : HasPlace (cells_in old) (head k).name front back
+  pub secure : (o : ℕ) → IsSecurityCell (cells_in old) old.root o
+      → IsKeptSecurity (cells_in old) (cells_in new) (comers (sharing shared k) (security_listed security) o) o
   pub long : bins_size old.bins ≤ bins_size new.bins
   pub room : bins_size new.bins ≤ bins_size old.bins + (new_bin_size (size old.version shared k) + room_of (list_sizes (length (children old.tree) + 1)))
 
@@ -80,4 +84,4 @@ LacksGraftRoom h shared k =
 pub record IsAddedIn (old : HiveCells) (k : Tree) (new : HiveCells) : Type 0 where
   pub security : ℕ
   pub grafted : IsGraftedIn old security (head old.tree).security k new
-  pub counts : (o : ℕ) → In (security_listed security) o → In (security_cell_at (cells_in old) old.root) o
+  pub same : security_listed security ≡ security_cell_at (cells_in old) old.root

@@ -86,6 +86,7 @@ pub record IsRemoved (version : HiveVersion) (parent : ℕ) (above : Above) (chi
   pub noted : List Bin
   pub list : ℕ
   pub small : list < 2 ^ 32
+  pub volatile : above.volatile < 2 ^ 32
   pub lists : AreShortened version above child old listed list
   pub fields : IsWritten parent 20 (child_fields (above.count - 1) above.volatile list) listed noted
   pub dropped : AreDropped uses uses noted new

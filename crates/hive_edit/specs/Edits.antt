@@ -11,21 +11,28 @@ use Rattle.hive_model.specs.Footprint.{IsInFootprint, key_place, strain_of}
 use Rattle.hive_model.specs.Packed.{packed_bins}
 use Rattle.hive_cells.specs.Held.{held_at}
 use Rattle.hive_cells.specs.Changes.{at_cell, with_part}
+use Rattle.edit_laws.specs.Parents.{NamesParents}
 use Rattle.hive_edit.specs.Hive.{HiveCells, cells_in}
 use Rattle.hive_edit.specs.Places.{value_place}
 
+-- where each key below another named the node of that one as its parent, each does
+abbrev pub KeepsParents : HiveCells → HiveCells → Type 0
+KeepsParents old new = NamesParents (cells_in old) old.root → NamesParents (cells_in new) new.root
+
 -- in place: each cell that was allocated, and is in the footprint of no step, has its offset and its payload, the root is where it was,
--- and the bins data are as long as before, or longer
+-- the bins data are as long as before, or longer, and where each key below another named the node of that one as its parent, each does
 pub record IsEditedInPlace (old : HiveCells) (steps : List Step) (new : HiveCells) : Type 0 where
   pub kept : (o : ℕ) (p : List ℕ) → held_at old.bins o ≡ Some p → (IsInFootprint (cells_in old) old.root old.tree steps o → ⊥)
       → held_at new.bins o ≡ Some p
   pub root : new.root ≡ old.root
   pub long : bins_size old.bins ≤ bins_size new.bins
+  pub parents : KeepsParents old new
 
--- repacked: the cells are those of the packed form of the tree
+-- repacked: the cells are those of the packed form of the tree, and each key below another names the node of that one as its parent
 pub record IsPackedAnew (h : HiveCells) : Type 0 where
   pub bins : h.bins ≡ packed_bins h.version h.tree
   pub root : h.root ≡ 32
+  pub parents : NamesParents (cells_in h) h.root
 
 -- repacked for want of room: the strain of the steps is over the greatest size of bins data
 pub record IsPackedForRoom (old : HiveCells) (steps : List Step) (new : HiveCells) : Type 0 where

@@ -79,6 +79,7 @@ pub record Unlists (old new : List Bin) (list now : ℕ) (offsets : List ℕ) (o
   pub whole : offsets ≡ front ++ offset ∷ back
   pub stays : (front ++ back ≡ [] → ⊥) → now ≡ list
   pub lists : (front ++ back ≡ [] → ⊥) → HasOffsets new list (length (front ++ back)) (front ++ back)
+  pub gone : front ++ back ≡ [] → held_at new list ≡ None
   pub others : (o : ℕ) → (o ≡ list → ⊥) → held_at new o ≡ held_at old o
   pub long : bins_size new ≡ bins_size old
 
@@ -95,7 +96,7 @@ pub record CanTake (cells : Cells) (bins : List Bin) (x v : ℕ) : Type 0 where
   pub can : CanGo bins (node.value_list ∷ used_in (value_checks cells [] v))
   pub node_apart : (o : ℕ) → In (node.value_list ∷ used_in (value_checks cells [] v)) o → o ≡ x → ⊥
 
--- a value of a key was taken out
+-- a value of a key was taken out, and its cells are free, as is the key's value list, where it named no other
 pub record TakesOut (version : HiveVersion) (old new : List Bin) (x v : ℕ) : Type 0 where
   pub node : KeyNode
   pub front : List ℕ
@@ -105,6 +106,8 @@ pub record TakesOut (version : HiveVersion) (old new : List Bin) (x v : ℕ) : T
   pub read : reading key_node_at (look_up version old) x ≡ Ok node
   pub places : value_places (look_up version old) x ≡ front ++ v ∷ back
   pub takes : TakesValue (look_up version old) (look_up version new) x node front back v text list
+  pub freed : (o : ℕ) → In (used_in (value_checks (look_up version old) [] v)) o → held_at new o ≡ None
+  pub unlisted : front ++ back ≡ [] → (o : ℕ) → In (value_list_at (look_up version old) x) o → held_at new o ≡ None
   pub long : bins_size new ≡ bins_size old
 
 -- the size of the list of that many values; 0 for none

@@ -31,10 +31,11 @@ sharing (b ∷ s) k = sharers (b ∷ s) k
 abbrev pub counted_more : ℕ → ℕ → ℕ
 counted_more keys uses = min (uses + keys) 4294967295
 
--- the count in a cell of security was raised by that many, if there is one
+-- the count in a cell of security, which fits four bytes, was raised by that many, if there is one
 pub record IsRaisedBy (at keys : ℕ) (old new : List Bin) : Type 0 where
   pub here : (p : List ℕ) → (at ≡ nowhere → ⊥) → held_at old at ≡ Some p
       → held_at new at ≡ Some (patched 12 (to_le_bytes w32 (counted_more keys (u32_in p 12))) p)
+  pub small : (p : List ℕ) → (at ≡ nowhere → ⊥) → held_at old at ≡ Some p → u32_in p 12 < 2 ^ 32
   pub others : (o : ℕ) → ((at ≡ nowhere → ⊥) → o ≡ at → ⊥) → held_at new o ≡ held_at old o
   pub long : bins_size new ≡ bins_size old
 
@@ -44,6 +45,7 @@ pub record IsLinkedBy (version : HiveVersion) (parent : ℕ) (above : Above) (ch
   pub noted : List Bin
   pub list : ℕ
   pub small : list < 2 ^ 32
+  pub volatile : above.volatile < 2 ^ 32
   pub lists : AreRelisted version (above_lists version above old) (above_children version above child old)
       (hints_in (look_up version old) (above_children version above child old)) old listed list
   pub fields : IsWritten parent 20 (child_fields (above.count + 1) above.volatile list) listed noted

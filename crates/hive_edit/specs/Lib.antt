@@ -5,6 +5,7 @@ pub mod Places
 pub mod Edits
 pub mod Runs
 pub mod Given
+pub mod Freed
 pub mod Gone
 pub mod Grafted
 pub mod Children
@@ -12,6 +13,7 @@ pub mod Copying
 pub mod Making
 pub mod NewValue
 pub mod Dropped
-pub mod Stepped
 pub mod Deleting
+pub mod Secured
+pub mod Stepped
 pub mod Steps

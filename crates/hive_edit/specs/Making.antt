@@ -17,7 +17,7 @@ use Rattle.hive_model.specs.Valid.{longest_key_name}
 use Rattle.hive_cells.specs.Held.{held_at, patched}
 use Rattle.hive_cells.specs.Holes.{new_bin_size}
 use Rattle.key_index.specs.Lists.{children_at, hints_in, lists_at, with_child, IsNode, ListsSiblings}
-use Rattle.key_index.specs.Relists.{AreApart, AreRelisted}
+use Rattle.key_index.specs.Relists.{AreApart, AreRelisted, IsFirstFit}
 use Rattle.hive_edit.specs.declared.making.Above.{Above}
 use Rattle.hive_edit.specs.declared.adding.NewPlace.{NewPlace}
 use Rattle.hive_edit.specs.Hive.{HiveCells, cells_in}
@@ -44,7 +44,7 @@ new_node parent stamp security name = record {
   name = name;
 }
 
--- a payload was put into a cell that was none, and nothing else changed
+-- a payload was put into a cell that was none, in the first free cell that had room for it, if one had, and nothing else changed
 pub record IsPutAt (payload : List ℕ) (old new : List Bin) (at : ℕ) : Type 0 where
   pub fresh : held_at old at ≡ None
   pub slack : List ℕ
@@ -52,6 +52,7 @@ pub record IsPutAt (payload : List ℕ) (old new : List Bin) (at : ℕ) : Type 0
   pub others : (o : ℕ) → (o ≡ at → ⊥) → held_at new o ≡ held_at old o
   pub long : bins_size new ≤ bins_size old + new_bin_size (cell (length payload))
   pub least : bins_size old ≤ bins_size new
+  pub first : IsFirstFit (cell (length payload)) old new at
 
 -- there is no room for it, and the cells are as they were
 abbrev pub LacksRoomFor : List ℕ → List Bin → List Bin → Type 0
@@ -102,6 +103,7 @@ pub record IsLinked (version : HiveVersion) (parent : ℕ) (above : Above) (chil
   pub noted : List Bin
   pub list : ℕ
   pub small : list < 2 ^ 32
+  pub volatile : above.volatile < 2 ^ 32
   pub lists : AreRelisted version (above_lists version above old) (above_children version above child old)
       (hints_in (look_up version old) (above_children version above child old)) old listed list
   pub fields : IsWritten parent 20 (child_fields (above.count + 1) above.volatile list) listed noted
@@ -147,6 +149,7 @@ pub record IsAdded (version : HiveVersion) (parent : ℕ) (above : Above) (node 
 pub record AboveIs (above : Above) (n : KeyNode) : Type 0 where
   pub list : above.list ≡ n.child_list
   pub count : above.count ≡ n.child_count
+  pub volatile : above.volatile ≡ n.volatile_count
   pub security : above.security ≡ n.security
 
 -- the tree with a key of this name below the key at a path

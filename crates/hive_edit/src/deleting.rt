@@ -12,7 +12,7 @@ ghost use Rattle.reg_tree.specs.Makes.{IsRefused, Makes, step_of};
 ghost use Rattle.reg_tree.specs.declared.stop.EditStop.TheVariants.{Memory};
 ghost use Rattle.hive_edit.specs.Hive.{cells_in};
 ghost use Rattle.hive_edit.specs.Places.{IsKeyAt};
-ghost use Rattle.hive_edit.specs.Edits.{IsEditedInPlace, IsPackedAnew, IsPackedForRoom};
+ghost use Rattle.hive_edit.specs.Edits.{IsEditedInPlace, IsPackedAnew, IsPackedForRoom, KeepsParents};
 ghost use Rattle.hive_edit.specs.Stepped.{IsStepped, LacksStepRoom};
 ghost use Rattle.hive_edit.specs.Deleting.{levels_left, pair_place, DropsUses, IsDeletedInPlace, IsPairKept, IsPairTaken, IsPairThere};
 
@@ -342,6 +342,7 @@ impl HiveBytes {
         ensures version { self.new.version ≡ self.old.version }
         ensures cells { OnOk result (IsEditedInPlace self.old (delete_key path.now ∷ []) self.new
             ⊎ IsPackedForRoom self.old (delete_key path.now ∷ []) self.new) }
+        ensures parents { OnOk result (KeepsParents self.old self.new) }
         ensures drops { OnOk result (DropsUses self.old path.now self.new ⊎ IsPackedForRoom self.old (delete_key path.now ∷ []) self.new) }
     {
         if self.delete_in_place(alloc, path)? {

@@ -14,14 +14,15 @@ ghost use Rattle.hive_model.specs.Stands.{IsWellFormed};
 ghost use Rattle.reg_tree.specs.Makes.{IsRefused, Makes, step_of};
 ghost use Rattle.reg_tree.specs.declared.stop.EditStop.TheVariants.{Full, Memory};
 ghost use Rattle.hive_edit.specs.Hive.{cells_in};
-ghost use Rattle.hive_edit.specs.Edits.{inside_place, value_fields, IsEditedInPlace, IsPackedAnew, IsPackedForRoom, WritesFields};
+ghost use Rattle.hive_edit.specs.Edits.{inside_place, value_fields, IsEditedInPlace, IsPackedAnew, IsPackedForRoom, KeepsParents, WritesFields};
+ghost use Rattle.hive_edit.specs.Freed.{FreesData};
 
 use crate::give::inside_fields;
 use crate::hive::HiveBytes;
 use crate::path::key_at;
 use crate::values::{if_inside, value_at};
 use hive_cells::{Source, read_cells};
-use hive_pack::pack;
+use hive_pack::{pack, tree_fits};
 use hive_read::read_tree;
 use nt_bytes::{Bytes, HiveVersion, Names, ReadStop, Row, Units};
 use reg_tree::{EditStop, Key, LONGEST_DATA, MOST_BULK, Steps, TreeStep};
@@ -130,6 +131,7 @@ impl HiveBytes {
         ensures refused { OnErr result (self.new ≡ self.old) }
         ensures version { self.new.version ≡ self.old.version }
         ensures cells { OnOk result (IsEditedInPlace self.old (map step_of steps) self.new ⊎ IsPackedForRoom self.old (map step_of steps) self.new) }
+        ensures parents { OnOk result (KeepsParents self.old self.new) }
     {
         self.stands();
         let mut draft = self.copy(alloc)?;
@@ -153,6 +155,7 @@ impl HiveBytes {
         ensures refused { OnErr result (self.new ≡ self.old) }
         ensures version { self.new.version ≡ self.old.version }
         ensures cells { OnOk result (IsEditedInPlace self.old (map step_of steps) self.new ⊎ IsPackedForRoom self.old (map step_of steps) self.new) }
+        ensures parents { OnOk result (KeepsParents self.old self.new) }
     {
         match steps.as_slice() {
             [
@@ -205,6 +208,7 @@ impl HiveBytes {
         ensures refused { OnErr result (self.new ≡ self.old) }
         ensures version { self.new.version ≡ self.old.version }
         ensures done { result ≡ Ok true → IsEditedInPlace self.old (set_value path.now name.now kind bytes.now ∷ []) self.new }
+        ensures freed { result ≡ Ok true → FreesData self.old path.now name.now self.new }
         ensures no_room { result ≡ Ok false → (u : Tree) → edited self.old.version self.old.tree (set_value path.now name.now kind bytes.now ∷ []) ≡ Ok u
             → 16777216 < strain_of self.old.version (bins_size self.old.bins) self.old.tree (set_value path.now name.now kind bytes.now ∷ []) }
     {
@@ -228,6 +232,9 @@ impl HiveBytes {
         ensures version { self.new.version ≡ self.old.version }
         ensures cells { OnOk result (IsEditedInPlace self.old (set_value path.now name.now kind bytes.now ∷ []) self.new ⊎ IsPackedAnew self.new) }
         ensures room { OnOk result (IsEditedInPlace self.old (set_value path.now name.now kind bytes.now ∷ []) self.new
+            ⊎ IsPackedForRoom self.old (set_value path.now name.now kind bytes.now ∷ []) self.new) }
+        ensures parents { OnOk result (KeepsParents self.old self.new) }
+        ensures freed { OnOk result (FreesData self.old path.now name.now self.new
             ⊎ IsPackedForRoom self.old (set_value path.now name.now kind bytes.now ∷ []) self.new) }
     {
         if bytes.len() > LONGEST_DATA {
@@ -258,6 +265,9 @@ impl HiveBytes {
         ensures version { self.new.version ≡ self.old.version }
         ensures cells { OnOk result (IsEditedInPlace self.old (set_value path.now name.now kind bytes.now ∷ []) self.new ⊎ IsPackedAnew self.new) }
         ensures room { OnOk result (IsEditedInPlace self.old (set_value path.now name.now kind bytes.now ∷ []) self.new
+            ⊎ IsPackedForRoom self.old (set_value path.now name.now kind bytes.now ∷ []) self.new) }
+        ensures parents { OnOk result (KeepsParents self.old self.new) }
+        ensures freed { OnOk result (FreesData self.old path.now name.now self.new
             ⊎ IsPackedForRoom self.old (set_value path.now name.now kind bytes.now ∷ []) self.new) }
         ensures in_place { is_some (inside_place (cells_in self.old) path.now name.now self.old.root) ≡ true → length bytes.now ≤ 4
             → OnOk result (IsEditedInPlace self.old (set_value path.now name.now kind bytes.now ∷ []) self.new) }
@@ -294,6 +304,7 @@ fn of_packed(alloc: Global, tree: &Key, version: HiveVersion) -> Result<HiveByte
     ensures anew { IfOk result IsPackedAnew }
     ensures memory { IfErr result (λ stop. stop ≡ Memory) }
 {
+    tree_fits(tree);
     let packed = pack(alloc, tree, version)?;
     let cells = match read_cells(alloc, packed) {
         Ok(cells) => cells,

@@ -123,6 +123,7 @@ pub(crate) fn note(heap: &mut OpenHeap, parent: u32, count: u32, volatile: u32, 
     requires { IsSomeAnd (held_at heap.old parent) (λ p. 76 ≤ length p) }
     ensures written { IsWritten parent 20 (child_fields count volatile list) heap.old heap.new }
     ensures small { list < 2 ^ 32 }
+    ensures volatile { volatile < 2 ^ 32 }
 {
     let fields = child_fields(count, volatile, list);
     heap.patch(parent, 20, &fields);
@@ -131,7 +132,8 @@ pub(crate) fn note(heap: &mut OpenHeap, parent: u32, count: u32, volatile: u32, 
 /// How many keys use the security cell.
 pub(crate) fn uses_at(heap: &OpenHeap, at: u32) -> u32
     requires { IsSomeAnd (held_at heap.now at) (λ p. 20 ≤ length p) }
-    ensures { IsSomeAnd (held_at heap.now at) (λ p. result ≡ u32_in p 12) }
+    ensures read { IsSomeAnd (held_at heap.now at) (λ p. result ≡ u32_in p 12) }
+    ensures small { IsSomeAnd (held_at heap.now at) (λ p. u32_in p 12 < 2 ^ 32) }
 {
     match heap.payload(at) {
         Ok(payload) => u32_at(payload, 12),

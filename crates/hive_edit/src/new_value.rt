@@ -416,6 +416,7 @@ impl HiveBytes {
         ensures refused { OnErr result (self.new ≡ self.old) }
         ensures version { self.new.version ≡ self.old.version }
         ensures done { result ≡ Ok true → IsEditedInPlace self.old (set_value path.now name.now kind bytes.now ∷ []) self.new }
+        ensures fresh { result ≡ Ok true → place_in (cells_in self.old) path.now name.now self.old.root ≡ None }
         ensures no_room { result ≡ Ok false → place_in (cells_in self.old) path.now name.now self.old.root ≡ None
             → (u : Tree) → edited self.old.version self.old.tree (set_value path.now name.now kind bytes.now ∷ []) ≡ Ok u
             → 16777216 < strain_of self.old.version (bins_size self.old.bins) self.old.tree (set_value path.now name.now kind bytes.now ∷ []) }

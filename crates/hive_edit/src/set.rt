@@ -1,16 +1,19 @@
 //! A value that is there, set in place.
 
-ghost use Rattle.std.specs.Prelude.{◌≡◌, ◌≤◌, ◌<◌, ℕ, [], ◌∷◌, length, true, false, Some, Ok, IfOk, OnErr, MatchBool, MatchResult};
+ghost use Rattle.std.specs.Prelude.{◌≡◌, ◌≤◌, ◌<◌, ℕ, [], ◌∷◌, length, true, false, Some, Ok, IfOk, OnErr, MatchBool, MatchResult, Contains, None};
 ghost use Rattle.hive_model.specs.Bins.{bins_size};
 ghost use Rattle.hive_model.specs.Edit.{edited, set_value, after_step};
 ghost use Rattle.hive_model.specs.Size.{bulk_of};
 ghost use Rattle.hive_model.specs.Footprint.{strain_of};
 ghost use Rattle.reg_tree.specs.Makes.{IsRefused};
+ghost use Rattle.hive_cells.specs.Held.{held_at};
 ghost use Rattle.hive_edit.specs.Hive.{cells_in};
 ghost use Rattle.hive_edit.specs.Edits.{IsEditedInPlace};
 ghost use Rattle.hive_edit.specs.Given.{place_in};
 ghost use Rattle.hive_edit.specs.NewValue.{set_tree};
 ghost use Rattle.hive_edit.specs.Stepped.{IsStepped, LacksStepRoom};
+ghost use Rattle.hive_edit.specs.Freed.{FreesData};
+ghost use Rattle.hive_edit.specs.Places.{data_places};
 ghost use Rattle.hive_model.specs.Valid.{longest_data};
 
 use crate::cells::are_bytes;
@@ -82,6 +85,7 @@ impl HiveBytes {
         requires bulk { bulk ≡ bulk_of self.old.version (set_tree path.now name.now kind bytes.now self.old.tree) }
         ensures stepped { IfOk result (λ done. MatchBool done (IsStepped self.old (set_value path.now name.now kind bytes.now) self.new)
             (LacksStepRoom self.old (set_value path.now name.now kind bytes.now) × (self.new ≡ self.old))) }
+        ensures freed { result ≡ Ok true → (o : ℕ) → Contains (data_places (cells_in self.old) at) o → held_at self.new.bins o ≡ None }
         ensures bulk { result ≡ Ok true → bulk ≡ bulk_of self.old.version self.new.tree }
         ensures refused { OnErr result (self.new ≡ self.old) }
     {
@@ -125,6 +129,7 @@ impl HiveBytes {
         ensures refused { OnErr result (self.new ≡ self.old) }
         ensures version { self.new.version ≡ self.old.version }
         ensures done { result ≡ Ok true → IsEditedInPlace self.old (set_value path.now name.now kind bytes.now ∷ []) self.new }
+        ensures freed { result ≡ Ok true → FreesData self.old path.now name.now self.new }
         ensures no_room { result ≡ Ok false → (at : ℕ) → place_in (cells_in self.old) path.now name.now self.old.root ≡ Some at
             → 16777216 < strain_of self.old.version (bins_size self.old.bins) self.old.tree (set_value path.now name.now kind bytes.now ∷ []) }
     {

@@ -15,7 +15,8 @@ ghost use Rattle.edit_laws.specs.Owned.{In};
 ghost use Rattle.edit_laws.specs.Written.{two_numbers};
 ghost use Rattle.reg_tree.specs.Makes.{IsRefused, Makes};
 ghost use Rattle.reg_tree.specs.declared.stop.EditStop.TheVariants.{Full, Memory, NoKey, NoValue};
-ghost use Rattle.hive_edit.specs.Edits.{IsEditedInPlace};
+ghost use Rattle.hive_edit.specs.Edits.{IsEditedInPlace, KeepsParents};
+ghost use Rattle.hive_edit.specs.Freed.{FreesValue};
 ghost use Rattle.hive_edit.specs.Gone.{AreGone, CanGo, CanTake, ClosesGap, HasData, HasOffsets, HasSegments, TakesOut, Unlists, data_cells, list_room, unset_tree};
 ghost use Rattle.hive_edit.specs.Hive.{cells_in};
 ghost use Rattle.hive_edit.specs.Places.{IsItemHere, value_place};
@@ -297,6 +298,7 @@ impl HiveBytes {
         requires value { value_place (cells_in self.old) name.now key ≡ Some value }
         requires bulk { bulk ≡ bulk_of self.old.version (unset_tree path.now name.now self.old.tree) }
         ensures stepped { IsStepped self.old (delete_value path.now name.now) self.new }
+        ensures freed { FreesValue self.old path.now name.now self.new }
         ensures bulk { bulk ≡ bulk_of self.old.version self.new.tree }
         ensures long { bins_size self.new.bins ≡ bins_size self.old.bins }
     {
@@ -313,6 +315,8 @@ impl HiveBytes {
         ensures refused { OnErr result (self.new ≡ self.old) }
         ensures version { self.new.version ≡ self.old.version }
         ensures done { OnOk result (IsEditedInPlace self.old (delete_value path.now name.now ∷ []) self.new) }
+        ensures parents { OnOk result (KeepsParents self.old self.new) }
+        ensures freed { OnOk result (FreesValue self.old path.now name.now self.new) }
         ensures long { bins_size self.new.bins ≡ bins_size self.old.bins }
         ensures no_memory { IfErr result (λ stop. stop ≡ Memory → ⊥) }
     {
@@ -332,6 +336,8 @@ impl HiveBytes {
         ensures refused { OnErr result (self.new ≡ self.old) }
         ensures version { self.new.version ≡ self.old.version }
         ensures done { OnOk result (IsEditedInPlace self.old (delete_value path.now name.now ∷ []) self.new) }
+        ensures parents { OnOk result (KeepsParents self.old self.new) }
+        ensures freed { OnOk result (FreesValue self.old path.now name.now self.new) }
         ensures long { bins_size self.new.bins ≡ bins_size self.old.bins }
         ensures no_memory { IfErr result (λ stop. stop ≡ Memory → ⊥) }
     {

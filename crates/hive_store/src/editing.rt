@@ -6,7 +6,7 @@ ghost use Rattle.hive_model.specs.Base.{version_of};
 ghost use Rattle.hive_model.specs.Edit.{edited};
 ghost use Rattle.reg_tree.specs.Fitting.{Fits};
 ghost use Rattle.reg_tree.specs.Makes.{Makes, step_of};
-ghost use Rattle.hive_edit.specs.Edits.{IsEditedInPlace, IsPackedForRoom};
+ghost use Rattle.hive_edit.specs.Edits.{IsEditedInPlace, IsPackedForRoom, KeepsParents};
 
 use crate::Hive;
 use crate::same::keeps;
@@ -28,6 +28,8 @@ impl Hive {
         // The cells are edited in place, or repacked where the strain of the steps is over the greatest size of bins data.
         ensures cells { OnOk result (IsEditedInPlace self.old.cells (map step_of steps) self.new.cells
             ⊎ IsPackedForRoom self.old.cells (map step_of steps) self.new.cells) }
+        // Keys that named the nodes above them as their parents do so still.
+        ensures parents { OnOk result (KeepsParents self.old.cells self.new.cells) }
         // It is changed where it was before, or where the tree is another.
         ensures changed { OnOk result (self.new.changed ≡ true
             ↔ (self.old.changed ≡ true) ⊎ (self.new.tree ≡ self.old.tree → ⊥)) }

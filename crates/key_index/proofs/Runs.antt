@@ -1,6 +1,6 @@
 -- Runs of lists: their cells, where they stand, and how much room they need.
 use Rattle.std.proofs.Common.{◌≡◌, ◌≤◌, ◌<◌, ℕ, zero, suc, ◌+◌, ◌*◌, ◌-◌, ◌/◌, ◌%◌, ◌^◌, Bool, true, false, not, eqb, cond, List, [], ◌∷◌, ◌++◌, length, take, drop, get_or, map, sum, Option, Some, None, Result, Ok, Err, ◌⊎◌, inl, inr, refl, sym, ap, subst, ◌∙◌, append_assoc, arith}
-use Rattle.std.specs.Prelude.{◌==◌, nat_lt}
+use Rattle.std.specs.Prelude.{IfOk, ◌==◌, nat_lt}
 use Rattle.std.specs.Option.{IsSome}
 use Rattle.std.specs.Result.{IsOk}
 use Rattle.std.specs.Int.{w16, w32, to_le_bytes}
@@ -28,7 +28,7 @@ use Rattle.hive_cells.specs.Holes.{IsHole, FindsRoom}
 use Rattle.hive_cells.proofs.GrowLemmas.{new_long}
 use Rattle.hive_cells.proofs.Made.{run_made, packed_bytes}
 use Rattle.hive_cells.proofs.HeldLemmas.{held_payload, payload_held}
-use Rattle.key_index.specs.Relists.{list_run, IsPut, AreRelisted}
+use Rattle.key_index.specs.Relists.{list_run, IsFirstFit, IsPut, AreRelisted, Relists}
 use Rattle.key_index.specs.Lists.{IsNode, ListsSiblings, hints_in, lists_at, lists_lists, name_in, offsets_of, payload_in, without_child}
 use Rattle.key_index.proofs.Fresh.{lists_inside, lists_once}
 use Rattle.key_index.proofs.Below.{ChildLists, UsedLists, child_lists, used_lists}
@@ -450,13 +450,19 @@ none_over size bytes n e some h =
     subst (λ (m : ℕ). 16777216 < bytes + rounded (m + 32)) e h in
     omega (arith, strain_holds bytes n some, k)
 
+-- room that was found, where nothing then makes the bins data longer
+pub first_fit : (size : ℕ) (old mid new : List Bin) (at : ℕ) → FindsRoom size old mid at
+    → bins_size new ≡ bins_size mid → IsFirstFit size old new at
+first_fit size old mid new at (inl h) still = inl (h.0, still ∙ ap bins_size h.1)
+first_fit size old mid new at (inr h) still = inr h.0
+
 pub relisted : (version : HiveVersion) (gone offsets : List ℕ) (hints : List (List ℕ)) (old mid new : List Bin)
     (at size : ℕ)
     → IsPut version gone offsets hints mid new at → ((o : ℕ) → held_at mid o ≡ held_at old o)
-    → bins_size mid ≤ bins_size old + rounded (size + 32) → bins_size old ≤ bins_size mid
+    → bins_size mid ≤ bins_size old + rounded (size + 32) → FindsRoom size old mid at
     → size ≡ list_size (length offsets)
     → 0 < length offsets → AreRelisted version gone offsets hints old new at
-relisted version gone offsets hints old mid new at size p same long least e some =
+relisted version gone offsets hints old mid new at size p same long room e some =
     let k : bins_size mid ≤ bins_size old + rounded (list_size (length offsets) + 32) =
     subst (λ (m : ℕ). bins_size mid ≤ bins_size old + rounded (m + 32)) e long in
     let strain = strain_holds (bins_size old) (length offsets) some in
@@ -469,11 +475,19 @@ relisted version gone offsets hints old mid new at size p same long least e some
       once = p.once;
       long = within (bins_size old) (bins_size mid) (bins_size new) (rounded (list_size (length offsets) + 32))
           (list_strain_of (bins_size old) (length offsets)) p.long k strain;
-      kept_long = let l = p.long in omega (arith, l, least);
+      kept_long = let l = p.long in let least = room_longer size old mid at room in omega (arith, l, least);
+      first = subst (λ (m : ℕ). IsFirstFit m old new at) e (first_fit size old mid new at room p.long);
     }
   where
     within : (a b d r s : ℕ) → d ≡ b → b ≤ a + r → a + r ≤ s → d ≤ s
     within a b d r s x y z = omega arith
+
+-- the same of lists that are these
+pub relists_as : (version : HiveVersion) (g gone os offsets : List ℕ) (hs hints : List (List ℕ)) (old new : List Bin)
+    {E : Type 0} (r : Result (Option ℕ) E) → g ≡ gone → os ≡ offsets → hs ≡ hints
+    → IfOk r (Relists version g os hs old new) → IfOk r (Relists version gone offsets hints old new)
+relists_as version g gone os offsets hs hints old new {E} r e f h =
+    subst (λ z. z) (λ i. IfOk r (Relists version (e i) (f i) (h i) old new))
 
 -- ---- what a list is made of
 

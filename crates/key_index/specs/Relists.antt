@@ -1,13 +1,15 @@
 -- What remains of the cells where the lists of a key were rewritten?
-use Rattle.std.specs.Prelude.{◌≡◌, ◌≤◌, ◌<◌, ℕ, List, [], length, map, Contains, Option, Some, None, MatchOption}
+use Rattle.std.specs.Prelude.{◌≡◌, ◌⊎◌, ◌≤◌, ◌<◌, ℕ, List, [], length, map, Contains, Option, Some, None, MatchOption}
 use Rattle.std.specs.List.{AllPairs}
 use Rattle.nt_bytes.specs.declared.version.HiveVersion.{HiveVersion}
 use Rattle.hive_model.specs.Bins.{Cell, Bin, bins_size, or_else, look_up}
+use Rattle.hive_model.specs.Size.{list_size}
 use Rattle.hive_model.specs.Packed.{allocated_cell, list_cells}
 use Rattle.hive_model.specs.Walk.{entries_checks, AreUsedOnce}
 use Rattle.hive_model.specs.Footprint.{used_in, list_strain_of}
 use Rattle.hive_model.specs.Stands.{ListsAt}
 use Rattle.hive_cells.specs.Held.{held_at, held_among}
+use Rattle.hive_cells.specs.Holes.{IsLowestHole, NoneFits}
 use Rattle.key_index.specs.declared.removal.Removal.{Removal}
 use Rattle.key_index.specs.declared.removal.Removal.TheVariants as kinds
 
@@ -19,9 +21,14 @@ AreApart offsets = AllPairs (λ a b. a ≡ b → ⊥) offsets
 abbrev pub list_run : HiveVersion → ℕ → List ℕ → List (List ℕ) → List Cell
 list_run version at offsets hints = map allocated_cell (list_cells version at offsets hints)
 
--- The lists of these children begin here, in packed form, cell after cell. The old cells of lists are gone, each other cell that
--- was held is as it was, and nothing else is held. The lists use each cell once, and none of these was held. The bins data are
--- longer by at most the room for each list.
+-- a run of that many bytes was put into the lowest free cell that had room for it, and the bins data are as long as before, or each
+-- free cell was smaller
+abbrev pub IsFirstFit : ℕ → List Bin → List Bin → ℕ → Type 0
+IsFirstFit size old new at = (IsLowestHole size old at × (bins_size new ≡ bins_size old)) ⊎ NoneFits size old
+
+-- The lists of these children begin here, in packed form, cell after cell, in the first free cell that had room for them, if one had.
+-- The old cells of lists are gone, each other cell that was held is as it was, and nothing else is held. The lists use each cell
+-- once, and none of these was held. The bins data are longer by at most the room for each list.
 pub record AreRelisted (version : HiveVersion) (gone offsets : List ℕ) (hints : List (List ℕ)) (old new : List Bin) (at : ℕ) : Type 0 where
   pub lists : ListsAt (look_up version new) at offsets
   pub freed : (o : ℕ) → Contains gone o → held_at new o ≡ None
@@ -31,6 +38,7 @@ pub record AreRelisted (version : HiveVersion) (gone offsets : List ℕ) (hints 
   pub once : AreUsedOnce (entries_checks (look_up version new) at)
   pub long : bins_size new ≤ list_strain_of (bins_size old) (length offsets)
   pub kept_long : bins_size old ≤ bins_size new
+  pub first : IsFirstFit (list_size (length offsets)) old new at
 
 -- The lists of these children were put here, and the old ones freed.
 pub record IsPut (version : HiveVersion) (gone offsets : List ℕ) (hints : List (List ℕ)) (old new : List Bin) (at : ℕ) : Type 0 where

@@ -1,4 +1,4 @@
-use Rattle.edit_laws.proofs.InOrder.{tree_done, stands_done, left_outside}
+use Rattle.edit_laws.proofs.InOrder.{tree_done, stands_done, parents_done, left_outside}
 use Rattle.edit_laws.proofs.outside.steps_are_done_in_order.Goals as goal
 
 pub returns-clause-tree : goal.returns-clause-tree
@@ -6,6 +6,9 @@ returns-clause-tree c = tree_done
 
 pub returns-clause-stands : goal.returns-clause-stands
 returns-clause-stands c = stands_done
+
+pub returns-clause-parents : goal.returns-clause-parents
+returns-clause-parents c = parents_done
 
 pub returns-clause-left : goal.returns-clause-left
 returns-clause-left c = left_outside

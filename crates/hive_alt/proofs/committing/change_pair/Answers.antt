@@ -2,11 +2,38 @@ use Rattle.std.proofs.Common.{rules, inl}
 use Rattle.hive_model.specs.Image.{Primary, Log}
 use Rattle.hive_model.specs.Recovery.{bit}
 use Rattle.hive_commit.specs.Stages.{opened_of, closed_of}
+use Rattle.hive_commit.proofs.CallLemmas.{stopped}
 use Rattle.hive_commit.proofs.Four.{asked, held_left}
 use Rattle.hive_alt.specs.Copies.{copy_in}
 use Rattle.hive_alt.proofs.CopyLemmas.{written_as, rewriting_as}
+use Rattle.hive_alt.proofs.PairCalls.{in_second, in_first, pair_made}
 use Rattle.hive_alt.proofs.PairLemmas.{second_stays, before_cut, first_stays, first_cut, pair_after}
 use Rattle.hive_alt.proofs.committing.change_pair.Goals as goal
+
+pub returns-in_err-rewrite-clause-made : goal.returns-in_err-rewrite-clause-made
+returns-in_err-rewrite-clause-made g c =
+    stopped _ _ _ _ c.from_residual.ensures.0
+    (in_second c.args.base.now c.args.old.now c.args.new.now c.args.root c.mark_dirty.new.into
+    c.opened_block-opened.result c.closed_block-closed.result c.opened_block-opened.ensures
+    c.closed_block-closed.ensures c.mark_dirty.ensures
+    (g.D.Disk.calls c.args.disk.now) (g.D.Disk.calls c.rewrite.new.disk) c.in_err-rewrite.ensures.made)
+
+pub returns-in_err-rewrite-2-clause-made : goal.returns-in_err-rewrite-2-clause-made
+returns-in_err-rewrite-2-clause-made g c =
+    stopped _ _ _ _ c.from_residual-in_err-rewrite-2.ensures.0
+    (in_first c.args.base.now c.args.old.now c.args.new.now c.args.root c.mark_dirty.new.into
+    c.opened_block-opened.result c.closed_block-closed.result c.opened_block-opened.ensures
+    c.closed_block-closed.ensures c.mark_dirty.ensures
+    (g.D.Disk.calls c.args.disk.now) (g.D.Disk.calls c.rewrite.new.disk) (g.D.Disk.calls c.rewrite-2.new.disk)
+    c.in_ok-rewrite.ensures.made c.in_err-rewrite-2.ensures.made)
+
+pub returns-clause-made : goal.returns-clause-made
+returns-clause-made g c =
+    pair_made c.args.base.now c.args.old.now c.args.new.now c.args.root c.mark_dirty.new.into
+    c.opened_block-opened.result c.closed_block-closed.result c.opened_block-opened.ensures
+    c.closed_block-closed.ensures c.mark_dirty.ensures
+    (g.D.Disk.calls c.args.disk.now) (g.D.Disk.calls c.rewrite.new.disk) (g.D.Disk.calls c.rewrite-2.new.disk)
+    c.in_ok-rewrite.ensures.made c.in_ok-rewrite-2.ensures.made
 
 pub rewrite-requires-clause-stays : goal.rewrite-requires-clause-stays
 rewrite-requires-clause-stays g c = λ tells.

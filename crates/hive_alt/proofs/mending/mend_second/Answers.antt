@@ -1,5 +1,7 @@
 use Rattle.std.proofs.Common.{length}
+use Rattle.hive_commit.proofs.CallLemmas.{stopped, front_as, made_as}
 use Rattle.hive_commit.proofs.Four.{held_left}
+use Rattle.hive_alt.proofs.PairCalls.{mend_second_is}
 use Rattle.hive_alt.proofs.PairLemmas.{second_cut, second_mended}
 use Rattle.hive_alt.proofs.TwinLemmas.{whole_of}
 use Rattle.hive_alt.proofs.mending.mend_second.Goals as goal
@@ -7,6 +9,19 @@ use Rattle.hive_alt.proofs.mending.mend_second.Goals as goal
 pub rewrite-requires-clause-stays : goal.rewrite-requires-clause-stays
 rewrite-requires-clause-stays g c = λ tells i small off.
     let on = c.mark_all.ensures i small in absurd (cc)
+
+pub returns-in_err-rewrite-clause-made : goal.returns-in_err-rewrite-clause-made
+returns-in_err-rewrite-clause-made g c =
+    stopped _ _ _ _ c.from_residual.ensures.0
+    (front_as (g.D.Disk.calls c.args.disk.now) (g.D.Disk.calls c.rewrite.new.disk) _ _
+    (mend_second_is c.args.base.now c.args.bins.now c.mark_all.new.into c.mark_all.ensures
+    c.unfinished_block-opened.result c.unfinished_block-opened.ensures) c.in_err-rewrite.ensures.made)
+
+pub returns-clause-made : goal.returns-clause-made
+returns-clause-made g c =
+    made_as (g.D.Disk.calls c.args.disk.now) (g.D.Disk.calls c.rewrite.new.disk) _ _
+    (mend_second_is c.args.base.now c.args.bins.now c.mark_all.new.into c.mark_all.ensures
+    c.unfinished_block-opened.result c.unfinished_block-opened.ensures) c.in_ok-rewrite.ensures.made
 
 pub returns-in_err-rewrite-clause-crash : goal.returns-in_err-rewrite-clause-crash
 returns-in_err-rewrite-clause-crash g c = λ tells image left.

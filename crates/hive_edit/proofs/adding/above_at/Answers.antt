@@ -29,4 +29,5 @@ returns c = λ n read.
       volatile = c.u32_at-3.result;
       security = c.u32_at-4.result;
     })
-    c.requires c.payload-node.ensures c.u32_at.ensures c.u32_at-2.ensures c.u32_at-4.ensures n read
+    c.requires c.payload-node.ensures c.u32_at.ensures c.u32_at-2.ensures c.u32_at-3.ensures
+    c.u32_at-4.ensures n read

@@ -1,4 +1,5 @@
 use Rattle.hive_cells.proofs.Again.{not_both}
+use Rattle.hive_edit.proofs.PackedParents.{packed_parents}
 use Rattle.hive_edit.proofs.AnewLemmas.{packed_here, packed_hive}
 use Rattle.hive_edit.proofs.edit.of_packed.Goals as goal
 
@@ -13,17 +14,20 @@ invariant_of-result c =
     let is = c.in_ok-packed.ensures in
     packed_hive c.args.version c.in_ok-heap.heap c.bulk-bulk.result c.args.tree.now
     (packed_here c.args.version c.in_ok-packed.packed c.in-Ok.cells c.in_ok-heap.heap c.args.tree.now is.bins
-    c.in-Ok.ensures is.well_formed c.in_ok-heap.ensures)
+    c.in-Ok.ensures is.well_formed c.in_ok-heap.ensures
+    (packed_parents c.args.version c.args.tree.now c.requires.valid c.tree_fits.ensures c.requires.room))
     c.requires.valid c.bulk-bulk.ensures
 
 pub returns-clause-tree : goal.returns-clause-tree
 returns-clause-tree c =
     let is = c.in_ok-packed.ensures in
     (packed_here c.args.version c.in_ok-packed.packed c.in-Ok.cells c.in_ok-heap.heap c.args.tree.now is.bins
-    c.in-Ok.ensures is.well_formed c.in_ok-heap.ensures).tree
+    c.in-Ok.ensures is.well_formed c.in_ok-heap.ensures
+    (packed_parents c.args.version c.args.tree.now c.requires.valid c.tree_fits.ensures c.requires.room)).tree
 
 pub returns-clause-anew : goal.returns-clause-anew
 returns-clause-anew c =
     let is = c.in_ok-packed.ensures in
     (packed_here c.args.version c.in_ok-packed.packed c.in-Ok.cells c.in_ok-heap.heap c.args.tree.now is.bins
-    c.in-Ok.ensures is.well_formed c.in_ok-heap.ensures).anew
+    c.in-Ok.ensures is.well_formed c.in_ok-heap.ensures
+    (packed_parents c.args.version c.args.tree.now c.requires.valid c.tree_fits.ensures c.requires.room)).anew

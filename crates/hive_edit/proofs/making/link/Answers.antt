@@ -34,6 +34,7 @@ returns-in-Some-clause-linked c =
       noted = c.note.new.heap;
       list = c.in-Some.list;
       small = c.note.ensures.small;
+      volatile = c.note.ensures.volatile;
       lists = a;
       fields = c.note.ensures.written;
       counted = c.raise.ensures;

@@ -16,10 +16,10 @@ pub returns-then-count-eq1 : goal.returns-then-count-eq1
 returns-then-count-eq1 c = λ offsets h.
     last_unlisted c.args.heap.now c.free.new.self c.args.list c.args.count _ offsets c.args.offset h
     (known_in c.args.heap.now c.args.list c.args.count c.args.offset offsets c.requires.0 h c.requires.1 c.requires.2)
-    c.if-count-eq1.true c.free.ensures.others c.free.ensures.long
+    c.if-count-eq1.true c.free.ensures.gone c.free.ensures.others c.free.ensures.long
 
 pub returns : goal.returns
 returns c = λ offsets h.
     one_unlisted c.args.heap.now c.close_gap.new.heap c.args.list c.args.count c.place_of-place.result offsets
-    c.args.offset h c.place_of-place.ensures.within
+    c.args.offset h c.if-count-eq1.false c.place_of-place.ensures.within
     c.place_of-place.ensures.here c.close_gap.ensures

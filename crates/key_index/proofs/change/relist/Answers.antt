@@ -3,7 +3,7 @@ use Rattle.hive_model.specs.Bins.{bins_size}
 use Rattle.hive_model.specs.Packed.{list_cells}
 use Rattle.hive_cells.specs.Holes.{FindsRoom}
 use Rattle.hive_pack.proofs.Rows.{length_text, space_list}
-use Rattle.key_index.proofs.Runs.{list_least, strain_over, none_over, room_inside, room_longer, relisted}
+use Rattle.key_index.proofs.Runs.{list_least, strain_over, none_over, room_inside, relisted}
 use Rattle.key_index.proofs.change.relist.Goals as goal
 
 pub returns-then-n-gt2097152-clause-exact : goal.returns-then-n-gt2097152-clause-exact
@@ -60,6 +60,5 @@ returns-in-Some-clause-exact c =
     rw c.in-Some.is at c.in_ok-make_room.ensures.exact in
     relisted c.args.version c.args.gone.now c.args.offsets.now c.args.hints.now c.args.heap.now c.make_room.new.self
     c.put.new.heap c.in-Some.at c.list_len-size.result
-    c.put.ensures c.in_ok-make_room.ensures.held c.in_ok-make_room.ensures.long
-    (room_longer c.list_len-size.result c.args.heap.now c.make_room.new.self c.in-Some.at found)
-    c.list_len-size.ensures c.requires.some
+    c.put.ensures c.in_ok-make_room.ensures.held c.in_ok-make_room.ensures.long found c.list_len-size.ensures
+    c.requires.some

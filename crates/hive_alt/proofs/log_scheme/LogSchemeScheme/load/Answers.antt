@@ -1,5 +1,11 @@
-use Rattle.hive_alt.proofs.LogLemmas.{recovered_crash}
+use Rattle.hive_commit.specs.Calls.{recovery_calls}
+use Rattle.hive_alt.proofs.LogLemmas.{recovery_load, recovered_crash}
 use Rattle.hive_alt.proofs.log_scheme.LogSchemeScheme.load.Goals as goal
+
+pub returns-clause-made : goal.returns-clause-made
+returns-clause-made g c =
+    recovery_load (g.D.Disk.calls c.args.disk.now) (g.D.Disk.calls c.recover.new.disk) g.D.Disk.tells
+    (recovery_calls (g.D.Disk.state c.args.disk.now).held) c.recover.result c.recover.ensures.made
 
 pub returns-clause-crash : goal.returns-clause-crash
 returns-clause-crash g c = λ tells.

@@ -5,7 +5,7 @@ use Rattle.reg_tree.specs.declared.steps.TreeStep.{TreeStep}
 use Rattle.reg_tree.specs.Makes.{IsRefused, step_of}
 use Rattle.hive_edit.specs.Hive.{HiveCells}
 use Rattle.hive_edit.specs.Steps.{AreStepped, AreStrained}
-use Rattle.hive_edit.proofs.SteppedLemmas.{if_done, if_undone, steps_refused, ordered_full, ordered_made, ordered_kept, same_version, packed_for_room}
+use Rattle.hive_edit.proofs.SteppedLemmas.{if_done, if_undone, steps_refused, ordered_full, ordered_made, ordered_kept, same_version, names_anew, packed_for_room}
 use Rattle.hive_edit.proofs.hive.HiveBytes.apply_in_order.Goals as goal
 
 pub returns-in_err-make_steps-clause-made : goal.returns-in_err-make_steps-clause-made
@@ -74,3 +74,17 @@ returns-clause-cells c =
     (if_undone _ _ _ c.if-branch.false c.in_ok-make_steps.ensures.made)) in
     packed_for_room h c.apply_anew.new.self steps c.apply_anew.result _ c.apply_anew.ensures.made
     c.apply_anew.ensures.anew strained
+
+pub returns-then-branch-clause-parents : goal.returns-then-branch-clause-parents
+returns-then-branch-clause-parents c =
+    let h = c.args.self.now in
+    let steps = map step_of c.args.steps in
+    let seen : c.as_slice.result.now ≡ c.args.steps = c.as_slice.ensures in
+    let new = c.make_steps.new.self in
+    let there : AreStepped h steps new = subst (λ (l : List TreeStep). AreStepped h (map step_of l) new) seen
+    (subst (λ (g : HiveCells). AreStepped g (map step_of c.as_slice.result.now) new) c.in_ok-draft.ensures
+    (if_done _ _ _ c.if-branch.true c.in_ok-make_steps.ensures.made)) in
+    (ordered_kept steps h new c.stands.ensures there).parents
+
+pub returns-clause-parents : goal.returns-clause-parents
+returns-clause-parents c = names_anew c.args.self.now c.apply_anew.new.self c.apply_anew.result c.apply_anew.ensures.anew

@@ -2,7 +2,7 @@ use Rattle.std.proofs.Common.{◌≡◌, Bool, [], ◌∷◌, Ok, ap, subst}
 use Rattle.hive_model.specs.Edit.{edited, delete_key}
 use Rattle.reg_tree.specs.Makes.{Makes}
 use Rattle.hive_edit.specs.Hive.{HiveCells}
-use Rattle.hive_edit.proofs.SteppedLemmas.{if_undone}
+use Rattle.hive_edit.proofs.SteppedLemmas.{if_done, if_undone, names_anew}
 use Rattle.hive_edit.proofs.DeleteLemmas.{anew_for_room}
 use Rattle.hive_edit.proofs.hive.HiveBytes.delete_key.Goals as goal
 
@@ -27,3 +27,10 @@ returns-clause-drops c =
     (subst (λ (g : HiveCells). Makes g.tree c.delete_anew.new.self.tree c.delete_anew.result
     (edited g.version g.tree (step ∷ []))) same c.delete_anew.ensures.made)
     c.delete_anew.ensures.anew (if_undone _ _ _ c.if-branch.false c.in_ok-delete_in_place.ensures.made)
+
+pub returns-then-branch-clause-parents : goal.returns-then-branch-clause-parents
+returns-then-branch-clause-parents c =
+    (if_done _ _ _ c.if-branch.true c.in_ok-delete_in_place.ensures.made).kept.parents
+
+pub returns-clause-parents : goal.returns-clause-parents
+returns-clause-parents c = names_anew c.args.self.now c.delete_anew.new.self c.delete_anew.result c.delete_anew.ensures.anew

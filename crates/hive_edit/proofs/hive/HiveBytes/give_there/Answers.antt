@@ -1,6 +1,10 @@
-use Rattle.std.proofs.Common.{false, true, ◌∙◌, arith}
+use Rattle.std.proofs.Common.{◌≡◌, ℕ, false, true, None, subst, ◌∙◌, arith}
+use Rattle.std.specs.Prelude.{Contains}
 use Rattle.hive_model.specs.Edit.{set_value}
+use Rattle.hive_cells.specs.Held.{held_at}
 use Rattle.hive_edit.specs.Given.{Gives}
+use Rattle.hive_edit.specs.Hive.{HiveCells, cells_in}
+use Rattle.hive_edit.specs.Places.{data_places}
 use Rattle.hive_edit.proofs.SteppedLemmas.{stepped_bulk, same_hive}
 use Rattle.hive_edit.proofs.StrainLemmas.{there_lacks, there_set}
 use Rattle.hive_edit.proofs.ThereLemmas.{there_here, there_room, there_own, gone_same, gone_held, gone_apart, gone_outside, given_same}
@@ -69,6 +73,17 @@ returns-then-branch-clause-stepped c =
     (given_same i.cells i.cells c.give.new.heap i.version c.args.at c.args.kind c.args.bytes.now c.as_slice.result.now
     (c.as_slice.ensures ∙ gone_same i.cells c.cells.result.now i.version c.args.at c.in_ok-gone.gone c.cells.ensures
     c.in_ok-gone.ensures) given)).stepped
+
+pub returns-then-branch-clause-freed : goal.returns-then-branch-clause-freed
+returns-then-branch-clause-freed c = λ yes.
+    let i = c.self.inside in
+    let given : Gives i.version c.args.at c.args.kind c.args.bytes.now c.as_slice.result.now i.cells c.give.new.heap
+    true = rw c.if-branch.true at c.in_ok-give.ensures.given in
+    subst (λ (g : HiveCells). (o : ℕ) → Contains (data_places (cells_in g) c.args.at) o
+    → held_at c.give.new.heap o ≡ None) c.self.view_is
+    (given_same i.cells i.cells c.give.new.heap i.version c.args.at c.args.kind c.args.bytes.now c.as_slice.result.now
+    (c.as_slice.ensures ∙ gone_same i.cells c.cells.result.now i.version c.args.at c.in_ok-gone.gone c.cells.ensures
+    c.in_ok-gone.ensures) given).freed
 
 pub returns-then-branch-clause-bulk : goal.returns-then-branch-clause-bulk
 returns-then-branch-clause-bulk c = λ yes.

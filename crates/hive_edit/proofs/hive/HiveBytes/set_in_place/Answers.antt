@@ -1,4 +1,4 @@
-use Rattle.std.proofs.Common.{◌≡◌, ◌<◌, Bool, [], ◌∷◌, Ok, sym, ap, subst}
+use Rattle.std.proofs.Common.{◌≡◌, ◌<◌, Bool, [], ◌∷◌, Ok, sym, ap, subst, ◌∙◌}
 use Rattle.hive_model.specs.Bins.{bins_size}
 use Rattle.hive_model.specs.Edit.{edited, set_value}
 use Rattle.hive_model.specs.Footprint.{strain_of}
@@ -23,3 +23,12 @@ returns-clause-no_room c = λ no u e.
     (c.set_new.ensures.no_room no
     (subst (λ (g : HiveCells). place_in (cells_in g) path name g.root ≡ nowhere) (sym same) none) u
     (subst (λ (g : HiveCells). edited g.version g.tree (step ∷ []) ≡ the_tree u) (sym same) e)))
+
+pub returns-clause-freed : goal.returns-clause-freed
+returns-clause-freed c = λ yes at there.
+    let same : c.set_there.new.self ≡ c.args.self.now =
+    c.in_ok-set_there.ensures.unmade (ap (λ (b : Bool). Ok b) c.if-branch.false) in
+    let none : place_in (cells_in c.args.self.now) c.args.path.now c.args.name.now c.args.self.now.root ≡ nowhere =
+    subst (λ (g : HiveCells). place_in (cells_in g) c.args.path.now c.args.name.now g.root ≡ nowhere) same
+    (c.set_new.ensures.fresh yes) in
+    absurd (let e = sym none ∙ there in cc)

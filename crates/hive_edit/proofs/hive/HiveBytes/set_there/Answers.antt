@@ -1,6 +1,10 @@
-use Rattle.std.proofs.Common.{Bool, Ok, ap, arith}
+use Rattle.std.proofs.Common.{◌≡◌, ℕ, Bool, None, Ok, ap, subst, ◌∙◌, arith}
+use Rattle.std.specs.Prelude.{Contains}
 use Rattle.hive_model.specs.Edit.{set_value}
-use Rattle.hive_edit.specs.Hive.{HiveCells}
+use Rattle.hive_cells.specs.Held.{held_at}
+use Rattle.hive_edit.specs.Hive.{HiveCells, cells_in}
+use Rattle.hive_edit.specs.Places.{data_places}
+use Rattle.hive_edit.proofs.ResultLemmas.{some_same}
 use Rattle.hive_edit.proofs.SteppedLemmas.{step_full, stepped_edit, stepped_kept, lacks_over, if_done, if_undone}
 use Rattle.hive_edit.proofs.hive.HiveBytes.set_there.Goals as goal
 
@@ -27,6 +31,13 @@ returns-then-branch-clause-done c =
     λ yes. stepped_kept c.args.self.now c.give_there.new.self
     (set_value c.args.path.now c.args.name.now c.args.kind c.args.bytes.now)
     (if_done _ _ _ c.if-branch.true c.in_ok-give_there.ensures.stepped)
+
+pub returns-then-branch-clause-freed : goal.returns-then-branch-clause-freed
+returns-then-branch-clause-freed c = λ yes at there.
+    subst (λ (k : ℕ). (o : ℕ) → Contains (data_places (cells_in c.args.self.now) k) o
+    → held_at c.give_there.new.self.bins o ≡ None)
+    (some_same _ at (c.in-Some.ensures ∙ there))
+    (c.in_ok-give_there.ensures.freed (ap (λ (b : Bool). Ok b) c.if-branch.true))
 
 pub returns-clause-unmade : goal.returns-clause-unmade
 returns-clause-unmade c = λ no. (if_undone _ _ _ c.if-branch.false c.in_ok-give_there.ensures.stepped).1

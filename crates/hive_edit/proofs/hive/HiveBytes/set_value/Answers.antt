@@ -1,10 +1,10 @@
 use Rattle.std.proofs.Common.{◌≡◌, ℕ, ◌+◌, length, subst, is_some, inl, refl, sym, ap, ◌∙◌, arith}
 use Rattle.std.specs.Int.{w32, from_le_bytes}
 use Rattle.hive_cells.specs.Changes.{at_cell, with_part}
-use Rattle.hive_edit.specs.Hive.{HiveCells}
+use Rattle.hive_edit.specs.Hive.{HiveCells, hive_of}
 use Rattle.hive_edit.specs.Edits.{value_fields, WritesFields}
 use Rattle.hive_edit.proofs.ResultLemmas.{some_same}
-use Rattle.hive_edit.proofs.SetLemmas.{set_full, is_set, patch_room, fields_long}
+use Rattle.hive_edit.proofs.SetLemmas.{set_full, is_set, inside_frees, patch_room, fields_long}
 use Rattle.hive_edit.proofs.hive.HiveBytes.set_value.Goals as goal
 
 pub returns-in-None-clause-in_place : goal.returns-in-None-clause-in_place
@@ -90,3 +90,18 @@ returns-else-bulk-gt-MOST_BULK-clause-room c =
     c.self.invariant c.self.view_is (sym c.in-Some.ensures) (omega arith) (λ k. omega (arith, c.type_inv.bytes k))
     (omega arith) c.if-bulk-gt-MOST_BULK.false
     (rw c.inside_fields-fields.ensures at c.patch.ensures.here) c.patch.ensures.others c.patch.ensures.long).kept
+
+pub returns-else-bulk-gt-MOST_BULK-clause-freed : goal.returns-else-bulk-gt-MOST_BULK-clause-freed
+returns-else-bulk-gt-MOST_BULK-clause-freed c =
+    let i = c.self.inside in
+    inl (inside_frees c.args.self.now c.args.path.now c.args.name.now c.in-Some.at (sym c.in-Some.ensures)
+    (hive_of c.patch.new.self i.root i.version))
+
+pub returns-else-bulk-gt-MOST_BULK-clause-parents : goal.returns-else-bulk-gt-MOST_BULK-clause-parents
+returns-else-bulk-gt-MOST_BULK-clause-parents c =
+    let i = c.self.inside in
+    (is_set i.cells c.patch.new.self i.root i.version i.bulk c.args.self.now c.args.path.now c.args.name.now c.args.kind
+    c.args.bytes.now c.in-Some.at
+    c.self.invariant c.self.view_is (sym c.in-Some.ensures) (omega arith) (λ k. omega (arith, c.type_inv.bytes k))
+    (omega arith) c.if-bulk-gt-MOST_BULK.false
+    (rw c.inside_fields-fields.ensures at c.patch.ensures.here) c.patch.ensures.others c.patch.ensures.long).kept.parents

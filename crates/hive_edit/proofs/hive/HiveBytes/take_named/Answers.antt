@@ -1,5 +1,5 @@
 use Rattle.hive_edit.proofs.SteppedLemmas.{stepped_bulk}
-use Rattle.hive_edit.proofs.UnsetLemmas.{hive_can_take, is_unset}
+use Rattle.hive_edit.proofs.UnsetLemmas.{hive_can_take, is_unset, frees_value}
 use Rattle.hive_edit.proofs.hive.HiveBytes.take_named.Goals as goal
 
 pub take_out-requires : goal.take_out-requires
@@ -33,3 +33,9 @@ returns-clause-bulk c =
     c.args.name.now c.args.key c.args.value
     c.self.invariant c.self.view_is c.requires.key c.requires.value c.take_out.ensures c.are_bytes.ensures
     c.requires.bulk)
+
+pub returns-clause-freed : goal.returns-clause-freed
+returns-clause-freed c =
+    let i = c.self.inside in
+    frees_value i.cells c.take_out.new.heap i.root i.version c.args.self.now c.args.path.now c.args.name.now c.args.key
+    c.args.value c.self.view_is c.requires.key c.requires.value c.take_out.ensures

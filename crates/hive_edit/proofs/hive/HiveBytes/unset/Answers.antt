@@ -21,3 +21,8 @@ pub returns-clause-done : goal.returns-clause-done
 returns-clause-done c =
     stepped_kept c.args.self.now c.take_named.new.self (delete_value c.args.path.now c.args.name.now)
     c.take_named.ensures.stepped
+
+pub returns-clause-parents : goal.returns-clause-parents
+returns-clause-parents c =
+    (stepped_kept c.args.self.now c.take_named.new.self (delete_value c.args.path.now c.args.name.now)
+    c.take_named.ensures.stepped).parents
