@@ -1,6 +1,6 @@
 //! One line of the text: a key or a value.
 
-ghost use Rattle.std.specs.Prelude.{◌≡◌, [], ◌∷◌, ◌++◌, ◌/◌, ◌%◌, slice_index, codes, OnOk};
+ghost use Rattle.std.specs.Prelude.{◌≡◌, ◌<◌, ◌+◌, [], ◌∷◌, ◌++◌, ◌/◌, ◌%◌, slice_index, codes, OnOk};
 ghost use Rattle.std.specs.Fmt.{decimal};
 ghost use Rattle.hex.specs.Hex.{encode_lower, lower_digits};
 ghost use Rattle.nt_bytes.specs.Text.{is_printable};
@@ -14,10 +14,21 @@ use std::alloc::AllocError;
 /// The hexadecimal digits.
 const HEX: &[u8; 16] = b"0123456789abcdef";
 
-/// Puts a space and the number at the end.
+/// Puts a space and a number of one digit at the end.
+fn push_digit(out: &mut Vec<u8>, digit: u8) -> Result<(), AllocError>
+    requires { digit < 10 }
+    ensures { OnOk result (out.new.items ≡ out.old.items ++ (32 ∷ (48 + digit) ∷ [])) }
+{
+    out.extend_from_slice(&[b' ', b'0' + digit])
+}
+
+/// Puts a space and the number at the end. Most numbers have one digit.
 fn push_number(out: &mut Vec<u8>, number: u64) -> Result<(), AllocError>
     ensures { OnOk result (out.new.items ≡ out.old.items ++ codes " " ++ decimal number) }
 {
+    if number < 10 {
+        return push_digit(out, number as u8);
+    }
     let mut buffer = Buffer::new();
     out.push(b' ')?;
     out.extend_from_slice(buffer.format(number).as_bytes())
