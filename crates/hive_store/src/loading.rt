@@ -90,6 +90,9 @@ impl Hive {
             (λ calls. D.tells ≡ true → AreOfLoad (D.state disk.old).held result calls) }
         // At Ok the tree and the number are what the disk loads as, and so is whether it was dirty; a fault is its first.
         ensures exact { D.tells ≡ true → LoadsFrom (D.state disk.old).held result }
+        // The session's base block and bins data are those that the disk is recovered as.
+        ensures recovered { D.tells ≡ true → IfOk result (λ x. recovered_of (D.state disk.old).held
+            ≡ Ok (record { base = x.0.base; bins = x.0.bins; dirty = x.1 })) }
         ensures unchanged { IfOk result (λ x. x.0.changed ≡ false) }
         // Then the disk is clean, and carries the session's base block and bins data, which are the bytes of its cells.
         ensures still { D.tells ≡ true → OnOk result ((D.state disk.new).flight ≡ []) }
@@ -123,6 +126,8 @@ impl Hive {
         ensures made { MakesRecovery (D.calls disk.old) (D.calls disk.new)
             (λ calls. D.tells ≡ true → AreOfLoad (D.state disk.old).held result calls) }
         ensures exact { D.tells ≡ true → LoadsFrom (D.state disk.old).held result }
+        ensures recovered { D.tells ≡ true → IfOk result (λ x. recovered_of (D.state disk.old).held
+            ≡ Ok (record { base = x.0.base; bins = x.0.bins; dirty = x.1 })) }
         ensures unchanged { IfOk result (λ x. x.0.changed ≡ false) }
         ensures still { D.tells ≡ true → OnOk result ((D.state disk.new).flight ≡ []) }
         ensures carries { D.tells ≡ true → IfOk result (λ x. Carries (D.state disk.new).held x.0.base x.0.bins) }

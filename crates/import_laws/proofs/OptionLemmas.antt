@@ -146,7 +146,7 @@ said_first n passed (dones.Commit number) = refl
 changed_first : (n : ℕ) (passed : Option ℕ) (s : HiveState) (edit : Result Tree ImportStop)
     → change_by (Some n) passed s edit ≡ announced n (change_by None passed s edit)
 changed_first n passed s edit =
-    ap (λ said. record { said = said; state = state_by s edit }) (said_first n passed (done_by s edit))
+    ap (λ said. record { said = said; before = s; state = state_by s edit }) (said_first n passed (done_by s edit))
 
 made_first : (n : ℕ) (lenient : Bool) (s : HiveState) (made : SetSteps)
     → change_made (Some n) lenient s made ≡ announced n (change_made None lenient s made)

@@ -1,23 +1,27 @@
 -- What becomes of a disk by an import.
-use Rattle.std.proofs.Common.{◌≡◌, ◌⊎◌, inr, ⊎_elim, ℕ, ◌+◌, Bool, true, false, cond, not, List, [], Option, Some, None, Result, Ok, Err, refl, sym, ap, subst, ◌∙◌, arith}
+use Rattle.std.proofs.Common.{◌≡◌, ◌⊎◌, inr, ⊎_elim, ℕ, ◌+◌, Bool, true, false, cond, not, List, [], length, Option, Some, None, Result, Ok, Err, refl, sym, ap, subst, ◌∙◌, arith}
 use Rattle.std.specs.Prelude.{◌↔◌, IfOk}
 use Rattle.std.specs.Bool.{Decides}
 use Rattle.std.proofs.lemmas.Bool.{false≢true}
-use Rattle.hive_model.specs.Base.{Base, version_of}
+use Rattle.hive_model.specs.Base.{Base, version_of, is_bins_size}
+use Rattle.hive_model.specs.Carries.{Carries}
 use Rattle.hive_model.specs.Edit.{Step, Refusal, no_key, no_value, bad_name, exists, name_too_long, too_deep, data_too_long, full, edited}
 use Rattle.hive_model.specs.Image.{Image, IsCrashImage}
-use Rattle.hive_model.specs.Load.{Loads, state_of}
+use Rattle.hive_model.specs.Load.{Loads, Holds, state_of}
 use Rattle.hive_model.specs.State.{HiveState}
 use Rattle.hive_model.specs.Tree.{Tree, same_tree}
+use Rattle.hive_model.proofs.BaseLemmas.{base_in_checked}
 use Rattle.hive_commit.specs.Stages.{next_number}
-use Rattle.hive_store.specs.Commits.{committed_state}
+use Rattle.hive_store.specs.Commits.{committed_state, next_base}
 use Rattle.hive_store.specs.Loading.{loaded_state}
-use Rattle.hive_store.specs.Session.{Session}
+use Rattle.hive_store.specs.Session.{Session, next_bins}
+use Rattle.hive_store.proofs.Holding.{clean, held_by, carried}
 use Rattle.nt_edge.specs.Crash.{EachCrash}
 use Rattle.nt_edge.specs.Disk.{DiskState, History}
 use Rattle.nt_edge.specs.Bench.{woken}
 use Rattle.nt_edge.proofs.Images.{still_crash}
 use Rattle.run_laws.proofs.SameLemmas.{same-Decides}
+use Rattle.printed_parts.specs.Logged.{IsLogged}
 use Rattle.start_model.specs.Sets.{is_usable}
 use Rattle.reg_tree.specs.declared.stop.EditStop.{EditStop}
 use Rattle.reg_tree.specs.declared.stop.EditStop.TheVariants as stops
@@ -33,16 +37,48 @@ use Rattle.text_commands.specs.declared.said.How.{How}
 use Rattle.text_commands.specs.declared.said.ImportStop.{ImportStop}
 use Rattle.text_commands.specs.declared.said.ImportStop.TheVariants as import_stops
 use Rattle.text_commands.specs.declared.said.Said.{Said}
-use Rattle.text_commands.specs.Changed.{Change, as_edited, as_protected, state_by, said_of, change_left, change_made, change_in, change_for, number_in, change_of}
-use Rattle.text_commands.specs.Imports.{Settles, IsRefusedAs, EndsProtected, IsMade, MakesTree, Makes, MakesSteps, usable_in, MakesIn, SaysOf, Changes, ChangesHeld, ChangesAwake, ImportsOn}
+use Rattle.text_commands.specs.Changed.{Change, as_edited, as_protected, tree_by, done_by, state_by, said_of, change_left, change_made, change_in, change_for, number_in, change_of}
+use Rattle.text_commands.specs.Imported.{IsLoggedWhere}
+use Rattle.text_commands.specs.Imports.{SettlesAs, Settles, IsRefusedAs, EndsProtected, IsMade, MakesTree, Makes, MakesSteps, usable_in, MakesIn, SaysOf, Changes, ChangesHeld, ChangesAwake, ImportsOn}
 
 -- with nothing in flight only what is held may be left
+still_leaves : (disk : DiskState) (P : Image → Type 0) → disk.flight ≡ [] → P disk.held → EachCrash disk P
+still_leaves disk P still here c crash = subst P (sym (still_crash disk.held c (rw still at crash))) here
+
 still_loads : (disk : DiskState) (s : HiveState) (dirty : Bool) → disk.flight ≡ [] → Loads disk.held s dirty
     → EachCrash disk (λ (c : Image). Loads c s dirty)
-still_loads disk s dirty still loads c crash =
-    let P : Image → Type 0 = λ i. Loads i s dirty in
-    let here : P disk.held = loads in
-    subst P (sym (still_crash disk.held c (rw still at crash))) here
+still_loads disk s dirty still loads = still_leaves disk (λ (c : Image). Loads c s dirty) still loads
+
+-- the base block and the bins data that an image carries hold what it loads as
+carried_holds : (image : Image) (base : Base) (bins : List ℕ) (state : HiveState) → Carries image base bins
+    → Loads image state false → Holds (clean base bins) state
+carried_holds image base bins state is loads =
+    let size : is_bins_size (length bins) ≡ true =
+    ap is_bins_size (sym is.size) ∙ (base_in_checked image base is.block).size_is in
+    held_by image state false (clean base bins) loads (carried image base bins size is)
+
+-- what is held after a commit of a session is the image of one between the states that the disk loaded as
+settled_logged : (k : Session) (number : ℕ) (before : HiveState) (old new : DiskState) → Loads old.held before false
+    → SettlesAs k number old new → IsLogged new.held before (committed_state k)
+settled_logged k number before old new loads settles = record {
+  opened = k.base;
+  old = k.bins;
+  closed = next_base k;
+  new = next_bins k;
+  was = carried_holds old.held k.base k.bins before settles.opened loads;
+  is = carried_holds new.held (next_base k) (next_bins k) (committed_state k) settles.closed settles.loads;
+  carries = settles.closed;
+  log = settles.log;
+}
+
+-- where nothing was committed, nothing is said of a commit
+refused_logged : (stop : ImportStop) (done : Done) (before after : HiveState) (image : Image)
+    → done ≡ dones.Refused stop → IsLoggedWhere done before after image
+refused_logged stop done before after image is number commit =
+    let both : dones.Refused stop ≡ dones.Commit number = sym is ∙ commit in absurd cc
+
+unchanged_logged : (before after : HiveState) (image : Image) → IsLoggedWhere dones.Nothing before after image
+unchanged_logged before after image number commit = absurd cc
 
 -- whether an edit gave another tree is known from a test
 changed_is : (same now : Bool) (t u : Tree) → Decides same (t ≡ u) → (now ≡ true ↔ (false ≡ true) ⊎ (u ≡ t → ⊥))
@@ -54,14 +90,22 @@ changed_is false now t u d f = f.1 (inr (λ e. false≢true (d.1 (sym e))))
 -- the edits gave this tree, which is the same or another one
 made_same : (s : HiveState) (t : Tree) (disk : DiskState) → same_tree s.tree t ≡ true
     → EachCrash disk (λ (c : Image). Loads c s false) → IsMade s (Ok t) disk dones.Nothing
-made_same s t disk is left = record { done_is = rw is refl; loads = rw is left }
+made_same s t disk is left = record {
+  done_is = rw is refl;
+  loads = rw is left;
+  logged = λ c crash. unchanged_logged s (state_by s (Ok t)) c;
+}
 
 made_other : (s : HiveState) (t : Tree) (disk : DiskState) (number : ℕ) → same_tree s.tree t ≡ false
     → number ≡ next_number s.sequence
     → EachCrash disk (λ (c : Image). Loads c (record s { tree = t; sequence = next_number s.sequence }) false)
+    → EachCrash disk (λ (c : Image). IsLogged c s (record s { tree = t; sequence = next_number s.sequence }))
     → IsMade s (Ok t) disk (dones.Commit number)
-made_other s t disk number is numbered left =
-    record { done_is = rw is (ap (λ (n : ℕ). dones.Commit n) numbered); loads = rw is left }
+made_other s t disk number is numbered left logged = record {
+  done_is = rw is (ap (λ (n : ℕ). dones.Commit n) numbered);
+  loads = rw is left;
+  logged = rw is (λ c crash n commit. logged c crash);
+}
 
 not_flips : (b c : Bool) → c ≡ not b → c ≡ false → b ≡ true
 not_flips true c e f = refl
@@ -91,15 +135,20 @@ settled_made h k steps (dones.Commit number) old new still loads made base uncha
     let now : k.changed ≡ not (same_tree h.tree k.tree) =
     changed_is (same_tree h.tree k.tree) k.changed h.tree k.tree (same-Decides h.tree k.tree)
     (rw unchanged at changed) in
-    let other : same_tree h.tree k.tree ≡ false = not_turns (same_tree h.tree k.tree) k.changed now settles.0 in
-    let numbered : number ≡ next_number h.base.first = settles.1 ∙ ap (λ (b : Base). next_number b.first) base in
+    let other : same_tree h.tree k.tree ≡ false = not_turns (same_tree h.tree k.tree) k.changed now settles.changed in
+    let numbered : number ≡ next_number h.base.first = settles.number_is ∙ ap (λ (b : Base). next_number b.first) base in
     let state : committed_state k ≡ state_of k.tree (next_number h.base.first) (version_of h.base.minor) =
     ap (λ (b : Base). state_of k.tree (next_number b.first) (version_of b.minor)) base in
     let left : EachCrash new (λ (c : Image). Loads c
     (state_of k.tree (next_number h.base.first) (version_of h.base.minor)) false) =
     subst (λ (t : HiveState). EachCrash new (λ (c : Image). Loads c t false)) state
-    (still_loads new (committed_state k) false settles.2 settles.3) in
-    made_other s k.tree new number other numbered left
+    (still_loads new (committed_state k) false settles.still settles.loads) in
+    let logged : EachCrash new (λ (c : Image). IsLogged c s
+    (state_of k.tree (next_number h.base.first) (version_of h.base.minor))) =
+    subst (λ (t : HiveState). EachCrash new (λ (c : Image). IsLogged c s t)) state
+    (still_leaves new (λ (c : Image). IsLogged c s (committed_state k)) settles.still
+    (settled_logged k number s old new loads settles)) in
+    made_other s k.tree new number other numbered left logged
 
 -- the edits were refused, and nothing was done
 refused_is : (stop : EditStop) (edit : Result Tree Refusal) → (stop ≡ stops.Memory → ⊥) → IsRefused edit stop
@@ -121,20 +170,24 @@ refused_made : (s : HiveState) (edit : Result Tree Refusal) (stop : EditStop) (d
 refused_made s edit stop done disk still loads is refused =
     let same : as_edited edit ≡ Err (import_stops.Edit stop) = refused_is stop edit refused.1 is in
     let P : Result Tree ImportStop → Type 0 = λ r. IsMade s r disk done in
-    subst P (sym same) (record { done_is = refused.0; loads = still_loads disk s false still loads })
+    subst P (sym same) (record {
+      done_is = refused.0;
+      loads = still_loads disk s false still loads;
+      logged = λ c crash. refused_logged (import_stops.Edit stop) done s s c refused.0;
+    })
 
 -- ---- where a step after them is refused
 
-never_made : (s : HiveState) (edit : Result Tree Refusal) → state_by s (as_protected edit) ≡ s
-never_made s (Ok t) = refl
-never_made s (Err no_key) = refl
-never_made s (Err no_value) = refl
-never_made s (Err bad_name) = refl
-never_made s (Err exists) = refl
-never_made s (Err name_too_long) = refl
-never_made s (Err too_deep) = refl
-never_made s (Err data_too_long) = refl
-never_made s (Err full) = refl
+never_made : (edit : Result Tree Refusal) → (stop : ImportStop) × (as_protected edit ≡ Err stop)
+never_made (Ok t) = (import_stops.Protected, refl)
+never_made (Err no_key) = (import_stops.Edit stops.NoKey, refl)
+never_made (Err no_value) = (import_stops.Edit stops.NoValue, refl)
+never_made (Err bad_name) = (import_stops.Edit stops.BadName, refl)
+never_made (Err exists) = (import_stops.Edit stops.Exists, refl)
+never_made (Err name_too_long) = (import_stops.Edit stops.NameTooLong, refl)
+never_made (Err too_deep) = (import_stops.Edit stops.TooDeep, refl)
+never_made (Err data_too_long) = (import_stops.Edit stops.DataTooLong, refl)
+never_made (Err full) = (import_stops.Protected, refl)
 
 -- nothing was done to the disk
 pub protected_ends : {E : Type 0} (tells : Bool) (protected : Bool) (result : Result Done E) (h : Session)
@@ -145,13 +198,24 @@ pub protected_ends : {E : Type 0} (tells : Bool) (protected : Bool) (result : Re
 protected_ends tells protected (Ok done) h steps disk is still loads ends told =
     let s : HiveState = loaded_state h in
     let edit : Result Tree Refusal = edited s.version s.tree steps in
+    let refused : (stop : ImportStop) × (as_protected edit ≡ Err stop) = never_made edit in
     let P : HiveState → Type 0 = λ t. EachCrash disk (λ (c : Image). Loads c t false) in
     let left : P (state_by s (as_protected edit)) =
-    subst P (sym (never_made s edit)) (still_loads disk s false (still told) (loads told)) in
-    subst (λ (b : Bool). MakesTree b s steps disk done) (sym is) (record { done_is = ends; loads = left })
+    subst P (sym (ap (state_by s) refused.1)) (still_loads disk s false (still told) (loads told)) in
+    subst (λ (b : Bool). MakesTree b s steps disk done) (sym is) (record {
+      done_is = ends;
+      loads = left;
+      logged = λ c crash. refused_logged refused.0 done s (state_by s (as_protected edit)) c
+          (ends ∙ ap (done_by s) refused.1);
+    })
 protected_ends tells protected (Err e) h steps disk is still loads ends told = tt
 
 -- ---- what is printed
+
+said_done : (current passed : Option ℕ) (done : Done) → (said_of current passed done).done ≡ done
+said_done current passed (dones.Refused stop) = refl
+said_done current passed dones.Nothing = refl
+said_done current passed (dones.Commit number) = refl
 
 -- what was done with what is printed for it
 said_made : {E : Type 0} (s : HiveState) (current passed : Option ℕ) (protected : Bool) (steps : List Step)
@@ -159,7 +223,13 @@ said_made : {E : Type 0} (s : HiveState) (current passed : Option ℕ) (protecte
     → IfOk done (MakesTree protected s steps disk) → SaysOf current passed done said
     → IfOk said (Makes (change_left current passed s (record { steps = steps; protected = protected })) disk)
 said_made s current passed protected steps (Ok done) (Ok said) disk made says =
-    record { said_is = says ∙ ap (said_of current passed) made.done_is; loads = made.loads }
+    let edit : Result Tree ImportStop = tree_by protected (edited s.version s.tree steps) in
+    record {
+      said_is = says ∙ ap (said_of current passed) made.done_is;
+      loads = made.loads;
+      logged = λ c crash number commit. made.logged c crash number
+          (made.done_is ∙ sym (said_done current passed (done_by s edit)) ∙ commit);
+    }
 said_made s current passed protected steps (Ok done) (Err e) disk made says = absurd says
 said_made s current passed protected steps (Err d) (Ok said) disk made says = absurd says
 said_made s current passed protected steps (Err d) (Err e) disk made says = tt
@@ -249,6 +319,9 @@ imports_on how files steps (Ok said) image old mid new is crash wakes a =
     let made : Makes change a.late said = here.2 in
     let P : DiskState → Type 0 = λ d. EachCrash d (λ (c : Image). Loads c change.state false) in
     let loads : P new = subst P (sym a.off) made.loads in
+    let Q : DiskState → Type 0 =
+    λ d. EachCrash d (IsLoggedWhere change.said.done change.before change.state) in
+    let logged : Q new = subst Q (sym a.off) made.logged in
     let same : new.history ≡ (woken image (placed_disk files)).history =
     woken_history how files steps (Ok said) image old mid new is wakes a in (
       here.0,
@@ -256,6 +329,7 @@ imports_on how files steps (Ok said) image old mid new is crash wakes a =
       made.said_is,
       record {
         loads = loads;
+        logged = logged;
         placed = ap (λ (h : History). h.placings) same;
         taken = ap (λ (h : History). h.takings) same;
         unordered = ap (λ (h : History). h.armings) same;

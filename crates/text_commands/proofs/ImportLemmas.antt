@@ -51,10 +51,11 @@ count_few : (saves : Saves) → saved_count saves ≤ 2
 count_few saves = omega (arith, named_few saves.hive, named_few saves.log)
 
 saved_imported : (files : HiveFiles) (change : Change) (n : ℕ) (mid after : DiskState) → n ≤ 2
-    → IsImported files change.state 0 mid → Settles n mid after
-    → IsImported files change.state n after
+    → IsImported files change 0 mid → Settles n mid after
+    → IsImported files change n after
 saved_imported files change n mid after le m s = record {
   loads = λ c left. m.loads c (s.left c left);
+  logged = λ c left. m.logged c (s.left c left);
   placed = s.placings ∙ m.placed;
   taken = s.takings ∙ ap (more n) m.taken ∙ more_few n le;
   unordered = s.armings ∙ m.unordered;
@@ -64,7 +65,7 @@ saved_imported files change n mid after le m s = record {
 }
 
 part_imported : (files : HiveFiles) (change : Change) (n most : ℕ) (disk : DiskState) → n ≤ most
-    → IsImported files change.state n disk → IsPartDone files most disk
+    → IsImported files change n disk → IsPartDone files most disk
 part_imported files change n most disk le m = record {
   placed = omega (arith, m.placed);
   taken = omega (arith, m.taken, le);
@@ -90,12 +91,12 @@ ends_change : (files : HiveFiles) (saves : Saves) (form : ReportForm) (change : 
     (text old new : List ℕ) (taken : ℕ) (disk : DiskState) → IsToldAs statuses.Done status
     → text ≡ said_text form change.said → taken ≤ saved_count saves → (status ≡ statuses.Done
     → taken ≡ saved_count saves)
-    → IsImported files change.state taken disk
+    → IsImported files change taken disk
     → Ends (done_with text) status old new → EndsChange files saves form change disk status old new
 ends_change files saves form change status text old new taken disk (inl is) same few all made end =
     let done = subst (λ (t : List ℕ). Ends (done_with t) statuses.Done old new) same
     (subst (λ (s : Status). Ends (done_with text) s old new) is end) in
-    let P : ℕ → Type 0 = λ n. IsImported files change.state n disk in
+    let P : ℕ → Type 0 = λ n. IsImported files change n disk in
     subst (λ (s : Status). EndsChange files saves form change disk s old new) (sym is)
     (said_done (said_text form change.said) old new done, subst P (all is) made)
 ends_change files saves form change status text old new taken disk (inr (inl is)) same few all made end =

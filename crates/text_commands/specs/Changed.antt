@@ -76,13 +76,14 @@ abbrev pub said_of : Option ℕ → Option ℕ → Done → Said
 said_of current passed (dones.Refused stop) = record { current = current; passed = None; done = dones.Refused stop }
 said_of current passed done = record { current = current; passed = passed; done = done }
 
--- what is printed for the change, and the state that the hive has afterwards
+-- what is printed for the change, and the states that the hive has before and afterwards
 pub record Change : Type 0 where
   pub said : Said
+  pub before : HiveState
   pub state : HiveState
 
 abbrev pub change_by : Option ℕ → Option ℕ → HiveState → Result Tree ImportStop → Change
-change_by current passed s edit = record { said = said_of current passed (done_by s edit); state = state_by s edit }
+change_by current passed s edit = record { said = said_of current passed (done_by s edit); before = s; state = state_by s edit }
 
 -- the change by these steps, and how many were passed over before, if that is asked for
 abbrev pub change_left : Option ℕ → Option ℕ → HiveState → SetSteps → Change

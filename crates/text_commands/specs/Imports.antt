@@ -2,6 +2,7 @@
 use Rattle.std.specs.Prelude.{◌≡◌, ◌⊎◌, true, false, ℕ, Bool, if◌then◌else◌, List, [], Option, Some, None, Result, Ok, Err, IfOk, OnOk}
 use Rattle.hive_model.specs.Edit.{Step}
 use Rattle.hive_model.specs.Image.{Image}
+use Rattle.hive_model.specs.Carries.{Carries, HasLog}
 use Rattle.hive_model.specs.Load.{Loads, LoadFault}
 use Rattle.nt_bytes.specs.declared.fault.ReadStop.{ReadStop}
 use Rattle.nt_bytes.specs.declared.fault.ReadStop.TheVariants as read
@@ -32,8 +33,8 @@ use Rattle.command_parts.specs.Leaves.{Leaves, IsPartDone}
 use Rattle.command_parts.specs.Refusals.{Ends, IsToldAs}
 use Rattle.command_parts.specs.Saves.{Saves}
 use Rattle.hive_commit.specs.Stages.{next_number}
-use Rattle.hive_store.specs.Commits.{committed_state}
-use Rattle.hive_store.specs.Session.{Session}
+use Rattle.hive_store.specs.Commits.{committed_state, next_base, session_log}
+use Rattle.hive_store.specs.Session.{Session, next_bins}
 use Rattle.text_commands.specs.declared.said.Done.{Done}
 use Rattle.text_commands.specs.declared.said.Done.TheVariants as dones
 use Rattle.text_commands.specs.declared.said.How.{How}
@@ -43,16 +44,26 @@ use Rattle.text_commands.specs.declared.said.Said.{Said}
 use Rattle.text_commands.specs.Changed.{Change, steps_in, tree_by, as_protected, done_by, state_by, said_of, change_by, change_made, change_of}
 use Rattle.text_commands.specs.Asks.{AsksBehind}
 use Rattle.text_commands.specs.Exported.{fault_answer}
-use Rattle.text_commands.specs.Imported.{IsImported, EndsChange, EndsHive}
+use Rattle.text_commands.specs.Imported.{IsImported, IsLoggedWhere, EndsChange, EndsHive}
 
 -- ---- on a disk
+
+-- the session has a change and was committed, under this number: the disk carried what the session says, and carries what was written, with the
+-- log of the sectors that differ
+pub record SettlesAs (s : Session) (number : ℕ) (old new : DiskState) : Type 0 where
+  pub changed : s.changed ≡ true
+  pub number_is : number ≡ next_number s.base.first
+  pub still : new.flight ≡ []
+  pub loads : Loads new.held (committed_state s) false
+  pub opened : Carries old.held s.base s.bins
+  pub closed : Carries new.held (next_base s) (next_bins s)
+  pub log : HasLog new.held (session_log s)
 
 -- a session without a change is left as it is; one with a change is committed
 abbrev pub Settles : Session → DiskState → DiskState → Done → Type 0
 Settles s old new (dones.Refused stop) = ⊥
 Settles s old new dones.Nothing = (s.changed ≡ false) × (new ≡ old)
-Settles s old new (dones.Commit number) =
-    (s.changed ≡ true) × (number ≡ next_number s.base.first) × (new.flight ≡ []) × Loads new.held (committed_state s) false
+Settles s old new (dones.Commit number) = SettlesAs s number old new
 
 -- a refusal is reported, and lack of memory is a stop
 abbrev pub IsRefusedAs : {E : Type 0} → EditStop → Result Done E → Type 0
@@ -70,19 +81,22 @@ SaysOf current passed (Err d) (Err e) = Unit {0}
 abbrev pub EndsProtected : HiveState → List Step → Done → Type 0
 EndsProtected s steps done = done ≡ done_by s (as_protected (edited s.version s.tree steps))
 
--- this was done, and whatever a loss of power leaves loads as the state after it
+-- this was done, and whatever a loss of power leaves loads as the state after it, and is the commit's where a tree was committed
 pub record IsMade (s : HiveState) (edit : Result Tree ImportStop) (disk : DiskState) (done : Done) : Type 0 where
   pub done_is : done ≡ done_by s edit
   pub loads : EachCrash disk (λ (c : Image). Loads c (state_by s edit) false)
+  pub logged : EachCrash disk (IsLoggedWhere done s (state_by s edit))
 
 -- the edits were made in a hive of this state, where a step after them may be refused
 abbrev pub MakesTree : Bool → HiveState → List Step → DiskState → Done → Type 0
 MakesTree protected s steps disk done = IsMade s (tree_by protected (edited s.version s.tree steps)) disk done
 
--- the change was made: what is printed is of it, and whatever a loss of power leaves loads as its state
+-- the change was made: what is printed is of it, and whatever a loss of power leaves loads as its state, and is the commit's where a tree was
+-- committed
 pub record Makes (change : Change) (disk : DiskState) (said : Said) : Type 0 where
   pub said_is : said ≡ change.said
   pub loads : EachCrash disk (λ (c : Image). Loads c change.state false)
+  pub logged : EachCrash disk (IsLoggedWhere change.said.done change.before change.state)
 
 -- the change by these steps
 abbrev pub MakesSteps : Option ℕ → Bool → HiveState → SetSteps → DiskState → Said → Type 0
@@ -126,7 +140,7 @@ pub record ChangesAwake {E : Type 0} (how : How) (steps : List Step) (result : R
 abbrev pub IsImportOf : How → HiveFiles → List Step → DiskState → Said → Type 0
 IsImportOf how files steps disk said =
     (placed : Woken) × (Loads (image_in files) placed.state placed.dirty) × (said ≡ (change_of how placed.state steps).said)
-    × IsImported files (change_of how placed.state steps).state 0 disk
+    × IsImported files (change_of how placed.state steps) 0 disk
 
 -- that was done, or there was no memory for it
 abbrev pub ImportsOn : {E : Type 0} → How → HiveFiles → List Step → Result Said E → DiskState → Type 0
