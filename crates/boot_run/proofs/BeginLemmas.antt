@@ -1,6 +1,6 @@
 -- What the beginning of a start amounts to.
 use Rattle.std.proofs.Common.{◌≡◌, ◌<◌, ◌^◌, ◌+◌, ℕ, Bool, true, false, cond, List, [], ◌∷◌, length, map, Option, Some, None, refl, sym, ap, subst, ◌∙◌, arith}
-use Rattle.std.specs.Prelude.{Result, Ok, Err, OnOk, IfSome, ◌==◌, not}
+use Rattle.std.specs.Prelude.{Result, Ok, Err, IfSome, ◌==◌, not}
 use Rattle.std.specs.Option.{is_some, unwrap_or}
 use Rattle.std.proofs.lemmas.Bool.{ne_eqb, true≢false}
 use Rattle.hive_model.specs.Image.{Image}
@@ -267,11 +267,6 @@ load_over m next r d rest h =
       is = h.1.0;
       agrees = record { counts = h.1.1.0; by = h.1.1.1 };
     }
-
--- what holds of an answer that is done
-pub on_done : {T E : Type 0} → {P : Type 0} → (r : Result T E) → P → OnOk r P
-on_done (Ok v) p = p
-on_done (Err e) p = tt
 
 -- after a commit that was stopped
 pub commit_over : (m : RunState) (tree : Tree) (next : RunState → Act) (r : Runner) (d : DiskState) (rest : Act)

@@ -38,10 +38,13 @@ use Rattle.printed_parts.proofs.BreakLemmas.{breaks-line, breaks-then}
 use Rattle.boot_run.specs.declared.stop.RunStop.{RunStop}
 use Rattle.boot_run.specs.declared.runner.Runner.{Runner}
 use Rattle.boot_run.specs.Agrees.{IsOnSet, IsRunningBy, Counts, TurnLeft}
+use Rattle.boot_run.specs.Begins.{IsTaken}
+use Rattle.boot_run.specs.Kept.{current_set}
 use Rattle.boot_run.specs.Starts.{EndsBy, NextPhase, phase_lines, phase_gone, stop_lines}
 use Rattle.boot_run.specs.Views.{SaysPart, SaysAll}
 use Rattle.boot_run.proofs.DiskLemmas.{idle-off, left-off}
 use Rattle.boot_run.proofs.PlayLemmas.{plays-as, plays-line, here_turn}
+use Rattle.boot_run.proofs.SetLemmas.{current_is}
 use Rattle.run_laws.proofs.GoLemmas.{slice_get-within}
 use Rattle.start_model.proofs.HeldLemmas.{services_few}
 
@@ -173,23 +176,41 @@ the_set : (tree : Tree) (n : ℕ) (o : Option Tree) → set_of tree n ≡ o → 
 the_set tree n None is h = absurd cc
 the_set tree n (Some set) is h = (set, is)
 
+-- a start that runs took the current set
+taken_on : (s : Start) (tree : Tree) → IsOnSet s tree → IsTaken tree s.number
+taken_on s tree h = record { there = h.there; current = h.current }
+
+pub taken_running : (o : Option Start) (tree : Tree) (q : ℕ × Bool)
+    → option_map (λ (s : Start). (s.number, s.on_good)) o ≡ Some q → IsRunningBy o tree → IsTaken tree q.0
+taken_running None tree q is h = absurd h
+taken_running (Some s) tree q is h =
+    let here : ℕ × Bool = (s.number, s.on_good) in
+    let same : here ≡ q = cc in
+    let P : ℕ × Bool → Type 0 = λ p. IsTaken tree p.0 in
+    subst P same (taken_on s tree h)
+
 on_next : (o : Option Start) (m m' : MachineState) (tree : Tree) → m.start ≡ o → IsRunningBy o tree
-    → ((set : Tree) → m' ≡ on_start (after_phase set) m) → NextPhase tree m m'
+    → m' ≡ on_start (after_phase (current_set tree)) m → NextPhase tree m m'
 on_next None m m' tree is h made = absurd h
 on_next (Some s) m m' tree is h made =
     let set = the_set tree s.number (set_of tree s.number) refl (usable_parts tree s.number h.there).there in
+    let same : current_set tree ≡ set.0 = current_is tree set.0 s.number (taken_on s tree h) set.1 in
     record {
       start = s;
-      set = set.0;
+      set = current_set tree;
       is = is;
-      there = set.1;
-      machine = made set.0 ∙ ap (λ (o : Option Start). record m { start = option_map (after_phase set.0) o }) is;
+      there = set.1 ∙ ap (λ (t : Tree). Some t) (sym same);
+      machine = made ∙ ap (λ (o : Option Start). record m { start = option_map (after_phase (current_set tree)) o }) is;
     }
+
+pub planned_next : (m m' : MachineState) (tree : Tree) → IsRunningBy m.start tree
+    → m' ≡ on_start (after_phase (current_set tree)) m → NextPhase tree m m'
+planned_next m m' tree h made = on_next m.start m m' tree refl h made
 
 pub last_next : {E : Type 0} (r : Result (List (List ℕ)) E) (m m' : MachineState) (tree : Tree)
     → IsRunningBy m.start tree
     → IfOk r (λ _. (set : Tree) → m' ≡ on_start (after_phase set) m) → OnOk r (NextPhase tree m m')
-last_next (Ok names) m m' tree h is = on_next m.start m m' tree refl h is
+last_next (Ok names) m m' tree h is = planned_next m m' tree h (is (current_set tree))
 last_next (Err e) m m' tree h is = tt
 
 -- ---- lines that tell no outcome, in sequence

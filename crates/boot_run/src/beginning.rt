@@ -19,17 +19,19 @@ ghost use Rattle.printed_parts.specs.Parts.{PlaysOr};
 ghost use Rattle.boot_run.specs.Agrees.{IsUp, IsLive, IsStored, IsSound, Counts, CommitLeft, TurnLeft};
 ghost use Rattle.boot_run.specs.Hosts.{LeavesHost};
 ghost use Rattle.boot_run.specs.Begins.{Planned, begin_planned, SetLeft, IsTaken, IsUpOrDown};
+ghost use Rattle.boot_run.specs.Kept.{current_set, AreRead};
 ghost use Rattle.boot_run.specs.Views.{moment, told_by, told_in, RunsTo};
 
 use crate::committing::commit;
 use crate::ending::end_start;
+use crate::live::Live;
 use crate::runner::Runner;
 use crate::saying::say;
 use crate::sets::{live_numbers, live_set, live_sets};
 use crate::stop::RunStop;
 use crate::summary::Summary;
 use crate::words::{edit_word, select_line};
-use boot_machine::Machine;
+use boot_machine::{Machine, SetLists};
 use boot_report::{CommitWord, Line, PhaseWord, Verdict};
 use hive_store::Hive;
 use nt_edge::{Bench, Host};
@@ -38,21 +40,24 @@ use std::alloc::{AllocError, Global};
 
 // ---- a set that stays as it is
 
-/// Begins a start on the set of this number, in its boot phase.
+/// Begins a start on the set of this number, in its boot phase. Answers the lists of the set.
 fn begin_on(
     alloc: Global,
     number: u32,
     on_good: bool,
     hive: &Hive,
     machine: &mut Machine,
-) -> Result<(), AllocError>
+) -> Result<SetLists, AllocError>
     requires off { machine.old.start ≡ None }
     requires taken { IsTaken hive.now.tree number }
     ensures begun { OnOk result (machine.new ≡ with_start (begun_with (unwrap_or (set_of hive.now.tree number) no_set) number on_good) machine.old) }
     ensures held { OnOk result (HoldsKeys (unwrap_or (set_of hive.now.tree number) no_set)) }
+    ensures lists { IfOk result (AreRead (current_set hive.now.tree)) }
 {
     let set = live_set(alloc, hive, number)?;
-    machine.begin_with(alloc, set, number, on_good)
+    let lists = SetLists::read(alloc, &set)?;
+    machine.begin_with(alloc, set, number, on_good)?;
+    Ok(lists)
 }
 
 /// Begins the boot phase on the set of this number.
@@ -61,24 +66,29 @@ fn begin_start<H: Host>(
     number: u32,
     on_good: bool,
     numbers: SelectNumbers,
-    hive: &Hive,
+    hive: Hive,
     runner: &mut Runner,
     host: &mut H,
-) -> Result<(), RunStop>
+) -> Result<Option<Live>, RunStop>
     requires off { runner.old.machine.start ≡ None }
-    requires taken { IsTaken hive.now.tree number }
-    ensures sound { (d : DiskState) → IsUp hive.now d → OnOk result (IsSound runner.new d (Some hive.now)) }
-    ensures plays { (m : RunState) (d : DiskState) → (H.state host.old).tells ≡ true → IsUp hive.now d → Counts m runner.old → IsLive m hive.now d
+    requires taken { IsTaken hive.tree number }
+    ensures sound { (d : DiskState) → IsUp hive d → IfOk result (IsSound runner.new d) }
+    ensures plays { (m : RunState) (d : DiskState) → (H.state host.old).tells ≡ true → IsUp hive d → Counts m runner.old → IsLive m hive d
         → PlaysOr (boot_book.begin_start number on_good numbers m) (told_in (H.state host.old) runner.old) (told_in (H.state host.new) runner.new)
-        d d result (λ u rest. TurnLeft runner.new d (Some hive.now) rest) }
+        d d result (TurnLeft runner.new d) }
     ensures host { LeavesHost result (H.state host.old) (H.state host.new) }
 {
-    let Ok(()) = begin_on(alloc, number, on_good, hive, &mut runner.machine) else {
+    let Ok(lists) = begin_on(alloc, number, on_good, &hive, &mut runner.machine) else {
         return Err(RunStop::Memory);
     };
     say(alloc, host, &mut runner.summary, select_line(numbers))?;
     let word = PhaseWord::Boot;
-    say(alloc, host, &mut runner.summary, Line::Phase { word })
+    say(alloc, host, &mut runner.summary, Line::Phase { word })?;
+    Ok(Some(Live {
+        hive,
+        lists: Some(lists),
+        usable: None,
+    }))
 }
 
 /// After the commit of a beginning the start begins; after one that was stopped it is over.
@@ -87,22 +97,22 @@ fn begin_behind<H: Host>(
     number: u32,
     on_good: bool,
     numbers: SelectNumbers,
-    left: &Option<Hive>,
+    left: Option<Hive>,
     runner: &mut Runner,
     host: &mut H,
-) -> Result<(), RunStop>
+) -> Result<Option<Live>, RunStop>
     requires off { runner.old.machine.start ≡ None }
-    requires taken { IfSome left.now (λ (hive : Session). IsTaken hive.tree number) }
-    ensures sound { (d : DiskState) → IsUpOrDown d left.now → OnOk result (IsSound runner.new d left.now) }
-    ensures plays { (m : RunState) (tree : Tree) (d : DiskState) (rest : Act) → (H.state host.old).tells ≡ true → IsUpOrDown d left.now
-        → CommitLeft m tree (boot_book.begin_start number on_good numbers) runner.old d left.now rest
+    requires taken { IfSome left (λ (hive : Session). IsTaken hive.tree number) }
+    ensures sound { (d : DiskState) → IsUpOrDown d left → IfOk result (IsSound runner.new d) }
+    ensures plays { (m : RunState) (tree : Tree) (d : DiskState) (rest : Act) → (H.state host.old).tells ≡ true → IsUpOrDown d left
+        → CommitLeft m tree (boot_book.begin_start number on_good numbers) runner.old d left rest
         → PlaysOr rest (told_in (H.state host.old) runner.old) (told_in (H.state host.new) runner.new)
-        d d result (λ u a. TurnLeft runner.new d left.now a) }
+        d d result (TurnLeft runner.new d) }
     ensures host { LeavesHost result (H.state host.old) (H.state host.new) }
 {
     match left {
         Some(hive) => begin_start(alloc, number, on_good, numbers, hive, runner, host),
-        None => Ok(()),
+        None => Ok(None),
     }
 }
 
@@ -118,7 +128,7 @@ fn begin_committed<H: Host, B: Bench>(
     runner: &mut Runner,
     host: &mut H,
     bench: &mut B,
-) -> Result<Option<Hive>, RunStop>
+) -> Result<Option<Live>, RunStop>
     requires up { IsUp hive (B.state bench.old) }
     requires off { runner.old.machine.start ≡ None }
     requires taken { IsTaken hive.tree number }
@@ -130,10 +140,7 @@ fn begin_committed<H: Host, B: Bench>(
     ensures host { LeavesHost result (H.state host.old) (H.state host.new) }
 {
     let left = commit(alloc, CommitWord::Begin, hive, runner, host, bench)?;
-    match begin_behind(alloc, number, on_good, numbers, &left, runner, host) {
-        Ok(()) => Ok(left),
-        Err(stop) => Err(stop),
-    }
+    begin_behind(alloc, number, on_good, numbers, left, runner, host)
 }
 
 /// Makes the steps, commits the tree, and begins the start; or the start ends as full.
@@ -145,7 +152,7 @@ fn begin_stepped<H: Host, B: Bench>(
     runner: &mut Runner,
     host: &mut H,
     bench: &mut B,
-) -> Result<Option<Hive>, RunStop>
+) -> Result<Option<Live>, RunStop>
     requires up { IsUp hive (B.state bench.old) }
     requires off { runner.old.machine.start ≡ None }
     requires fits { All Fits plan.steps }
@@ -180,7 +187,7 @@ fn begin_by<H: Host, B: Bench>(
     runner: &mut Runner,
     host: &mut H,
     bench: &mut B,
-) -> Result<Option<Hive>, RunStop>
+) -> Result<Option<Live>, RunStop>
     requires up { IsUp hive (B.state bench.old) }
     requires off { runner.old.machine.start ≡ None }
     requires fits { All Fits plan.steps }
@@ -194,18 +201,15 @@ fn begin_by<H: Host, B: Bench>(
     if !plan.steps.is_empty() {
         return begin_stepped(alloc, plan, on_good, hive, runner, host, bench);
     }
-    match begin_start(
+    begin_start(
         alloc,
         plan.chosen,
         on_good,
         plan.numbers,
-        &hive,
+        hive,
         runner,
         host,
-    ) {
-        Ok(()) => Ok(Some(hive)),
-        Err(stop) => Err(stop),
-    }
+    )
 }
 
 // ---- which set is taken
@@ -274,7 +278,7 @@ pub(crate) fn take_set<H: Host, B: Bench>(
     runner: &mut Runner,
     host: &mut H,
     bench: &mut B,
-) -> Result<Option<Hive>, RunStop>
+) -> Result<Option<Live>, RunStop>
     requires up { IsUp hive (B.state bench.old) }
     requires off { runner.old.machine.start ≡ None }
     ensures sound { IfOk result (IsSound runner.new (B.state bench.new)) }

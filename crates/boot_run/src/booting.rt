@@ -17,6 +17,7 @@ ghost use Rattle.boot_run.specs.Views.{moment, told_by, RunsTo};
 
 use crate::beginning::take_set;
 use crate::ending::end_start;
+use crate::live::Live;
 use crate::loading::load;
 use crate::runner::Runner;
 use crate::saying::say;
@@ -25,7 +26,6 @@ use crate::summary::Summary;
 use arc_path::Arc;
 use boot_ini::{BootIni, Chosen, choose, wants_last_known_good};
 use boot_report::{Line, Verdict};
-use hive_store::Hive;
 use nt_bytes::Bytes;
 use nt_edge::{Bench, Host};
 use std::alloc::Global;
@@ -76,7 +76,7 @@ fn load_and_take<H: Host, B: Bench>(
     runner: &mut Runner,
     host: &mut H,
     bench: &mut B,
-) -> Result<Option<Hive>, RunStop>
+) -> Result<Option<Live>, RunStop>
     requires down { IsDown (B.state bench.old) }
     requires off { runner.old.machine.start ≡ None }
     ensures sound { IfOk result (IsSound runner.new (B.state bench.new)) }
@@ -101,7 +101,7 @@ fn boot_by<H: Host, B: Bench>(
     runner: &mut Runner,
     host: &mut H,
     bench: &mut B,
-) -> Result<Option<Hive>, RunStop>
+) -> Result<Option<Live>, RunStop>
     requires down { IsDown (B.state bench.old) }
     requires off { runner.old.machine.start ≡ None }
     requires there { IsThere ini.now.entries chosen }
@@ -140,7 +140,7 @@ pub(crate) fn boot<H: Host, B: Bench>(
     runner: &mut Runner,
     host: &mut H,
     bench: &mut B,
-) -> Result<Option<Hive>, RunStop>
+) -> Result<Option<Live>, RunStop>
     requires down { IsDown (B.state bench.old) }
     requires off { runner.old.machine.start ≡ None }
     ensures sound { IfOk result (IsSound runner.new (B.state bench.new)) }

@@ -11,24 +11,24 @@ ghost use Rattle.boot_run.specs.Agrees.{IsLive, IsSound, Counts, CommitLeft, IsE
 ghost use Rattle.boot_run.specs.Hosts.{LeavesHost};
 ghost use Rattle.boot_run.specs.Views.{moment, RunsTo};
 
-use crate::committing::commit;
+use crate::committing::commit_live;
 use crate::ending::end_with;
+use crate::live::Live;
 use crate::runner::Runner;
 use crate::saying::say;
 use crate::stop::RunStop;
 use boot_report::{CommitWord, Line, Verdict};
-use hive_store::Hive;
 use nt_edge::{Bench, Host};
 use std::alloc::Global;
 
 /// Commits the session's tree, where it was changed.
 pub(crate) fn flush<H: Host, B: Bench>(
     alloc: Global,
-    hive: Hive,
+    hive: Live,
     runner: &mut Runner,
     host: &mut H,
     bench: &mut B,
-) -> Result<Option<Hive>, RunStop>
+) -> Result<Option<Live>, RunStop>
     requires sound { IsSound runner.old (B.state bench.old) (Some hive) }
     ensures sound { IfOk result (IsSound runner.new (B.state bench.new)) }
     ensures plays { (m : RunState) → (H.state host.old).tells ≡ true → Counts m runner.old → IsLive m hive (B.state bench.old)
@@ -37,7 +37,7 @@ pub(crate) fn flush<H: Host, B: Bench>(
     ensures host { LeavesHost result (H.state host.old) (H.state host.new) }
 {
     if hive.changed() {
-        return commit(alloc, CommitWord::Flush, hive, runner, host, bench);
+        return commit_live(alloc, CommitWord::Flush, hive, runner, host, bench);
     }
     say(alloc, host, &mut runner.summary, Line::FlushNothing)?;
     Ok(Some(hive))
@@ -47,7 +47,7 @@ pub(crate) fn flush<H: Host, B: Bench>(
 fn end_behind<H: Host, B: Bench>(
     alloc: Global,
     word: Verdict,
-    left: Option<Hive>,
+    left: Option<Live>,
     runner: &mut Runner,
     host: &mut H,
     bench: &mut B,
@@ -72,7 +72,7 @@ fn end_behind<H: Host, B: Bench>(
 /// Commits the session's tree where it was changed, and ends the start.
 pub(crate) fn off<H: Host, B: Bench>(
     alloc: Global,
-    hive: Hive,
+    hive: Live,
     runner: &mut Runner,
     host: &mut H,
     bench: &mut B,
@@ -89,6 +89,6 @@ pub(crate) fn off<H: Host, B: Bench>(
         runner.judged = Some(hive.into_cells());
         return end_with(alloc, word, runner, host, bench);
     }
-    let left = commit(alloc, CommitWord::Off, hive, runner, host, bench)?;
+    let left = commit_live(alloc, CommitWord::Off, hive, runner, host, bench)?;
     end_behind(alloc, word, left, runner, host, bench)
 }

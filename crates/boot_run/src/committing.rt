@@ -10,6 +10,7 @@ ghost use Rattle.boot_run.specs.Hosts.{LeavesHost};
 ghost use Rattle.boot_run.specs.Views.{moment, RunsTo};
 
 use crate::ending::end_with;
+use crate::live::Live;
 use crate::runner::Runner;
 use crate::saying::say;
 use crate::stop::RunStop;
@@ -54,5 +55,38 @@ pub(crate) fn commit<H: Host, B: Bench>(
             Ok(None)
         }
         Err(CommitStop::Memory) => Err(RunStop::Memory),
+    }
+}
+
+/// Commits the tree of a start that runs, as `commit` does. What is kept of it stays.
+pub(crate) fn commit_live<H: Host, B: Bench>(
+    alloc: Global,
+    what: CommitWord,
+    live: Live,
+    runner: &mut Runner,
+    host: &mut H,
+    bench: &mut B,
+) -> Result<Option<Live>, RunStop>
+    requires up { IsUp live (B.state bench.old) }
+    ensures sound { IfOk result (LeavesUp live runner.old runner.new (B.state bench.new)) }
+    ensures plays { (m : RunState) (next : RunState → Act) → (H.state host.old).tells ≡ true → Counts m runner.old → IsStored m live (B.state bench.old)
+        → Stays next
+        → RunsTo (book.commit (commit_of what) live.tree m next) (moment (H.state host.old) runner.old (B.state bench.old))
+        (moment (H.state host.new) runner.new (B.state bench.new)) result (CommitLeft m live.tree next runner.new (B.state bench.new)) }
+    ensures host { LeavesHost result (H.state host.old) (H.state host.new) }
+{
+    let Live {
+        hive,
+        lists,
+        usable,
+    } = live;
+    let left = commit(alloc, what, hive, runner, host, bench)?;
+    match left {
+        Some(hive) => Ok(Some(Live {
+            hive,
+            lists,
+            usable,
+        })),
+        None => Ok(None),
     }
 }

@@ -14,10 +14,10 @@ ghost use Rattle.boot_run.specs.Hosts.{LeavesHost};
 ghost use Rattle.boot_run.specs.Views.{moment, RunsTo};
 
 use crate::ending::end_with;
+use crate::live::Live;
 use crate::runner::Runner;
 use crate::stop::RunStop;
 use boot_report::Verdict;
-use hive_store::Hive;
 use nt_edge::{Bench, DiskCall, Host, Keep};
 use std::alloc::Global;
 
@@ -25,7 +25,7 @@ use std::alloc::Global;
 pub(crate) fn cut<H: Host, B: Bench>(
     alloc: Global,
     keep: Keep,
-    hive: Hive,
+    hive: Live,
     runner: &mut Runner,
     host: &mut H,
     bench: &mut B,

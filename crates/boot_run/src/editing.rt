@@ -16,13 +16,13 @@ ghost use Rattle.boot_run.specs.Edits.{edit_line, TellsLine};
 ghost use Rattle.boot_run.specs.Hosts.{LeavesHost};
 ghost use Rattle.boot_run.specs.Views.{told_in};
 
+use crate::live::Live;
 use crate::runner::Runner;
 use crate::saying::say;
 use crate::stop::RunStop;
 use crate::words::{edit_word, event_word};
 use boot_report::Line;
 use boot_script::Event;
-use hive_store::Hive;
 use nt_edge::Host;
 use reg_tree::{EditStop, Steps, TreeStep};
 use std::alloc::{AllocError, Global};
@@ -70,10 +70,10 @@ pub(crate) fn edit<H: Host>(
     alloc: Global,
     event: &Event,
     step: TreeStep,
-    hive: Hive,
+    hive: Live,
     runner: &mut Runner,
     host: &mut H,
-) -> Result<Hive, RunStop>
+) -> Result<Live, RunStop>
     requires fits { Fits (step_of step) }
     ensures sound { (d : DiskState) (e : Edit) (number : ℕ) → IsSound runner.old d (Some hive) → RunsOn runner.old number
         → step_of step ≡ book.step_of number e → is_protected e ≡ false → IfOk result (λ h. IsSound runner.new d (Some h)) }

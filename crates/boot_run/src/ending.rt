@@ -15,11 +15,11 @@ ghost use Rattle.boot_run.specs.Hosts.{LeavesHost};
 ghost use Rattle.boot_run.specs.Agrees.{LoadsAny, IsSound, Counts, IsEnding, TurnLeft};
 ghost use Rattle.boot_run.specs.Views.{told_in, moment, RunsTo};
 
+use crate::live::Live;
 use crate::runner::Runner;
 use crate::saying::say;
 use crate::stop::RunStop;
 use boot_report::{Line, Verdict};
-use hive_store::Hive;
 use nt_edge::{Bench, Host};
 use std::alloc::Global;
 
@@ -50,7 +50,7 @@ pub(crate) fn end_start<H: Host, B: Bench>(
     runner: &mut Runner,
     host: &mut H,
     bench: &mut B,
-) -> Result<Option<Hive>, RunStop>
+) -> Result<Option<Live>, RunStop>
     requires left { EachCrash (B.state bench.old) LoadsAny }
     ensures sound { IfOk result (IsSound runner.new (B.state bench.new)) }
     ensures plays { (m : RunState) → (H.state host.old).tells ≡ true → Counts m runner.old → EachCrash (B.state bench.old) (MayLoad m.disk)

@@ -12,6 +12,7 @@ mod committing;
 mod cutting;
 mod editing;
 mod ending;
+mod live;
 mod loading;
 mod missing;
 mod runner;

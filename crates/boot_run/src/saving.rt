@@ -24,14 +24,14 @@ ghost use Rattle.boot_run.specs.Saves.{HandedOut, IsSavePlan, PlansOr, noting};
 ghost use Rattle.boot_run.specs.declared.stop.RunStop.TheVariants.{Memory};
 ghost use Rattle.boot_run.specs.Views.{moment, told_in, RunsTo};
 
-use crate::committing::commit;
+use crate::committing::commit_live;
+use crate::live::Live;
 use crate::runner::Runner;
 use crate::saying::say;
 use crate::sets::{live_numbers, live_sets};
 use crate::stop::RunStop;
 use crate::words::{edit_word, select_line};
 use boot_report::{CommitWord, Line};
-use hive_store::Hive;
 use nt_edge::{Bench, Host};
 use reg_tree::Key;
 use select_keys::{SelectNumbers, SelectStop, SetPlan, plan_save};
@@ -60,7 +60,7 @@ fn note<H: Host>(
 fn note_behind<H: Host>(
     alloc: Global,
     numbers: SelectNumbers,
-    left: &Option<Hive>,
+    left: &Option<Live>,
     runner: &mut Runner,
     host: &mut H,
 ) -> Result<(), RunStop>
@@ -80,11 +80,11 @@ fn note_behind<H: Host>(
 fn commit_save<H: Host, B: Bench>(
     alloc: Global,
     numbers: SelectNumbers,
-    hive: Hive,
+    hive: Live,
     runner: &mut Runner,
     host: &mut H,
     bench: &mut B,
-) -> Result<Option<Hive>, RunStop>
+) -> Result<Option<Live>, RunStop>
     requires sound { IsSound runner.old (B.state bench.old) (Some hive) }
     ensures sound { IfOk result (IsSound runner.new (B.state bench.new)) }
     ensures plays { (m : RunState) (s : Start) (next : RunState → Act) → (H.state host.old).tells ≡ true → HandedOut m s → Counts m runner.old
@@ -93,7 +93,7 @@ fn commit_save<H: Host, B: Bench>(
         (moment (H.state host.new) runner.new (B.state bench.new)) result (OnLeft next runner.new (B.state bench.new)) }
     ensures host { LeavesHost result (H.state host.old) (H.state host.new) }
 {
-    let left = commit(alloc, CommitWord::Save, hive, runner, host, bench)?;
+    let left = commit_live(alloc, CommitWord::Save, hive, runner, host, bench)?;
     note_behind(alloc, numbers, &left, runner, host)?;
     Ok(left)
 }
@@ -102,10 +102,10 @@ fn commit_save<H: Host, B: Bench>(
 fn refuse<H: Host>(
     alloc: Global,
     full: bool,
-    hive: Hive,
+    hive: Live,
     runner: &mut Runner,
     host: &mut H,
-) -> Result<Option<Hive>, RunStop>
+) -> Result<Option<Live>, RunStop>
     ensures sound { (d : DiskState) → IsSound runner.old d (Some hive) → IfOk result (IsSound runner.new d) }
     ensures plays { (m : RunState) (s : Start) (next : RunState → Act) (d : DiskState) → (H.state host.old).tells ≡ true → HandedOut m s → Counts m runner.old
         → IsSound runner.old d (Some hive) → IsLive m hive d → Stays next
@@ -121,11 +121,11 @@ fn refuse<H: Host>(
 fn save_by<H: Host, B: Bench>(
     alloc: Global,
     plan: SetPlan,
-    hive: Hive,
+    hive: Live,
     runner: &mut Runner,
     host: &mut H,
     bench: &mut B,
-) -> Result<Option<Hive>, RunStop>
+) -> Result<Option<Live>, RunStop>
     requires sound { IsSound runner.old (B.state bench.old) (Some hive) }
     requires fits { All Fits plan.steps }
     requires plan { (clone : Tree) × IsSavePlan hive.tree clone plan }
@@ -148,16 +148,16 @@ fn save_by<H: Host, B: Bench>(
 }
 
 /// The plan of the clone's save in the live tree; none where no number is free.
-fn plan_of(alloc: Global, clone: Key, hive: &Hive) -> Result<Option<SetPlan>, RunStop>
+fn plan_of(alloc: Global, clone: Key, live: &Live) -> Result<Option<SetPlan>, RunStop>
     requires { HoldsKeys clone }
-    ensures plan { IfOk result (λ o. PlansOr o (save_plan_of (select_numbers_of hive.now.tree) (usable_numbers_of hive.now.tree) clone)) }
+    ensures plan { IfOk result (λ o. PlansOr o (save_plan_of (select_numbers_of live.now.tree) (usable_numbers_of live.now.tree) clone)) }
     ensures fits { IfOk result (λ o. IfSome o (λ plan. All Fits plan.steps)) }
     ensures memory { IfErr result (λ stop. stop ≡ Memory) }
 {
-    let Ok(numbers) = live_numbers(alloc, hive) else {
+    let Ok(numbers) = live_numbers(alloc, &live.hive) else {
         return Err(RunStop::Memory);
     };
-    let Ok(taken) = live_sets(alloc, hive) else {
+    let Ok(taken) = live_sets(alloc, &live.hive) else {
         return Err(RunStop::Memory);
     };
     match plan_save(alloc, numbers, &taken, clone) {
@@ -171,11 +171,11 @@ fn plan_of(alloc: Global, clone: Key, hive: &Hive) -> Result<Option<SetPlan>, Ru
 fn save<H: Host, B: Bench>(
     alloc: Global,
     clone: Key,
-    hive: Hive,
+    hive: Live,
     runner: &mut Runner,
     host: &mut H,
     bench: &mut B,
-) -> Result<Option<Hive>, RunStop>
+) -> Result<Option<Live>, RunStop>
     requires sound { IsSound runner.old (B.state bench.old) (Some hive) }
     requires clone { HoldsKeys clone }
     ensures sound { IfOk result (IsSound runner.new (B.state bench.new)) }
@@ -194,11 +194,11 @@ fn save<H: Host, B: Bench>(
 /// Where the start became good just now, its clone is saved. A start must run.
 pub(crate) fn save_where_due<H: Host, B: Bench>(
     alloc: Global,
-    hive: Hive,
+    hive: Live,
     runner: &mut Runner,
     host: &mut H,
     bench: &mut B,
-) -> Result<Option<Hive>, RunStop>
+) -> Result<Option<Live>, RunStop>
     requires sound { IsSound runner.old (B.state bench.old) (Some hive) }
     ensures sound { IfOk result (IsSound runner.new (B.state bench.new)) }
     ensures plays { (m : RunState) (next : RunState → Act) → (H.state host.old).tells ≡ true → Counts m runner.old → IsLive m hive (B.state bench.old)
@@ -219,11 +219,11 @@ pub(crate) fn save_where_due<H: Host, B: Bench>(
 /// Says and notes the logon, and saves a start that became good by it.
 pub(crate) fn logon<H: Host, B: Bench>(
     alloc: Global,
-    hive: Hive,
+    hive: Live,
     runner: &mut Runner,
     host: &mut H,
     bench: &mut B,
-) -> Result<Option<Hive>, RunStop>
+) -> Result<Option<Live>, RunStop>
     requires sound { IsSound runner.old (B.state bench.old) (Some hive) }
     ensures sound { IfOk result (IsSound runner.new (B.state bench.new)) }
     ensures plays { (m : RunState) → (H.state host.old).tells ≡ true → Counts m runner.old → IsLive m hive (B.state bench.old)

@@ -18,17 +18,17 @@ ghost use Rattle.boot_run.specs.declared.stop.RunStop.TheVariants.{Memory};
 ghost use Rattle.boot_run.specs.Views.{moment, told_in, RunsTo, SaysAll};
 
 use crate::ending::end_with;
+use crate::live::Live;
 use crate::missing::stop_without;
 use crate::runner::Runner;
 use crate::saving::save_where_due;
 use crate::saying::say;
-use crate::sets::{count_services, good_is_usable, live_set};
+use crate::sets::count_services;
 use crate::stop::RunStop;
 use crate::unmet::say_unmet;
 use crate::words::{try_word, verdict_after};
 use boot_machine::{Machine, Phase, phase_word};
 use boot_report::{Line, Verdict};
-use hive_store::Hive;
 use nt_bytes::Names;
 use nt_edge::{Bench, Host};
 use std::alloc::Global;
@@ -69,11 +69,11 @@ fn attempt<H: Host>(
 fn end_where<H: Host, B: Bench>(
     alloc: Global,
     verdict: Option<Verdict>,
-    hive: Hive,
+    hive: Live,
     runner: &mut Runner,
     host: &mut H,
     bench: &mut B,
-) -> Result<Option<Hive>, RunStop>
+) -> Result<Option<Live>, RunStop>
     requires sound { IsSound runner.old (B.state bench.old) (Some hive) }
     ensures sound { IfOk result (IsSound runner.new (B.state bench.new)) }
     ensures plays { (m : RunState) (next : RunState → Act) (judgement : Judgement) → (H.state host.old).tells ≡ true → Counts m runner.old
@@ -95,11 +95,11 @@ fn end_where<H: Host, B: Bench>(
 /// One attempt, and what follows from it.
 fn try_next<H: Host, B: Bench>(
     alloc: Global,
-    hive: Hive,
+    hive: Live,
     runner: &mut Runner,
     host: &mut H,
     bench: &mut B,
-) -> Result<Option<Hive>, RunStop>
+) -> Result<Option<Live>, RunStop>
     requires sound { IsSound runner.old (B.state bench.old) (Some hive) }
     requires ready { is_at_end runner.old.machine.start ≡ false }
     ensures sound { IfOk result (IsSound runner.new (B.state bench.new)) }
@@ -109,7 +109,8 @@ fn try_next<H: Host, B: Bench>(
         (moment (H.state host.new) runner.new (B.state bench.new)) result (OnLeft next runner.new (B.state bench.new)) }
     ensures host { LeavesHost result (H.state host.old) (H.state host.new) }
 {
-    let Ok(usable) = good_is_usable(alloc, &hive) else {
+    let mut hive = hive;
+    let Ok(usable) = hive.good_is_usable(alloc) else {
         return Err(RunStop::Memory);
     };
     let verdict = attempt(alloc, usable, runner, host)?;
@@ -134,11 +135,12 @@ fn end_phases(alloc: Global, runner: &mut Runner) -> Result<Names, RunStop>
 }
 
 /// Goes on to the next phase, with the entries of the taken set as it is now. Answers what was unmet.
-fn plan_phase(alloc: Global, hive: &Hive, runner: &mut Runner) -> Result<Names, RunStop>
-    requires { IsRunningBy runner.old.machine.start hive.now.tree }
-    ensures next { OnOk result (NextPhase hive.now.tree runner.old.machine runner.new.machine) }
+fn plan_phase(alloc: Global, hive: &mut Live, runner: &mut Runner) -> Result<Names, RunStop>
+    requires { IsRunningBy runner.old.machine.start hive.old.tree }
+    ensures next { OnOk result (NextPhase hive.old.tree runner.old.machine runner.new.machine) }
     ensures unmet { IfOk result (λ names. names ≡ option_map_or unmet_in runner.old.machine.start []) }
-    ensures sound { OnOk result (IsRunningBy runner.new.machine.start hive.now.tree) }
+    ensures sound { OnOk result (IsRunningBy runner.new.machine.start hive.old.tree) }
+    ensures session { hive.new ≡ hive.old }
     ensures starts { runner.new.starts ≡ runner.old.starts }
     ensures summary { runner.new.summary ≡ runner.old.summary }
     ensures memory { IfErr result (λ stop. stop ≡ Memory) }
@@ -146,21 +148,23 @@ fn plan_phase(alloc: Global, hive: &Hive, runner: &mut Runner) -> Result<Names, 
     let Some((number, _)) = runner.machine.running() else {
         unreachable!()
     };
-    let Ok(set) = live_set(alloc, hive, number) else {
+    let Ok(lists) = hive.take_lists(alloc, number) else {
         return Err(RunStop::Memory);
     };
-    match runner.machine.next_phase(alloc, &set) {
-        Ok(unmet) => Ok(unmet),
-        Err(_) => Err(RunStop::Memory),
-    }
+    let Ok(unmet) = runner.machine.next_phase_listed(alloc, &lists) else {
+        return Err(RunStop::Memory);
+    };
+    hive.keep(lists);
+    Ok(unmet)
 }
 
 /// Goes on to the next phase. Answers what was unmet.
-fn next_phase(alloc: Global, hive: &Hive, runner: &mut Runner) -> Result<Names, RunStop>
-    requires { IsRunningBy runner.old.machine.start hive.now.tree }
-    ensures next { OnOk result (NextPhase hive.now.tree runner.old.machine runner.new.machine) }
+fn next_phase(alloc: Global, hive: &mut Live, runner: &mut Runner) -> Result<Names, RunStop>
+    requires { IsRunningBy runner.old.machine.start hive.old.tree }
+    ensures next { OnOk result (NextPhase hive.old.tree runner.old.machine runner.new.machine) }
     ensures unmet { IfOk result (λ names. names ≡ option_map_or unmet_in runner.old.machine.start []) }
-    ensures sound { OnOk result (IsRunningBy runner.new.machine.start hive.now.tree) }
+    ensures sound { OnOk result (IsRunningBy runner.new.machine.start hive.old.tree) }
+    ensures session { hive.new ≡ hive.old }
     ensures starts { runner.new.starts ≡ runner.old.starts }
     ensures summary { runner.new.summary ≡ runner.old.summary }
     ensures memory { IfErr result (λ stop. stop ≡ Memory) }
@@ -174,13 +178,14 @@ fn next_phase(alloc: Global, hive: &Hive, runner: &mut Runner) -> Result<Names, 
 /// The phase ends and the next one begins: what still waits is printed as unmet, and then the phase.
 fn say_phase<H: Host>(
     alloc: Global,
-    hive: &Hive,
+    hive: &mut Live,
     runner: &mut Runner,
     host: &mut H,
 ) -> Result<(), RunStop>
-    requires { IsRunningBy runner.old.machine.start hive.now.tree }
-    ensures next { OnOk result (NextPhase hive.now.tree runner.old.machine runner.new.machine) }
-    ensures sound { OnOk result (IsRunningBy runner.new.machine.start hive.now.tree) }
+    requires { IsRunningBy runner.old.machine.start hive.old.tree }
+    ensures next { OnOk result (NextPhase hive.old.tree runner.old.machine runner.new.machine) }
+    ensures sound { OnOk result (IsRunningBy runner.new.machine.start hive.old.tree) }
+    ensures session { hive.new ≡ hive.old }
     ensures tells { (s : Start) → (H.state host.old).tells ≡ true → runner.old.machine.start ≡ Some s
         → SaysAll (phase_lines s) (told_in (H.state host.old) runner.old) (told_in (H.state host.new) runner.new) result }
     ensures starts { runner.new.starts ≡ runner.old.starts }
@@ -195,11 +200,11 @@ fn say_phase<H: Host>(
 /// What still waits is unmet, the next phase begins, and a start that became good by that is saved.
 fn go_past<H: Host, B: Bench>(
     alloc: Global,
-    hive: Hive,
+    hive: Live,
     runner: &mut Runner,
     host: &mut H,
     bench: &mut B,
-) -> Result<Option<Hive>, RunStop>
+) -> Result<Option<Live>, RunStop>
     requires sound { IsSound runner.old (B.state bench.old) (Some hive) }
     ensures sound { IfOk result (IsSound runner.new (B.state bench.new)) }
     ensures plays { (m : RunState) (s : Start) (next : RunState → Act) → (H.state host.old).tells ≡ true → Counts m runner.old
@@ -208,7 +213,8 @@ fn go_past<H: Host, B: Bench>(
         (moment (H.state host.new) runner.new (B.state bench.new)) result (OnLeft next runner.new (B.state bench.new)) }
     ensures host { LeavesHost result (H.state host.old) (H.state host.new) }
 {
-    say_phase(alloc, &hive, runner, host)?;
+    let mut hive = hive;
+    say_phase(alloc, &mut hive, runner, host)?;
     save_where_due(alloc, hive, runner, host, bench)
 }
 
@@ -216,11 +222,11 @@ fn go_past<H: Host, B: Bench>(
 /// vital name the start stops instead.
 fn change_phase<H: Host, B: Bench>(
     alloc: Global,
-    hive: Hive,
+    hive: Live,
     runner: &mut Runner,
     host: &mut H,
     bench: &mut B,
-) -> Result<Option<Hive>, RunStop>
+) -> Result<Option<Live>, RunStop>
     requires sound { IsSound runner.old (B.state bench.old) (Some hive) }
     ensures sound { IfOk result (IsSound runner.new (B.state bench.new)) }
     ensures plays { (m : RunState) (s : Start) (next : RunState → Act) → (H.state host.old).tells ≡ true → Counts m runner.old
@@ -262,11 +268,11 @@ fn is_under_way(machine: &Machine) -> bool
 /// One step of the starter. A start must run whose phases are not over.
 fn step<H: Host, B: Bench>(
     alloc: Global,
-    hive: Hive,
+    hive: Live,
     runner: &mut Runner,
     host: &mut H,
     bench: &mut B,
-) -> Result<Option<Hive>, RunStop>
+) -> Result<Option<Live>, RunStop>
     requires sound { IsSound runner.old (B.state bench.old) (Some hive) }
     requires under_way { is_under_way runner.old.machine.start ≡ true }
     ensures sound { IfOk result (IsSound runner.new (B.state bench.new)) }
@@ -286,7 +292,7 @@ fn step<H: Host, B: Bench>(
 fn take_steps<H: Host, B: Bench>(
     alloc: Global,
     most: u128,
-    session: &mut Option<Hive>,
+    session: &mut Option<Live>,
     runner: &mut Runner,
     host: &mut H,
     bench: &mut B,
@@ -312,7 +318,7 @@ fn take_steps<H: Host, B: Bench>(
 
 /// That many steps as are enough for all that the start can still do: one for each entry that waits or that the set could
 /// still give, and three for the phases.
-fn enough(alloc: Global, hive: &Hive, runner: &Runner) -> Result<u128, RunStop>
+fn enough(alloc: Global, hive: &Live, runner: &Runner) -> Result<u128, RunStop>
     requires { IsRunningBy runner.now.machine.start hive.now.tree }
     ensures memory { IfErr result (λ stop. stop ≡ Memory) }
     ensures steps { IfOk result (λ n. (m : RunState) → m.live ≡ hive.now.tree → enough_steps runner.now.machine.start m ≤ n) }
@@ -330,7 +336,7 @@ fn enough(alloc: Global, hive: &Hive, runner: &Runner) -> Result<u128, RunStop>
 fn most_steps(
     alloc: Global,
     steps: Option<u32>,
-    hive: &Hive,
+    hive: &Live,
     runner: &Runner,
 ) -> Result<u128, RunStop>
     requires { IsRunningBy runner.now.machine.start hive.now.tree }
@@ -347,11 +353,11 @@ fn most_steps(
 pub(crate) fn go<H: Host, B: Bench>(
     alloc: Global,
     steps: Option<u32>,
-    hive: Hive,
+    hive: Live,
     runner: &mut Runner,
     host: &mut H,
     bench: &mut B,
-) -> Result<Option<Hive>, RunStop>
+) -> Result<Option<Live>, RunStop>
     requires sound { IsSound runner.old (B.state bench.old) (Some hive) }
     ensures sound { IfOk result (IsSound runner.new (B.state bench.new)) }
     ensures plays { (m : RunState) → (H.state host.old).tells ≡ true → Counts m runner.old → IsLive m hive (B.state bench.old)

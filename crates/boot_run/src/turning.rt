@@ -25,6 +25,7 @@ use crate::booting::boot;
 use crate::closing::{flush, off};
 use crate::cutting::{arm_cut, arm_fault, cut};
 use crate::editing::edit;
+use crate::live::Live;
 use crate::runner::Runner;
 use crate::saving::logon;
 use crate::saying::say;
@@ -38,7 +39,6 @@ use boot_machine::{EventRefusal, Machine};
 use boot_report::Line;
 use boot_script::Event;
 use edit_steps::{delete_step, make_step, remove_step, set_step};
-use hive_store::Hive;
 use nt_bytes::Units;
 use nt_edge::{Bench, Host};
 use reg_tree::TreeStep;
@@ -95,10 +95,10 @@ fn aside<B: Bench>(
 fn beside<B: Bench>(
     alloc: Global,
     event: &Event,
-    hive: Option<Hive>,
+    hive: Option<Live>,
     runner: &mut Runner,
     bench: &mut B,
-) -> Result<Option<Hive>, RunStop>
+) -> Result<Option<Live>, RunStop>
     requires sound { IsSound runner.old (B.state bench.old) hive }
     requires counts { HasCounts event.now }
     ensures sound { IfOk result (IsSound runner.new (B.state bench.new)) }
@@ -154,11 +154,11 @@ fn next_step(alloc: Global, event: &Event, machine: &Machine) -> Result<TreeStep
 fn edit_by<H: Host, B: Bench>(
     alloc: Global,
     event: &Event,
-    hive: Hive,
+    hive: Live,
     runner: &mut Runner,
     host: &mut H,
     bench: &B,
-) -> Result<Option<Hive>, RunStop>
+) -> Result<Option<Live>, RunStop>
     requires sound { IsSound runner.old (B.state bench.now) (Some hive) }
     requires edit { IsEdit (event_in event.now) }
     requires accepted { refusal_of runner.old.machine (event_in event.now) ≡ None }
@@ -188,7 +188,7 @@ fn idle<H: Host, B: Bench>(
     runner: &mut Runner,
     host: &mut H,
     bench: &mut B,
-) -> Result<Option<Hive>, RunStop>
+) -> Result<Option<Live>, RunStop>
     requires sound { IsSound runner.old (B.state bench.old) None }
     requires counts { HasCounts event.now }
     ensures sound { IfOk result (IsSound runner.new (B.state bench.new)) }
@@ -219,11 +219,11 @@ fn idle<H: Host, B: Bench>(
 fn running<H: Host, B: Bench>(
     alloc: Global,
     event: &Event,
-    hive: Hive,
+    hive: Live,
     runner: &mut Runner,
     host: &mut H,
     bench: &mut B,
-) -> Result<Option<Hive>, RunStop>
+) -> Result<Option<Live>, RunStop>
     requires sound { IsSound runner.old (B.state bench.old) (Some hive) }
     requires counts { HasCounts event.now }
     requires accepted { refusal_of runner.old.machine (event_in event.now) ≡ None }
@@ -278,11 +278,11 @@ fn act<H: Host, B: Bench>(
     ini: &BootIni,
     system: &Arc,
     event: &Event,
-    hive: Option<Hive>,
+    hive: Option<Live>,
     runner: &mut Runner,
     host: &mut H,
     bench: &mut B,
-) -> Result<Option<Hive>, RunStop>
+) -> Result<Option<Live>, RunStop>
     requires sound { IsSound runner.old (B.state bench.old) hive }
     requires counts { HasCounts event.now }
     requires accepted { refusal_of runner.old.machine (event_in event.now) ≡ None }
@@ -304,11 +304,11 @@ pub(crate) fn turn<H: Host, B: Bench>(
     ini: &BootIni,
     system: &Arc,
     event: &Event,
-    hive: Option<Hive>,
+    hive: Option<Live>,
     runner: &mut Runner,
     host: &mut H,
     bench: &mut B,
-) -> Result<Option<Hive>, RunStop>
+) -> Result<Option<Live>, RunStop>
     requires sound { IsSound runner.old (B.state bench.old) hive }
     requires counts { HasCounts event.now }
     ensures sound { IfOk result (IsSound runner.new (B.state bench.new)) }

@@ -1,4 +1,4 @@
-use Rattle.std.proofs.Common.{Some, None, sym, subst}
+use Rattle.std.proofs.Common.{sym, subst}
 use Rattle.std.specs.Prelude.{Option}
 use Rattle.hive_store.specs.Session.{Session}
 use Rattle.start_model.specs.Commit.{committed_state}
@@ -20,19 +20,17 @@ returns-in-Some-clause-plays g c = λ m tree d rest tells up h.
     let P : Option Session → Type 0 = λ o. CommitLeft m tree next c.args.runner.now d o rest in
     let Q : Option Session → Type 0 = λ o. IsUpOrDown d o in
     let k = subst P c.in-Some.is h in
-    plays-as c.begin_start.result _ _ (next (committed_state m tree)) rest x z d d (sym k.0)
-    (λ v a t. let R : Option Session → Type 0 = λ o. TurnLeft c.begin_start.new.runner d o a in
-    subst R (sym c.in-Some.is) t)
+    let Left = TurnLeft c.begin_start.new.runner d in
+    plays-as c.begin_start.result Left Left (next (committed_state m tree)) rest x z d d (sym k.0) (λ v a t. t)
     (c.begin_start.ensures.plays (committed_state m tree) d tells (subst Q c.in-Some.is up) k.1.0 k.1.1)
 
 pub returns-in-None-clause-plays : goal.returns-in-None-clause-plays
 returns-in-None-clause-plays g c = λ m tree d rest tells up h.
     let next = begin_start c.args.number c.args.on_good c.args.numbers in
-    let P : Option Session → Type 0 = λ o. CommitLeft m tree next c.args.runner.now d o rest in
-    let R : Option Session → Type 0 = λ o. TurnLeft c.args.runner.now d o rest in (
+    let P : Option Session → Type 0 = λ o. CommitLeft m tree next c.args.runner.now d o rest in (
       rest,
       (
         goes-nothing (play rest) (told_in (g.H.Host.state c.args.host.now) c.args.runner.now) d d (idle d),
-        subst R (sym c.in-None.is) (commit_over m tree next c.args.runner.now d rest (subst P c.in-None.is h)),
+        commit_over m tree next c.args.runner.now d rest (subst P c.in-None.is h),
       ),
     )

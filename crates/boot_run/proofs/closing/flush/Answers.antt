@@ -14,14 +14,14 @@ use Rattle.boot_run.proofs.closing.flush.Goals as goal
 pub returns-then-changed-clause-plays : goal.returns-then-changed-clause-plays
 returns-then-changed-clause-plays g c = λ m tells counts live.
     let x = told_in (g.H.Host.state c.args.host.now) c.args.runner.now in
-    let y = told_in (g.H.Host.state c.commit.new.host) c.commit.new.runner in
+    let y = told_in (g.H.Host.state c.commit_live.new.host) c.commit_live.new.runner in
     let d = g.B.Disk.state c.args.bench.now in
-    let e = g.B.Disk.state c.commit.new.bench in
+    let e = g.B.Disk.state c.commit_live.new.bench in
     let changed : m.changed ≡ true = live.changed ∙ sym c.changed.ensures ∙ c.if-changed.true in
-    plays-as c.commit.result (CommitLeft m c.args.hive.tree done c.commit.new.runner e) (TurnLeft c.commit.new.runner e)
+    plays-as c.commit_live.result (CommitLeft m c.args.hive.tree done c.commit_live.new.runner e) (TurnLeft c.commit_live.new.runner e)
     (commit book.FlushCommit c.args.hive.tree m done) (flush_act m) x y d e
-    (flush_changed m c.args.hive.tree live.live changed) (commit_turn m c.args.hive.tree c.commit.new.runner e)
-    (c.commit.ensures.plays m done tells counts (stored m c.args.hive d live) stays_done)
+    (flush_changed m c.args.hive.tree live.live changed) (commit_turn m c.args.hive.tree c.commit_live.new.runner e)
+    (c.commit_live.ensures.plays m done tells counts (stored m c.args.hive d live) stays_done)
 
 pub returns-in_err-say-clause-plays : goal.returns-in_err-say-clause-plays
 returns-in_err-say-clause-plays g c = λ m tells counts live.

@@ -45,10 +45,10 @@ returns-in_err-left-clause-plays g c = λ m tells counts live.
     let there : is_there m.machine.start ≡ true = ap (λ (k : MachineState). is_there k.start) counts.machine ∙ runs in
     let is : Some word ≡ option_map ending_of m.machine.start =
     c.ending-word.ensures ∙ ap (λ (k : MachineState). option_map ending_of k.start) (sym counts.machine) in
-    let y = told_in (g.H.Host.state c.commit.new.host) c.commit.new.runner in
-    let e = g.B.Disk.state c.commit.new.bench in
+    let y = told_in (g.H.Host.state c.commit_live.new.host) c.commit_live.new.runner in
+    let e = g.B.Disk.state c.commit_live.new.bench in
     let changed : m.changed ≡ true = live.changed ∙ sym c.changed.ensures ∙ c.if-not-changed.false in
-    let Left = OffLeft c.commit.new.runner e in
+    let Left = OffLeft c.commit_live.new.runner e in
     let whole = commit book.OffCommit c.args.hive.tree m (end_with word false) in
     plays-as c.from_residual.result Left Left whole (option_map_or (λ s. off_act s m) m.machine.start (done m)) x y d e
     (off_changed m c.args.hive.tree m.machine.start word there is live.live changed) (λ v rest h. h)
@@ -65,9 +65,9 @@ returns-clause-plays g c = λ m tells counts live.
     let there : is_there m.machine.start ≡ true = ap (λ (k : MachineState). is_there k.start) counts.machine ∙ runs in
     let is : Some word ≡ option_map ending_of m.machine.start =
     c.ending-word.ensures ∙ ap (λ (k : MachineState). option_map ending_of k.start) (sym counts.machine) in
-    let y = told_in (g.H.Host.state c.commit.new.host) c.commit.new.runner in
+    let y = told_in (g.H.Host.state c.commit_live.new.host) c.commit_live.new.runner in
     let z = told_in (g.H.Host.state c.end_behind.new.host) c.end_behind.new.runner in
-    let e = g.B.Disk.state c.commit.new.bench in
+    let e = g.B.Disk.state c.commit_live.new.bench in
     let f = g.B.Disk.state c.end_behind.new.bench in
     let changed : m.changed ≡ true = live.changed ∙ sym c.changed.ensures ∙ c.if-not-changed.false in
     let Left = OffLeft c.end_behind.new.runner f in

@@ -3,9 +3,10 @@ use Rattle.start_model.specs.Machine.{MachineState, after_phase, with_start}
 use Rattle.start_model.specs.Act.{Act, say_all, with_machine}
 use Rattle.start_model.specs.Commit.{save_where_due}
 use Rattle.start_model.specs.Starter.{live_set}
+use Rattle.hive_store.specs.Session.{Session}
 use Rattle.printed_parts.specs.Parts.{Breaks}
 use Rattle.printed_parts.proofs.BreakLemmas.{or-breaks}
-use Rattle.boot_run.specs.Agrees.{OnLeft}
+use Rattle.boot_run.specs.Agrees.{IsSound, IsLive, OnLeft}
 use Rattle.boot_run.specs.Starts.{phase_lines, phase_gone}
 use Rattle.boot_run.specs.Views.{told_in}
 use Rattle.boot_run.proofs.PlayLemmas.{live_left, plays-as, plays-then}
@@ -33,7 +34,10 @@ returns-in_err-say_phase-clause-plays g c = λ m s next tells counts live at sta
     (live_left m c.args.hive d c.requires.sound.0 live image crash))))
 
 pub save_where_due-requires : goal.save_where_due-requires
-save_where_due-requires g c = record { sound = (c.requires.sound.0, c.in_ok-say_phase.ensures.sound) }
+save_where_due-requires g c =
+    let P : Session → Type 0 = λ s. IsSound c.say_phase.new.runner (g.B.Disk.state c.args.bench.now) (Some s) in
+    record
+    { sound = subst P (sym c.say_phase.ensures.session) (c.requires.sound.0, c.in_ok-say_phase.ensures.sound) }
 
 pub returns-clause-plays : goal.returns-clause-plays
 returns-clause-plays g c = λ m s next tells counts live at stays.
@@ -47,6 +51,7 @@ returns-clause-plays g c = λ m s next tells counts live at stays.
     let more = save_where_due (Some after) n next in
     let Left = OnLeft next c.save_where_due.new.runner e in
     let there = ap (λ (k : MachineState). k.start) (sym counts.machine) ∙ at in
+    let P : Session → Type 0 = λ h. IsLive n h d in
     let now = next_counts c.args.hive.tree m s c.args.runner.now c.say_phase.new.runner live.live at counts
     c.say_phase.ensures.starts c.in_ok-say_phase.ensures.next in
     plays-as c.save_where_due.result Left Left (say_all (phase_lines s) more) (phase_gone s m next) x z d e
@@ -54,4 +59,4 @@ returns-clause-plays g c = λ m s next tells counts live at stays.
     (plays-then c.save_where_due.result Left (say_all (phase_lines s) more) more x y z d d e
     (goes_all (phase_lines s) more x y d (phase_quiet s) (c.in_ok-say_phase.ensures.tells s tells there))
     (c.save_where_due.ensures.plays n next (c.in_ok-say_phase.ensures.host.keeps.tells ∙ tells) now
-    (live_machine n.machine m c.args.hive d live) stays))
+    (subst P (sym c.say_phase.ensures.session) (live_machine n.machine m c.args.hive d live)) stays))

@@ -1,4 +1,5 @@
-use Rattle.std.proofs.Common.{◌≡◌, ◌∙◌, ap, sym, subst, refl, Option}
+use Rattle.std.proofs.Common.{◌≡◌, ◌∙◌, ap, sym, subst, refl, Option, Some}
+use Rattle.hive_store.specs.Session.{Session}
 use Rattle.start_model.specs.Machine.{MachineState, Tried, attempt_of}
 use Rattle.start_model.specs.Act.{say, with_machine}
 use Rattle.start_model.specs.Starter.{judged, starter_step, good_is_usable, try_line}
@@ -6,7 +7,7 @@ use Rattle.printed_parts.specs.Parts.{Breaks}
 use Rattle.run_parts.proofs.CountLemmas.{still}
 use Rattle.printed_parts.proofs.GoesLemmas.{idle, goes-line}
 use Rattle.printed_parts.proofs.BreakLemmas.{breaks-silent, breaks-line, or-breaks}
-use Rattle.boot_run.specs.Agrees.{Counts, IsRunningBy, OnLeft}
+use Rattle.boot_run.specs.Agrees.{Counts, IsLive, IsRunningBy, IsSound, OnLeft}
 use Rattle.boot_run.specs.Views.{told_in}
 use Rattle.boot_run.proofs.PlayLemmas.{live_left, plays-as, plays-then}
 use Rattle.boot_run.proofs.SaveLemmas.{live_machine}
@@ -35,7 +36,7 @@ returns-in_err-verdict-clause-plays g c = λ m s next tells counts live stays.
     let one = there.0 in
     let same : o ≡ attempt_of k c.in-Ok.usable =
     ap (λ (n : MachineState). attempt_of n (good_is_usable m.live)) counts.machine
-    ∙ ap (attempt_of k) (ap good_is_usable live.live ∙ sym c.in-Ok.ensures) in
+    ∙ ap (attempt_of k) (ap good_is_usable live.live ∙ sym c.in-Ok.ensures.usable) in
     let P : Option (MachineState × Tried) → Type 0 = λ t. Breaks (starter_step s m next t) x y.said d d in
     or-breaks _ c.from_residual.result c.from_residual.ensures.0 (starter_step s m next o) x y d d
     (subst P (sym (same ∙ there.1))
@@ -49,8 +50,9 @@ end_where-requires g c =
     let a = c.in_ok-verdict.ensures.attempts in
     let tree = c.args.hive.tree in
     let P : MachineState → Type 0 = λ k. IsRunningBy k.start tree in
+    let Q : Session → Type 0 = λ h. IsSound c.attempt.new.runner (g.B.Disk.state c.args.bench.now) (Some h) in
     record {
-      sound = (
+      sound = subst Q (sym c.good_is_usable.ensures.session) (
         c.requires.sound.0,
         subst P (sym a.machine) (attempt_keeps c.args.runner.now.machine c.in-Ok.usable a.one tree a.is
             c.requires.sound.1),
@@ -71,8 +73,9 @@ returns-clause-plays g c = λ m s next tells counts live stays.
     let o = attempt_of m.machine (good_is_usable m.live) in
     let same : o ≡ attempt_of k c.in-Ok.usable =
     ap (λ (q : MachineState). attempt_of q (good_is_usable m.live)) counts.machine
-    ∙ ap (attempt_of k) (ap good_is_usable live.live ∙ sym c.in-Ok.ensures) in
+    ∙ ap (attempt_of k) (ap good_is_usable live.live ∙ sym c.in-Ok.ensures.usable) in
     let act = judged one.1.judgement n next in
+    let Q : Session → Type 0 = λ h. IsLive n h d in
     let Left = OnLeft next c.end_where.new.runner e in
     let now : Counts n c.attempt.new.runner =
     record { machine = sym a.machine; starts = counts.starts ∙ sym c.attempt.ensures.starts } in
@@ -81,4 +84,4 @@ returns-clause-plays g c = λ m s next tells counts live stays.
     (plays-then c.end_where.result Left (say (try_line one.1) act) act x y z d d e
     (goes-line (try_line one.1) act x y d d (idle d) refl (c.in_ok-verdict.ensures.tells one tells a.is))
     (c.end_where.ensures.plays n next one.1.judgement (c.in_ok-verdict.ensures.host.keeps.tells ∙ tells) now
-    (live_machine one.0 m c.args.hive d live) a.ends))
+    (subst Q (sym c.good_is_usable.ensures.session) (live_machine one.0 m c.args.hive d live)) a.ends))
