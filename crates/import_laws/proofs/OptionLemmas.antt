@@ -143,16 +143,18 @@ said_first n passed (dones.Refused stop) = refl
 said_first n passed dones.Nothing = refl
 said_first n passed (dones.Commit number) = refl
 
-changed_first : (n : ℕ) (passed : Option ℕ) (s : HiveState) (edit : Result Tree ImportStop)
-    → change_by (Some n) passed s edit ≡ announced n (change_by None passed s edit)
-changed_first n passed s edit =
-    ap (λ said. record { said = said; before = s; state = state_by s edit }) (said_first n passed (done_by s edit))
+changed_first : (n : ℕ) (passed : Option ℕ) (s : HiveState) (steps : List Step) (edit : Result Tree ImportStop)
+    → change_by (Some n) passed s steps edit ≡ announced n (change_by None passed s steps edit)
+changed_first n passed s steps edit =
+    ap (λ said. record { said = said; before = s; steps = steps; state = state_by s edit })
+    (said_first n passed (done_by s edit))
 
 made_first : (n : ℕ) (lenient : Bool) (s : HiveState) (made : SetSteps)
     → change_made (Some n) lenient s made ≡ announced n (change_made None lenient s made)
-made_first n false s made = changed_first n None s (tree_by made.protected (edited s.version s.tree made.steps))
+made_first n false s made =
+    changed_first n None s made.steps (tree_by made.protected (edited s.version s.tree made.steps))
 made_first n true s made =
-    changed_first n (Some (left_of s.tree made.steps).passed) s
+    changed_first n (Some (left_of s.tree made.steps).passed) s (left_of s.tree made.steps).steps
     (tree_by made.protected (edited s.version s.tree (left_of s.tree made.steps).steps))
 
 pub set_written : (n : ℕ) (lenient : Bool) (s : HiveState) (steps : List Step) → is_usable s.tree n ≡ true

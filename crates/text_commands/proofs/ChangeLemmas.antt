@@ -4,7 +4,8 @@ use Rattle.std.specs.Prelude.{◌↔◌, IfOk}
 use Rattle.std.specs.Bool.{Decides}
 use Rattle.std.proofs.lemmas.Bool.{false≢true}
 use Rattle.hive_model.specs.Base.{Base, version_of, is_bins_size}
-use Rattle.hive_model.specs.Carries.{Carries}
+use Rattle.hive_model.specs.Carries.{Carries, IsRecoveredAs}
+use Rattle.hive_model.specs.Recovery.{recovered_of}
 use Rattle.hive_model.specs.Edit.{Step, Refusal, no_key, no_value, bad_name, exists, name_too_long, too_deep, data_too_long, full, edited}
 use Rattle.hive_model.specs.Image.{Image, IsCrashImage}
 use Rattle.hive_model.specs.Load.{Loads, Holds, state_of}
@@ -21,7 +22,7 @@ use Rattle.nt_edge.specs.Disk.{DiskState, History}
 use Rattle.nt_edge.specs.Bench.{woken}
 use Rattle.nt_edge.proofs.Images.{still_crash}
 use Rattle.run_laws.proofs.SameLemmas.{same-Decides}
-use Rattle.printed_parts.specs.Logged.{IsLogged}
+use Rattle.hive_edit.specs.Edits.{IsEditedInPlace, IsPackedForRoom}
 use Rattle.start_model.specs.Sets.{is_usable}
 use Rattle.reg_tree.specs.declared.stop.EditStop.{EditStop}
 use Rattle.reg_tree.specs.declared.stop.EditStop.TheVariants as stops
@@ -29,6 +30,7 @@ use Rattle.reg_tree.specs.Makes.{IsRefused}
 use Rattle.command_parts.specs.declared.inputs.HiveFiles.{HiveFiles}
 use Rattle.command_parts.specs.Leaves.{named}
 use Rattle.command_parts.specs.Placed.{image_in, placed_disk}
+use Rattle.import_steps.specs.Current.{SetSteps, set_steps}
 use Rattle.import_steps.specs.Left.{LeftSteps, left_of}
 use Rattle.command_words.specs.declared.asked.AskedSet.{AskedSet}
 use Rattle.text_commands.specs.declared.said.Done.{Done}
@@ -38,8 +40,8 @@ use Rattle.text_commands.specs.declared.said.ImportStop.{ImportStop}
 use Rattle.text_commands.specs.declared.said.ImportStop.TheVariants as import_stops
 use Rattle.text_commands.specs.declared.said.Said.{Said}
 use Rattle.text_commands.specs.Changed.{Change, as_edited, as_protected, tree_by, done_by, state_by, said_of, change_left, change_made, change_in, change_for, number_in, change_of}
-use Rattle.text_commands.specs.Imported.{IsLoggedWhere}
-use Rattle.text_commands.specs.Imports.{SettlesAs, Settles, IsRefusedAs, EndsProtected, IsMade, MakesTree, Makes, MakesSteps, usable_in, MakesIn, SaysOf, Changes, ChangesHeld, ChangesAwake, ImportsOn}
+use Rattle.text_commands.specs.Committed.{AreCellsOf, IsCommitOf, IsCommitWhere}
+use Rattle.text_commands.specs.Imports.{SettlesAs, Settles, IsRefusedAs, EndsProtected, IsMade, MakesTree, Makes, MakesIn, MakesSteps, usable_in, MakesFor, SaysOf, Changes, ChangesHeld, ChangesAwake, ImportsOn}
 
 -- with nothing in flight only what is held may be left
 still_leaves : (disk : DiskState) (P : Image → Type 0) → disk.flight ≡ [] → P disk.held → EachCrash disk P
@@ -57,28 +59,58 @@ carried_holds image base bins state is loads =
     ap is_bins_size (sym is.size) ∙ (base_in_checked image base is.block).size_is in
     held_by image state false (clean base bins) loads (carried image base bins size is)
 
--- what is held after a commit of a session is the image of one between the states that the disk loaded as
-settled_logged : (k : Session) (number : ℕ) (before : HiveState) (old new : DiskState) → Loads old.held before false
-    → SettlesAs k number old new → IsLogged new.held before (committed_state k)
-settled_logged k number before old new loads settles = record {
-  opened = k.base;
-  old = k.bins;
-  closed = next_base k;
-  new = next_bins k;
-  was = carried_holds old.held k.base k.bins before settles.opened loads;
-  is = carried_holds new.held (next_base k) (next_bins k) (committed_state k) settles.closed settles.loads;
-  carries = settles.closed;
-  log = settles.log;
+-- a session to which steps led from a loaded one, whose tree is in its cells
+pub record Edits (h k : Session) (steps : List Step) : Type 0 where
+  pub base : k.base ≡ h.base
+  pub bins : k.bins ≡ h.bins
+  pub made : edited (version_of h.base.minor) h.tree steps ≡ Ok k.tree
+  pub unchanged : h.changed ≡ false
+  pub changed : k.changed ≡ true ↔ (h.changed ≡ true) ⊎ (k.tree ≡ h.tree → ⊥)
+  pub read : AreCellsOf h.base h.bins (loaded_state h) h.cells
+  pub cells : IsEditedInPlace h.cells steps k.cells ⊎ IsPackedForRoom h.cells steps k.cells
+
+-- what is so of a base block and bins data is so of the same ones
+carried_over : (P : Base → List ℕ → Type 0) (b c : Base) (l m : List ℕ) → b ≡ c → l ≡ m → P c m → P b l
+carried_over P b c l m first second p =
+    subst (λ (x : Base). P x l) (sym first) (subst (λ (y : List ℕ). P c y) (sym second) p)
+
+-- what is held after the commit of an edited session is the image of that commit
+settled_commit : (image : Image) (h k : Session) (steps : List Step) (number : ℕ) (old new : DiskState)
+    → Loads old.held (loaded_state h) false → IsRecoveredAs image h.base h.bins → Edits h k steps
+    → SettlesAs k number old new → IsCommitOf image (loaded_state h) steps (committed_state k) new.held
+settled_commit image h k steps number old new loads recovered e settles = record {
+  logged = record {
+    opened = k.base;
+    old = k.bins;
+    closed = next_base k;
+    new = next_bins k;
+    was = carried_holds old.held k.base k.bins (loaded_state h) settles.opened loads;
+    is = carried_holds new.held (next_base k) (next_bins k) (committed_state k) settles.closed settles.loads;
+    carries = settles.closed;
+    log = settles.log;
+  };
+  recovered = carried_over (IsRecoveredAs image) k.base h.base k.bins h.bins e.base e.bins recovered;
+  read = h.cells;
+  written = k.cells;
+  read_of = carried_over (λ (b : Base) (l : List ℕ). AreCellsOf b l (loaded_state h) h.cells) k.base h.base k.bins
+      h.bins e.base e.bins e.read;
+  written_of = record {
+    carried = record { bytes = refl; root = refl };
+    version = settles.version;
+    tree = settles.tree;
+  };
+  cells = e.cells;
 }
 
 -- where nothing was committed, nothing is said of a commit
-refused_logged : (stop : ImportStop) (done : Done) (before after : HiveState) (image : Image)
-    → done ≡ dones.Refused stop → IsLoggedWhere done before after image
-refused_logged stop done before after image is number commit =
+refused_commit : (stop : ImportStop) (done : Done) (image : Image) (before : HiveState) (steps : List Step)
+    (after : HiveState) (left : Image) → done ≡ dones.Refused stop → IsCommitWhere done image before steps after left
+refused_commit stop done image before steps after left is number commit =
     let both : dones.Refused stop ≡ dones.Commit number = sym is ∙ commit in absurd cc
 
-unchanged_logged : (before after : HiveState) (image : Image) → IsLoggedWhere dones.Nothing before after image
-unchanged_logged before after image number commit = absurd cc
+unchanged_commit : (image : Image) (before : HiveState) (steps : List Step) (after : HiveState) (left : Image)
+    → IsCommitWhere dones.Nothing image before steps after left
+unchanged_commit image before steps after left number commit = absurd cc
 
 -- whether an edit gave another tree is known from a test
 changed_is : (same now : Bool) (t u : Tree) → Decides same (t ≡ u) → (now ≡ true ↔ (false ≡ true) ⊎ (u ≡ t → ⊥))
@@ -88,20 +120,21 @@ changed_is true false t u d f = refl
 changed_is false now t u d f = f.1 (inr (λ e. false≢true (d.1 (sym e))))
 
 -- the edits gave this tree, which is the same or another one
-made_same : (s : HiveState) (t : Tree) (disk : DiskState) → same_tree s.tree t ≡ true
-    → EachCrash disk (λ (c : Image). Loads c s false) → IsMade s (Ok t) disk dones.Nothing
-made_same s t disk is left = record {
+made_same : (image : Image) (s : HiveState) (steps : List Step) (t : Tree) (disk : DiskState)
+    → same_tree s.tree t ≡ true → EachCrash disk (λ (c : Image). Loads c s false)
+    → IsMade image s steps (Ok t) disk dones.Nothing
+made_same image s steps t disk is left = record {
   done_is = rw is refl;
   loads = rw is left;
-  logged = λ c crash. unchanged_logged s (state_by s (Ok t)) c;
+  logged = λ c crash. unchanged_commit image s steps (state_by s (Ok t)) c;
 }
 
-made_other : (s : HiveState) (t : Tree) (disk : DiskState) (number : ℕ) → same_tree s.tree t ≡ false
-    → number ≡ next_number s.sequence
+made_other : (image : Image) (s : HiveState) (steps : List Step) (t : Tree) (disk : DiskState) (number : ℕ)
+    → same_tree s.tree t ≡ false → number ≡ next_number s.sequence
     → EachCrash disk (λ (c : Image). Loads c (record s { tree = t; sequence = next_number s.sequence }) false)
-    → EachCrash disk (λ (c : Image). IsLogged c s (record s { tree = t; sequence = next_number s.sequence }))
-    → IsMade s (Ok t) disk (dones.Commit number)
-made_other s t disk number is numbered left logged = record {
+    → EachCrash disk (IsCommitOf image s steps (record s { tree = t; sequence = next_number s.sequence }))
+    → IsMade image s steps (Ok t) disk (dones.Commit number)
+made_other image s steps t disk number is numbered left logged = record {
   done_is = rw is (ap (λ (n : ℕ). dones.Commit n) numbered);
   loads = rw is left;
   logged = rw is (λ c crash n commit. logged c crash);
@@ -116,39 +149,38 @@ not_turns true c e f = absurd (false≢true (sym e ∙ f))
 not_turns false c e f = refl
 
 -- the edits were made in the session, which was settled then
-settled_made : (h k : Session) (steps : List Step) (done : Done) (old new : DiskState) → old.flight ≡ []
-    → Loads old.held (loaded_state h) false
-    → edited (version_of h.base.minor) h.tree steps ≡ Ok k.tree → k.base ≡ h.base → h.changed ≡ false
-    → (k.changed ≡ true ↔ (h.changed ≡ true) ⊎ (k.tree ≡ h.tree → ⊥)) → Settles k old new done
-    → IsMade (loaded_state h) (Ok k.tree) new done
-settled_made h k steps (dones.Refused stop) old new still loads made base unchanged changed settles = absurd settles
-settled_made h k steps dones.Nothing old new still loads made base unchanged changed settles =
+settled_made : (image : Image) (h k : Session) (steps : List Step) (done : Done) (old new : DiskState)
+    → old.flight ≡ [] → Loads old.held (loaded_state h) false → IsRecoveredAs image h.base h.bins → Edits h k steps
+    → Settles k old new done → IsMade image (loaded_state h) steps (Ok k.tree) new done
+settled_made image h k steps (dones.Refused stop) old new still loads recovered e settles = absurd settles
+settled_made image h k steps dones.Nothing old new still loads recovered e settles =
     let s : HiveState = loaded_state h in
     let now : k.changed ≡ not (same_tree h.tree k.tree) =
     changed_is (same_tree h.tree k.tree) k.changed h.tree k.tree (same-Decides h.tree k.tree)
-    (rw unchanged at changed) in
+    (rw e.unchanged at e.changed) in
     let same : same_tree h.tree k.tree ≡ true = not_flips (same_tree h.tree k.tree) k.changed now settles.0 in
     let P : DiskState → Type 0 = λ d. EachCrash d (λ (c : Image). Loads c s false) in
-    made_same s k.tree new same (subst P (sym settles.1) (still_loads old s false still loads))
-settled_made h k steps (dones.Commit number) old new still loads made base unchanged changed settles =
+    made_same image s steps k.tree new same (subst P (sym settles.1) (still_loads old s false still loads))
+settled_made image h k steps (dones.Commit number) old new still loads recovered e settles =
     let s : HiveState = loaded_state h in
+    let after : HiveState = state_of k.tree (next_number h.base.first) (version_of h.base.minor) in
     let now : k.changed ≡ not (same_tree h.tree k.tree) =
     changed_is (same_tree h.tree k.tree) k.changed h.tree k.tree (same-Decides h.tree k.tree)
-    (rw unchanged at changed) in
-    let other : same_tree h.tree k.tree ≡ false = not_turns (same_tree h.tree k.tree) k.changed now settles.changed in
-    let numbered : number ≡ next_number h.base.first = settles.number_is ∙ ap (λ (b : Base). next_number b.first) base in
-    let state : committed_state k ≡ state_of k.tree (next_number h.base.first) (version_of h.base.minor) =
-    ap (λ (b : Base). state_of k.tree (next_number b.first) (version_of b.minor)) base in
-    let left : EachCrash new (λ (c : Image). Loads c
-    (state_of k.tree (next_number h.base.first) (version_of h.base.minor)) false) =
+    (rw e.unchanged at e.changed) in
+    let other : same_tree h.tree k.tree ≡ false =
+    not_turns (same_tree h.tree k.tree) k.changed now settles.changed in
+    let numbered : number ≡ next_number h.base.first =
+    settles.number_is ∙ ap (λ (b : Base). next_number b.first) e.base in
+    let state : committed_state k ≡ after =
+    ap (λ (b : Base). state_of k.tree (next_number b.first) (version_of b.minor)) e.base in
+    let left : EachCrash new (λ (c : Image). Loads c after false) =
     subst (λ (t : HiveState). EachCrash new (λ (c : Image). Loads c t false)) state
     (still_loads new (committed_state k) false settles.still settles.loads) in
-    let logged : EachCrash new (λ (c : Image). IsLogged c s
-    (state_of k.tree (next_number h.base.first) (version_of h.base.minor))) =
-    subst (λ (t : HiveState). EachCrash new (λ (c : Image). IsLogged c s t)) state
-    (still_leaves new (λ (c : Image). IsLogged c s (committed_state k)) settles.still
-    (settled_logged k number s old new loads settles)) in
-    made_other s k.tree new number other numbered left logged
+    let logged : EachCrash new (IsCommitOf image s steps after) =
+    subst (λ (t : HiveState). EachCrash new (IsCommitOf image s steps t)) state
+    (still_leaves new (IsCommitOf image s steps (committed_state k)) settles.still
+    (settled_commit image h k steps number old new loads recovered e settles)) in
+    made_other image s steps k.tree new number other numbered left logged
 
 -- the edits were refused, and nothing was done
 refused_is : (stop : EditStop) (edit : Result Tree Refusal) → (stop ≡ stops.Memory → ⊥) → IsRefused edit stop
@@ -163,17 +195,17 @@ refused_is stops.DataTooLong edit kept is = ap as_edited is
 refused_is stops.Full edit kept is = ap as_edited is
 refused_is stops.Memory edit kept is = absurd (kept refl)
 
-refused_made : (s : HiveState) (edit : Result Tree Refusal) (stop : EditStop) (done : Done) (disk : DiskState)
-    → disk.flight ≡ [] → Loads disk.held s false → IsRefused edit stop
+refused_made : (image : Image) (s : HiveState) (steps : List Step) (edit : Result Tree Refusal) (stop : EditStop)
+    (done : Done) (disk : DiskState) → disk.flight ≡ [] → Loads disk.held s false → IsRefused edit stop
     → (done ≡ dones.Refused (import_stops.Edit stop)) × (stop ≡ stops.Memory → ⊥)
-    → IsMade s (as_edited edit) disk done
-refused_made s edit stop done disk still loads is refused =
+    → IsMade image s steps (as_edited edit) disk done
+refused_made image s steps edit stop done disk still loads is refused =
     let same : as_edited edit ≡ Err (import_stops.Edit stop) = refused_is stop edit refused.1 is in
-    let P : Result Tree ImportStop → Type 0 = λ r. IsMade s r disk done in
+    let P : Result Tree ImportStop → Type 0 = λ r. IsMade image s steps r disk done in
     subst P (sym same) (record {
       done_is = refused.0;
       loads = still_loads disk s false still loads;
-      logged = λ c crash. refused_logged (import_stops.Edit stop) done s s c refused.0;
+      logged = λ c crash. refused_commit (import_stops.Edit stop) done image s steps s c refused.0;
     })
 
 -- ---- where a step after them is refused
@@ -194,7 +226,7 @@ pub protected_ends : {E : Type 0} (tells : Bool) (protected : Bool) (result : Re
     (steps : List Step)
     (disk : DiskState) → protected ≡ true → (tells ≡ true → disk.flight ≡ [])
     → (tells ≡ true → Loads disk.held (loaded_state h) false) → IfOk result (EndsProtected (loaded_state h) steps)
-    → tells ≡ true → IfOk result (MakesTree protected (loaded_state h) steps disk)
+    → tells ≡ true → IfOk result (MakesTree protected h steps disk)
 protected_ends tells protected (Ok done) h steps disk is still loads ends told =
     let s : HiveState = loaded_state h in
     let edit : Result Tree Refusal = edited s.version s.tree steps in
@@ -202,10 +234,10 @@ protected_ends tells protected (Ok done) h steps disk is still loads ends told =
     let P : HiveState → Type 0 = λ t. EachCrash disk (λ (c : Image). Loads c t false) in
     let left : P (state_by s (as_protected edit)) =
     subst P (sym (ap (state_by s) refused.1)) (still_loads disk s false (still told) (loads told)) in
-    subst (λ (b : Bool). MakesTree b s steps disk done) (sym is) (record {
+    subst (λ (b : Bool). MakesTree b h steps disk done) (sym is) (λ image recovered. record {
       done_is = ends;
       loads = left;
-      logged = λ c crash. refused_logged refused.0 done s (state_by s (as_protected edit)) c
+      logged = λ c crash. refused_commit refused.0 done image s steps (state_by s (as_protected edit)) c
           (ends ∙ ap (done_by s) refused.1);
     })
 protected_ends tells protected (Err e) h steps disk is still loads ends told = tt
@@ -218,21 +250,34 @@ said_done current passed dones.Nothing = refl
 said_done current passed (dones.Commit number) = refl
 
 -- what was done with what is printed for it
-said_made : {E : Type 0} (s : HiveState) (current passed : Option ℕ) (protected : Bool) (steps : List Step)
+said_made : {E : Type 0} (h : Session) (current passed : Option ℕ) (protected : Bool) (steps : List Step)
     (done : Result Done E) (said : Result Said E) (disk : DiskState)
-    → IfOk done (MakesTree protected s steps disk) → SaysOf current passed done said
-    → IfOk said (Makes (change_left current passed s (record { steps = steps; protected = protected })) disk)
-said_made s current passed protected steps (Ok done) (Ok said) disk made says =
+    → IfOk done (MakesTree protected h steps disk) → SaysOf current passed done said
+    → IfOk said (MakesIn h (change_left current passed (loaded_state h) (record { steps = steps; protected = protected })) disk)
+said_made h current passed protected steps (Ok done) (Ok said) disk makes says = λ image recovered.
+    let s : HiveState = loaded_state h in
     let edit : Result Tree ImportStop = tree_by protected (edited s.version s.tree steps) in
+    let made : IsMade image s steps edit disk done = makes image recovered in
     record {
       said_is = says ∙ ap (said_of current passed) made.done_is;
       loads = made.loads;
       logged = λ c crash number commit. made.logged c crash number
           (made.done_is ∙ sym (said_done current passed (done_by s edit)) ∙ commit);
     }
-said_made s current passed protected steps (Ok done) (Err e) disk made says = absurd says
-said_made s current passed protected steps (Err d) (Ok said) disk made says = absurd says
-said_made s current passed protected steps (Err d) (Err e) disk made says = tt
+said_made h current passed protected steps (Ok done) (Err e) disk makes says = absurd says
+said_made h current passed protected steps (Err d) (Ok said) disk makes says = absurd says
+said_made h current passed protected steps (Err d) (Err e) disk makes says = tt
+
+-- all the steps were made
+pub all_made : {E : Type 0} (h : Session) (current : Option ℕ) (lenient protected : Bool) (steps : List Step)
+    (done : Result Done E) (said : Result Said E) (disk : DiskState) → lenient ≡ false
+    → IfOk done (MakesTree protected h steps disk) → SaysOf current None done said
+    → IfOk said (MakesSteps current lenient h (record { steps = steps; protected = protected }) disk)
+all_made h current lenient protected steps done (Ok said) disk is made says =
+    let made_in : MakesSteps current false h (record { steps = steps; protected = protected }) disk said =
+    said_made h current None protected steps done (Ok said) disk made says in
+    subst (λ (b : Bool). MakesSteps current b h (record { steps = steps; protected = protected }) disk said) (sym is) made_in
+all_made h current lenient protected steps done (Err e) disk is made says = tt
 
 -- ---- the steps that are left
 
@@ -244,50 +289,76 @@ left_said s current protected steps left passed tree is are =
     ap (λ (l : LeftSteps). change_left current (Some l.passed) s (record { steps = l.steps; protected = protected }))
     (are ∙ ap (λ (t : Tree). left_of t steps) is)
 
-pub left_made : {E : Type 0} (s : HiveState) (current : Option ℕ) (protected : Bool) (steps left : List Step)
+pub left_made : {E : Type 0} (h : Session) (current : Option ℕ) (protected : Bool) (steps left : List Step)
     (passed : ℕ)
     (tree : Tree) (done : Result Done E) (said : Result Said E) (disk : DiskState)
-    → tree ≡ s.tree → record { steps = left; passed = passed } ≡ left_of tree steps
-    → IfOk done (MakesTree protected s left disk) → SaysOf current (Some passed) done said
-    → IfOk said (MakesSteps current true s (record { steps = steps; protected = protected }) disk)
-left_made s current protected steps left passed tree done said disk is are made says =
-    subst (λ (c : Change). IfOk said (Makes c disk)) (left_said s current protected steps left passed tree is are)
-    (said_made s current (Some passed) protected left done said disk made says)
+    → tree ≡ h.tree → record { steps = left; passed = passed } ≡ left_of tree steps
+    → IfOk done (MakesTree protected h left disk) → SaysOf current (Some passed) done said
+    → IfOk said (MakesSteps current true h (record { steps = steps; protected = protected }) disk)
+left_made h current protected steps left passed tree done said disk is are made says =
+    subst (λ (c : Change). IfOk said (MakesIn h c disk))
+    (left_said (loaded_state h) current protected steps left passed tree is are)
+    (said_made h current (Some passed) protected left done said disk made says)
 
 -- ---- which set
 
 -- the change for a set, by whether its number is usable
-set_made : {E : Type 0} (s : HiveState) (n : ℕ) (lenient : Bool) (steps : List Step) (number : Option ℕ)
-    (result : Result Said E) (disk : DiskState) → number ≡ usable_in n s.tree
-    → IfOk result (MakesIn number lenient s steps disk) → IfOk result (Makes (change_in n lenient s steps) disk)
-set_made s n lenient steps number (Ok said) disk is made =
-    go (is_usable s.tree n) refl
-    (subst (λ (o : Option ℕ). MakesIn o lenient s steps disk said) is made)
+set_made : {E : Type 0} (h : Session) (n : ℕ) (lenient : Bool) (steps : List Step) (number : Option ℕ)
+    (result : Result Said E) (disk : DiskState) → number ≡ usable_in n h.tree
+    → IfOk result (MakesFor number lenient h steps disk)
+    → IfOk result (MakesIn h (change_in n lenient (loaded_state h) steps) disk)
+set_made h n lenient steps number (Ok said) disk is made =
+    go (is_usable h.tree n) refl
+    (subst (λ (o : Option ℕ). MakesFor o lenient h steps disk said) is made)
   where
-    go : (b : Bool) → is_usable s.tree n ≡ b → MakesIn (cond (is_usable s.tree n)
-        (Some n) None) lenient s steps disk said
-        → Makes (change_in n lenient s steps) disk said
+    go : (b : Bool) → is_usable h.tree n ≡ b → MakesFor (cond (is_usable h.tree n)
+        (Some n) None) lenient h steps disk said
+        → MakesIn h (change_in n lenient (loaded_state h) steps) disk said
     go true e m = rw e (rw e at m)
     go false e m = rw e (rw e at m)
-set_made s n lenient steps number (Err e) disk is made = tt
+set_made h n lenient steps number (Err e) disk is made = tt
 
-pub set_changes : {E : Type 0} (how : How) (set : AskedSet) (s : HiveState) (steps : List Step) (number : Option ℕ)
+pub set_changes : {E : Type 0} (how : How) (set : AskedSet) (h : Session) (steps : List Step) (number : Option ℕ)
     (result : Result Said E) (disk : DiskState) → how.current ≡ Some set
-    → number ≡ usable_in (number_in set s.tree) s.tree
-    → IfOk result (MakesIn number how.lenient s steps disk) → IfOk result (Changes how s steps disk)
-set_changes how set s steps number result disk asked is made =
-    subst (λ (o : Option AskedSet). IfOk result (Makes (change_for o how.lenient s steps) disk)) (sym asked)
-    (set_made s (number_in set s.tree) how.lenient steps number result disk is made)
+    → number ≡ usable_in (number_in set h.tree) h.tree
+    → IfOk result (MakesFor number how.lenient h steps disk) → IfOk result (Changes how h steps disk)
+set_changes how set h steps number result disk asked is made =
+    subst (λ (o : Option AskedSet). IfOk result (MakesIn h (change_for o how.lenient (loaded_state h) steps) disk))
+    (sym asked)
+    (set_made h (number_in set h.tree) how.lenient steps number result disk is made)
+
+-- the steps were made with the set of this number
+pub numbered_made : {E : Type 0} (h k : Session) (number : Option ℕ) (n : ℕ) (lenient : Bool) (steps : List Step)
+    (made : SetSteps) (result : Result Said E) (disk : DiskState) → number ≡ Some n → k ≡ h → made ≡ set_steps n steps
+    → IfOk result (MakesSteps (Some n) lenient k made disk) → IfOk result (MakesFor number lenient h steps disk)
+numbered_made h k number n lenient steps made (Ok said) disk is same are makes =
+    let done : MakesFor (Some n) lenient h steps disk said =
+    subst (λ (m : SetSteps). MakesSteps (Some n) lenient h m disk said) are
+    (subst (λ (s : Session). MakesSteps (Some n) lenient s made disk said) same makes) in
+    subst (λ (o : Option ℕ). MakesFor o lenient h steps disk said) (sym is) done
+numbered_made h k number n lenient steps made (Err e) disk is same are makes = tt
+
+-- without a set nothing was done to the disk
+pub unset_made : (h : Session) (lenient : Bool) (steps : List Step) (number : Option ℕ) (said : Said) (disk : DiskState)
+    → number ≡ None → said ≡ said_of None None (dones.Refused import_stops.NoControlSet) → disk.flight ≡ []
+    → Loads disk.held (loaded_state h) false → MakesFor number lenient h steps disk said
+unset_made h lenient steps number said disk is says still loads =
+    subst (λ (o : Option ℕ). MakesFor o lenient h steps disk said) (sym is) (λ image recovered. record {
+      said_is = says;
+      loads = still_loads disk (loaded_state h) false still loads;
+      logged = λ c crash. refused_commit import_stops.NoControlSet (dones.Refused import_stops.NoControlSet) image
+          (loaded_state h) [] (loaded_state h) c refl;
+    })
 
 -- ---- what was done from outside
 
 -- the edits were made in what the disk loaded as
 loaded_changes : {E : Type 0} (how : How) (result : Result Said E) (h : Session) (dirty : Bool) (steps : List Step)
-    (old : Image) (new : DiskState) → Loads old (loaded_state h) dirty
-    → IfOk result (Changes how (loaded_state h) steps new) → IfOk result (ChangesHeld how old steps new)
-loaded_changes how (Ok said) h dirty steps old new loads changes =
-    (record { state = loaded_state h; dirty = dirty }, loads, changes)
-loaded_changes how (Err e) h dirty steps old new loads changes = tt
+    (old : Image) (new : DiskState) → Loads old (loaded_state h) dirty → IsRecoveredAs old h.base h.bins
+    → IfOk result (Changes how h steps new) → IfOk result (ChangesHeld how old steps new)
+loaded_changes how (Ok said) h dirty steps old new loads recovered changes =
+    (record { state = loaded_state h; dirty = dirty }, loads, changes old recovered)
+loaded_changes how (Err e) h dirty steps old new loads recovered changes = tt
 
 -- ---- on a new disk
 
@@ -316,11 +387,11 @@ imports_on how files steps (Ok said) image old mid new is crash wakes a =
     let here : ChangesHeld how (image_in files) steps a.late said =
     subst (λ (i : Image). ChangesHeld how i steps a.late said) held a.changed in
     let change : Change = change_of how here.0.state steps in
-    let made : Makes change a.late said = here.2 in
+    let made : Makes (image_in files) change a.late said = here.2 in
     let P : DiskState → Type 0 = λ d. EachCrash d (λ (c : Image). Loads c change.state false) in
     let loads : P new = subst P (sym a.off) made.loads in
     let Q : DiskState → Type 0 =
-    λ d. EachCrash d (IsLoggedWhere change.said.done change.before change.state) in
+    λ d. EachCrash d (IsCommitWhere change.said.done (image_in files) change.before change.steps change.state) in
     let logged : Q new = subst Q (sym a.off) made.logged in
     let same : new.history ≡ (woken image (placed_disk files)).history =
     woken_history how files steps (Ok said) image old mid new is wakes a in (
@@ -365,24 +436,23 @@ imports_any how steps result old mid new wakes a files is =
 -- the edits were made, and the session was settled
 pub edit_settles : {E : Type 0} (tells : Bool) (result : Result Done E) (h k : Session) (steps : List Step)
     (old new : DiskState) → (tells ≡ true → old.flight ≡ [])
-    → (tells ≡ true → Loads old.held (loaded_state h) false) → edited (version_of h.base.minor) h.tree steps ≡ Ok k.tree
-    → k.base ≡ h.base → h.changed ≡ false
-    → (k.changed ≡ true ↔ (h.changed ≡ true) ⊎ (k.tree ≡ h.tree → ⊥)) → (tells ≡ true → IfOk result (Settles k old new))
-    → tells ≡ true → IfOk result (MakesTree false (loaded_state h) steps new)
-edit_settles tells (Ok done) h k steps old new still loads made base unchanged changed settles told =
-    subst (λ (r : Result Tree Refusal). IsMade (loaded_state h) (as_edited r) new done) (sym made)
-    (settled_made h k steps done old new (still told) (loads told) made base unchanged changed (settles told))
-edit_settles tells (Err e) h k steps old new still loads made base unchanged changed settles told = tt
+    → (tells ≡ true → Loads old.held (loaded_state h) false) → Edits h k steps
+    → (tells ≡ true → IfOk result (Settles k old new))
+    → tells ≡ true → IfOk result (MakesTree false h steps new)
+edit_settles tells (Ok done) h k steps old new still loads e settles told = λ image recovered.
+    subst (λ (r : Result Tree Refusal). IsMade image (loaded_state h) steps (as_edited r) new done) (sym e.made)
+    (settled_made image h k steps done old new (still told) (loads told) recovered e (settles told))
+edit_settles tells (Err stop) h k steps old new still loads e settles told = tt
 
 -- they were refused
 pub edit_refused : {E : Type 0} (tells : Bool) (result : Result Done E) (h : Session) (steps : List Step)
     (stop : EditStop)
     (disk : DiskState) → (tells ≡ true → disk.flight ≡ []) → (tells ≡ true → Loads disk.held (loaded_state h) false)
     → IsRefused (edited (version_of h.base.minor) h.tree steps) stop → IsRefusedAs stop result
-    → tells ≡ true → IfOk result (MakesTree false (loaded_state h) steps disk)
-edit_refused tells (Ok done) h steps stop disk still loads is refused told =
-    refused_made (loaded_state h) (edited (version_of h.base.minor) h.tree steps) stop done disk (still told)
-    (loads told)
+    → tells ≡ true → IfOk result (MakesTree false h steps disk)
+edit_refused tells (Ok done) h steps stop disk still loads is refused told = λ image recovered.
+    refused_made image (loaded_state h) steps (edited (version_of h.base.minor) h.tree steps) stop done disk
+    (still told) (loads told)
     is refused
 edit_refused tells (Err e) h steps stop disk still loads is refused told = tt
 
@@ -390,7 +460,9 @@ edit_refused tells (Err e) h steps stop disk still loads is refused told = tt
 pub change_loads : {E : Type 0} (how : How) (tells : Bool) (result : Result Said E) (h : Session) (dirty : Bool)
     (steps : List Step) (old : Image) (new : DiskState)
     → (tells ≡ true → Loads old (loaded_state h) dirty)
-    → (tells ≡ true → IfOk result (Changes how (loaded_state h) steps new))
+    → (tells ≡ true → recovered_of old ≡ Ok (record { base = h.base; bins = h.bins; dirty = dirty }))
+    → (tells ≡ true → IfOk result (Changes how h steps new))
     → tells ≡ true → IfOk result (ChangesHeld how old steps new)
-change_loads how tells result h dirty steps old new loads changes told =
-    loaded_changes how result h dirty steps old new (loads told) (changes told)
+change_loads how tells result h dirty steps old new loads recovered changes told =
+    loaded_changes how result h dirty steps old new (loads told)
+    (record { dirty = dirty; recovered = recovered told }) (changes told)

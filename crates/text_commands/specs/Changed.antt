@@ -1,5 +1,5 @@
 -- What do the edits of a text make of a hive, and what is printed for that? (this project's own)
-use Rattle.std.specs.Prelude.{ℕ, Bool, true, false, if◌then◌else◌, List, Option, Some, None, Result, Ok, Err}
+use Rattle.std.specs.Prelude.{ℕ, Bool, true, false, if◌then◌else◌, List, [], Option, Some, None, Result, Ok, Err}
 use Rattle.std.specs.Option.{option_map_or}
 use Rattle.hive_model.specs.Edit.{Step, Refusal, no_key, no_value, bad_name, exists, name_too_long, too_deep, data_too_long, full, edited}
 use Rattle.hive_model.specs.State.{HiveState}
@@ -76,18 +76,20 @@ abbrev pub said_of : Option ℕ → Option ℕ → Done → Said
 said_of current passed (dones.Refused stop) = record { current = current; passed = None; done = dones.Refused stop }
 said_of current passed done = record { current = current; passed = passed; done = done }
 
--- what is printed for the change, and the states that the hive has before and afterwards
+-- what is printed for the change, the steps that are made or refused, and the states that the hive has before and afterwards
 pub record Change : Type 0 where
   pub said : Said
   pub before : HiveState
+  pub steps : List Step
   pub state : HiveState
 
-abbrev pub change_by : Option ℕ → Option ℕ → HiveState → Result Tree ImportStop → Change
-change_by current passed s edit = record { said = said_of current passed (done_by s edit); before = s; state = state_by s edit }
+abbrev pub change_by : Option ℕ → Option ℕ → HiveState → List Step → Result Tree ImportStop → Change
+change_by current passed s steps edit =
+    record { said = said_of current passed (done_by s edit); before = s; steps = steps; state = state_by s edit }
 
 -- the change by these steps, and how many were passed over before, if that is asked for
 abbrev pub change_left : Option ℕ → Option ℕ → HiveState → SetSteps → Change
-change_left current passed s made = change_by current passed s (tree_by made.protected (edited s.version s.tree made.steps))
+change_left current passed s made = change_by current passed s made.steps (tree_by made.protected (edited s.version s.tree made.steps))
 
 -- the change by steps, those that delete what isn't there passed over or not
 abbrev pub change_made : Option ℕ → Bool → HiveState → SetSteps → Change
@@ -105,7 +107,7 @@ number_in asked_sets.Default t = (select_numbers_of t).default
 abbrev pub change_in : ℕ → Bool → HiveState → List Step → Change
 change_in n lenient s steps =
     if is_usable s.tree n then change_made (Some n) lenient s (set_steps n steps)
-    else change_by None None s (Err import_stops.NoControlSet)
+    else change_by None None s [] (Err import_stops.NoControlSet)
 
 -- the change where that stands for a set, or for no other key
 abbrev pub change_for : Option AskedSet → Bool → HiveState → List Step → Change

@@ -11,7 +11,6 @@ use Rattle.hive_model.specs.Image.{Image}
 use Rattle.hive_model.specs.Load.{Loads, LoadFault}
 use Rattle.hive_model.specs.State.{HiveState}
 use Rattle.start_model.specs.Possible.{Woken}
-use Rattle.printed_parts.specs.Logged.{IsLogged}
 use Rattle.run_parts.specs.Reports.{LeftOf}
 use Rattle.line_text.specs.declared.form.ReportForm.{ReportForm}
 use Rattle.reg_text.specs.declared.stop.RegFault.{RegFault}
@@ -27,24 +26,20 @@ use Rattle.command_parts.specs.Leaves.{named, IsPartDone}
 use Rattle.command_parts.specs.Placed.{image_in}
 use Rattle.command_parts.specs.Refusals.{Answer, Ends, refusal}
 use Rattle.command_parts.specs.Saves.{Saves, saved_count}
-use Rattle.text_commands.specs.declared.said.Done.{Done}
-use Rattle.text_commands.specs.declared.said.Done.TheVariants as dones
 use Rattle.text_commands.specs.declared.said.How.{How}
 use Rattle.text_commands.specs.Changed.{Change, steps_in, change_of}
+use Rattle.text_commands.specs.Committed.{IsCommitWhere}
 use Rattle.text_commands.specs.Exported.{fault_answer}
 use Rattle.text_commands.specs.ImportLines.{said_text}
 
 -- ---- the disk
 
--- where a tree was committed, the image is that of a commit from the one state to the other
-abbrev pub IsLoggedWhere : Done → HiveState → HiveState → Image → Type 0
-IsLoggedWhere done before after image = (number : ℕ) → done ≡ dones.Commit number → IsLogged image before after
-
 -- The disk afterwards: each named file was placed and that many taken, no stop was ordered and none came, and it
--- loads as the state after the change, clean. Where a tree was committed, its log lists the sectors that differ.
+-- loads as the state after the change, clean. Where a tree was committed, its log lists the sectors that differ from what the files were
+-- recovered as.
 pub record IsImported (files : HiveFiles) (change : Change) (saved : ℕ) (disk : DiskState) : Type 0 where
   pub loads : (c : Image) → LeftOf disk c → Loads c change.state false
-  pub logged : (c : Image) → LeftOf disk c → IsLoggedWhere change.said.done change.before change.state c
+  pub logged : (c : Image) → LeftOf disk c → IsCommitWhere change.said.done (image_in files) change.before change.steps change.state c
   pub placed : disk.history.placings ≡ 1 + named files.log
   pub taken : disk.history.takings ≡ saved
   pub unordered : disk.history.armings ≡ []

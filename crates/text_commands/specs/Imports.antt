@@ -2,7 +2,8 @@
 use Rattle.std.specs.Prelude.{◌≡◌, ◌⊎◌, true, false, ℕ, Bool, if◌then◌else◌, List, [], Option, Some, None, Result, Ok, Err, IfOk, OnOk}
 use Rattle.hive_model.specs.Edit.{Step}
 use Rattle.hive_model.specs.Image.{Image}
-use Rattle.hive_model.specs.Carries.{Carries, HasLog}
+use Rattle.hive_model.specs.Base.{version_of}
+use Rattle.hive_model.specs.Carries.{Carries, HasLog, IsRecoveredAs}
 use Rattle.hive_model.specs.Load.{Loads, LoadFault}
 use Rattle.nt_bytes.specs.declared.fault.ReadStop.{ReadStop}
 use Rattle.nt_bytes.specs.declared.fault.ReadStop.TheVariants as read
@@ -34,6 +35,7 @@ use Rattle.command_parts.specs.Refusals.{Ends, IsToldAs}
 use Rattle.command_parts.specs.Saves.{Saves}
 use Rattle.hive_commit.specs.Stages.{next_number}
 use Rattle.hive_store.specs.Commits.{committed_state, next_base, session_log}
+use Rattle.hive_store.specs.Loading.{loaded_state}
 use Rattle.hive_store.specs.Session.{Session, next_bins}
 use Rattle.text_commands.specs.declared.said.Done.{Done}
 use Rattle.text_commands.specs.declared.said.Done.TheVariants as dones
@@ -44,7 +46,8 @@ use Rattle.text_commands.specs.declared.said.Said.{Said}
 use Rattle.text_commands.specs.Changed.{Change, steps_in, tree_by, as_protected, done_by, state_by, said_of, change_by, change_made, change_of}
 use Rattle.text_commands.specs.Asks.{AsksBehind}
 use Rattle.text_commands.specs.Exported.{fault_answer}
-use Rattle.text_commands.specs.Imported.{IsImported, IsLoggedWhere, EndsChange, EndsHive}
+use Rattle.text_commands.specs.Committed.{IsCommitWhere}
+use Rattle.text_commands.specs.Imported.{IsImported, EndsChange, EndsHive}
 
 -- ---- on a disk
 
@@ -58,6 +61,8 @@ pub record SettlesAs (s : Session) (number : ℕ) (old new : DiskState) : Type 0
   pub opened : Carries old.held s.base s.bins
   pub closed : Carries new.held (next_base s) (next_bins s)
   pub log : HasLog new.held (session_log s)
+  pub version : s.cells.version ≡ version_of s.base.minor
+  pub tree : s.cells.tree ≡ s.tree
 
 -- a session without a change is left as it is; one with a change is committed
 abbrev pub Settles : Session → DiskState → DiskState → Done → Type 0
@@ -81,43 +86,52 @@ SaysOf current passed (Err d) (Err e) = Unit {0}
 abbrev pub EndsProtected : HiveState → List Step → Done → Type 0
 EndsProtected s steps done = done ≡ done_by s (as_protected (edited s.version s.tree steps))
 
--- this was done, and whatever a loss of power leaves loads as the state after it, and is the commit's where a tree was committed
-pub record IsMade (s : HiveState) (edit : Result Tree ImportStop) (disk : DiskState) (done : Done) : Type 0 where
+-- this was done by these steps, and whatever a loss of power leaves loads as the state after it, and is that of the commit where a tree was
+-- committed
+pub record IsMade (image : Image) (s : HiveState) (steps : List Step) (edit : Result Tree ImportStop) (disk : DiskState) (done : Done)
+    : Type 0 where
   pub done_is : done ≡ done_by s edit
   pub loads : EachCrash disk (λ (c : Image). Loads c (state_by s edit) false)
-  pub logged : EachCrash disk (IsLoggedWhere done s (state_by s edit))
+  pub logged : EachCrash disk (IsCommitWhere done image s steps (state_by s edit))
 
--- the edits were made in a hive of this state, where a step after them may be refused
-abbrev pub MakesTree : Bool → HiveState → List Step → DiskState → Done → Type 0
-MakesTree protected s steps disk done = IsMade s (tree_by protected (edited s.version s.tree steps)) disk done
+-- the edits were made in a loaded hive, where a step after them may be refused
+abbrev pub MakesTree : Bool → Session → List Step → DiskState → Done → Type 0
+MakesTree protected h steps disk done =
+    (image : Image) → IsRecoveredAs image h.base h.bins
+    → IsMade image (loaded_state h) steps (tree_by protected (edited (version_of h.base.minor) h.tree steps)) disk done
 
--- the change was made: what is printed is of it, and whatever a loss of power leaves loads as its state, and is the commit's where a tree was
--- committed
-pub record Makes (change : Change) (disk : DiskState) (said : Said) : Type 0 where
+-- the change was made: what is printed is of it, and whatever a loss of power leaves loads as its state, and is that of the commit where a tree
+-- was committed
+pub record Makes (image : Image) (change : Change) (disk : DiskState) (said : Said) : Type 0 where
   pub said_is : said ≡ change.said
   pub loads : EachCrash disk (λ (c : Image). Loads c change.state false)
-  pub logged : EachCrash disk (IsLoggedWhere change.said.done change.before change.state)
+  pub logged : EachCrash disk (IsCommitWhere change.said.done image change.before change.steps change.state)
+
+-- it was made in a loaded hive
+abbrev pub MakesIn : Session → Change → DiskState → Said → Type 0
+MakesIn h change disk said = (image : Image) → IsRecoveredAs image h.base h.bins → Makes image change disk said
 
 -- the change by these steps
-abbrev pub MakesSteps : Option ℕ → Bool → HiveState → SetSteps → DiskState → Said → Type 0
-MakesSteps current lenient s made disk said = Makes (change_made current lenient s made) disk said
+abbrev pub MakesSteps : Option ℕ → Bool → Session → SetSteps → DiskState → Said → Type 0
+MakesSteps current lenient h made disk said = MakesIn h (change_made current lenient (loaded_state h) made) disk said
 
 -- the number names a set
 abbrev pub usable_in : ℕ → Tree → Option ℕ
 usable_in n t = if is_usable t n then Some n else None
 
 -- the change by steps for the set of this number, or without a set
-abbrev pub MakesIn : Option ℕ → Bool → HiveState → List Step → DiskState → Said → Type 0
-MakesIn (Some n) lenient s steps disk said = Makes (change_made (Some n) lenient s (set_steps n steps)) disk said
-MakesIn None lenient s steps disk said = Makes (change_by None None s (Err import_stops.NoControlSet)) disk said
+abbrev pub MakesFor : Option ℕ → Bool → Session → List Step → DiskState → Said → Type 0
+MakesFor (Some n) lenient h steps disk said = MakesIn h (change_made (Some n) lenient (loaded_state h) (set_steps n steps)) disk said
+MakesFor None lenient h steps disk said = MakesIn h (change_by None None (loaded_state h) [] (Err import_stops.NoControlSet)) disk said
 
--- the edits were made in a hive of this state
-abbrev pub Changes : How → HiveState → List Step → DiskState → Said → Type 0
-Changes how s steps disk said = Makes (change_of how s steps) disk said
+-- the edits were made in a loaded hive
+abbrev pub Changes : How → Session → List Step → DiskState → Said → Type 0
+Changes how h steps disk said = MakesIn h (change_of how (loaded_state h) steps) disk said
 
 -- the edits were made in the state that the image loads as
 abbrev pub ChangesHeld : How → Image → List Step → DiskState → Said → Type 0
-ChangesHeld how image steps disk said = (placed : Woken) × (Loads image placed.state placed.dirty) × Changes how placed.state steps disk said
+ChangesHeld how image steps disk said =
+    (placed : Woken) × (Loads image placed.state placed.dirty) × Makes image (change_of how placed.state steps) disk said
 
 -- no stop came
 pub record IsQuiet (old new : DiskState) : Type 0 where

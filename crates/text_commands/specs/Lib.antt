@@ -1,5 +1,6 @@
 pub mod Asks
 pub mod Changed
+pub mod Committed
 pub mod Exported
 pub mod Exports
 pub mod ImportLines

@@ -10,7 +10,7 @@ ghost use Rattle.reg_tree.specs.Fitting.{Fits};
 ghost use Rattle.reg_tree.specs.Makes.{step_of};
 ghost use Rattle.import_steps.specs.Made.{made_steps};
 ghost use Rattle.text_commands.specs.Changed.{number_in, said_of};
-ghost use Rattle.text_commands.specs.Imports.{usable_in, SaysOf, Settles, IsRefusedAs, EndsProtected, MakesTree, MakesSteps, MakesIn, Changes, Unmoved};
+ghost use Rattle.text_commands.specs.Imports.{usable_in, SaysOf, Settles, IsRefusedAs, EndsProtected, MakesTree, MakesSteps, MakesFor, Changes, Unmoved};
 
 use crate::said::{Done, How, ImportStop, Said};
 use command_words::AskedSet;
@@ -33,6 +33,8 @@ fn settle<D: Disk>(hive: Hive, disk: &mut D) -> Result<Done, AllocError>
     if !hive.changed() {
         return Ok(Done::Nothing);
     }
+    // The tree that is committed stands in these cells.
+    let _ = hive.cells();
     match hive.commit(disk) {
         Ok((_, number)) => Ok(Done::Commit(number)),
         Err(_) => Err(AllocError),
@@ -81,9 +83,11 @@ fn edit<D: Disk>(
     requires loads { D.tells ≡ true → Loads (D.state disk.old).held (loaded_state hive) false }
     requires unchanged { hive.changed ≡ false }
     requires fits { All Fits (map step_of steps) }
-    ensures changed { D.tells ≡ true → IfOk result (MakesTree false (loaded_state hive) (map step_of steps) (D.state disk.new)) }
+    ensures changed { D.tells ≡ true → IfOk result (MakesTree false hive (map step_of steps) (D.state disk.new)) }
     ensures unmoved { Unmoved result (D.state disk.old) (D.state disk.new) }
 {
+    // The tree that was loaded stands in these cells.
+    let _ = hive.cells();
     match hive.apply(alloc, steps) {
         Ok(()) => settle(hive, disk),
         Err(stop) => refused(stop),
@@ -104,7 +108,7 @@ fn edit_all<D: Disk>(
     requires loads { D.tells ≡ true → Loads (D.state disk.old).held (loaded_state hive) false }
     requires unchanged { hive.changed ≡ false }
     requires fits { All Fits (map step_of steps) }
-    ensures changed { D.tells ≡ true → IfOk result (MakesTree protected (loaded_state hive) (map step_of steps) (D.state disk.new)) }
+    ensures changed { D.tells ≡ true → IfOk result (MakesTree protected hive (map step_of steps) (D.state disk.new)) }
     ensures unmoved { Unmoved result (D.state disk.old) (D.state disk.new) }
 {
     if protected {
@@ -172,7 +176,7 @@ fn make_left<D: Disk>(
     requires loads { D.tells ≡ true → Loads (D.state disk.old).held (loaded_state hive) false }
     requires unchanged { hive.changed ≡ false }
     requires fits { All Fits (map step_of made.steps) }
-    ensures changed { D.tells ≡ true → IfOk result (MakesSteps current true (loaded_state hive) (made_steps made) (D.state disk.new)) }
+    ensures changed { D.tells ≡ true → IfOk result (MakesSteps current true hive (made_steps made) (D.state disk.new)) }
     ensures unmoved { Unmoved result (D.state disk.old) (D.state disk.new) }
 {
     let SetSteps { steps, protected } = made;
@@ -197,7 +201,7 @@ fn make<D: Disk>(
     requires loads { D.tells ≡ true → Loads (D.state disk.old).held (loaded_state hive) false }
     requires unchanged { hive.changed ≡ false }
     requires fits { All Fits (map step_of made.steps) }
-    ensures changed { D.tells ≡ true → IfOk result (MakesSteps current lenient (loaded_state hive) (made_steps made) (D.state disk.new)) }
+    ensures changed { D.tells ≡ true → IfOk result (MakesSteps current lenient hive (made_steps made) (D.state disk.new)) }
     ensures unmoved { Unmoved result (D.state disk.old) (D.state disk.new) }
 {
     if lenient {
@@ -255,7 +259,7 @@ fn make_in<D: Disk>(
     requires unchanged { hive.changed ≡ false }
     requires fits { All Fits (map step_of steps) }
     requires within { IfSome number (λ n. n ≤ 999) }
-    ensures changed { D.tells ≡ true → IfOk result (MakesIn number lenient (loaded_state hive) (map step_of steps) (D.state disk.new)) }
+    ensures changed { D.tells ≡ true → IfOk result (MakesFor number lenient hive (map step_of steps) (D.state disk.new)) }
     ensures unmoved { Unmoved result (D.state disk.old) (D.state disk.new) }
 {
     match number {
@@ -285,7 +289,7 @@ pub(crate) fn change_loaded<D: Disk>(
     requires loads { D.tells ≡ true → Loads (D.state disk.old).held (loaded_state hive) false }
     requires unchanged { hive.changed ≡ false }
     requires fits { All Fits (map step_of steps) }
-    ensures changed { D.tells ≡ true → IfOk result (Changes how (loaded_state hive) (map step_of steps) (D.state disk.new)) }
+    ensures changed { D.tells ≡ true → IfOk result (Changes how hive (map step_of steps) (D.state disk.new)) }
     ensures unmoved { Unmoved result (D.state disk.old) (D.state disk.new) }
 {
     match how.current {

@@ -1,0 +1,35 @@
+-- What does the commit of an import leave? (this project's own)
+use Rattle.std.specs.Prelude.{◌≡◌, ◌⊎◌, ℕ, List}
+use Rattle.hive_model.specs.Base.{Base}
+use Rattle.hive_model.specs.Carries.{IsRecoveredAs}
+use Rattle.hive_model.specs.Edit.{Step}
+use Rattle.hive_model.specs.Image.{Image}
+use Rattle.hive_model.specs.State.{HiveState}
+use Rattle.hive_edit.specs.Edits.{IsEditedInPlace, IsPackedForRoom}
+use Rattle.hive_edit.specs.Hive.{HiveCells}
+use Rattle.hive_store.specs.Session.{AreCarried}
+use Rattle.printed_parts.specs.Logged.{IsLogged}
+use Rattle.text_commands.specs.declared.said.Done.{Done}
+use Rattle.text_commands.specs.declared.said.Done.TheVariants as dones
+
+-- the cells of bins data with this base block, in which the state's tree stands
+pub record AreCellsOf (base : Base) (bins : List ℕ) (state : HiveState) (cells : HiveCells) : Type 0 where
+  pub carried : AreCarried base bins cells
+  pub version : cells.version ≡ state.version
+  pub tree : cells.tree ≡ state.tree
+
+-- What is left is the image of a commit from the one state to the other, by these steps. Its log lists exactly the sectors in which the new bins
+-- data are not what the image from before was recovered as. The new cells are the old ones edited in place, or packed anew where the strain of
+-- the steps is over the greatest size of bins data.
+pub record IsCommitOf (image : Image) (before : HiveState) (steps : List Step) (after : HiveState) (left : Image) : Type 0 where
+  pub logged : IsLogged left before after
+  pub recovered : IsRecoveredAs image logged.opened logged.old
+  pub read : HiveCells
+  pub written : HiveCells
+  pub read_of : AreCellsOf logged.opened logged.old before read
+  pub written_of : AreCellsOf logged.closed logged.new after written
+  pub cells : IsEditedInPlace read steps written ⊎ IsPackedForRoom read steps written
+
+-- it is, where a tree was committed
+abbrev pub IsCommitWhere : Done → Image → HiveState → List Step → HiveState → Image → Type 0
+IsCommitWhere done image before steps after left = (number : ℕ) → done ≡ dones.Commit number → IsCommitOf image before steps after left
