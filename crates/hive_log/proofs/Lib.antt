@@ -14,3 +14,4 @@ pub mod Looked
 pub mod Asking
 pub mod AskedParts
 pub mod AskedWhole
+mod Pages

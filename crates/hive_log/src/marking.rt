@@ -1,6 +1,6 @@
 //! Which sectors of new bins data differ from the old ones.
 
-ghost use Rattle.std.specs.Prelude.{◌≡◌, ℕ, ◌+◌, ◌*◌, ◌/◌, ◌<◌, ◌≤◌, true, length};
+ghost use Rattle.std.specs.Prelude.{◌≡◌, ℕ, ◌+◌, ◌*◌, ◌/◌, ◌<◌, ◌≤◌, true, false, length, take, drop};
 ghost use Rattle.hive_model.specs.Base.{is_bins_size};
 ghost use Rattle.hive_model.specs.Recovery.{bit, one_if};
 ghost use Rattle.hive_model.specs.Log.{byte_of, dirty};
@@ -14,8 +14,35 @@ pub fn mark_dirty(old: &[u8], new: &[u8], into: &mut [u8; 4096])
     ensures { (i : ℕ) → i < length new.now / 512 → bit into.new i ≡ dirty old.now new.now i }
 {
     for k in 0..new.len() / 4096 {
-        into[k] = dirty_byte(old, new, 8 * k);
+        into[k] = page_byte(old, new, 8 * k);
     }
+}
+
+/// The bits of the eight sectors from this one on, the lowest first. Few pages differ, so each is first compared as a whole.
+fn page_byte(old: &[u8], new: &[u8], first: usize) -> u8
+    requires { 512 * first + 4096 ≤ length new.now }
+    ensures { result ≡ byte_of (dirty old.now new.now) first }
+{
+    if is_same_page(old, new, first) {
+        return 0;
+    }
+    dirty_byte(old, new, first)
+}
+
+/// Whether the eight sectors from this one on are there in the old data and equal.
+fn is_same_page(old: &[u8], new: &[u8], first: usize) -> bool
+    requires { 512 * first + 4096 ≤ length new.now }
+    ensures { result ≡ true → (j : ℕ) → j < 8 → dirty old.now new.now (first + j) ≡ false }
+{
+    old.len() >= 512 * first + 4096 && page_of(old, first) == page_of(new, first)
+}
+
+/// The eight sectors from this one on.
+fn page_of(bytes: &[u8], first: usize) -> &[u8]
+    requires { 512 * first + 4096 ≤ length bytes.now }
+    ensures { result.now ≡ take 4096 (drop (512 * first) bytes.now) }
+{
+    &bytes[512 * first..512 * first + 4096]
 }
 
 /// The bits of the eight sectors from this one on, the lowest first.
