@@ -8,11 +8,13 @@ ghost use Rattle.hive_model.specs.Stands.{tree_flags};
 ghost use Rattle.hive_model.specs.Walk.{reading};
 ghost use Rattle.cell_forms.specs.Views.{key_node_of};
 ghost use Rattle.salvage_bins.specs.Ground.{ground_of};
+ghost use Rattle.salvage_walk.specs.Remembered.{Remembers};
 ghost use Rattle.salvage_walk.specs.Walked.{say, state_of, Walked};
 ghost use Rattle.salvage_walk.specs.Keys.{judged_key, key_below, key_line, key_names, keys_next, with_child};
 
 use crate::entries::entries;
 use crate::lines::{Incomplete, Walk, WalkLine};
+use crate::lists::Lists;
 use crate::names::NameSet;
 use crate::parts::use_node;
 use crate::steps::{class, security, values};
@@ -126,6 +128,7 @@ fn key(
     alloc: Global,
     cells: &DamagedCells<'_>,
     walk: &mut Walk,
+    lists: &mut Lists,
     notes: &mut Row<Incomplete>,
     above: &[u8],
     path: &[Units],
@@ -134,10 +137,12 @@ fn key(
     number: usize,
     at: u32,
 ) -> Result<Option<Key>, AllocError>
+    requires { Remembers (ground_of cells.now) (state_of walk.old).claims lists.old }
     ensures walked { IfOk result (λ k. (k, state_of walk.new)
         ≡ judged_key left (ground_of cells.now) above.now path.now taken.now number at (state_of walk.old)) }
     ensures noted { OnOk result (notes.new
         ≡ notes_key left (ground_of cells.now) above.now path.now taken.now number at (state_of walk.old) notes.old) }
+    ensures listed { OnOk result (Remembers (ground_of cells.now) (state_of walk.new).claims lists.new) }
 {
     if left == 0 {
         let kind = HiveFaultKind::TooDeep;
@@ -151,6 +156,7 @@ fn key(
                 alloc,
                 cells,
                 walk,
+                lists,
                 notes,
                 above,
                 below.as_slice(),
@@ -175,6 +181,7 @@ pub(crate) fn key_of(
     alloc: Global,
     cells: &DamagedCells<'_>,
     walk: &mut Walk,
+    lists: &mut Lists,
     notes: &mut Row<Incomplete>,
     above: &[u8],
     path: &[Units],
@@ -182,15 +189,17 @@ pub(crate) fn key_of(
     node: NkForm,
     at: u32,
 ) -> Result<Key, AllocError>
+    requires { Remembers (ground_of cells.now) (state_of walk.old).claims lists.old }
     ensures walked { IfOk result (λ k. (k, state_of walk.new)
         ≡ key_below (judged_key left (ground_of cells.now)) (ground_of cells.now) above.now path.now (key_node_of node) at (state_of walk.old)) }
     ensures noted { OnOk result (notes.new
         ≡ notes_below (judged_key left (ground_of cells.now)) (notes_key left (ground_of cells.now)) (ground_of cells.now) above.now path.now
         (key_node_of node) at (state_of walk.old) notes.old) }
+    ensures listed { OnOk result (Remembers (ground_of cells.now) (state_of walk.new).claims lists.new) }
 {
     let class = class(alloc, cells, walk, path, &node)?;
     let security = security(alloc, cells, walk, above, path, &node)?;
-    let values = values(alloc, cells, walk, path, &node)?;
+    let values = values(alloc, cells, walk, lists, path, &node)?;
     let before = walk.len();
     let offsets = entries(alloc, cells, walk, path, &node, at)?;
     let told = walk.said_more(before);
@@ -199,6 +208,7 @@ pub(crate) fn key_of(
         alloc,
         cells,
         walk,
+        lists,
         notes,
         security.as_slice(),
         path,
@@ -247,6 +257,7 @@ fn keys(
     alloc: Global,
     cells: &DamagedCells<'_>,
     walk: &mut Walk,
+    lists: &mut Lists,
     notes: &mut Row<Incomplete>,
     above: &[u8],
     path: &[Units],
@@ -255,11 +266,13 @@ fn keys(
     told: bool,
     offsets: &[u32],
 ) -> Result<Keys, AllocError>
+    requires { Remembers (ground_of cells.now) (state_of walk.old).claims lists.old }
     ensures walked { IfOk result (λ ks. (ks, state_of walk.new)
         ≡ keys_next (judged_key left (ground_of cells.now)) above.now path.now 1 offsets.now [] (state_of walk.old)) }
     ensures noted { OnOk result (notes.new
         ≡ notes_next (judged_key left (ground_of cells.now)) (notes_key left (ground_of cells.now)) (incomplete_at own path.now)
         above.now path.now 1 offsets.now [] (state_of walk.old) told notes.old) }
+    ensures listed { OnOk result (Remembers (ground_of cells.now) (state_of walk.new).claims lists.new) }
 {
     let mut taken = NameSet::new(alloc);
     let mut children = Keys::new(alloc);
@@ -271,7 +284,7 @@ fn keys(
             return Ok(children);
         };
         let child = key(
-            alloc, cells, walk, notes, above, path, &taken, left, number, *at,
+            alloc, cells, walk, lists, notes, above, path, &taken, left, number, *at,
         )?;
         let is = is_new(noted, &child);
         note(alloc, notes, is, own, path)?;
@@ -290,6 +303,7 @@ fn found_key(
     alloc: Global,
     cells: &DamagedCells<'_>,
     walk: &mut Walk,
+    lists: &mut Lists,
     notes: &mut Row<Incomplete>,
     above: &[u8],
     path: &[Units],
@@ -297,10 +311,12 @@ fn found_key(
     left: u32,
     at: u32,
 ) -> Result<Option<Key>, AllocError>
+    requires { Remembers (ground_of cells.now) (state_of walk.old).claims lists.old }
     ensures walked { IfOk result (λ k. (k, state_of walk.new)
         ≡ unsaid (state_of walk.old) (judged_key left (ground_of cells.now) above.now path.now taken.now 0 at (state_of walk.old))) }
     ensures noted { OnOk result (notes.new
         ≡ notes_key left (ground_of cells.now) above.now path.now taken.now 0 at (state_of walk.old) notes.old) }
+    ensures listed { OnOk result (Remembers (ground_of cells.now) (state_of walk.new).claims lists.new) }
 {
     if left == 0 {
         return Ok(None);
@@ -312,6 +328,7 @@ fn found_key(
                 alloc,
                 cells,
                 walk,
+                lists,
                 notes,
                 above,
                 below.as_slice(),
@@ -357,6 +374,7 @@ pub fn add_found(
         ≡ found_notes (judged_key left (ground_of cells.now)) (notes_key left (ground_of cells.now)) above.now path.now places.now children
         (state_of walk.old) notes.old) }
 {
+    let mut lists = Lists::new(alloc);
     let mut taken = names_of(alloc, children.as_slice())?;
     let mut children = children;
     let mut rest = places;
@@ -364,7 +382,9 @@ pub fn add_found(
         let [at, more @ ..] = rest else {
             return Ok(children);
         };
-        let child = found_key(alloc, cells, walk, notes, above, path, &taken, left, *at)?;
+        let child = found_key(
+            alloc, cells, walk, &mut lists, notes, above, path, &taken, left, *at,
+        )?;
         add(alloc, &mut taken, &mut children, child)?;
         rest = more;
     }

@@ -9,6 +9,7 @@ mod entries;
 mod fronts;
 mod keys;
 mod lines;
+mod lists;
 mod names;
 mod parts;
 mod root;

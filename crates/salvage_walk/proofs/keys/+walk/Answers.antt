@@ -19,6 +19,7 @@ keys-returns-in_default t c =
       noted = sym (notes-end judge (notes_key c.args.left hive) (incomplete_at c.args.own c.args.path.now) c.args.above.now
           c.args.path.now c.children.number c.children.rest.now c.children.children (state_of c.children.walk) c.children.noted
           c.children.notes z) ∙ c.children.invariant.noted;
+      listed = c.children.invariant.listed;
     }
 
 pub keys-children-preserved : goal.keys-children-preserved
@@ -49,5 +50,6 @@ keys-children-preserved t c =
           (c.in_ok-child.ensures.noted
           ∙ ap (λ (ns : List (List ℕ)). notes_key c.args.left (ground_of c.args.cells.now) c.args.above.now c.args.path.now ns
           c.children.number (get_or rest 0 0) w c.children.notes) i.known)) ∙ i.noted;
+      listed = c.in_ok-child.ensures.listed;
       few = omega arith;
     }

@@ -43,4 +43,5 @@ places-preserved c =
           ∙ ap (λ (ns : List (List ℕ)). notes_key c.args.left hive c.args.above.now c.args.path.now ns 0 at w c.places.notes) i.known)
           ∙ i.noted;
       known = c.in_ok-add.ensures.known;
+      listed = c.in_ok-child.ensures.listed;
     }
