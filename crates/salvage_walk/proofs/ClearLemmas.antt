@@ -45,9 +45,6 @@ any-take p (suc n) (x ∷ xs) e =
     let r = any-rest (p x) (list_any p xs) e in
     ap (λ b. b || list_any p (take n xs)) r.0 ∙ any-take p n xs r.1
 
-pub clear-none : (s : Claim) → IsClear [] s
-clear-none s = record { fresh = refl; free = λ l. refl }
-
 pub clear-both : (xs ys : List Claim) (s : Claim) → IsClear xs s → IsClear ys s → IsClear (xs ++ ys) s
 clear-both xs ys s f g = record {
   fresh = find-both (λ (d : Claim). d.at == s.at) xs ys f.fresh g.fresh;
@@ -104,9 +101,12 @@ unfolding Stand
 stand-push hive before [] [] at s h i c = (i, subst (λ (b : List Claim). IsClear b s) (append-none before) c, tt)
 stand-push hive before [] (t ∷ list) at s h i c = absurd h
 stand-push hive before (o ∷ os) [] at s h i c = absurd h
-stand-push hive before (o ∷ os) (t ∷ list) at s h i c =
-    (h.0, h.1, stand-push hive (before ++ t ∷ []) os list at s h.2 i
-    (subst (λ (b : List Claim). IsClear b s) (sym (append_assoc before (t ∷ []) list)) c))
+stand-push hive before (o ∷ os) (t ∷ list) at s h i c = (
+  h.0,
+  h.1,
+  stand-push hive (before ++ t ∷ []) os list at s h.2 i
+      (subst (λ (b : List Claim). IsClear b s) (sym (append_assoc before (t ∷ []) list)) c),
+)
 
 pub stand-take : (hive : Ground) (before : List Claim) (n : ℕ) (os : List ℕ) (list : List Claim)
     → Stand hive before os list → Stand hive before (take n os) (take n list)
@@ -125,10 +125,12 @@ unfolding Stand
 stand-after hive uses before [] [] c h = tt
 stand-after hive uses before [] (t ∷ list) c h = absurd h
 stand-after hive uses before (o ∷ os) [] c h = absurd h
-stand-after hive uses before (o ∷ os) (t ∷ list) c h =
-    (h.0, clear-both uses before t (c 0 t refl) h.1,
-    subst (λ (b : List Claim). Stand hive b os list) (sym (append_assoc uses before (t ∷ [])))
-    (stand-after hive uses (before ++ t ∷ []) os list (λ i s e. c (suc i) s e) h.2))
+stand-after hive uses before (o ∷ os) (t ∷ list) c h = (
+  h.0,
+  clear-both uses before t (c 0 t refl) h.1,
+  subst (λ (b : List Claim). Stand hive b os list) (sym (append_assoc uses before (t ∷ [])))
+      (stand-after hive uses (before ++ t ∷ []) os list (λ i s e. c (suc i) s e) h.2),
+)
 
 -- those before a number
 pub get-front : (n : ℕ) (xs : List Claim) (i : ℕ) (c : Claim) → slice_get (take n xs) i ≡ Some c

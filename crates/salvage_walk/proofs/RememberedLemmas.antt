@@ -1,6 +1,6 @@
 -- Lists that are remembered, and what is used since.
-use Rattle.std.proofs.Common.{◌≡◌, ℕ, zero, suc, ◌+◌, ◌-◌, ◌*◌, ◌<◌, ◌≤◌, Bool, cond, true, false, Option, None, Some, Result, Ok, Err, List, [], ◌∷◌, ◌++◌, length, take, drop, refl, sym, ap, subst, ◌∙◌, arith}
-use Rattle.std.specs.Prelude.{◌==◌, if◌then◌else◌, min, nat_lt, slice_get}
+use Rattle.std.proofs.Common.{◌≡◌, ℕ, ◌+◌, ◌-◌, ◌*◌, ◌<◌, ◌≤◌, Bool, cond, true, false, Option, None, Some, Ok, List, [], ◌∷◌, ◌++◌, length, take, refl, sym, ap, subst, ◌∙◌, arith}
+use Rattle.std.specs.Prelude.{◌==◌, if◌then◌else◌, min, slice_get}
 use Rattle.std.specs.Ordering.{nat_cmp}
 use Rattle.std.specs.BTreeMap.{BTreeMap, get, is_at}
 use Rattle.std.proofs.lemmas.Bool.{eqb-true}
@@ -11,11 +11,12 @@ use Rattle.hive_model.specs.Lists.{numbers_in}
 use Rattle.salvage_bins.specs.Ground.{Ground}
 use Rattle.salvage_walk.specs.declared.claims.Claim.{Claim}
 use Rattle.salvage_walk.specs.declared.lines.KeyPart.{KeyPart}
+use Rattle.salvage_walk.specs.declared.lines.WalkLine.{WalkLine}
 use Rattle.salvage_walk.specs.declared.lists.Watch.{Watch}
 use Rattle.salvage_walk.specs.declared.lists.Lists.{Lists}
 use Rattle.salvage_walk.specs.Clear.{IsClear, Stand}
 use Rattle.salvage_walk.specs.Remembered.{AreClearBelow, AreFirst, AreFull, AreWatched, AreWatchedBelow, Follows, IsWatched, KeepsOthers, KeepsWatch, Remembers, lowered, watch_key}
-use Rattle.salvage_walk.specs.Walked.{Before, Walked}
+use Rattle.salvage_walk.specs.Walked.{Before, Walked, say}
 use Rattle.salvage_walk.specs.Steps.{class_step, entries_step, said_short, security_step}
 use Rattle.salvage_walk.proofs.PlacedLemmas.{eq-cmp}
 use Rattle.salvage_walk.proofs.LooseLemmas.{eq-self}
@@ -301,3 +302,8 @@ remembers-short hive l short of path at old new e f =
     same : (b : Bool) → (said_short b of path at old).claims ≡ old.claims
     same true = refl
     same false = refl
+
+pub remembers-said : (hive : Ground) (l : Lists) (line : WalkLine) (old new : Walked) → new ≡ say old line
+    → Remembers hive old.claims l → Remembers hive new.claims l
+remembers-said hive l line old new e f =
+    subst (λ (cs : List Claim). Remembers hive cs l) (sym (ap (λ (w : Walked). w.claims) e)) f

@@ -374,7 +374,33 @@ pub fn add_found(
         ≡ found_notes (judged_key left (ground_of cells.now)) (notes_key left (ground_of cells.now)) above.now path.now places.now children
         (state_of walk.old) notes.old) }
 {
-    let mut lists = Lists::new(alloc);
+    let mut lists = Lists::new(alloc, walk);
+    add_found_beside(
+        alloc, cells, walk, &mut lists, notes, above, path, left, places, children,
+    )
+}
+
+/// The same beside lists of segments that are remembered.
+pub fn add_found_beside(
+    alloc: Global,
+    cells: &DamagedCells<'_>,
+    walk: &mut Walk,
+    lists: &mut Lists,
+    notes: &mut Row<Incomplete>,
+    above: &[u8],
+    path: &[Units],
+    left: u32,
+    places: &[u32],
+    children: Keys,
+) -> Result<Keys, AllocError>
+    requires { Remembers (ground_of cells.now) (state_of walk.old).claims lists.old }
+    ensures walked { IfOk result (λ ks. (ks, state_of walk.new)
+        ≡ found_next (judged_key left (ground_of cells.now)) above.now path.now places.now children (state_of walk.old)) }
+    ensures noted { OnOk result (notes.new
+        ≡ found_notes (judged_key left (ground_of cells.now)) (notes_key left (ground_of cells.now)) above.now path.now places.now children
+        (state_of walk.old) notes.old) }
+    ensures listed { OnOk result (Remembers (ground_of cells.now) (state_of walk.new).claims lists.new) }
+{
     let mut taken = names_of(alloc, children.as_slice())?;
     let mut children = children;
     let mut rest = places;
@@ -383,7 +409,7 @@ pub fn add_found(
             return Ok(children);
         };
         let child = found_key(
-            alloc, cells, walk, &mut lists, notes, above, path, &taken, left, *at,
+            alloc, cells, walk, lists, notes, above, path, &taken, left, *at,
         )?;
         add(alloc, &mut taken, &mut children, child)?;
         rest = more;

@@ -16,6 +16,7 @@ mod root;
 mod steps;
 mod values;
 
-pub use keys::add_found;
+pub use keys::{add_found, add_found_beside};
 pub use lines::{Incomplete, KeyPart, Walk, WalkLine};
+pub use lists::Lists;
 pub use root::{Salvaged, WalkedTree, salvage_tree, walk_tree};

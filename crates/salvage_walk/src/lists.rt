@@ -1,16 +1,17 @@
 //! Lists of segments that a value failed on.
 
-ghost use Rattle.std.specs.Prelude.{◌≡◌, ◌≤◌, ℕ, List, [], length, take, OnOk, IfOk};
+ghost use Rattle.std.specs.Prelude.{◌≡◌, ◌≤◌, ℕ, [], length, take, OnOk, IfOk};
 ghost use Rattle.std.specs.Bool.{OnTrue};
 ghost use Rattle.std.specs.Ordering.{nat_cmp};
 ghost use Rattle.std.specs.BTreeMap.{get};
 ghost use Rattle.hive_model.specs.Lists.{numbers_in};
 ghost use Rattle.salvage_bins.specs.Ground.{Ground, ground_of};
-ghost use Rattle.salvage_walk.specs.declared.claims.Claim.{Claim as Use};
 ghost use Rattle.salvage_walk.specs.Clear.{IsClear, IsNextFrom, Stand};
 ghost use Rattle.salvage_walk.specs.Remembered.{AreClearBelow, AreFull, AreWatchedBelow, Follows, KeepsOthers, KeepsWatch, Remembers, lowered, watch_key};
+ghost use Rattle.salvage_walk.specs.Walked.{state_of};
 
 use crate::claims::{Claim, Used, near_end, near_from};
+use crate::lines::Walk;
 use crate::parts::use_front;
 use nt_bytes::{ReadStop, u32_at};
 use salvage_bins::DamagedCells;
@@ -167,15 +168,15 @@ fn watch_entries(
 }
 
 impl Lists {
-    /// No list is remembered.
-    pub(crate) fn new(alloc: Global) -> Lists
-        ensures { (hive : Ground) (claims : List Use) → Remembers hive claims result }
+    /// No list is remembered, beside what a walk used so far.
+    pub fn new(alloc: Global, walk: &Walk) -> Lists
+        ensures { (hive : Ground) → Remembers hive (state_of walk.now).claims result }
     {
         Lists {
             lists: BTreeMap::new(alloc),
             least: BTreeMap::new(alloc),
             watches: BTreeMap::new(alloc),
-            seen: 0,
+            seen: walk.used.len(),
         }
     }
 }

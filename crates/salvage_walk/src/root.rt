@@ -186,7 +186,7 @@ pub fn walk_tree(
         lines: Vec::new(alloc),
     };
     let mut notes = Row::new(alloc);
-    let mut lists = Lists::new(alloc);
+    let mut lists = Lists::new(alloc, &walk);
     let tree = from_root(alloc, cells, &mut walk, &mut lists, &mut notes, root)?;
     Ok(WalkedTree { tree, walk, notes })
 }

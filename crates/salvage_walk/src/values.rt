@@ -96,13 +96,7 @@ fn overlaps(cells: &DamagedCells<'_>, used: &Used, count: u32, at: u32) -> bool
 
 // The same of two kinds of uses.
 #[tactic(auto, using(crate::proofs::FaultLemmas::among))]
-fn overlaps_any(
-    cells: &DamagedCells<'_>,
-    used: &Used,
-    list: &Used,
-    count: u32,
-    at: u32,
-) -> bool
+fn overlaps_any(cells: &DamagedCells<'_>, used: &Used, list: &Used, count: u32, at: u32) -> bool
     ensures { result ≡ ((ground_of cells.now).loose at && overlaps_at at (at + (4 + count)) (used.now ++ list.now)) }
 {
     overlaps(cells, used, count, at) || overlaps(cells, list, count, at)
@@ -124,12 +118,7 @@ fn is_used_any(used: &Used, list: &Used, at: u32) -> bool
 }
 
 // Why a segment can't be used after these uses, whatever is used after them.
-fn lasting_fault(
-    cells: &DamagedCells<'_>,
-    used: &Used,
-    count: u32,
-    at: u32,
-) -> Option<HiveFault>
+fn lasting_fault(cells: &DamagedCells<'_>, used: &Used, count: u32, at: u32) -> Option<HiveFault>
     ensures { IfSome result (λ f. (more : List Claim) → bytes_part count (ground_of cells.now) (used.now ++ more) at ≡ Err f) }
 {
     match cells.payload(at) {
@@ -202,7 +191,10 @@ fn known_fault(
     let Some(least) = lists.least.get(&at) else {
         return None;
     };
-    let bound = (*least).min(list.len()).min(count as usize - 1).min((size / SEGMENT) as usize);
+    let bound = (*least)
+        .min(list.len())
+        .min(count as usize - 1)
+        .min((size / SEGMENT) as usize);
     let number = clear_of_rest(list, used, lists.seen, bound);
     let entry = u32_at(&entries[4 * number..], 0);
     let left = size - SEGMENT * number as u32;
@@ -400,11 +392,7 @@ fn list_of(cells: &DamagedCells<'_>, value: &VkForm) -> Option<u32> {
 }
 
 // The same of the value at an offset.
-fn list_named(
-    alloc: Global,
-    cells: &DamagedCells<'_>,
-    at: u32,
-) -> Result<Option<u32>, AllocError> {
+fn list_named(alloc: Global, cells: &DamagedCells<'_>, at: u32) -> Result<Option<u32>, AllocError> {
     let Ok(payload) = cells.payload(at) else {
         return Ok(None);
     };

@@ -1,4 +1,4 @@
-use Rattle.std.proofs.Common.{◌≡◌, ◌-◌, ◌≤◌, length, take}
+use Rattle.std.proofs.Common.{◌-◌, ◌≤◌, length, take}
 use Rattle.salvage_walk.specs.Remembered.{AreClearBelow}
 use Rattle.salvage_walk.proofs.lists.clear_of_rest.Given as goal
 

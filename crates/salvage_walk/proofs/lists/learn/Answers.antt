@@ -1,7 +1,4 @@
-use Rattle.std.proofs.Common.{◌≡◌, ℕ, List, Result, Ok, length, subst, sym, ◌∙◌}
-use Rattle.hive_model.specs.Lists.{numbers_in}
 use Rattle.salvage_bins.specs.Ground.{ground_of}
-use Rattle.salvage_walk.specs.Clear.{Stand}
 use Rattle.salvage_walk.proofs.RememberedLemmas.{remembers-list, same-payload}
 use Rattle.salvage_walk.proofs.lists.learn.Goals as goal
 

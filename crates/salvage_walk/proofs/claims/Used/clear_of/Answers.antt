@@ -1,4 +1,4 @@
-use Rattle.std.proofs.Common.{ap, ◌∙◌, ◌<◌, sym, arith}
+use Rattle.std.proofs.Common.{ap, ◌∙◌, arith}
 use Rattle.std.specs.Prelude.{slice_get}
 use Rattle.salvage_walk.proofs.LooseLemmas.{placed-before}
 use Rattle.salvage_walk.proofs.ClearLemmas.{clear-far}
