@@ -1,7 +1,6 @@
 //! Keys, with all below them.
 
 ghost use Rattle.std.specs.Prelude.{◌≡◌, ◌-◌, ◌&&◌, ◌||◌, [], ◌∷◌, ◌++◌, not, is_some, OnOk, IfOk};
-ghost use Rattle.salvage_walk.specs.Found.{found_next, found_notes, unsaid};
 ghost use Rattle.salvage_walk.specs.Incomplete.{incomplete_at, noted, notes_below, notes_key, notes_next};
 ghost use Rattle.hive_model.specs.KeyNode.{key_node_at};
 ghost use Rattle.hive_model.specs.Stands.{tree_flags};
@@ -24,8 +23,8 @@ use reg_tree::{Key, Keys};
 use salvage_bins::DamagedCells;
 use std::alloc::{AllocError, Global};
 
-// The path of a child of this name.
-fn path_below(alloc: Global, path: &[Units], name: &[u16]) -> Result<Names, AllocError>
+/// The path of a child of this name.
+pub(crate) fn path_below(alloc: Global, path: &[Units], name: &[u16]) -> Result<Names, AllocError>
     ensures { IfOk result (λ p. p ≡ path.now ++ name.now ∷ []) }
 {
     let mut below = Names::from_slice(alloc, path)?;
@@ -229,9 +228,9 @@ pub(crate) fn key_of(
     })
 }
 
-// Adds a child, if there is one.
+/// Adds a child, if there is one.
 #[tactic(auto, using(crate::proofs::WalkLemmas::pushes))]
-fn add(
+pub(crate) fn add(
     alloc: Global,
     taken: &mut NameSet,
     children: &mut Keys,
@@ -291,127 +290,6 @@ fn keys(
         noted = is_noted(noted, &child);
         add(alloc, &mut taken, &mut children, child)?;
         number += 1;
-        rest = more;
-    }
-}
-
-// ---- children whose nodes are at given places
-
-// A child with all below it, where that many levels are left. Of one that is left out nothing is said.
-#[tactic(auto, using(crate::proofs::WalkLemmas::key_steps))]
-fn found_key(
-    alloc: Global,
-    cells: &DamagedCells<'_>,
-    walk: &mut Walk,
-    lists: &mut Lists,
-    notes: &mut Row<Incomplete>,
-    above: &[u8],
-    path: &[Units],
-    taken: &NameSet,
-    left: u32,
-    at: u32,
-) -> Result<Option<Key>, AllocError>
-    requires { Remembers (ground_of cells.now) (state_of walk.old).claims lists.old }
-    ensures walked { IfOk result (λ k. (k, state_of walk.new)
-        ≡ unsaid (state_of walk.old) (judged_key left (ground_of cells.now) above.now path.now taken.now 0 at (state_of walk.old))) }
-    ensures noted { OnOk result (notes.new
-        ≡ notes_key left (ground_of cells.now) above.now path.now taken.now 0 at (state_of walk.old) notes.old) }
-    ensures listed { OnOk result (Remembers (ground_of cells.now) (state_of walk.new).claims lists.new) }
-{
-    if left == 0 {
-        return Ok(None);
-    }
-    match use_node(alloc, cells, &mut walk.used, false, taken, at) {
-        Ok(node) => {
-            let below = path_below(alloc, path, node.name.as_slice())?;
-            let found = key_of(
-                alloc,
-                cells,
-                walk,
-                lists,
-                notes,
-                above,
-                below.as_slice(),
-                left - 1,
-                node,
-                at,
-            )?;
-            Ok(Some(found))
-        }
-        Err(ReadStop::Memory) => Err(AllocError),
-        Err(ReadStop::Fault(_)) => Ok(None),
-    }
-}
-
-// The names of these keys.
-fn names_of(alloc: Global, keys: &[Key]) -> Result<NameSet, AllocError>
-    ensures { IfOk result (λ s. s ≡ key_names keys.now) }
-{
-    let mut taken = NameSet::new(alloc);
-    for key in keys {
-        let name = key.name.copy(alloc)?;
-        taken.add(alloc, name)?;
-    }
-    Ok(taken)
-}
-
-/// These children of a key at a path and, judged in turn, those whose nodes are at these places, where that many levels are left. Of
-/// one that is left out nothing is said.
-pub fn add_found(
-    alloc: Global,
-    cells: &DamagedCells<'_>,
-    walk: &mut Walk,
-    notes: &mut Row<Incomplete>,
-    above: &[u8],
-    path: &[Units],
-    left: u32,
-    places: &[u32],
-    children: Keys,
-) -> Result<Keys, AllocError>
-    ensures walked { IfOk result (λ ks. (ks, state_of walk.new)
-        ≡ found_next (judged_key left (ground_of cells.now)) above.now path.now places.now children (state_of walk.old)) }
-    ensures noted { OnOk result (notes.new
-        ≡ found_notes (judged_key left (ground_of cells.now)) (notes_key left (ground_of cells.now)) above.now path.now places.now children
-        (state_of walk.old) notes.old) }
-{
-    let mut lists = Lists::new(alloc, walk);
-    add_found_beside(
-        alloc, cells, walk, &mut lists, notes, above, path, left, places, children,
-    )
-}
-
-/// The same beside lists of segments that are remembered.
-pub fn add_found_beside(
-    alloc: Global,
-    cells: &DamagedCells<'_>,
-    walk: &mut Walk,
-    lists: &mut Lists,
-    notes: &mut Row<Incomplete>,
-    above: &[u8],
-    path: &[Units],
-    left: u32,
-    places: &[u32],
-    children: Keys,
-) -> Result<Keys, AllocError>
-    requires { Remembers (ground_of cells.now) (state_of walk.old).claims lists.old }
-    ensures walked { IfOk result (λ ks. (ks, state_of walk.new)
-        ≡ found_next (judged_key left (ground_of cells.now)) above.now path.now places.now children (state_of walk.old)) }
-    ensures noted { OnOk result (notes.new
-        ≡ found_notes (judged_key left (ground_of cells.now)) (notes_key left (ground_of cells.now)) above.now path.now places.now children
-        (state_of walk.old) notes.old) }
-    ensures listed { OnOk result (Remembers (ground_of cells.now) (state_of walk.new).claims lists.new) }
-{
-    let mut taken = names_of(alloc, children.as_slice())?;
-    let mut children = children;
-    let mut rest = places;
-    'places: loop {
-        let [at, more @ ..] = rest else {
-            return Ok(children);
-        };
-        let child = found_key(
-            alloc, cells, walk, lists, notes, above, path, &taken, left, *at,
-        )?;
-        add(alloc, &mut taken, &mut children, child)?;
         rest = more;
     }
 }

@@ -1,6 +1,6 @@
 use Rattle.salvage_bins.specs.Ground.{ground_of}
 use Rattle.salvage_walk.proofs.RememberedLemmas.{remembers-more}
-use Rattle.salvage_walk.proofs.keys.found_key.Goals as goal
+use Rattle.salvage_walk.proofs.found.found_key.Goals as goal
 
 pub key_of-requires : goal.key_of-requires
 key_of-requires c =

@@ -3,7 +3,7 @@ use Rattle.hive_model.specs.Lists.{numbers_in}
 use Rattle.salvage_bins.specs.Ground.{ground_of}
 use Rattle.salvage_walk.specs.Segments.{segments_used}
 use Rattle.salvage_walk.specs.Walked.{Before}
-use Rattle.salvage_walk.proofs.values.use_segments.Given as goal
+use Rattle.salvage_walk.proofs.segments.use_segments.Given as goal
 
 abbrev pub decreases-segments : goal.decreases-segments
 decreases-segments l = l.number

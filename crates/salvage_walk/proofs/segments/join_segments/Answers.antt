@@ -3,7 +3,7 @@ use Rattle.std.proofs.lemmas.List.{take_rest}
 use Rattle.cell_forms.proofs.Steps.{room_next}
 use Rattle.salvage_bins.specs.Ground.{ground_of}
 use Rattle.salvage_walk.proofs.SegmentLemmas.{numbers-end, numbers-more, there-end, there-on}
-use Rattle.salvage_walk.proofs.values.join_segments.Goals as goal
+use Rattle.salvage_walk.proofs.segments.join_segments.Goals as goal
 
 pub returns : goal.returns
 returns c =

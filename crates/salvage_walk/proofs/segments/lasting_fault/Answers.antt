@@ -1,7 +1,7 @@
 use Rattle.std.proofs.Common.{◌++◌, sym, ◌∙◌, ◌+◌, arith}
 use Rattle.salvage_bins.specs.Ground.{ground_of}
 use Rattle.salvage_walk.proofs.FaultLemmas.{fails-absent, fails-shared, fails-used, lies-before, used-before}
-use Rattle.salvage_walk.proofs.values.lasting_fault.Goals as goal
+use Rattle.salvage_walk.proofs.segments.lasting_fault.Goals as goal
 
 pub returns-then-is_used : goal.returns-then-is_used
 returns-then-is_used c = rw c.shared.ensures (λ more.

@@ -6,7 +6,7 @@ use Rattle.salvage_walk.specs.Keys.{judged_key, with_child}
 use Rattle.salvage_walk.specs.Walked.{state_of}
 use Rattle.salvage_walk.proofs.UseLemmas.{none-left, first-and-rest}
 use Rattle.salvage_walk.proofs.WalkLemmas.{found-end, found-on, found-notes-end, found-notes-on}
-use Rattle.salvage_walk.proofs.keys.add_found_beside.Goals as goal
+use Rattle.salvage_walk.proofs.found.add_found_beside.Goals as goal
 
 pub returns-in_default-clause-walked : goal.returns-in_default-clause-walked
 returns-in_default-clause-walked c =

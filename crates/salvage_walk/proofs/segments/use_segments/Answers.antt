@@ -5,7 +5,7 @@ use Rattle.cell_forms.proofs.Steps.{room_next}
 use Rattle.salvage_bins.specs.Ground.{ground_of}
 use Rattle.salvage_walk.proofs.UseLemmas.{before-self, before-after}
 use Rattle.salvage_walk.proofs.SegmentLemmas.{numbers-end, numbers-more, used-end, used-on, spends-off}
-use Rattle.salvage_walk.proofs.values.use_segments.Goals as goal
+use Rattle.salvage_walk.proofs.segments.use_segments.Goals as goal
 
 pub segments-init : goal.segments-init
 segments-init c = record { told = refl; before = before-self _; inside = c.requires }

@@ -5,7 +5,7 @@ use Rattle.salvage_bins.specs.Ground.{ground_of}
 use Rattle.salvage_walk.specs.declared.claims.Claim.{Claim}
 use Rattle.salvage_walk.specs.Values.{bytes_part}
 use Rattle.salvage_walk.proofs.FaultLemmas.{known-at, some-on}
-use Rattle.salvage_walk.proofs.values.known_fault.Goals as goal
+use Rattle.salvage_walk.proofs.segments.known_fault.Goals as goal
 
 pub returns-then-number-len : goal.returns-then-number-len
 returns-then-number-len c =

@@ -2,7 +2,7 @@ use Rattle.std.proofs.Common.{◌≡◌, ◌≤◌, ◌*◌, ◌++◌, length}
 use Rattle.hive_model.specs.Lists.{numbers_in}
 use Rattle.salvage_bins.specs.Ground.{ground_of}
 use Rattle.salvage_walk.specs.Segments.{segments_there}
-use Rattle.salvage_walk.proofs.values.join_segments.Given as goal
+use Rattle.salvage_walk.proofs.segments.join_segments.Given as goal
 
 abbrev pub decreases-segments : goal.decreases-segments
 decreases-segments l = l.number

@@ -1,7 +1,7 @@
 use Rattle.std.proofs.Common.{◌++◌, sym, ◌∙◌, arith}
 use Rattle.salvage_bins.specs.Ground.{ground_of}
 use Rattle.salvage_walk.proofs.FaultLemmas.{fails-absent, fails-short, fails-shared, fails-used}
-use Rattle.salvage_walk.proofs.values.fault_after.Goals as goal
+use Rattle.salvage_walk.proofs.segments.fault_after.Goals as goal
 
 pub returns-then-is_used_any : goal.returns-then-is_used_any
 returns-then-is_used_any c =

@@ -5,7 +5,7 @@ use Rattle.salvage_bins.specs.Ground.{ground_of}
 use Rattle.nt_bytes.specs.declared.fault.ReadStop.TheVariants.{Fault}
 use Rattle.salvage_walk.proofs.SegmentLemmas.{tries-joined, tries-unjoined}
 use Rattle.salvage_walk.proofs.UseLemmas.{before-self}
-use Rattle.salvage_walk.proofs.values.try_segments.Goals as goal
+use Rattle.salvage_walk.proofs.segments.try_segments.Goals as goal
 
 pub returns-in_err-use_segments : goal.returns-in_err-use_segments
 returns-in_err-use_segments c =

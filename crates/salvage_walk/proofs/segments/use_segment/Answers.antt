@@ -1,6 +1,6 @@
 use Rattle.salvage_walk.specs.Values.{bytes_part}
 use Rattle.salvage_walk.proofs.UseLemmas.{takes-tries}
-use Rattle.salvage_walk.proofs.values.use_segment.Goals as goal
+use Rattle.salvage_walk.proofs.segments.use_segment.Goals as goal
 
 pub returns : goal.returns
 unfolding bytes_part
