@@ -33,14 +33,14 @@ def base_block(size, root=32, first=5, second=5, minor=3, kind=0):
     return bytes(block) + bytes(4096 - 512)
 
 
-def hive(cells):
+def hive(cells, minor=3):
     """A hive whose one bin has these cells, and the rest of it free. The root is the first cell."""
     used = 32 + len(cells)
     size = (used + 4095) // 4096 * 4096
     free = size - used
     if free:
         cells = cells + struct.pack("<i", free) + bytes(free - 4)
-    return base_block(size) + b"hbin" + struct.pack("<II", 0, size) + bytes(20) + cells
+    return base_block(size, minor=minor) + b"hbin" + struct.pack("<II", 0, size) + bytes(20) + cells
 
 
 def with_children(count):
@@ -78,6 +78,32 @@ def with_values(count):
         name = b"V%06d" % i
         out.append(cell(b"vk" + struct.pack("<HIIIHH", len(name), 0x80000004, i, 4, 1, 0) + name))
     return hive(b"".join(out))
+
+
+def with_failing_values(count, segments):
+    """A root of version 1.5 with that many values in place, each after one and the same value of big data, whose last segment but one is
+    the value's own cell."""
+    root_size = len(cell(node(b"ROOT", 0, NONE, 0, 0)))
+    list_at = 32 + root_size
+    bad_at = list_at + len(cell(bytes(8 * count)))
+    big_at = bad_at + len(cell(bytes(23)))
+    entries_at = big_at + len(cell(bytes(8)))
+    segments_at = entries_at + len(cell(bytes(4 * segments)))
+    segment_size = len(cell(bytes(16344)))
+    places = [segments_at + segment_size * i for i in range(segments)]
+    at = segments_at + segment_size * segments
+    places[-2] = bad_at
+    value_size = len(cell(bytes(27)))
+    offsets = [place for i in range(count) for place in (bad_at, at + value_size * i)]
+    out = [cell(node(b"ROOT", 0, NONE, 2 * count, list_at)), cell(b"".join(struct.pack("<I", o) for o in offsets))]
+    out.append(cell(b"vk" + struct.pack("<HIIIHH", 3, 16344 * segments, big_at, 3, 1, 0) + b"bad"))
+    out.append(cell(b"db" + struct.pack("<HI", segments, entries_at)))
+    out.append(cell(b"".join(struct.pack("<I", o) for o in places)))
+    out.extend(cell(bytes(16344)) for _ in range(segments))
+    for i in range(count):
+        name = b"V%06d" % i
+        out.append(cell(b"vk" + struct.pack("<HIIIHH", len(name), 0x80000004, i, 4, 1, 0) + name))
+    return hive(b"".join(out), minor=5)
 
 
 def with_small_cells(size):

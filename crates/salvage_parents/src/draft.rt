@@ -1,8 +1,9 @@
 //! Keys below which others are found.
 
-ghost use Rattle.std.specs.Prelude.{◌≡◌, ◌-◌, [], IfOk, length};
+ghost use Rattle.std.specs.Prelude.{◌≡◌, ◌-◌, [], IfOk, OnOk, length};
 ghost use Rattle.salvage_bins.specs.Ground.{ground_of};
 ghost use Rattle.salvage_walk.specs.Keys.{key_names};
+ghost use Rattle.salvage_walk.specs.Remembered.{Remembers};
 ghost use Rattle.salvage_walk.specs.Walked.{state_of};
 ghost use Rattle.salvage_parents.specs.Change.{changed_among};
 ghost use Rattle.salvage_parents.specs.Naming.{AreNaming};
@@ -15,7 +16,7 @@ use name_places::NamePlaces;
 use nt_bytes::{Bytes, Names, Row, Units};
 use reg_tree::{Key, Keys, Values};
 use salvage_bins::DamagedCells;
-use salvage_walk::{Incomplete, Walk, add_found};
+use salvage_walk::{Incomplete, Lists, Walk, add_found_beside};
 use std::alloc::{AllocError, Global};
 use std::collections::BTreeMap;
 use std::marker::Model;
@@ -238,22 +239,26 @@ fn adopt_among(
     cells: &DamagedCells<'_>,
     index: &BTreeMap<u32, Vec<u32>>,
     walk: &mut Walk,
+    lists: &mut Lists,
     notes: &mut Row<Incomplete>,
     own: &Incomplete,
     security: &[u8],
     keys: Keys,
 ) -> Result<(Keys, usize), AllocError>
-    requires { AreNaming (ground_of cells.now) index.now }
-    ensures { IfOk result (λ r. (r.0, record { walked = state_of walk.new; notes = notes.new; count = r.1 })
+    requires naming { AreNaming (ground_of cells.now) index.now }
+    requires remembered { Remembers (ground_of cells.now) (state_of walk.old).claims lists.old }
+    ensures found { IfOk result (λ r. (r.0, record { walked = state_of walk.new; notes = notes.new; count = r.1 })
         ≡ adopted (ground_of cells.now) own.now (state_of walk.old) notes.old security.now keys) }
+    ensures listed { OnOk result (Remembers (ground_of cells.now) (state_of walk.new).claims lists.new) }
 {
     let before = keys.len();
     let path = own.path.as_slice();
     let places = places_of(index, own.at);
-    let found = add_found(
+    let found = add_found_beside(
         alloc,
         cells,
         walk,
+        lists,
         notes,
         security,
         path,
@@ -274,12 +279,15 @@ impl Draft {
         cells: &DamagedCells<'_>,
         index: &BTreeMap<u32, Vec<u32>>,
         walk: &mut Walk,
+        lists: &mut Lists,
         notes: &mut Row<Incomplete>,
         own: &Incomplete,
     ) -> Result<usize, AllocError>
-        requires { AreNaming (ground_of cells.now) index.now }
-        ensures { IfOk result (λ n. (self.new, record { walked = state_of walk.new; notes = notes.new; count = n })
+        requires naming { AreNaming (ground_of cells.now) index.now }
+        requires remembered { Remembers (ground_of cells.now) (state_of walk.old).claims lists.old }
+        ensures found { IfOk result (λ n. (self.new, record { walked = state_of walk.new; notes = notes.new; count = n })
             ≡ adopted_at (ground_of cells.now) own.now (state_of walk.old) notes.old [] self.old) }
+        ensures listed { OnOk result (Remembers (ground_of cells.now) (state_of walk.new).claims lists.new) }
     {
         let keys = self.children.take_closed(alloc)?;
         let (found, count) = adopt_among(
@@ -287,6 +295,7 @@ impl Draft {
             cells,
             index,
             walk,
+            lists,
             notes,
             own,
             self.security.as_slice(),
@@ -304,21 +313,25 @@ impl Draft {
         cells: &DamagedCells<'_>,
         index: &BTreeMap<u32, Vec<u32>>,
         walk: &mut Walk,
+        lists: &mut Lists,
         notes: &mut Row<Incomplete>,
         own: &Incomplete,
         path: &[Units],
     ) -> Result<usize, AllocError>
-        requires { AreNaming (ground_of cells.now) index.now }
-        ensures { IfOk result (λ n. (self.new, record { walked = state_of walk.new; notes = notes.new; count = n })
+        requires naming { AreNaming (ground_of cells.now) index.now }
+        requires remembered { Remembers (ground_of cells.now) (state_of walk.old).claims lists.old }
+        ensures found { IfOk result (λ n. (self.new, record { walked = state_of walk.new; notes = notes.new; count = n })
             ≡ adopted_at (ground_of cells.now) own.now (state_of walk.old) notes.old path.now self.old) }
+        ensures listed { OnOk result (Remembers (ground_of cells.now) (state_of walk.new).claims lists.new) }
     {
         match path {
-            [] => self.adopt(alloc, cells, index, walk, notes, own),
+            [] => self.adopt(alloc, cells, index, walk, lists, notes, own),
             [first, more @ ..] => self.children.adopt_at(
                 alloc,
                 cells,
                 index,
                 walk,
+                lists,
                 notes,
                 own,
                 first.as_slice(),
@@ -337,15 +350,18 @@ impl DraftKeys {
         cells: &DamagedCells<'_>,
         index: &BTreeMap<u32, Vec<u32>>,
         walk: &mut Walk,
+        lists: &mut Lists,
         notes: &mut Row<Incomplete>,
         own: &Incomplete,
         name: &[u16],
         path: &[Units],
     ) -> Result<usize, AllocError>
-        requires { AreNaming (ground_of cells.now) index.now }
-        ensures { IfOk result (λ n. (self.new, record { walked = state_of walk.new; notes = notes.new; count = n })
+        requires naming { AreNaming (ground_of cells.now) index.now }
+        requires remembered { Remembers (ground_of cells.now) (state_of walk.old).claims lists.old }
+        ensures found { IfOk result (λ n. (self.new, record { walked = state_of walk.new; notes = notes.new; count = n })
             ≡ changed_among name.now (adopted_at (ground_of cells.now) own.now (state_of walk.old) notes.old path.now)
             (adopted_none (state_of walk.old) notes.old) self.old) }
+        ensures listed { OnOk result (Remembers (ground_of cells.now) (state_of walk.new).claims lists.new) }
     {
         let (mut drafts, names) = self.take_open(alloc)?;
         match names.place_of(name) {
@@ -354,7 +370,9 @@ impl DraftKeys {
                 Ok(0)
             }
             Some(place) => {
-                let count = drafts[place].adopt_at(alloc, cells, index, walk, notes, own, path)?;
+                let count = drafts[place].adopt_at(
+                    alloc, cells, index, walk, lists, notes, own, path,
+                )?;
                 *self = DraftKeys::of_open(alloc, drafts, names);
                 Ok(count)
             }

@@ -2,6 +2,7 @@
 
 ghost use Rattle.std.specs.Prelude.{◌≡◌, ◌≤◌, ◌++◌, ◌/◌, map, length, slice_get, IfOk, OnOk};
 ghost use Rattle.salvage_bins.specs.Ground.{ground_of};
+ghost use Rattle.salvage_walk.specs.Remembered.{Remembers};
 ghost use Rattle.salvage_walk.specs.Walked.{state_of};
 ghost use Rattle.salvage_parents.specs.Naming.{AreNaming};
 ghost use Rattle.salvage_parents.specs.Search.{found_line, salvaged_by_parents, searched, searched_by, search_from, search_step, tree_and_said};
@@ -13,7 +14,7 @@ use crate::index::index_of;
 use nt_bytes::{Names, Row, Units};
 use reg_tree::Key;
 use salvage_bins::DamagedCells;
-use salvage_walk::{Incomplete, Walk, WalkLine, WalkedTree, walk_tree};
+use salvage_walk::{Incomplete, Lists, Walk, WalkLine, WalkedTree, walk_tree};
 use std::alloc::{AllocError, Global};
 use std::collections::BTreeMap;
 
@@ -88,16 +89,20 @@ fn step(
     cells: &DamagedCells<'_>,
     index: &BTreeMap<u32, Vec<u32>>,
     search: &mut Searching,
+    lists: &mut Lists,
     own: Incomplete,
 ) -> Result<(), AllocError>
-    requires { AreNaming (ground_of cells.now) index.now }
-    ensures { OnOk result (search_seen search.new ≡ search_step (ground_of cells.now) own (search_seen search.old)) }
+    requires naming { AreNaming (ground_of cells.now) index.now }
+    requires remembered { Remembers (ground_of cells.now) (state_of search.old.walk).claims lists.old }
+    ensures stepped { OnOk result (search_seen search.new ≡ search_step (ground_of cells.now) own (search_seen search.old)) }
+    ensures listed { OnOk result (Remembers (ground_of cells.now) (state_of search.new.walk).claims lists.new) }
 {
     let count = search.draft.adopt_at(
         alloc,
         cells,
         index,
         &mut search.walk,
+        lists,
         &mut search.notes,
         &own,
         own.path.as_slice(),
@@ -114,8 +119,10 @@ fn search(
     cells: &DamagedCells<'_>,
     index: &BTreeMap<u32, Vec<u32>>,
     search: &mut Searching,
+    lists: &mut Lists,
 ) -> Result<(), AllocError>
     requires naming { AreNaming (ground_of cells.now) index.now }
+    requires remembered { Remembers (ground_of cells.now) (state_of search.old.walk).claims lists.old }
     requires small { length cells.now.bytes.now ≤ 268435456 }
     ensures { OnOk result (search_seen search.new ≡ searched (ground_of cells.now) (ground_of cells.now).slots 0 (search_seen search.old)) }
 {
@@ -124,7 +131,7 @@ fn search(
     'keys: while left > 0 {
         match at_place(alloc, &search.notes, place)? {
             None => return Ok(()),
-            Some(own) => step(alloc, cells, index, search, own)?,
+            Some(own) => step(alloc, cells, index, search, lists, own)?,
         }
         place += 1;
         left -= 1;
@@ -153,7 +160,8 @@ fn search_below(
         said,
         notes,
     };
-    search(alloc, cells, &index, &mut searching)?;
+    let mut lists = Lists::new(alloc, &searching.walk);
+    search(alloc, cells, &index, &mut searching, &mut lists)?;
     Ok((searching.draft.closed(alloc)?, searching.said))
 }
 

@@ -4,3 +4,7 @@ pub mod WalkLemmas
 pub mod PlacedLemmas
 pub mod LooseLemmas
 pub mod NameLemmas
+pub mod ClearLemmas
+pub mod RememberedLemmas
+pub mod FaultLemmas
+pub mod GrowLemmas

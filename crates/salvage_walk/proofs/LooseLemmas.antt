@@ -14,11 +14,11 @@ use Rattle.std.proofs.lemmas.List.{take-append-le}
 use Rattle.std.proofs.Math.Seq.{take-length}
 use Rattle.salvage_walk.specs.declared.claims.Claim.{Claim}
 use Rattle.salvage_walk.specs.Uses.{lies_in, overlaps, claim_of}
-use Rattle.salvage_walk.specs.Placed.{AreOnce}
+use Rattle.salvage_walk.specs.Placed.{AreOnce, ArePlaced, claim_if_some, claim_where}
 use Rattle.salvage_walk.specs.LooseEnds.{loose_end, with_end, without_end, LooseEnds, IsLastBefore}
-use Rattle.salvage_walk.proofs.PlacedLemmas.{find-last, find-before, get-last, once-take}
+use Rattle.salvage_walk.proofs.PlacedLemmas.{find-last, find-before, find-within, get-last, once-take}
 
-any-rest : (a b : Bool) → (a || b) ≡ false → (a ≡ false) × (b ≡ false)
+pub any-rest : (a b : Bool) → (a || b) ≡ false → (a ≡ false) × (b ≡ false)
 any-rest true b e = absurd cc
 any-rest false b e = (refl, e)
 
@@ -44,10 +44,10 @@ find-at p (x ∷ cs) (suc n) c e t none = go (p x) refl (λ k. find-at p cs n c 
         absurd (let f : Some x ≡ None = ap (λ (b : Bool). cond b (Some x) (find p (take n cs))) (sym h) ∙ none in cc)
     go false h more = more (ap (λ (b : Bool). cond b (Some x) (find p (take n cs))) (sym h) ∙ none)
 
-eq-self : (n : ℕ) → (n == n) ≡ true
+pub eq-self : (n : ℕ) → (n == n) ≡ true
 eq-self n = grind (arith, nat_tests)
 
-once-found : (claims : List Claim) (n : ℕ) (c : Claim) → AreOnce claims → slice_get claims n ≡ Some c
+pub once-found : (claims : List Claim) (n : ℕ) (c : Claim) → AreOnce claims → slice_get claims n ≡ Some c
     → claim_of c.at claims ≡ Some c
 once-found claims n c o e = find-at (λ (d : Claim). d.at == c.at) claims n c e (eq-self c.at) (o n c e)
 
@@ -324,3 +324,31 @@ loose-step old noted new claims after c (Ok x) u fresh long free ok same err gon
 loose-step old noted new claims after c (Err x) u fresh long free ok same err gone f =
     rw err (loose-alike old new claims (λ at. gone at ∙ ap (without_end c at) (u at)
     ∙ undone c at (get nat_cmp old at) (λ t. f.each at ∙ ap loose_end (ap (λ k. claim_of k claims) (sym t) ∙ fresh))) f)
+
+-- ---- the number of a use
+
+-- at the place of a use stands its number, or one before it
+pub placed-before : {P : Type 0} (places : BTreeMap ℕ ℕ) (claims : List Claim) (i : ℕ) (s : Claim) → ArePlaced places claims
+    → slice_get claims i ≡ Some s → ((n : ℕ) → get nat_cmp places s.at ≡ Some n → n ≤ i → P) → P
+placed-before {P} places claims i s f e k =
+    go (get nat_cmp places s.at) refl (f.each s.at ∙ once-found claims i s f.once e)
+  where
+    near : (n : ℕ) (o : Option Claim) → slice_get claims n ≡ o → claim_if_some s.at o ≡ Some s → n ≤ i
+    near n None d w = absurd cc
+    near n (Some c) d w = by (c.at == s.at) refl w (nat_lt i n) refl
+      where
+        late : (c.at ≡ s.at) → i < n → n ≤ i
+        late same l =
+            let none : claim_of s.at (take n claims) ≡ None = ap (λ a. claim_of a (take n claims)) (sym same) ∙ f.once n c d in
+            let some : claim_of s.at (take n claims) ≡ Some s
+            = find-within (λ (x : Claim). x.at == s.at) n claims i s l e (eq-self s.at) ∙ once-found claims i s f.once e in
+            absurd (let h : Some s ≡ None = sym some ∙ none in cc)
+
+        by : (b : Bool) → (c.at == s.at) ≡ b → cond b (Some c) None ≡ Some s → (l : Bool) → nat_lt i n ≡ l → n ≤ i
+        by false t w l h = absurd cc
+        by true t w false h = grind (arith, nat_tests, h)
+        by true t w true h = late (eqb-true c.at s.at t) (grind (arith, nat_tests, h))
+
+    go : (o : Option ℕ) → get nat_cmp places s.at ≡ o → claim_where s.at claims o ≡ Some s → P
+    go None d w = absurd cc
+    go (Some n) d w = k n d (near n (slice_get claims n) refl w)

@@ -20,14 +20,14 @@ found-same c d e = cc
 
 -- ---- what is found among some
 
-find-rest : (p : Claim → Bool) (c : Claim) (cs : List Claim) → find p (c ∷ cs) ≡ None → (p c ≡ false) × (find p cs ≡ None)
+pub find-rest : (p : Claim → Bool) (c : Claim) (cs : List Claim) → find p (c ∷ cs) ≡ None → (p c ≡ false) × (find p cs ≡ None)
 find-rest p c cs e = go (p c) refl e
   where
     go : (b : Bool) → p c ≡ b → (cond b (Some c) (find p cs)) ≡ None → (p c ≡ false) × (find p cs ≡ None)
     go true d e = absurd cc
     go false d e = (d, e)
 
-find-take : (p : Claim → Bool) (n : ℕ) (cs : List Claim) → find p cs ≡ None → find p (take n cs) ≡ None
+pub find-take : (p : Claim → Bool) (n : ℕ) (cs : List Claim) → find p cs ≡ None → find p (take n cs) ≡ None
 find-take p zero cs e = refl
 find-take p (suc n) [] e = refl
 find-take p (suc n) (c ∷ cs) e =
@@ -35,7 +35,7 @@ find-take p (suc n) (c ∷ cs) e =
     ap (λ b. cond b (Some c) (find p (take n cs))) r.0 ∙ find-take p n cs r.1
 
 -- one that is at a place among the first is found among them as among all
-find-within : (p : Claim → Bool) (n : ℕ) (cs : List Claim) (i : ℕ) (c : Claim) → i < n → slice_get cs i ≡ Some c → p c ≡ true
+pub find-within : (p : Claim → Bool) (n : ℕ) (cs : List Claim) (i : ℕ) (c : Claim) → i < n → slice_get cs i ≡ Some c → p c ≡ true
     → find p (take n cs) ≡ find p cs
 find-within p zero cs i c l e t = absurd (omega (arith, l))
 find-within p (suc n) [] i c l e t = absurd cc
@@ -86,7 +86,7 @@ get-beyond (suc n) (x ∷ cs) zero l = absurd (omega (arith, l))
 get-beyond (suc n) (x ∷ cs) (suc i) l = get-beyond n cs i (omega (arith, l))
 
 -- one at a place after another came is there before, or the other
-get-push : (cs : List Claim) (c : Claim) (m : ℕ) (d : Claim) → slice_get (cs ++ c ∷ []) m ≡ Some d
+pub get-push : (cs : List Claim) (c : Claim) (m : ℕ) (d : Claim) → slice_get (cs ++ c ∷ []) m ≡ Some d
     → ((slice_get cs m ≡ Some d) × (take m (cs ++ c ∷ []) ≡ take m cs)) ⊎ ((d ≡ c) × (take m (cs ++ c ∷ []) ≡ cs))
 get-push [] c zero d e = inr (found-same d c (sym e), refl)
 get-push [] c (suc m) d e = absurd cc
@@ -114,7 +114,7 @@ take-both (suc n) zero cs l = absurd (omega (arith, l))
 take-both (suc n) (suc m) [] l = refl
 take-both (suc n) (suc m) (x ∷ cs) l = ap (λ (ys : List Claim). x ∷ ys) (take-both n m cs (omega (arith, l)))
 
-eq-cmp : (a b : ℕ) → is_eq (nat_cmp a b) ≡ (a == b)
+pub eq-cmp : (a b : ℕ) → is_eq (nat_cmp a b) ≡ (a == b)
 eq-cmp a b = go (nat_lt a b) (a == b) refl refl
   where
     go : (l e : Bool) → nat_lt a b ≡ l → (a == b) ≡ e → is_eq (cond {A = Ordering} l Less (cond e Equal Greater)) ≡ e

@@ -14,7 +14,7 @@ pub record AreFailures (hive : Ground) (names : List (List ℕ)) (claims : List 
   pub each : (at : ℕ) (fault : HiveFault) → get nat_cmp faults at ≡ Some fault → value_part names hive claims at ≡ Err fault
 
 -- a value that stands has the faults forgotten, since they may be others now
-abbrev pub Remembers : {X : Type 0} → Ground → List (List ℕ) → List Claim → BTreeMap ℕ HiveFault → Result X ReadStop → Type 0
-Remembers hive names claims faults (Ok x) = faults.entries ≡ []
-Remembers hive names claims faults (Err stops.Memory) = Unit {0}
-Remembers hive names claims faults (Err (stops.Fault f)) = AreFailures hive names claims faults
+abbrev pub KeepsFailures : {X : Type 0} → Ground → List (List ℕ) → List Claim → BTreeMap ℕ HiveFault → Result X ReadStop → Type 0
+KeepsFailures hive names claims faults (Ok x) = faults.entries ≡ []
+KeepsFailures hive names claims faults (Err stops.Memory) = Unit {0}
+KeepsFailures hive names claims faults (Err (stops.Fault f)) = AreFailures hive names claims faults

@@ -14,4 +14,6 @@ pub mod FrontPlaces
 pub mod SecuritySeen
 pub mod Placed
 pub mod LooseEnds
+pub mod Clear
+pub mod Remembered
 pub mod Folded

@@ -1,11 +1,12 @@
 //! Which cells are used, and how much of each.
 
-ghost use Rattle.std.specs.Prelude.{◌≡◌, ◌<◌, ℕ, [], ◌∷◌, ◌++◌, true, false, None, Some, length, take, OnOk, OnErr};
+ghost use Rattle.std.specs.Prelude.{◌≡◌, ◌<◌, ◌≤◌, ◌+◌, ◌-◌, ℕ, [], ◌∷◌, ◌++◌, true, false, None, Some, length, take, slice_get, OnOk, OnErr};
 ghost use Rattle.std.specs.Ordering.{nat_cmp};
 ghost use Rattle.std.specs.BTreeMap.{get, Updates};
 ghost use Rattle.salvage_walk.specs.Placed.{AreOnce, claim_at_place, claim_if};
 ghost use Rattle.salvage_walk.specs.LooseEnds.{IsLastBefore, LooseEnds, with_end, without_end};
 ghost use Rattle.salvage_walk.specs.Uses.{claim_of, overlaps};
+ghost use Rattle.salvage_walk.specs.Clear.{IsClear, IsNextFrom};
 
 use std::alloc::{AllocError, Global};
 use std::collections::BTreeMap;
@@ -25,7 +26,7 @@ pub struct Claim {
 #[derive(Drop)]
 pub struct Used {
     claims: Vec<Claim>,
-    places: BTreeMap<u32, usize>,
+    places: BTreeMap<u64, usize>,
     loose: BTreeMap<u64, u64>,
 }
 
@@ -64,11 +65,11 @@ fn count_of(claims: &Vec<Claim>) -> usize
 }
 
 // Notes the place of the use of a cell. Without memory for it nothing changes.
-fn put(places: &mut BTreeMap<u32, usize>, at: u32, place: usize) -> Result<(), AllocError>
+fn put(places: &mut BTreeMap<u64, usize>, at: u32, place: usize) -> Result<(), AllocError>
     ensures ok { OnOk result (Updates nat_cmp places.old places.new at (Some place)) }
     ensures err { OnErr result (places.new.entries ≡ places.old.entries) }
 {
-    places.insert(at, place)?;
+    places.insert(u64::from(at), place)?;
     Ok(())
 }
 
@@ -101,6 +102,52 @@ fn last_before(loose: &BTreeMap<u64, u64>, place: u64) -> Option<(u64, u64)>
         Some((at, end)) => Some((*at, *end)),
         None => None,
     }
+}
+
+// The first of these places from one on, with what stands there.
+fn next_place(places: &BTreeMap<u64, usize>, from: u64) -> Option<(u64, usize)>
+    ensures { IsNextFrom places.now from result }
+{
+    let mut rest = places.range(from..);
+    match rest.next() {
+        Some((at, number)) => Some((*at, *number)),
+        None => None,
+    }
+}
+
+// The least of the numbers at places from one up to another, or a bound that is less.
+fn least_number(places: &BTreeMap<u64, usize>, from: u64, end: u64, bound: usize) -> usize
+    ensures few { result ≤ bound }
+    ensures least { (at number : ℕ) → from ≤ at → at < end → get nat_cmp places.now at ≡ Some number → result ≤ number }
+{
+    let mut least = bound;
+    let mut next = from;
+    'places: while next < end {
+        let Some((at, number)) = next_place(places, next) else {
+            return least;
+        };
+        if at >= end {
+            return least;
+        }
+        least = least.min(number);
+        next = at + 1;
+    }
+    least
+}
+
+/// From which place on a full segment may have a byte of this use.
+pub(crate) fn near_from(claim: Claim) -> u64
+    ensures { result ≡ claim.at - 16347 }
+{
+    u64::from(claim.at).saturating_sub(16_347)
+}
+
+/// Up to which place it may.
+pub(crate) fn near_end(claim: Claim) -> u64
+    ensures begun { claim.at < result }
+    ensures ended { claim.end ≤ result }
+{
+    claim.end.max(u64::from(claim.at) + 1)
 }
 
 // One claim more, whose end was noted. Without memory for it the end is forgotten.
@@ -155,11 +202,29 @@ impl Used {
         self.claims.len()
     }
 
+    /// The use of this number, counted from 0.
+    pub(crate) fn nth(&self, number: usize) -> Option<Claim>
+        ensures { result ≡ slice_get self.now number }
+    {
+        match self.claims.get(number) {
+            Some(claim) => Some(*claim),
+            None => None,
+        }
+    }
+
+    /// Up to which number, a bound at most, are these uses, each of a full segment, clear of another use?
+    pub(crate) fn clear_of(&self, claim: Claim, bound: usize) -> usize
+        ensures few { result ≤ bound }
+        ensures clear { (i : ℕ) (s : Claim) → slice_get self.now i ≡ Some s → s.end ≡ s.at + 16348 → i < result → IsClear (claim ∷ []) s }
+    {
+        least_number(&self.places, near_from(claim), near_end(claim), bound)
+    }
+
     /// The use of the cell at this offset.
     pub(crate) fn claim_at(&self, at: u32) -> Option<Claim>
         ensures { result ≡ claim_of at self.now }
     {
-        match self.places.get(&at) {
+        match self.places.get(&u64::from(at)) {
             Some(place) => claim_if(self.claims.as_slice(), *place, at),
             None => None,
         }

@@ -1,18 +1,19 @@
 //! Keys, with all below them.
 
 ghost use Rattle.std.specs.Prelude.{◌≡◌, ◌-◌, ◌&&◌, ◌||◌, [], ◌∷◌, ◌++◌, not, is_some, OnOk, IfOk};
-ghost use Rattle.salvage_walk.specs.Found.{found_next, found_notes, unsaid};
 ghost use Rattle.salvage_walk.specs.Incomplete.{incomplete_at, noted, notes_below, notes_key, notes_next};
 ghost use Rattle.hive_model.specs.KeyNode.{key_node_at};
 ghost use Rattle.hive_model.specs.Stands.{tree_flags};
 ghost use Rattle.hive_model.specs.Walk.{reading};
 ghost use Rattle.cell_forms.specs.Views.{key_node_of};
 ghost use Rattle.salvage_bins.specs.Ground.{ground_of};
+ghost use Rattle.salvage_walk.specs.Remembered.{Remembers};
 ghost use Rattle.salvage_walk.specs.Walked.{say, state_of, Walked};
 ghost use Rattle.salvage_walk.specs.Keys.{judged_key, key_below, key_line, key_names, keys_next, with_child};
 
 use crate::entries::entries;
 use crate::lines::{Incomplete, Walk, WalkLine};
+use crate::lists::Lists;
 use crate::names::NameSet;
 use crate::parts::use_node;
 use crate::steps::{class, security, values};
@@ -22,8 +23,8 @@ use reg_tree::{Key, Keys};
 use salvage_bins::DamagedCells;
 use std::alloc::{AllocError, Global};
 
-// The path of a child of this name.
-fn path_below(alloc: Global, path: &[Units], name: &[u16]) -> Result<Names, AllocError>
+/// The path of a child of this name.
+pub(crate) fn path_below(alloc: Global, path: &[Units], name: &[u16]) -> Result<Names, AllocError>
     ensures { IfOk result (λ p. p ≡ path.now ++ name.now ∷ []) }
 {
     let mut below = Names::from_slice(alloc, path)?;
@@ -126,6 +127,7 @@ fn key(
     alloc: Global,
     cells: &DamagedCells<'_>,
     walk: &mut Walk,
+    lists: &mut Lists,
     notes: &mut Row<Incomplete>,
     above: &[u8],
     path: &[Units],
@@ -134,10 +136,12 @@ fn key(
     number: usize,
     at: u32,
 ) -> Result<Option<Key>, AllocError>
+    requires { Remembers (ground_of cells.now) (state_of walk.old).claims lists.old }
     ensures walked { IfOk result (λ k. (k, state_of walk.new)
         ≡ judged_key left (ground_of cells.now) above.now path.now taken.now number at (state_of walk.old)) }
     ensures noted { OnOk result (notes.new
         ≡ notes_key left (ground_of cells.now) above.now path.now taken.now number at (state_of walk.old) notes.old) }
+    ensures listed { OnOk result (Remembers (ground_of cells.now) (state_of walk.new).claims lists.new) }
 {
     if left == 0 {
         let kind = HiveFaultKind::TooDeep;
@@ -151,6 +155,7 @@ fn key(
                 alloc,
                 cells,
                 walk,
+                lists,
                 notes,
                 above,
                 below.as_slice(),
@@ -175,6 +180,7 @@ pub(crate) fn key_of(
     alloc: Global,
     cells: &DamagedCells<'_>,
     walk: &mut Walk,
+    lists: &mut Lists,
     notes: &mut Row<Incomplete>,
     above: &[u8],
     path: &[Units],
@@ -182,15 +188,17 @@ pub(crate) fn key_of(
     node: NkForm,
     at: u32,
 ) -> Result<Key, AllocError>
+    requires { Remembers (ground_of cells.now) (state_of walk.old).claims lists.old }
     ensures walked { IfOk result (λ k. (k, state_of walk.new)
         ≡ key_below (judged_key left (ground_of cells.now)) (ground_of cells.now) above.now path.now (key_node_of node) at (state_of walk.old)) }
     ensures noted { OnOk result (notes.new
         ≡ notes_below (judged_key left (ground_of cells.now)) (notes_key left (ground_of cells.now)) (ground_of cells.now) above.now path.now
         (key_node_of node) at (state_of walk.old) notes.old) }
+    ensures listed { OnOk result (Remembers (ground_of cells.now) (state_of walk.new).claims lists.new) }
 {
     let class = class(alloc, cells, walk, path, &node)?;
     let security = security(alloc, cells, walk, above, path, &node)?;
-    let values = values(alloc, cells, walk, path, &node)?;
+    let values = values(alloc, cells, walk, lists, path, &node)?;
     let before = walk.len();
     let offsets = entries(alloc, cells, walk, path, &node, at)?;
     let told = walk.said_more(before);
@@ -199,6 +207,7 @@ pub(crate) fn key_of(
         alloc,
         cells,
         walk,
+        lists,
         notes,
         security.as_slice(),
         path,
@@ -219,9 +228,9 @@ pub(crate) fn key_of(
     })
 }
 
-// Adds a child, if there is one.
+/// Adds a child, if there is one.
 #[tactic(auto, using(crate::proofs::WalkLemmas::pushes))]
-fn add(
+pub(crate) fn add(
     alloc: Global,
     taken: &mut NameSet,
     children: &mut Keys,
@@ -247,6 +256,7 @@ fn keys(
     alloc: Global,
     cells: &DamagedCells<'_>,
     walk: &mut Walk,
+    lists: &mut Lists,
     notes: &mut Row<Incomplete>,
     above: &[u8],
     path: &[Units],
@@ -255,11 +265,13 @@ fn keys(
     told: bool,
     offsets: &[u32],
 ) -> Result<Keys, AllocError>
+    requires { Remembers (ground_of cells.now) (state_of walk.old).claims lists.old }
     ensures walked { IfOk result (λ ks. (ks, state_of walk.new)
         ≡ keys_next (judged_key left (ground_of cells.now)) above.now path.now 1 offsets.now [] (state_of walk.old)) }
     ensures noted { OnOk result (notes.new
         ≡ notes_next (judged_key left (ground_of cells.now)) (notes_key left (ground_of cells.now)) (incomplete_at own path.now)
         above.now path.now 1 offsets.now [] (state_of walk.old) told notes.old) }
+    ensures listed { OnOk result (Remembers (ground_of cells.now) (state_of walk.new).claims lists.new) }
 {
     let mut taken = NameSet::new(alloc);
     let mut children = Keys::new(alloc);
@@ -271,101 +283,13 @@ fn keys(
             return Ok(children);
         };
         let child = key(
-            alloc, cells, walk, notes, above, path, &taken, left, number, *at,
+            alloc, cells, walk, lists, notes, above, path, &taken, left, number, *at,
         )?;
         let is = is_new(noted, &child);
         note(alloc, notes, is, own, path)?;
         noted = is_noted(noted, &child);
         add(alloc, &mut taken, &mut children, child)?;
         number += 1;
-        rest = more;
-    }
-}
-
-// ---- children whose nodes are at given places
-
-// A child with all below it, where that many levels are left. Of one that is left out nothing is said.
-#[tactic(auto, using(crate::proofs::WalkLemmas::key_steps))]
-fn found_key(
-    alloc: Global,
-    cells: &DamagedCells<'_>,
-    walk: &mut Walk,
-    notes: &mut Row<Incomplete>,
-    above: &[u8],
-    path: &[Units],
-    taken: &NameSet,
-    left: u32,
-    at: u32,
-) -> Result<Option<Key>, AllocError>
-    ensures walked { IfOk result (λ k. (k, state_of walk.new)
-        ≡ unsaid (state_of walk.old) (judged_key left (ground_of cells.now) above.now path.now taken.now 0 at (state_of walk.old))) }
-    ensures noted { OnOk result (notes.new
-        ≡ notes_key left (ground_of cells.now) above.now path.now taken.now 0 at (state_of walk.old) notes.old) }
-{
-    if left == 0 {
-        return Ok(None);
-    }
-    match use_node(alloc, cells, &mut walk.used, false, taken, at) {
-        Ok(node) => {
-            let below = path_below(alloc, path, node.name.as_slice())?;
-            let found = key_of(
-                alloc,
-                cells,
-                walk,
-                notes,
-                above,
-                below.as_slice(),
-                left - 1,
-                node,
-                at,
-            )?;
-            Ok(Some(found))
-        }
-        Err(ReadStop::Memory) => Err(AllocError),
-        Err(ReadStop::Fault(_)) => Ok(None),
-    }
-}
-
-// The names of these keys.
-fn names_of(alloc: Global, keys: &[Key]) -> Result<NameSet, AllocError>
-    ensures { IfOk result (λ s. s ≡ key_names keys.now) }
-{
-    let mut taken = NameSet::new(alloc);
-    for key in keys {
-        let name = key.name.copy(alloc)?;
-        taken.add(alloc, name)?;
-    }
-    Ok(taken)
-}
-
-/// These children of a key at a path and, judged in turn, those whose nodes are at these places, where that many levels are left. Of
-/// one that is left out nothing is said.
-pub fn add_found(
-    alloc: Global,
-    cells: &DamagedCells<'_>,
-    walk: &mut Walk,
-    notes: &mut Row<Incomplete>,
-    above: &[u8],
-    path: &[Units],
-    left: u32,
-    places: &[u32],
-    children: Keys,
-) -> Result<Keys, AllocError>
-    ensures walked { IfOk result (λ ks. (ks, state_of walk.new)
-        ≡ found_next (judged_key left (ground_of cells.now)) above.now path.now places.now children (state_of walk.old)) }
-    ensures noted { OnOk result (notes.new
-        ≡ found_notes (judged_key left (ground_of cells.now)) (notes_key left (ground_of cells.now)) above.now path.now places.now children
-        (state_of walk.old) notes.old) }
-{
-    let mut taken = names_of(alloc, children.as_slice())?;
-    let mut children = children;
-    let mut rest = places;
-    'places: loop {
-        let [at, more @ ..] = rest else {
-            return Ok(children);
-        };
-        let child = found_key(alloc, cells, walk, notes, above, path, &taken, left, *at)?;
-        add(alloc, &mut taken, &mut children, child)?;
         rest = more;
     }
 }

@@ -6,15 +6,19 @@
 
 mod claims;
 mod entries;
+mod found;
 mod fronts;
 mod keys;
 mod lines;
+mod lists;
 mod names;
 mod parts;
 mod root;
+mod segments;
 mod steps;
 mod values;
 
-pub use keys::add_found;
+pub use found::{add_found, add_found_beside};
 pub use lines::{Incomplete, KeyPart, Walk, WalkLine};
+pub use lists::Lists;
 pub use root::{Salvaged, WalkedTree, salvage_tree, walk_tree};

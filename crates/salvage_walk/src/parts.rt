@@ -1,6 +1,6 @@
 //! Cells used for their forms.
 
-ghost use Rattle.std.specs.Prelude.{◌≡◌, ◌+◌, ◌*◌, ◌<◌, ◌≤◌, ◌^◌, true, false, length, IfOk};
+ghost use Rattle.std.specs.Prelude.{◌≡◌, ◌+◌, ◌*◌, ◌<◌, ◌≤◌, ◌^◌, true, false, length, Ok, IfOk};
 ghost use Rattle.nt_bytes.specs.declared.fault.ReadStop.TheVariants.{Fault};
 ghost use Rattle.hive_model.specs.Forms.{Gives, bytes_in};
 ghost use Rattle.hive_model.specs.Security.{security_at};
@@ -46,7 +46,8 @@ pub(crate) fn admit<'a>(
     security: bool,
     at: u32,
 ) -> Result<&'a [u8], ReadStop>
-    ensures { Gives (λ p. p.now) at result (admitted (ground_of cells.now) used.now security at) }
+    ensures admitted { Gives (λ p. p.now) at result (admitted (ground_of cells.now) used.now security at) }
+    ensures there { IfOk result (λ p. (ground_of cells.now).cells.payload at ≡ Ok p.now) }
 {
     match cells.payload(at) {
         Err(kind) => Err(stop(kind, at)),
@@ -292,6 +293,7 @@ pub(crate) fn use_bytes(
 fn with_offsets(payload: &[u8], count: u32, at: u32) -> Result<&[u8], ReadStop>
     ensures exact { Gives (λ p. numbers_in 4 count p.now) at result (offsets_in count payload.now) }
     ensures inside { IfOk result (λ p. 4 * count ≤ length p.now) }
+    ensures same { IfOk result (λ p. p.now ≡ payload.now) }
 {
     if payload.len() < 4 * count as usize {
         return Err(stop(HiveFaultKind::FormShort, at));
@@ -319,6 +321,7 @@ pub(crate) fn use_offsets<'a>(
     ensures exact { Gains (λ p. numbers_in 4 count p.now) at used.old used.new result
         (part (offsets_in count) offsets_long false (ground_of cells.now) used.old at) }
     ensures inside { IfOk result (λ p. 4 * count ≤ length p.now) }
+    ensures there { IfOk result (λ p. (ground_of cells.now).cells.payload at ≡ Ok p.now) }
 {
     let payload = admit(cells, used, false, at)?;
     let entries = with_offsets(payload, count, at)?;

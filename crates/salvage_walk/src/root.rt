@@ -5,6 +5,7 @@ ghost use Rattle.hive_model.specs.KeyNode.{key_node_at};
 ghost use Rattle.hive_model.specs.Walk.{reading};
 ghost use Rattle.cell_forms.specs.Views.{key_node_of};
 ghost use Rattle.salvage_bins.specs.Ground.{ground_of};
+ghost use Rattle.salvage_walk.specs.Remembered.{Remembers};
 ghost use Rattle.salvage_walk.specs.Walked.{state_of};
 ghost use Rattle.salvage_walk.specs.Incomplete.{incomplete, notes_at, notes_below, notes_from, notes_key, notes_other};
 ghost use Rattle.salvage_walk.specs.Keys.{found_key, has_root_flag, judged_key, key_below, least_root, answer_of, other_at, other_root, salvaged, walked_from};
@@ -12,6 +13,7 @@ ghost use Rattle.salvage_walk.specs.Keys.{found_key, has_root_flag, judged_key, 
 use crate::claims::Used;
 use crate::keys::key_of;
 use crate::lines::{Incomplete, Walk, WalkLine};
+use crate::lists::Lists;
 use crate::names::NameSet;
 use crate::parts::use_node;
 use cell_forms::{NkForm, read_nk};
@@ -63,17 +65,20 @@ fn below(
     alloc: Global,
     cells: &DamagedCells<'_>,
     walk: &mut Walk,
+    lists: &mut Lists,
     notes: &mut Row<Incomplete>,
     node: NkForm,
     at: u32,
 ) -> Result<Option<Key>, AllocError>
+    requires { Remembers (ground_of cells.now) (state_of walk.old).claims lists.old }
     ensures walked { IfOk result (λ k. (k, state_of walk.new)
         ≡ found_key (key_below (judged_key 511 (ground_of cells.now)) (ground_of cells.now) [] [] (key_node_of node) at (state_of walk.old))) }
     ensures noted { OnOk result (notes.new
         ≡ notes_below (judged_key 511 (ground_of cells.now)) (notes_key 511 (ground_of cells.now)) (ground_of cells.now) [] []
         (key_node_of node) at (state_of walk.old) notes.old) }
+    ensures listed { OnOk result (Remembers (ground_of cells.now) (state_of walk.new).claims lists.new) }
 {
-    let key = key_of(alloc, cells, walk, notes, &[], &[], 511, node, at)?;
+    let key = key_of(alloc, cells, walk, lists, notes, &[], &[], 511, node, at)?;
     Ok(Some(key))
 }
 
@@ -82,17 +87,20 @@ fn from_place(
     alloc: Global,
     cells: &DamagedCells<'_>,
     walk: &mut Walk,
+    lists: &mut Lists,
     notes: &mut Row<Incomplete>,
     at: u32,
 ) -> Result<Option<Key>, AllocError>
+    requires { Remembers (ground_of cells.now) (state_of walk.old).claims lists.old }
     ensures walked { IfOk result (λ k. (k, state_of walk.new) ≡ other_at (ground_of cells.now) at (state_of walk.old)) }
     ensures noted { OnOk result (notes.new ≡ notes_at (ground_of cells.now) at (state_of walk.old) notes.old) }
+    ensures listed { OnOk result (Remembers (ground_of cells.now) (state_of walk.new).claims lists.new) }
 {
     let none = NameSet::new(alloc);
     match use_node(alloc, cells, &mut walk.used, true, &none, at) {
         Ok(node) => {
             walk.say(WalkLine::RootAt(at))?;
-            below(alloc, cells, walk, notes, node, at)
+            below(alloc, cells, walk, lists, notes, node, at)
         }
         Err(ReadStop::Memory) => Err(AllocError),
         Err(ReadStop::Fault(_)) => {
@@ -107,16 +115,19 @@ fn other(
     alloc: Global,
     cells: &DamagedCells<'_>,
     walk: &mut Walk,
+    lists: &mut Lists,
     notes: &mut Row<Incomplete>,
 ) -> Result<Option<Key>, AllocError>
-    requires { length cells.now.bytes.now ≤ 268435456 }
+    requires small { length cells.now.bytes.now ≤ 268435456 }
+    requires remembered { Remembers (ground_of cells.now) (state_of walk.old).claims lists.old }
     ensures walked { IfOk result (λ k. (k, state_of walk.new)
         ≡ other_root (ground_of cells.now) (state_of walk.old) (least_root (ground_of cells.now) (ground_of cells.now).slots 0)) }
     ensures noted { OnOk result (notes.new
         ≡ notes_other (ground_of cells.now) (state_of walk.old) notes.old (least_root (ground_of cells.now) (ground_of cells.now).slots 0)) }
+    ensures listed { OnOk result (Remembers (ground_of cells.now) (state_of walk.new).claims lists.new) }
 {
     match least(alloc, cells)? {
-        Some(at) => from_place(alloc, cells, walk, notes, at),
+        Some(at) => from_place(alloc, cells, walk, lists, notes, at),
         None => {
             walk.say(WalkLine::NoRoot)?;
             Ok(None)
@@ -129,20 +140,23 @@ fn from_root(
     alloc: Global,
     cells: &DamagedCells<'_>,
     walk: &mut Walk,
+    lists: &mut Lists,
     notes: &mut Row<Incomplete>,
     root: u32,
 ) -> Result<Option<Key>, AllocError>
-    requires { length cells.now.bytes.now ≤ 268435456 }
+    requires small { length cells.now.bytes.now ≤ 268435456 }
+    requires remembered { Remembers (ground_of cells.now) (state_of walk.old).claims lists.old }
     ensures walked { IfOk result (λ k. (k, state_of walk.new) ≡ walked_from (ground_of cells.now) root (state_of walk.old)) }
     ensures noted { OnOk result (notes.new ≡ notes_from (ground_of cells.now) root (state_of walk.old) notes.old) }
+    ensures listed { OnOk result (Remembers (ground_of cells.now) (state_of walk.new).claims lists.new) }
 {
     let none = NameSet::new(alloc);
     match use_node(alloc, cells, &mut walk.used, true, &none, root) {
-        Ok(node) => below(alloc, cells, walk, notes, node, root),
+        Ok(node) => below(alloc, cells, walk, lists, notes, node, root),
         Err(ReadStop::Memory) => Err(AllocError),
         Err(ReadStop::Fault(fault)) => {
             walk.say(WalkLine::Root(fault))?;
-            other(alloc, cells, walk, notes)
+            other(alloc, cells, walk, lists, notes)
         }
     }
 }
@@ -172,7 +186,8 @@ pub fn walk_tree(
         lines: Vec::new(alloc),
     };
     let mut notes = Row::new(alloc);
-    let tree = from_root(alloc, cells, &mut walk, &mut notes, root)?;
+    let mut lists = Lists::new(alloc, &walk);
+    let tree = from_root(alloc, cells, &mut walk, &mut lists, &mut notes, root)?;
     Ok(WalkedTree { tree, walk, notes })
 }
 

@@ -7,11 +7,13 @@ ghost use Rattle.hive_model.specs.KeyValue.{key_value_at};
 ghost use Rattle.cell_forms.specs.Views.{key_node_of};
 ghost use Rattle.salvage_bins.specs.Ground.{ground_of};
 ghost use Rattle.salvage_walk.specs.Failures.{AreFailures};
+ghost use Rattle.salvage_walk.specs.Remembered.{Remembers};
 ghost use Rattle.salvage_walk.specs.Walked.{say, state_of};
 ghost use Rattle.salvage_walk.specs.Steps.{class_step, item_names, part_line, said_short, security_step, value_line, value_next, values_next, values_step};
 
 use crate::fronts::use_values;
 use crate::lines::{KeyPart, Walk, WalkLine};
+use crate::lists::Lists;
 use crate::names::NameSet;
 use crate::parts::use_security;
 use crate::values::{take_bytes, take_unless_failed};
@@ -141,18 +143,21 @@ fn value(
     path: &[Units],
     taken: &mut NameSet,
     faults: &mut BTreeMap<u32, HiveFault>,
+    lists: &mut Lists,
     values: &mut Values,
     number: usize,
     at: u32,
 ) -> Result<(), AllocError>
     requires named { taken.old ≡ item_names values.old }
     requires judged { AreFailures (ground_of cells.now) taken.old (state_of walk.old).claims faults.old }
+    requires remembered { Remembers (ground_of cells.now) (state_of walk.old).claims lists.old }
     ensures stepped { OnOk result ((values.new, state_of walk.new)
         ≡ value_next (ground_of cells.now) path.now number at values.old (state_of walk.old)) }
     ensures known { OnOk result (taken.new ≡ item_names values.new) }
     ensures failed { OnOk result (AreFailures (ground_of cells.now) taken.new (state_of walk.new).claims faults.new) }
+    ensures listed { OnOk result (Remembers (ground_of cells.now) (state_of walk.new).claims lists.new) }
 {
-    match take_unless_failed(alloc, cells, &mut walk.used, taken, faults, at) {
+    match take_unless_failed(alloc, cells, &mut walk.used, lists, taken, faults, at) {
         Ok(value) => {
             let name = value.name.copy(alloc)?;
             taken.add(alloc, name)?;
@@ -171,11 +176,14 @@ fn values_at(
     alloc: Global,
     cells: &DamagedCells<'_>,
     walk: &mut Walk,
+    lists: &mut Lists,
     path: &[Units],
     offsets: &[u32],
 ) -> Result<Values, AllocError>
-    ensures { IfOk result (λ vs. (vs, state_of walk.new)
+    requires { Remembers (ground_of cells.now) (state_of walk.old).claims lists.old }
+    ensures walked { IfOk result (λ vs. (vs, state_of walk.new)
         ≡ values_next (ground_of cells.now) path.now 1 offsets.now [] (state_of walk.old)) }
+    ensures remembered { OnOk result (Remembers (ground_of cells.now) (state_of walk.new).claims lists.new) }
 {
     let mut taken = NameSet::new(alloc);
     let mut faults = BTreeMap::new(alloc);
@@ -193,6 +201,7 @@ fn values_at(
             path,
             &mut taken,
             &mut faults,
+            lists,
             &mut values,
             number,
             *at,
@@ -208,11 +217,14 @@ pub(crate) fn values(
     alloc: Global,
     cells: &DamagedCells<'_>,
     walk: &mut Walk,
+    lists: &mut Lists,
     path: &[Units],
     node: &NkForm,
 ) -> Result<Values, AllocError>
-    ensures { IfOk result (λ vs. (vs, state_of walk.new)
+    requires { Remembers (ground_of cells.now) (state_of walk.old).claims lists.old }
+    ensures walked { IfOk result (λ vs. (vs, state_of walk.new)
         ≡ values_step (ground_of cells.now) path.now (key_node_of node.now) (state_of walk.old)) }
+    ensures listed { OnOk result (Remembers (ground_of cells.now) (state_of walk.new).claims lists.new) }
 {
     if node.value_count == 0 {
         return Ok(Values::new(alloc));
@@ -233,7 +245,7 @@ pub(crate) fn values(
                 path,
                 node.value_list,
             )?;
-            values_at(alloc, cells, walk, path, list.offsets.as_slice())
+            values_at(alloc, cells, walk, lists, path, list.offsets.as_slice())
         }
         Err(ReadStop::Memory) => Err(AllocError),
         Err(ReadStop::Fault(fault)) => {

@@ -12,8 +12,8 @@ use Rattle.salvage_parents.specs.Search.{Adopted, adopted, adopted_at, adopted_n
 use Rattle.salvage_parents.proofs.ChangeLemmas.{changed-below-ok, name-kept, place-none, place-some, none-among, one-among, names-set}
 use Rattle.salvage_parents.proofs.draft.+adopt_at.Goals as goal
 
-pub Draft::adopt_at-returns-in-len1-up : goal.Draft::adopt_at-returns-in-len1-up
-Draft::adopt_at-returns-in-len1-up t c =
+pub Draft::adopt_at-returns-in-len1-up-clause-found : goal.Draft::adopt_at-returns-in-len1-up-clause-found
+Draft::adopt_at-returns-in-len1-up-clause-found t c =
     let i = c.self.inside in
     let hive = ground_of c.args.cells.now in
     let w = state_of c.args.walk.now in
@@ -37,21 +37,21 @@ Draft::adopt_at-returns-in-len1-up t c =
     c.adopt_at.result c.self.view_is first
     (subst (λ (n : List ℕ). IfOk c.adopt_at.result
     (λ m. (c.adopt_at.new.self, found m) ≡ changed_among n (changed_at more change other) other i.children)) c.as_slice.ensures
-    c.adopt_at.ensures)
+    c.adopt_at.ensures.found)
 
 pub DraftKeys::adopt_at-of_open-requires-in-Some : goal.DraftKeys::adopt_at-of_open-requires-in-Some
 DraftKeys::adopt_at-of_open-requires-in-Some t c =
     let w = state_of c.args.walk.now in
     let hive = ground_of c.args.cells.now in
     let old = c.index_mut.result.now in
-    let kept = ap (λ (r : Tree × Adopted). (head r.0).name) c.in_ok-count-in-Some.ensures
+    let kept = ap (λ (r : Tree × Adopted). (head r.0).name) c.in_ok-count-in-Some.ensures.found
     ∙ name-kept c.args.path.now (λ (h : Head). adopted hive c.args.own.now w c.args.notes.now h.security) (adopted_none w c.args.notes.now) old in
     c.in_ok-drafts.ensures.named ∙ ap key_names (sym c.in_ok-drafts.ensures.all)
     ∙ names-set c.in_ok-drafts.drafts.items c.in-Some.place old c.adopt_at.new.self
     (kept ∙ ap (λ (u : Tree). (head u).name) c.index_mut.ensures.value)
 
-pub DraftKeys::adopt_at-returns-in-None : goal.DraftKeys::adopt_at-returns-in-None
-DraftKeys::adopt_at-returns-in-None t c =
+pub DraftKeys::adopt_at-returns-in-None-clause-found : goal.DraftKeys::adopt_at-returns-in-None-clause-found
+DraftKeys::adopt_at-returns-in-None-clause-found t c =
     let w = state_of c.args.walk.now in
     let hive = ground_of c.args.cells.now in
     let name = c.args.name.now in
@@ -62,8 +62,8 @@ DraftKeys::adopt_at-returns-in-None t c =
     (subst (λ (ns : List (List ℕ)). length ns ≤ position_or_len (folds_same name) ns) c.in_ok-drafts.ensures.named
     (place-none (folds_same name) c.in_ok-drafts.names c.in-None.ensures.place))
 
-pub DraftKeys::adopt_at-returns-in_ok-count-in-Some : goal.DraftKeys::adopt_at-returns-in_ok-count-in-Some
-DraftKeys::adopt_at-returns-in_ok-count-in-Some t c =
+pub DraftKeys::adopt_at-returns-in_ok-count-in-Some-clause-found : goal.DraftKeys::adopt_at-returns-in_ok-count-in-Some-clause-found
+DraftKeys::adopt_at-returns-in_ok-count-in-Some-clause-found t c =
     let w = state_of c.args.walk.now in
     let hive = ground_of c.args.cells.now in
     let name = c.args.name.now in
@@ -82,5 +82,5 @@ DraftKeys::adopt_at-returns-in_ok-count-in-Some t c =
     c.in_ok-drafts.ensures.named (place-some (folds_same name) c.in_ok-drafts.names place c.in-Some.ensures.place) in
     ap (λ (ts : List Tree). (ts, found)) (c.of_open-in-Some.ensures ∙ ap (λ (ts : List Tree). slice_set ts place new) all)
     ∙ one-among name at other c.args.self.now place old new found there.0 there.1
-    (c.in_ok-count-in-Some.ensures
+    (c.in_ok-count-in-Some.ensures.found
     ∙ ap at (c.index_mut.ensures.value ∙ ap (λ (ts : List Tree). slice_index_or ts place old) all))

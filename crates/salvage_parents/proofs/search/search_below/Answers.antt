@@ -15,3 +15,6 @@ returns c =
     ∙ ap tree_and_said (c.in_ok-search.ensures
     ∙ ap (λ (t : Tree). searched hive hive.slots 0 (begun t c.new-said.result)) c.in_ok-draft.ensures
     ∙ ap (λ (s : List ParentLine). searched hive hive.slots 0 (begun c.args.tree s)) c.new-said.ensures)
+
+pub search-requires-clause-remembered : goal.search-requires-clause-remembered
+search-requires-clause-remembered c = c.new-lists.ensures (ground_of c.args.cells.now)

@@ -1,11 +1,13 @@
 use Rattle.std.specs.Prelude.{◌&&◌, not, is_some}
-use Rattle.std.proofs.Common.{◌-◌, ℕ, Bool, List, length, take, drop, get_or, sym, ap, ◌∙◌, arith}
+use Rattle.std.proofs.Common.{rules, ◌-◌, ℕ, Bool, List, length, take, drop, get_or, sym, ap, ◌∙◌, arith}
+use Rattle.cell_forms.specs.Views.{key_node_of}
 use Rattle.salvage_bins.specs.Ground.{ground_of}
 use Rattle.salvage_walk.specs.Keys.{judged_key, with_child}
 use Rattle.salvage_walk.specs.Walked.{state_of}
 use Rattle.salvage_walk.proofs.UseLemmas.{none-left, first-and-rest}
 use Rattle.salvage_walk.specs.Incomplete.{incomplete_at, noted, notes_key}
 use Rattle.salvage_walk.proofs.WalkLemmas.{keys-end, keys-on, notes-end, notes-on}
+use Rattle.salvage_walk.proofs.RememberedLemmas.{remembers-class, remembers-entries, remembers-more, remembers-security}
 use Rattle.salvage_walk.proofs.keys.+walk.Goals as goal
 
 pub keys-returns-in_default : goal.keys-returns-in_default
@@ -19,6 +21,7 @@ keys-returns-in_default t c =
       noted = sym (notes-end judge (notes_key c.args.left hive) (incomplete_at c.args.own c.args.path.now) c.args.above.now
           c.args.path.now c.children.number c.children.rest.now c.children.children (state_of c.children.walk) c.children.noted
           c.children.notes z) ∙ c.children.invariant.noted;
+      listed = c.children.invariant.listed;
     }
 
 pub keys-children-preserved : goal.keys-children-preserved
@@ -49,5 +52,29 @@ keys-children-preserved t c =
           (c.in_ok-child.ensures.noted
           ∙ ap (λ (ns : List (List ℕ)). notes_key c.args.left (ground_of c.args.cells.now) c.args.above.now c.args.path.now ns
           c.children.number (get_or rest 0 0) w c.children.notes) i.known)) ∙ i.noted;
+      listed = c.in_ok-child.ensures.listed;
       few = omega arith;
     }
+
+pub key-key_of-requires : goal.key-key_of-requires
+key-key_of-requires t c = (
+  search rules,
+  remembers-more (ground_of c.args.cells.now) c.args.walk.now.used c.use_node.new.used c.args.lists.now c.in-Ok.ensures.1 c.requires,
+)
+
+pub key_of-values-requires : goal.key_of-values-requires
+key_of-values-requires t c =
+    let hive = ground_of c.args.cells.now in
+    let node = key_node_of c.args.node in
+    remembers-security hive c.args.above.now c.args.path.now node c.args.lists.now (state_of c.class.new.walk) (state_of c.security.new.walk)
+    c.in_ok-security.security c.in_ok-security.ensures
+    (remembers-class hive c.args.path.now node c.args.lists.now (state_of c.args.walk.now) (state_of c.class.new.walk)
+    c.in_ok-class.class c.in_ok-class.ensures c.requires)
+
+pub key_of-keys-requires : goal.key_of-keys-requires
+key_of-keys-requires t c = (
+  search rules,
+  remembers-entries (ground_of c.args.cells.now) c.args.path.now (key_node_of c.args.node) c.args.at c.values.new.lists
+      (state_of c.values.new.walk) (state_of c.entries.new.walk) c.in_ok-offsets.offsets.items c.in_ok-offsets.ensures
+      c.in_ok-values.ensures.listed,
+)

@@ -2,6 +2,7 @@ use Rattle.std.proofs.Common.{◌≡◌, ◌+◌, ◌*◌, [], length}
 use Rattle.salvage_bins.specs.Ground.{ground_of}
 use Rattle.salvage_walk.specs.Keys.{judged_key, key_names, keys_next}
 use Rattle.salvage_walk.specs.Incomplete.{incomplete_at, notes_key, notes_next}
+use Rattle.salvage_walk.specs.Remembered.{Remembers}
 use Rattle.salvage_walk.specs.Walked.{state_of}
 use Rattle.salvage_walk.proofs.keys.+walk.Given as goal
 
@@ -25,6 +26,7 @@ invariant-keys-children l =
           (state_of l.walk) l.noted l.notes
           ≡ notes_next judge (notes_key l.left (ground_of l.cells)) (incomplete_at l.own l.path) l.above l.path 1 l.offsets []
           (state_of l.fn.walk) l.told l.fn.notes;
+      listed : Remembers (ground_of l.cells) (state_of l.walk).claims l.lists;
       few : l.number + length l.rest ≡ 1 + length l.offsets;
     }
 

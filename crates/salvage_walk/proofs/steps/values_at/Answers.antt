@@ -5,8 +5,8 @@ use Rattle.salvage_walk.proofs.UseLemmas.{none-left, first-and-rest}
 use Rattle.salvage_walk.proofs.WalkLemmas.{values-end, values-on}
 use Rattle.salvage_walk.proofs.steps.values_at.Goals as goal
 
-pub returns-in_default : goal.returns-in_default
-returns-in_default c =
+pub returns-in_default-clause-walked : goal.returns-in_default-clause-walked
+returns-in_default-clause-walked c =
     let z = none-left c.values.rest.now c.in_default.len_below in
     sym (values-end (ground_of c.args.cells.now) c.args.path.now c.values.number c.values.rest.now c.values.values
     (state_of c.values.walk) z) ∙ c.values.invariant.told
@@ -22,5 +22,6 @@ values-preserved c =
           c.values.values _ (state_of c.values.walk) _ r c.in_ok-value.ensures.stepped ∙ i.told;
       known = c.in_ok-value.ensures.known;
       failed = c.in_ok-value.ensures.failed;
+      listed = c.in_ok-value.ensures.listed;
       few = omega arith;
     }

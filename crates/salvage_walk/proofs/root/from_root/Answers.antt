@@ -1,0 +1,8 @@
+use Rattle.salvage_bins.specs.Ground.{ground_of}
+use Rattle.salvage_walk.proofs.RememberedLemmas.{remembers-more}
+use Rattle.salvage_walk.proofs.root.from_root.Goals as goal
+
+pub below-requires : goal.below-requires
+below-requires c =
+    remembers-more (ground_of c.args.cells.now) c.args.walk.now.used c.use_node.new.used c.args.lists.now c.in-Ok.ensures.1
+    c.requires.remembered
