@@ -58,7 +58,7 @@ def kind_of(pid, words):
         place = os.readlink(f"/proc/{pid}/cwd")
     except OSError:
         return None
-    if not re.search(rf"/crates/{crate}$", place) or "rt-" in place:
+    if not re.search(rf"/crates/{crate}$", place) or "rt-edit" in place:
         return crate, "edits"
     return crate, "tests" if "--test" in words else "proofs"
 
