@@ -16,7 +16,7 @@ encoded encoding how = record how { encoding = encoding }
 
 -- the same, with the number of the set said first
 abbrev pub announced : ℕ → Change → Change
-announced n change = record { said = record change.said { current = Some n }; state = change.state }
+announced n change = record change { said = record change.said { current = Some n } }
 
 -- what a line says, with the set's name in the path of its key
 abbrev pub item_in : List ℕ → LineItem → LineItem
