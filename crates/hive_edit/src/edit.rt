@@ -69,7 +69,7 @@ impl HiveBytes {
     }
 
     /// A tree is in the cells.
-    fn stands(&self)
+    pub(crate) fn stands(&self)
         ensures { IsWellFormed (cells_in self.now) self.now.root self.now.tree }
     {
         let _root = self.root();
