@@ -52,6 +52,7 @@ pub mod AddStepLemmas
 pub mod GraftLinks
 pub mod CopyStepLemmas
 pub mod ToldLemmas
+pub mod InsideLemmas
 pub mod StrainedLemmas
 pub mod GapLemmas
 pub mod HoldingLemmas

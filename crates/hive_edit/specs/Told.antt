@@ -4,13 +4,14 @@ use Rattle.std.specs.Prelude.{◌≡◌, ◌≤◌, ◌<◌, ◌^◌, ◌⊎◌,
 use Rattle.std.specs.Option.{IsSomeAnd}
 use Rattle.std.specs.Int.{w32, to_le_bytes}
 use Rattle.nt_bytes.specs.Fields.{u32_in}
-use Rattle.hive_model.specs.Bins.{Bin, bins_size}
+use Rattle.hive_model.specs.Bins.{Bin, bins_size, look_up}
 use Rattle.hive_model.specs.KeyNode.{KeyNode}
 use Rattle.hive_model.specs.Edit.{Step}
 use Rattle.hive_model.specs.Footprint.{key_place}
 use Rattle.hive_cells.specs.Held.{held_at, patched}
 use Rattle.hive_cells.specs.Changes.{at_cell, with_part}
 use Rattle.edit_laws.specs.Greatest.{RaisesLengths}
+use Rattle.hive_edit.specs.Edits.{WritesFields}
 use Rattle.hive_edit.specs.Hive.{HiveCells, cells_in}
 use Rattle.hive_edit.specs.Stepped.{IsStepped}
 
@@ -75,3 +76,11 @@ pub record IsToldAfter (old : HiveCells) (step : Step) (path : List (List ℕ)) 
   pub mid : HiveCells
   pub stepped : IsStepped old step mid
   pub told : IsTold mid path field first second new
+
+-- These fields were written over those of the value at an offset, and then, where the node of the key at a path told a smaller greatest
+-- length of its values' data than this, that number was: no other byte differs.
+pub record WritesValue (old : HiveCells) (path : List (List ℕ)) (at : ℕ) (fields : List ℕ) (size : ℕ) (new : HiveCells) : Type 0 where
+  pub mid : List Bin
+  pub written : WritesFields at fields old.bins mid
+  pub told : (new.bins ≡ mid)
+      ⊎ ((key : ℕ) × (key_place (look_up old.version mid) path old.root ≡ Some key) × WritesGreater key 3 size mid new.bins)
