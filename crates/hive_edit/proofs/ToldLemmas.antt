@@ -27,7 +27,10 @@ use Rattle.edit_laws.specs.Done.{IsDone}
 use Rattle.edit_laws.specs.Greatest.{with_lengths, IsNoLonger, RaisesLengths, IsNamedPath}
 use Rattle.edit_laws.proofs.Made.{parent_is}
 use Rattle.edit_laws.proofs.Out.{IsPlaced, placed_at}
-use Rattle.edit_laws.proofs.Raised.{raised_well, raised_done}
+use Rattle.edit_laws.specs.Owned.{node, Reaches}
+use Rattle.edit_laws.proofs.Back.{place_is}
+use Rattle.edit_laws.proofs.Wellformed.{sound_hive}
+use Rattle.edit_laws.proofs.Raised.{raised_well, owned_still, raised_done}
 use Rattle.key_index.specs.Lists.{payload_in}
 use Rattle.edit_laws.proofs.Patches.{IsPatchOf, IsNodeText, node_text, node_patched, part_patches, in_part}
 use Rattle.hive_edit.specs.Hive.{HiveCells, cells_in, hive_of, IsHive}
@@ -35,13 +38,13 @@ use Rattle.hive_edit.specs.Places.{IsKeyAt}
 use Rattle.hive_edit.specs.Secured.{changes_of}
 use Rattle.hive_edit.specs.Standing.{tree_of}
 use Rattle.hive_edit.specs.Stepped.{IsStepped}
-use Rattle.hive_edit.specs.Told.{length_place, length_told, raised, IsRaisedTo, AreRaisedTo, IsToldAt, IsTold}
+use Rattle.hive_edit.specs.Told.{length_place, length_told, raised, IsRaisedTo, AreRaisedTo, IsToldAt, IsTold, IsToldAfter, TellsData}
 use Rattle.hive_edit.proofs.EditLemmas.{the_tree}
 use Rattle.hive_edit.proofs.HiveLemmas.{hive_opened}
 use Rattle.hive_edit.proofs.NodeLemmas.{node_here}
 use Rattle.hive_edit.proofs.NodeMade.{security_text_is}
 use Rattle.hive_edit.proofs.StandingLemmas.{tree_is}
-use Rattle.hive_edit.proofs.ResultLemmas.{done, some, some_same}
+use Rattle.hive_edit.proofs.ResultLemmas.{done, some, some_same, ok_same}
 use Rattle.hive_read.proofs.FormFacts.{then-so}
 
 -- ---- a node's text
@@ -447,3 +450,55 @@ told_as old new path field a b c d e f t =
 
 pub class_short : (k : Tree) → HoldsKeys k → length (head k).class < 65536
 class_short (tree_key h ts) holds = let c = holds.0.class in omega (arith, c)
+
+-- ---- what the node tells then
+
+-- the key at the path is the one whose node was raised, and it tells that much
+pub tells_after : (old new : HiveCells) (step : Step) (path : List (List ℕ)) (first size : ℕ)
+    → IsToldAfter old step path 2 first size new → TellsData new path size
+tells_after old new step path first size a = record { each = each }
+  where
+    m : Cells
+    m = cells_in a.mid
+
+    c : Cells
+    c = cells_in new
+
+    well : IsWellFormed m old.root a.mid.tree
+    well = a.stepped.done.stands
+
+    root_same : new.root ≡ old.root
+    root_same = a.told.root ∙ a.stepped.root
+
+    one : (x y : ℕ) → key_place m path old.root ≡ Some x → key_place m path old.root ≡ Some y → x ≡ y
+    one x y e f = some_same x y (sym e ∙ f)
+
+    -- by the key that was found before
+    from : (x y : ℕ) (n : KeyNode) (g : RaisesLengths m c x) → key_place m path old.root ≡ Some x
+        → key_place c path old.root ≡ Some y → reading key_node_at c y ≡ done n → n ≡ g.new
+    from x y n g e f read =
+        let w = placed_at m path old.root x e in
+        let v = placed_at c path old.root y f in
+        let own = owned_still m c old.root a.mid.tree w.stored x well w.reached g v.stored node y
+        (record { at = y; reached = v.reached; has = refl }) in
+        let there : Reaches m old.root v.stored y =
+        subst (λ (z : ℕ). Reaches m old.root v.stored z) own.has own.reached in
+        let same : x ≡ y = one x y e (place_is m path v.stored old.root y (sound_hive m old.root a.mid.tree well).all v.folds
+        there) in
+        ok_same n g.new (sym read ∙ ap (reading key_node_at c) (sym same) ∙ g.read_new)
+
+    each : (y : ℕ) (n : KeyNode) → key_place c path new.root ≡ Some y → reading key_node_at c y ≡ Ok n
+        → size ≤ n.greatest_value_size
+    each y n at read = go (key_place m path a.mid.root) refl
+      where
+        at_old : key_place c path old.root ≡ Some y
+        at_old = subst (λ (r : ℕ). key_place c path r ≡ Some y) root_same at
+
+        go : (o : Option ℕ) → key_place m path a.mid.root ≡ o → size ≤ n.greatest_value_size
+        go None e = absurd (let same : c ≡ m = λ i. look_up (a.told.version i) (a.told.none e i) in
+            let d = sym (subst (λ (r : ℕ). key_place m path r ≡ no_number) a.stepped.root e)
+            ∙ sym (ap (λ (z : Cells). key_place z path old.root) same) ∙ at_old in cc)
+        go (Some x) e =
+            let t = a.told.here x e in
+            let same = from x y n t.raises (subst (λ (r : ℕ). key_place m path r ≡ Some x) a.stepped.root e) at_old read in
+            subst (λ (k : KeyNode). size ≤ k.greatest_value_size) (sym same) t.second_told

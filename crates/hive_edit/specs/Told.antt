@@ -1,11 +1,12 @@
 -- What is done where a key's node is to tell greater lengths? (Regf format 1.3 and 1.5, key node, the bytes at 52 to 67: the greatest
 -- length of a child's name, of its class, of a value's name and of its data, the first of the four fields being 0.)
-use Rattle.std.specs.Prelude.{◌≡◌, ◌≤◌, ◌<◌, ◌^◌, ◌⊎◌, ℕ, zero, suc, ◌+◌, ◌*◌, nat_lt, if◌then◌else◌, List, Some, None}
+use Rattle.std.specs.Prelude.{◌≡◌, ◌≤◌, ◌<◌, ◌^◌, ◌⊎◌, ℕ, zero, suc, ◌+◌, ◌*◌, nat_lt, if◌then◌else◌, List, Some, None, Ok}
 use Rattle.std.specs.Option.{IsSomeAnd}
 use Rattle.std.specs.Int.{w32, to_le_bytes}
 use Rattle.nt_bytes.specs.Fields.{u32_in}
 use Rattle.hive_model.specs.Bins.{Bin, bins_size, look_up}
-use Rattle.hive_model.specs.KeyNode.{KeyNode}
+use Rattle.hive_model.specs.KeyNode.{KeyNode, key_node_at}
+use Rattle.hive_model.specs.Walk.{reading}
 use Rattle.hive_model.specs.Edit.{Step}
 use Rattle.hive_model.specs.Footprint.{key_place}
 use Rattle.hive_cells.specs.Held.{held_at, patched}
@@ -84,3 +85,8 @@ pub record WritesValue (old : HiveCells) (path : List (List ℕ)) (at : ℕ) (fi
   pub written : WritesFields at fields old.bins mid
   pub told : (new.bins ≡ mid)
       ⊎ ((key : ℕ) × (key_place (look_up old.version mid) path old.root ≡ Some key) × WritesGreater key 3 size mid new.bins)
+
+-- the node of the key at a path tells no less than this as the greatest length of its values' data
+pub record TellsData (h : HiveCells) (path : List (List ℕ)) (size : ℕ) : Type 0 where
+  pub each : (x : ℕ) (n : KeyNode) → key_place (cells_in h) path h.root ≡ Some x → reading key_node_at (cells_in h) x ≡ Ok n
+      → size ≤ n.greatest_value_size

@@ -16,7 +16,7 @@ ghost use Rattle.reg_tree.specs.declared.stop.EditStop.TheVariants.{Full, Memory
 ghost use Rattle.hive_edit.specs.Hive.{cells_in};
 ghost use Rattle.hive_edit.specs.Edits.{inside_place, value_fields, IsEditedInPlace, IsPackedAnew, IsPackedForRoom, KeepsParents, WritesFields};
 ghost use Rattle.hive_edit.specs.Stepped.{IsStepped};
-ghost use Rattle.hive_edit.specs.Told.{IsToldAfter, WritesValue};
+ghost use Rattle.hive_edit.specs.Told.{IsToldAfter, TellsData, WritesValue};
 ghost use Rattle.hive_edit.specs.Freed.{FreesData};
 
 use crate::cells::are_bytes;
@@ -212,6 +212,7 @@ impl HiveBytes {
         ensures refused { OnErr result (self.new ≡ self.old) }
         ensures version { self.new.version ≡ self.old.version }
         ensures done { result ≡ Ok true → IsEditedInPlace self.old (set_value path.now name.now kind bytes.now ∷ []) self.new }
+        ensures tells { result ≡ Ok true → TellsData self.new path.now (length bytes.now) }
         ensures freed { result ≡ Ok true → FreesData self.old path.now name.now self.new }
         ensures no_room { result ≡ Ok false → (u : Tree) → edited self.old.version self.old.tree (set_value path.now name.now kind bytes.now ∷ []) ≡ Ok u
             → 16777216 < strain_of self.old.version (bins_size self.old.bins) self.old.tree (set_value path.now name.now kind bytes.now ∷ []) }
@@ -238,6 +239,7 @@ impl HiveBytes {
         ensures room { OnOk result (IsEditedInPlace self.old (set_value path.now name.now kind bytes.now ∷ []) self.new
             ⊎ IsPackedForRoom self.old (set_value path.now name.now kind bytes.now ∷ []) self.new) }
         ensures parents { OnOk result (KeepsParents self.old self.new) }
+        ensures told { OnOk result (TellsData self.new path.now (length bytes.now) ⊎ IsPackedAnew self.new) }
         ensures freed { OnOk result (FreesData self.old path.now name.now self.new
             ⊎ IsPackedForRoom self.old (set_value path.now name.now kind bytes.now ∷ []) self.new) }
     {
@@ -300,6 +302,7 @@ impl HiveBytes {
         ensures room { OnOk result (IsEditedInPlace self.old (set_value path.now name.now kind bytes.now ∷ []) self.new
             ⊎ IsPackedForRoom self.old (set_value path.now name.now kind bytes.now ∷ []) self.new) }
         ensures parents { OnOk result (KeepsParents self.old self.new) }
+        ensures told { OnOk result (TellsData self.new path.now (length bytes.now) ⊎ IsPackedAnew self.new) }
         ensures freed { OnOk result (FreesData self.old path.now name.now self.new
             ⊎ IsPackedForRoom self.old (set_value path.now name.now kind bytes.now ∷ []) self.new) }
         ensures in_place { is_some (inside_place (cells_in self.old) path.now name.now self.old.root) ≡ true → length bytes.now ≤ 4

@@ -25,7 +25,7 @@ ghost use Rattle.hive_edit.specs.NewValue.{added_cells, added_size, CanAdd, IsNe
 ghost use Rattle.hive_edit.specs.Places.{value_place};
 ghost use Rattle.hive_edit.specs.Runs.{IsPlace};
 ghost use Rattle.hive_edit.specs.Stepped.{IsStepped, LacksStepRoom};
-ghost use Rattle.hive_edit.specs.Told.{IsToldAfter};
+ghost use Rattle.hive_edit.specs.Told.{IsToldAfter, TellsData};
 ghost use Rattle.hive_model.specs.Valid.{longest_data, longest_value_name};
 
 use crate::cells::{MOST_BINS, are_bytes, place_for, put_run};
@@ -415,6 +415,7 @@ impl HiveBytes {
         ensures refused { OnErr result (self.new ≡ self.old) }
         ensures version { self.new.version ≡ self.old.version }
         ensures done { result ≡ Ok true → IsEditedInPlace self.old (set_value path.now name.now kind bytes.now ∷ []) self.new }
+        ensures tells { result ≡ Ok true → TellsData self.new path.now (length bytes.now) }
         ensures no_room { result ≡ Ok false → (u : Tree) → edited self.old.version self.old.tree (set_value path.now name.now kind bytes.now ∷ []) ≡ Ok u
             → 16777216 < strain_of self.old.version (bins_size self.old.bins) self.old.tree (set_value path.now name.now kind bytes.now ∷ []) }
     {
@@ -446,6 +447,7 @@ impl HiveBytes {
         ensures refused { OnErr result (self.new ≡ self.old) }
         ensures version { self.new.version ≡ self.old.version }
         ensures done { result ≡ Ok true → IsEditedInPlace self.old (set_value path.now name.now kind bytes.now ∷ []) self.new }
+        ensures tells { result ≡ Ok true → TellsData self.new path.now (length bytes.now) }
         ensures fresh { result ≡ Ok true → place_in (cells_in self.old) path.now name.now self.old.root ≡ None }
         ensures no_room { result ≡ Ok false → place_in (cells_in self.old) path.now name.now self.old.root ≡ None
             → (u : Tree) → edited self.old.version self.old.tree (set_value path.now name.now kind bytes.now ∷ []) ≡ Ok u

@@ -12,7 +12,7 @@ ghost use Rattle.hive_edit.specs.Edits.{IsEditedInPlace};
 ghost use Rattle.hive_edit.specs.Given.{place_in};
 ghost use Rattle.hive_edit.specs.NewValue.{set_tree};
 ghost use Rattle.hive_edit.specs.Stepped.{IsStepped, LacksStepRoom};
-ghost use Rattle.hive_edit.specs.Told.{IsToldAfter};
+ghost use Rattle.hive_edit.specs.Told.{IsToldAfter, TellsData};
 ghost use Rattle.hive_edit.specs.Freed.{FreesData};
 ghost use Rattle.hive_edit.specs.Places.{data_places};
 ghost use Rattle.hive_model.specs.Valid.{longest_data};
@@ -160,6 +160,7 @@ impl HiveBytes {
         ensures refused { OnErr result (self.new ≡ self.old) }
         ensures version { self.new.version ≡ self.old.version }
         ensures done { result ≡ Ok true → IsEditedInPlace self.old (set_value path.now name.now kind bytes.now ∷ []) self.new }
+        ensures tells { result ≡ Ok true → TellsData self.new path.now (length bytes.now) }
         ensures freed { result ≡ Ok true → FreesData self.old path.now name.now self.new }
         ensures no_room { result ≡ Ok false → (at : ℕ) → place_in (cells_in self.old) path.now name.now self.old.root ≡ Some at
             → 16777216 < strain_of self.old.version (bins_size self.old.bins) self.old.tree (set_value path.now name.now kind bytes.now ∷ []) }
