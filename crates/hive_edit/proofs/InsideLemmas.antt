@@ -1,12 +1,11 @@
 -- A value that holds its data itself, written in place: the step that it is, and which bytes differ.
-use Rattle.std.proofs.Common.{◌≡◌, ◌≤◌, ◌<◌, ◌^◌, ℕ, ◌+◌, List, length, get_or, Option, Some, None, inl, inr, ⊎_elim, refl, sym, ap, subst, ◌∙◌, arith}
+use Rattle.std.proofs.Common.{◌≡◌, ◌≤◌, ◌<◌, ◌^◌, ℕ, List, length, get_or, Option, Some, None, inl, inr, ⊎_elim, refl, sym, ap, subst, ◌∙◌, arith}
 use Rattle.std.specs.Prelude.{◌⊎◌}
 use Rattle.std.specs.Option.{IsSomeAnd, option_map}
 use Rattle.nt_bytes.specs.Fields.{u32_in}
 use Rattle.nt_bytes.specs.declared.version.HiveVersion.{HiveVersion}
-use Rattle.hive_model.specs.Bins.{Bin, Cells, bins_size, look_up, spelled}
+use Rattle.hive_model.specs.Bins.{Bin, bins_size, look_up, spelled}
 use Rattle.hive_model.specs.Size.{bulk_of}
-use Rattle.hive_model.specs.Tree.{Tree}
 use Rattle.hive_model.specs.Edit.{set_value}
 use Rattle.hive_model.specs.Footprint.{key_place}
 use Rattle.hive_cells.specs.Held.{held_at, patched}

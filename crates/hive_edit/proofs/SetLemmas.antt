@@ -1,44 +1,37 @@
 -- A value of a hive that holds its data itself, and gets other such data.
-use Rattle.std.proofs.Common.{◌≡◌, ◌≤◌, ◌<◌, ◌^◌, ℕ, ◌+◌, ◌-◌, Bool, true, false, eqb, cond, List, [], ◌∷◌, length, get_or, take, Option, Some, None, Result, Ok, Err, refl, sym, ap, subst, ◌∙◌, arith}
+use Rattle.std.proofs.Common.{◌≡◌, ◌≤◌, ◌<◌, ℕ, ◌+◌, ◌-◌, Bool, true, false, eqb, cond, List, [], ◌∷◌, length, take, Option, Some, None, Result, Ok, Err, refl, sym, ap, subst, ◌∙◌, arith}
 use Rattle.std.specs.Prelude.{nat_lt, is_some, Contains}
-use Rattle.std.specs.Option.{option_and_then, option_map, IsSomeAnd, is_none}
+use Rattle.std.specs.Option.{option_and_then, IsSomeAnd, is_none}
 use Rattle.std.specs.Int.{w32, to_le_bytes}
 use Rattle.std.proofs.lemmas.Bool.{le-ltb, lt-ltb, ne_eqb}
 use Rattle.std.proofs.lemmas.Bool.Decides.{nat_tests}
-use Rattle.std.proofs.lemmas.List.Elements.{All-cons, All-nil}
 use Rattle.nt_bytes.specs.declared.fault.HiveFaultKind.{HiveFaultKind}
 use Rattle.nt_bytes.specs.declared.version.HiveVersion.{HiveVersion}
 use Rattle.nt_bytes.specs.Fields.{u32_in}
-use Rattle.hive_model.specs.Bins.{Bin, Cells, bins_size, look_up}
+use Rattle.hive_model.specs.Bins.{Bin, Cells, look_up}
 use Rattle.hive_model.specs.Forms.{◌>>=◌}
-use Rattle.hive_model.specs.KeyNode.{KeyNode, key_node_at}
 use Rattle.hive_model.specs.KeyValue.{KeyValue, key_value_at, data_inside, is_in_place}
 use Rattle.hive_model.specs.Size.{bulk_of}
 use Rattle.hive_model.specs.Tree.{Tree, Item, find_item}
-use Rattle.hive_model.specs.Tree.{key as tree_key}
 use Rattle.hive_model.specs.Edit.{set_value, Refusal, full, most_bulk, edited, after_step}
 use Rattle.hive_model.specs.Walk.{reading, data_checks}
 use Rattle.hive_model.specs.Footprint.{key_place, is_value_named, of_read, used_in}
-use Rattle.hive_model.specs.Stands.{Stands, data_of, item_at, IsWellFormed}
-use Rattle.hive_cells.specs.Held.{held_at, patched}
+use Rattle.hive_model.specs.Stands.{data_of, item_at, IsWellFormed}
+use Rattle.hive_cells.specs.Held.{held_at}
 use Rattle.hive_read.proofs.FormFacts.{held-short, value-facts, then-so}
-use Rattle.reg_tree.specs.Fitting.{Fits}
-use Rattle.reg_tree.proofs.Edited.{edited_valid}
 use Rattle.key_index.specs.Lists.{payload_in}
 use Rattle.edit_laws.proofs.Ins.{in_from}
 use Rattle.edit_laws.proofs.FromCells.{data_held_inside}
 use Rattle.hive_edit.specs.Hive.{HiveCells, cells_in, hive_of, IsHive}
-use Rattle.hive_edit.specs.Edits.{value_fields, held_itself, holds_itself, if_inside, inside_place, IsEditedInPlace}
+use Rattle.hive_edit.specs.Edits.{value_fields, held_itself, holds_itself, if_inside, inside_place}
 use Rattle.hive_edit.specs.Places.{IsItemHere, value_place, value_places, data_places}
 use Rattle.hive_edit.specs.Standing.{tree_of}
 use Rattle.hive_edit.proofs.ResultLemmas.{done, some, some_same, ok_same}
-use Rattle.hive_edit.proofs.StandingLemmas.{tree_is}
 use Rattle.hive_edit.proofs.PlaceLemmas.{key_there, IsItemAt, place_of_item}
 use Rattle.hive_cells.proofs.HeldLemmas.{payload_held}
 use Rattle.hive_edit.proofs.ItemLemmas.{item_facts, value_facts}
-use Rattle.hive_edit.proofs.HiveLemmas.{hive_opened}
-use Rattle.hive_edit.proofs.InPlaceLemmas.{patched_at, fields_for, set_done, inside_data, found_among, named_folds}
-use Rattle.hive_edit.proofs.EditLemmas.{folds_length, set_tree, set_edited, same_bulk, in_footprint, kept_in_place, the_tree, made}
+use Rattle.hive_edit.proofs.InPlaceLemmas.{inside_data, found_among, named_folds}
+use Rattle.hive_edit.proofs.EditLemmas.{folds_length, set_tree, set_edited, same_bulk, made}
 use Rattle.hive_edit.specs.Freed.{FreesData}
 
 -- ---- where it is

@@ -1,4 +1,4 @@
-use Rattle.std.proofs.Common.{◌≡◌, ◌*◌, [], length, refl}
+use Rattle.std.proofs.Common.{◌*◌, [], length, refl}
 use Rattle.hive_model.specs.Edit.{copy_child}
 use Rattle.hive_model.specs.Tree.{head}
 use Rattle.hive_edit.proofs.SteppedLemmas.{if_done}

@@ -1,8 +1,8 @@
-use Rattle.std.proofs.Common.{◌≡◌, ◌*◌, ℕ, Bool, Ok, length, refl, sym, ap, ◌∙◌, arith}
+use Rattle.std.proofs.Common.{Bool, Ok, length, refl, sym, ap, ◌∙◌}
 use Rattle.hive_model.specs.Edit.{set_value}
 use Rattle.hive_model.specs.Size.{bulk_of}
 use Rattle.hive_model.specs.Tree.{Tree}
-use Rattle.hive_edit.proofs.SteppedLemmas.{if_done, if_undone}
+use Rattle.hive_edit.proofs.SteppedLemmas.{if_done}
 use Rattle.hive_edit.proofs.ToldLemmas.{stepped_told, set_path, told_as}
 use Rattle.hive_edit.proofs.hive.HiveBytes.give_told.Goals as goal
 

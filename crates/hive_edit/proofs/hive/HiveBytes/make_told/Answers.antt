@@ -1,4 +1,4 @@
-use Rattle.std.proofs.Common.{◌≡◌, ◌*◌, length, refl, arith}
+use Rattle.std.proofs.Common.{◌*◌, length, refl, arith}
 use Rattle.hive_model.specs.Edit.{make_key}
 use Rattle.hive_edit.proofs.SteppedLemmas.{if_done}
 use Rattle.hive_edit.proofs.ToldLemmas.{stepped_told, make_path, told_as}

@@ -1,4 +1,4 @@
-use Rattle.std.proofs.Common.{◌≡◌, ◌+◌, length, refl, ap, ◌∙◌}
+use Rattle.std.proofs.Common.{◌+◌, length, refl, ap, ◌∙◌}
 use Rattle.std.specs.Int.{w32, from_le_bytes}
 use Rattle.hive_model.specs.Edit.{set_value}
 use Rattle.hive_model.specs.Size.{bulk_of}

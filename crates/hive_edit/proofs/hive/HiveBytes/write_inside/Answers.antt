@@ -1,4 +1,4 @@
-use Rattle.std.proofs.Common.{◌≡◌, ◌+◌, length, ap, subst, ◌∙◌, arith}
+use Rattle.std.proofs.Common.{◌+◌, length, ap, subst, ◌∙◌, arith}
 use Rattle.std.specs.Int.{w32, from_le_bytes}
 use Rattle.hive_edit.specs.Hive.{HiveCells}
 use Rattle.hive_edit.specs.Edits.{value_fields, WritesFields}
