@@ -221,7 +221,8 @@ still_room old new at field number few room r = go (held_at old at) refl room
     longer : (p : List ℕ) → 76 ≤ length p → (b : Bool)
         → 76 ≤ length (cond b (patched (length_place field) (to_le_bytes w32 number) p) p)
     longer p long true =
-        (let same = (part_patches (length_place field) (to_le_bytes w32 number) p (omega (arith, long, few))).length_same in
+        (let same : length (patched (length_place field) (to_le_bytes w32 number) p) ≡ length p =
+        (part_patches (length_place field) (to_le_bytes w32 number) p (omega (arith, long, few))).length_same in
         omega (arith, same, long))
     longer p long false = long
 
@@ -333,11 +334,11 @@ hive_told old new heap root version bulk h path x field first second is view e f
     at : key_place b path root ≡ some x
     at = sym (found ∙ ap (λ (bs : List Bin). key_place (look_up version bs) path root) e)
 
-    node : (n : KeyNode) × (reading key_node_at b x ≡ done n)
-    node = node_of version old x (subst (λ (bs : List Bin). IsKeyAt (look_up version bs) x) e k)
+    form : (n : KeyNode) × (reading key_node_at b x ≡ done n)
+    form = node_of version old x (subst (λ (bs : List Bin). IsKeyAt (look_up version bs) x) e k)
 
     told : AreTold b c x field first second
-    told = told_cells version old new x field first second node.0 node.1 few a
+    told = told_cells version old new x field first second form.0 form.1 few a
 
     placed : IsPlaced b root path x
     placed = placed_at b path root x at
@@ -347,7 +348,7 @@ hive_told old new heap root version bulk h path x field first second is view e f
 
     free : (o : ℕ) → held_at old o ≡ None → held_at new o ≡ None
     free o none = ⊎_elim
-        (λ (s : o ≡ x). absurd (let p = then-so (b.payload x) key_node_at node.0 node.1 in
+        (λ (s : o ≡ x). absurd (let p = then-so (b.payload x) key_node_at form.0 form.1 in
         let q = payload_held old x p.0 p.1 in let d = sym q ∙ sym (ap (held_at old) s) ∙ none in cc))
         (λ (s : o ≡ x → ⊥). a.two.others o s ∙ a.one.others o s ∙ none) (cases_eq o x)
 

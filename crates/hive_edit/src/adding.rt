@@ -19,7 +19,7 @@ use crate::cells::are_bytes;
 use crate::hive::HiveBytes;
 use crate::making::{Above, add_node, new_node, node_fits};
 use crate::path::{child_at, key_at};
-use crate::telling::CHILDREN;
+use crate::telling::{CHILDREN, wide_len};
 use hive_cells::Source;
 use hive_pack::{cell_size, list_len, name_len};
 use key_index::{bins_fit, payload};
@@ -179,7 +179,8 @@ impl HiveBytes {
     {
         self.stands();
         if self.make_at(alloc, place, parent, name)? {
-            self.tell(parent, CHILDREN, 2 * name.len() as u32, 0);
+            let wide = wide_len(name);
+            self.tell(parent, CHILDREN, wide, 0);
             return Ok(true);
         }
         Ok(false)

@@ -34,7 +34,7 @@ use crate::hive::HiveBytes;
 use crate::making::cell_bytes;
 use crate::measure::{cell_len, data_len};
 use crate::path::key_at;
-use crate::telling::VALUES;
+use crate::telling::{VALUES, wide_len};
 use crate::unset::{list_len, two_fields, values_of};
 use crate::values::value_at;
 use cell_forms::{VkForm, vk_bytes};
@@ -389,7 +389,8 @@ impl HiveBytes {
     {
         self.stands();
         if self.put_new(alloc, path, name, key, kind, bytes, bulk)? {
-            self.tell(path, VALUES, 2 * name.len() as u32, bytes.len() as u32);
+            let wide = wide_len(name);
+            self.tell(path, VALUES, wide, bytes.len() as u32);
             return Ok(true);
         }
         Ok(false)

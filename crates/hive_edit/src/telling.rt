@@ -4,7 +4,7 @@ ghost use Rattle.std.specs.Prelude.{◌≡◌, ◌≤◌, ◌+◌, ◌*◌, [], 
 ghost use Rattle.std.specs.Option.{IsSomeAnd};
 ghost use Rattle.nt_bytes.specs.Fields.{u32_in};
 ghost use Rattle.hive_model.specs.Tree.{head};
-ghost use Rattle.hive_model.specs.Valid.{HoldsKeys, longest_key_name};
+ghost use Rattle.hive_model.specs.Valid.{HoldsKeys, longest_key_name, longest_value_name};
 ghost use Rattle.hive_cells.specs.Held.{held_at};
 ghost use Rattle.hive_edit.specs.Told.{AreRaisedTo, IsRaisedTo, IsTold};
 
@@ -56,6 +56,14 @@ fn raise_both(heap: &mut OpenHeap, at: u32, field: u32, first: u32, second: u32)
     raise(heap, at, field + 1, second);
 }
 
+/// How many bytes of UTF-16 a name has.
+pub(crate) fn wide_len(name: &[u16]) -> u32
+    requires { length name.now ≤ longest_value_name }
+    ensures { result ≡ 2 * length name.now }
+{
+    2 * name.len() as u32
+}
+
 /// How long the class of a key is.
 pub(crate) fn class_len(key: &Key) -> u32
     requires { HoldsKeys key.now }
@@ -86,6 +94,7 @@ impl HiveBytes {
         ensures { IsTold self.old [] 0 (2 * length name.now) class self.new }
     {
         let path = Names::new(alloc);
-        self.tell(&path, CHILDREN, 2 * name.len() as u32, class);
+        let wide = wide_len(name);
+        self.tell(&path, CHILDREN, wide, class);
     }
 }

@@ -17,7 +17,8 @@ pub returns-then-branch-clause-told : goal.returns-then-branch-clause-told
 returns-then-branch-clause-told c = λ yes. record {
   mid = c.give_there.new.self;
   stepped = if_done _ _ _ c.if-branch.true c.in_ok-give_there.ensures.stepped;
-  told = told_as c.give_there.new.self c.tell.new.self c.args.path.now 2 _ _ 0 (length c.args.bytes.now) refl c.len.ensures c.tell.ensures;
+  told = told_as c.give_there.new.self c.tell.new.self c.args.path.now 2 0 c.len.result 0 (length c.args.bytes.now) refl
+      c.len.ensures c.tell.ensures;
 }
 
 pub returns-then-branch-clause-bulk : goal.returns-then-branch-clause-bulk

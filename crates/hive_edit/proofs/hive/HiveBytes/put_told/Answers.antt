@@ -1,10 +1,13 @@
-use Rattle.std.proofs.Common.{◌*◌, Bool, Ok, length, sym, ap, ◌∙◌, arith}
+use Rattle.std.proofs.Common.{◌*◌, Bool, Ok, length, sym, ap, ◌∙◌}
 use Rattle.hive_model.specs.Edit.{set_value}
 use Rattle.hive_model.specs.Size.{bulk_of}
 use Rattle.hive_model.specs.Tree.{Tree}
 use Rattle.hive_edit.proofs.SteppedLemmas.{if_done}
 use Rattle.hive_edit.proofs.ToldLemmas.{stepped_told, set_path, told_as}
 use Rattle.hive_edit.proofs.hive.HiveBytes.put_told.Goals as goal
+
+pub wide_len-wide-requires : goal.wide_len-wide-requires
+wide_len-wide-requires c = c.requires.new.short
 
 pub returns-then-branch-clause-stepped : goal.returns-then-branch-clause-stepped
 returns-then-branch-clause-stepped c =
@@ -17,7 +20,8 @@ pub returns-then-branch-clause-told : goal.returns-then-branch-clause-told
 returns-then-branch-clause-told c = λ yes. record {
   mid = c.put_new.new.self;
   stepped = if_done _ _ _ c.if-branch.true c.in_ok-put_new.ensures.stepped;
-  told = told_as c.put_new.new.self c.tell.new.self c.args.path.now 2 _ _ (2 * length c.args.name.now) (length c.args.bytes.now) (omega (arith, c.len.ensures)) c.len-2.ensures c.tell.ensures;
+  told = told_as c.put_new.new.self c.tell.new.self c.args.path.now 2 c.wide_len-wide.result c.len.result
+      (2 * length c.args.name.now) (length c.args.bytes.now) c.wide_len-wide.ensures c.len.ensures c.tell.ensures;
 }
 
 pub returns-then-branch-clause-bulk : goal.returns-then-branch-clause-bulk

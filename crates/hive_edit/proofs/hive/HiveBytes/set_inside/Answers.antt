@@ -23,7 +23,7 @@ pub returns-clause-told : goal.returns-clause-told
 returns-clause-told c = record {
   mid = c.write_inside.new.self;
   stepped = c.write_inside.ensures.stepped;
-  told = told_as c.write_inside.new.self c.tell.new.self c.args.path.now 2 _ _ 0 (length c.args.bytes.now) refl
+  told = told_as c.write_inside.new.self c.tell.new.self c.args.path.now 2 0 c.len.result 0 (length c.args.bytes.now) refl
       c.len.ensures c.tell.ensures;
 }
 
@@ -33,5 +33,5 @@ returns-clause-written c =
     (value_fields (2147483648 + length c.args.bytes.now) (from_le_bytes w32 c.args.bytes.now) c.args.kind)
     (length c.args.bytes.now) c.write_inside.ensures.written c.write_inside.ensures.stepped.version
     c.write_inside.ensures.stepped.root
-    (told_as c.write_inside.new.self c.tell.new.self c.args.path.now 2 _ _ 0 (length c.args.bytes.now) refl c.len.ensures
+    (told_as c.write_inside.new.self c.tell.new.self c.args.path.now 2 0 c.len.result 0 (length c.args.bytes.now) refl c.len.ensures
     c.tell.ensures)
