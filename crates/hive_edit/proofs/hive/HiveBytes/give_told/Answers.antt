@@ -1,9 +1,9 @@
-use Rattle.std.proofs.Common.{Bool, Ok, length, refl, sym, ap, ◌∙◌}
+use Rattle.std.proofs.Common.{Bool, Ok, sym, ap, ◌∙◌}
 use Rattle.hive_model.specs.Edit.{set_value}
 use Rattle.hive_model.specs.Size.{bulk_of}
 use Rattle.hive_model.specs.Tree.{Tree}
 use Rattle.hive_edit.proofs.SteppedLemmas.{if_done}
-use Rattle.hive_edit.proofs.ToldLemmas.{stepped_told, set_path, told_as}
+use Rattle.hive_edit.proofs.ToldLemmas.{stepped_told, set_path}
 use Rattle.hive_edit.proofs.hive.HiveBytes.give_told.Goals as goal
 
 pub returns-then-branch-clause-stepped : goal.returns-then-branch-clause-stepped
@@ -17,8 +17,7 @@ pub returns-then-branch-clause-told : goal.returns-then-branch-clause-told
 returns-then-branch-clause-told c = λ yes. record {
   mid = c.give_there.new.self;
   stepped = if_done _ _ _ c.if-branch.true c.in_ok-give_there.ensures.stepped;
-  told = told_as c.give_there.new.self c.tell.new.self c.args.path.now 2 0 c.len.result 0 (length c.args.bytes.now) refl
-      c.len.ensures c.tell.ensures;
+  told = c.tell.ensures;
 }
 
 pub returns-then-branch-clause-bulk : goal.returns-then-branch-clause-bulk

@@ -1,4 +1,4 @@
-use Rattle.std.proofs.Common.{◌*◌, Bool, Ok, length, sym, ap, ◌∙◌}
+use Rattle.std.proofs.Common.{◌*◌, Bool, Ok, length, refl, sym, ap, ◌∙◌}
 use Rattle.hive_model.specs.Edit.{set_value}
 use Rattle.hive_model.specs.Size.{bulk_of}
 use Rattle.hive_model.specs.Tree.{Tree}
@@ -20,8 +20,8 @@ pub returns-then-branch-clause-told : goal.returns-then-branch-clause-told
 returns-then-branch-clause-told c = λ yes. record {
   mid = c.put_new.new.self;
   stepped = if_done _ _ _ c.if-branch.true c.in_ok-put_new.ensures.stepped;
-  told = told_as c.put_new.new.self c.tell.new.self c.args.path.now 2 c.wide_len-wide.result c.len.result
-      (2 * length c.args.name.now) (length c.args.bytes.now) c.wide_len-wide.ensures c.len.ensures c.tell.ensures;
+  told = told_as c.put_new.new.self c.tell.new.self c.args.path.now 2 c.wide_len-wide.result (length c.args.bytes.now)
+      (2 * length c.args.name.now) (length c.args.bytes.now) c.wide_len-wide.ensures refl c.tell.ensures;
 }
 
 pub returns-then-branch-clause-bulk : goal.returns-then-branch-clause-bulk
