@@ -51,6 +51,8 @@ pub mod ChildLemmas
 pub mod AddStepLemmas
 pub mod GraftLinks
 pub mod CopyStepLemmas
+pub mod ToldLemmas
+pub mod InsideLemmas
 pub mod StrainedLemmas
 pub mod GapLemmas
 pub mod HoldingLemmas

@@ -16,4 +16,5 @@ pub mod Dropped
 pub mod Deleting
 pub mod Secured
 pub mod Stepped
+pub mod Told
 pub mod Steps
