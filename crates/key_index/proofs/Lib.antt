@@ -7,3 +7,4 @@ pub mod Below
 pub mod Runs
 pub mod Meeting
 pub mod Fresh
+pub mod Packing

@@ -416,6 +416,10 @@ put_is version gone offsets hints old mid new at held fit some same four room fi
           fresh o r.0 r.1;
       once = lists_once (look_up version new) at offsets hints written some same fit four room;
       long = long_too ∙ long;
+      run = λ o p h. (
+        others o (stays o p h) ∙ filled o ∙ ap (λ (x : Option (List ℕ)). or_else x (held_at old o)) h,
+        unheld o p h,
+      );
     }
   where
     first : (x y : Option (List ℕ)) (p : List ℕ) → ((q : List ℕ) → x ≡ Some q → y ≡ None) → y ≡ Some p
@@ -479,6 +483,7 @@ relisted version gone offsets hints old mid new at size p same long room e some 
           (list_strain_of (bins_size old) (length offsets)) p.long k strain;
       kept_long = let l = p.long in let least = room_longer size old mid at room in omega (arith, l, least);
       first = subst (λ (m : ℕ). IsFirstFit m old new at) e (first_fit size old mid new at room p.long);
+      run = λ o q h. let r = p.run o q h in (r.0, sym (same o) ∙ r.1);
     }
   where
     within : (a b d r s : ℕ) → d ≡ b → b ≤ a + r → a + r ≤ s → d ≤ s
