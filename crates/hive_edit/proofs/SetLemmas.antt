@@ -11,21 +11,20 @@ use Rattle.nt_bytes.specs.declared.version.HiveVersion.{HiveVersion}
 use Rattle.nt_bytes.specs.Fields.{u32_in}
 use Rattle.hive_model.specs.Bins.{Bin, Cells, bins_size, look_up}
 use Rattle.hive_model.specs.Forms.{◌>>=◌}
-use Rattle.hive_model.specs.KeyNode.{KeyNode, key_node_at}
 use Rattle.hive_model.specs.KeyValue.{KeyValue, key_value_at, data_inside, is_in_place}
 use Rattle.hive_model.specs.Size.{bulk_of}
 use Rattle.hive_model.specs.Tree.{Tree, Item, find_item}
-use Rattle.hive_model.specs.Tree.{key as tree_key}
 use Rattle.hive_model.specs.Edit.{set_value, Refusal, full, most_bulk, edited, after_step}
 use Rattle.hive_model.specs.Walk.{reading, data_checks}
 use Rattle.hive_model.specs.Footprint.{key_place, is_value_named, of_read, used_in}
-use Rattle.hive_model.specs.Stands.{Stands, data_of, item_at, IsWellFormed}
+use Rattle.hive_model.specs.Stands.{data_of, item_at, IsWellFormed}
 use Rattle.hive_cells.specs.Held.{held_at, patched}
 use Rattle.hive_read.proofs.FormFacts.{held-short, value-facts, then-so}
 use Rattle.reg_tree.specs.Fitting.{Fits}
 use Rattle.reg_tree.proofs.Edited.{edited_valid}
 use Rattle.key_index.specs.Lists.{payload_in}
-use Rattle.edit_laws.proofs.Ins.{in_from}
+use Rattle.edit_laws.specs.Owned.{In}
+use Rattle.edit_laws.proofs.Ins.{in_from, contains_from}
 use Rattle.edit_laws.proofs.FromCells.{data_held_inside}
 use Rattle.hive_edit.specs.Hive.{HiveCells, cells_in, hive_of, IsHive}
 use Rattle.hive_edit.specs.Edits.{value_fields, held_itself, holds_itself, if_inside, inside_place, IsEditedInPlace}
@@ -38,8 +37,14 @@ use Rattle.hive_cells.proofs.HeldLemmas.{payload_held}
 use Rattle.hive_edit.proofs.ItemLemmas.{item_facts, value_facts}
 use Rattle.hive_edit.proofs.HiveLemmas.{hive_opened}
 use Rattle.hive_edit.proofs.InPlaceLemmas.{patched_at, fields_for, set_done, inside_data, found_among, named_folds}
-use Rattle.hive_edit.proofs.EditLemmas.{folds_length, set_tree, set_edited, same_bulk, in_footprint, kept_in_place, the_tree, made}
+use Rattle.hive_edit.proofs.EditLemmas.{folds_length, set_tree, set_edited, same_bulk, the_tree, made}
 use Rattle.hive_edit.specs.Freed.{FreesData}
+use Rattle.edit_laws.specs.Done.{IsDone}
+use Rattle.hive_edit.specs.Stepped.{IsStepped}
+use Rattle.hive_edit.specs.Given.{place_in}
+use Rattle.hive_edit.proofs.GivenUpLemmas.{replaced_there}
+use Rattle.hive_edit.proofs.SecuredLemmas.{none_counted, set_counts_none}
+use Rattle.hive_edit.proofs.SteppedLemmas.{stepped_kept}
 
 -- ---- where it is
 
@@ -279,6 +284,7 @@ is_set old new root version bulk h path name kind bytes v is view e short small 
     let c = look_up version new in
     let t = tree_of b root in
     let u = set_tree path name kind bytes t in
+    let step = set_value path name kind bytes in
     let i = inside_there b path name root v
     (subst (λ (g : HiveCells). inside_place (cells_in g) path name g.root ≡ some v) (sym view) e) in
     let d = edit_there b version root t path name kind bytes v is.stands i short in
@@ -290,24 +296,30 @@ is_set old new root version bulk h path name kind bytes v is view e short small 
     let edit : edited version t (set_value path name kind bytes ∷ []) ≡ Ok u =
     d.edit ∙ ap (λ (q : Bool). cond q (Err full) (Ok u)) within in
     let tree : tree_of c root ≡ u = tree_is c root u made.stands in
-    let there = key_there b path root t i.key is.stands i.place in
-    let node = node_read b i.key there.there there.well.stands in
+    let there : place_in b path name root ≡ some v = ap (option_and_then (value_place b name)) i.place ∙ i.named in
     let valid = edited_valid version t u (set_value path name kind bytes ∷ []) is.valid
     (All-cons Fits (set_value path name kind bytes) [] tt (All-nil Fits)) edit in
     record {
       hive = hive_opened new new root version bulk u refl made.stands valid (is.counted ∙ sym d.bulk);
       edit = subst (λ (g : HiveCells). edited g.version g.tree (set_value path name kind bytes ∷ [])
           ≡ the_tree (tree_of c root)) view (edit ∙ sym (ap the_tree tree));
-      kept = subst (λ (g : HiveCells). IsEditedInPlace g (set_value path name kind bytes ∷ [])
-          (hive_of new root version)) view
-          (kept_in_place (hive_of old root version) (hive_of new root version) (set_value path name kind bytes) v
-          (in_footprint b root t path name kind bytes i.key v node.0 node.1 i.place i.named) others refl
-          (omega (arith, long)) made.parents);
+      kept = stepped_kept h (hive_of new root version) step
+          (subst (λ (g : HiveCells). IsStepped g step (hive_of new root version)) view (record {
+            version = refl;
+            root = refl;
+            tree = d.step ∙ sym (ap the_tree tree);
+            done = subst (λ (w : Tree). IsDone b c root t w step) (sym tree) made;
+            secure = none_counted b c root t u step is.stands made (set_counts_none t path name kind bytes);
+            lists = λ x among. absurd among;
+            freed = λ o given. inside_frees (hive_of old root version) path name v
+                (subst (λ (g : HiveCells). inside_place (cells_in g) path name g.root ≡ some v) (sym view) e)
+                (hive_of new root version) v there o
+                (contains_from (data_places b v) o
+                (subst (λ (l : List ℕ). In l o) (replaced_there b path name root v there) given));
+            long = omega (arith, long);
+            room = omega (arith, long);
+          }));
     }
-  where
-    node_read : (cells : Cells) (at : ℕ) (k : Tree) → Stands cells at k
-        → (n : KeyNode) × (reading key_node_at cells at ≡ done n)
-    node_read cells at (tree_key g ts) s = (s.1.node, s.1.read)
 
 -- ---- where the search for it ends
 
