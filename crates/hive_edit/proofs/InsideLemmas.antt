@@ -1,7 +1,7 @@
 -- A value that holds its data itself, written in place: the step that it is, and which bytes differ.
 use Rattle.std.proofs.Common.{◌≡◌, ◌≤◌, ◌<◌, ◌^◌, ℕ, List, length, get_or, Option, Some, None, inl, inr, ⊎_elim, refl, sym, ap, subst, ◌∙◌, arith}
 use Rattle.std.specs.Prelude.{◌⊎◌}
-use Rattle.std.specs.Option.{IsSomeAnd, option_map}
+use Rattle.std.specs.Option.{IsSomeAnd, option_and_then, option_map}
 use Rattle.nt_bytes.specs.Fields.{u32_in}
 use Rattle.nt_bytes.specs.declared.version.HiveVersion.{HiveVersion}
 use Rattle.hive_model.specs.Bins.{Bin, bins_size, look_up, spelled}
@@ -10,15 +10,20 @@ use Rattle.hive_model.specs.Edit.{set_value}
 use Rattle.hive_model.specs.Footprint.{key_place}
 use Rattle.hive_cells.specs.Held.{held_at, patched}
 use Rattle.hive_read.proofs.FormFacts.{IsBytes}
+use Rattle.edit_laws.specs.Owned.{In}
+use Rattle.edit_laws.proofs.Ins.{contains_from}
 use Rattle.hive_edit.specs.Edits.{inside_place, WritesFields}
+use Rattle.hive_edit.specs.Given.{place_in}
 use Rattle.hive_edit.specs.Hive.{HiveCells, cells_in, hive_of, IsHive}
+use Rattle.hive_edit.specs.Places.{value_place, data_places}
 use Rattle.hive_edit.specs.Standing.{tree_of}
 use Rattle.hive_edit.specs.Told.{length_place, IsTold, WritesGreater, WritesIfGreater, WritesValue}
 use Rattle.hive_edit.proofs.ResultLemmas.{some}
 use Rattle.hive_edit.proofs.EditLemmas.{set_tree}
+use Rattle.hive_edit.proofs.GivenUpLemmas.{replaced_there}
 use Rattle.hive_edit.proofs.InPlaceLemmas.{patched_at, fields_for, set_done}
 use Rattle.hive_edit.proofs.SecuredLemmas.{none_counted, set_counts_none}
-use Rattle.hive_edit.proofs.SetLemmas.{inside_there, edit_there}
+use Rattle.hive_edit.proofs.SetLemmas.{inside_there, edit_there, inside_frees}
 use Rattle.hive_edit.proofs.SteppedLemmas.{IsStepMade, stepped, stepped_bulk}
 
 -- where the value was written in place
@@ -41,8 +46,10 @@ inside_set old new root version bulk h path name kind bytes v is view e short sm
     let c = look_up version new in
     let t = tree_of b root in
     let u = set_tree path name kind bytes t in
-    let i = inside_there b path name root v
-    (subst (λ (g : HiveCells). inside_place (cells_in g) path name g.root ≡ some v) (sym view) e) in
+    let place : inside_place b path name root ≡ some v =
+    subst (λ (g : HiveCells). inside_place (cells_in g) path name g.root ≡ some v) (sym view) e in
+    let i = inside_there b path name root v place in
+    let there : place_in b path name root ≡ some v = ap (option_and_then (value_place b name)) i.place ∙ i.named in
     let d = edit_there b version root t path name kind bytes v is.stands i short in
     let patch = patched_at version old new v 4 (fields_for kind bytes) here others in
     let done = set_done b c root t path name i.key v kind bytes i.value is.stands i.place i.named patch i.read short
@@ -51,6 +58,10 @@ inside_set old new root version bulk h path name kind bytes v is view e short sm
     stepped old new root version bulk bulk h u (set_value path name kind bytes) is view d.step done text
     (is.counted ∙ sym d.bulk) (omega (arith, long)) (omega (arith, long))
     (none_counted b c root t u (set_value path name kind bytes) is.stands done (set_counts_none t path name kind bytes))
+    (λ x among. absurd among)
+    (λ o given. inside_frees (hive_of old root version) path name v place (hive_of new root version) v there o
+    (contains_from (data_places b v) o
+    (subst (λ (l : List ℕ). In l o) (replaced_there b path name root v there) given)))
     in
     record {
       made = made;
