@@ -12,13 +12,13 @@ use Rattle.hive_model.specs.Bins.{Bin, Cells, bins_size, look_up}
 use Rattle.hive_model.specs.Forms.{◌>>=◌}
 use Rattle.hive_model.specs.KeyNode.{KeyNode, key_node_in, key_node_at}
 use Rattle.hive_model.specs.Walk.{reading}
-use Rattle.hive_model.specs.InPlace.{count_after, IsKeptSecurity, KeepsSecurity, IsPackedList}
+use Rattle.hive_model.specs.InPlace.{count_after, IsKeptSecurity, KeepsSecurity}
 use Rattle.hive_model.specs.Security.{SecurityCell, security_at}
 use Rattle.hive_model.specs.Tree.{Tree, head}
 use Rattle.hive_model.specs.Tree.{key as tree_key}
 use Rattle.hive_model.specs.Edit.{Step, set_value, make_key, add_child, copy_child}
 use Rattle.hive_model.specs.Valid.{HoldsKeys}
-use Rattle.hive_model.specs.Footprint.{key_place, child_places, list_cells_at, needed_sizes, room_of}
+use Rattle.hive_model.specs.Footprint.{key_place, needed_sizes, room_of}
 use Rattle.hive_model.specs.Stands.{IsWellFormed}
 use Rattle.hive_cells.specs.Changes.{at_cell, with_part}
 use Rattle.hive_cells.specs.Held.{held_at, patched}
@@ -27,11 +27,11 @@ use Rattle.edit_laws.specs.Done.{IsDone}
 use Rattle.edit_laws.specs.Greatest.{with_lengths, IsNoLonger, RaisesLengths, IsNamedPath}
 use Rattle.edit_laws.proofs.Made.{parent_is}
 use Rattle.edit_laws.proofs.Out.{IsPlaced, placed_at}
-use Rattle.edit_laws.specs.Owned.{node, In, Reaches}
+use Rattle.edit_laws.specs.Owned.{node, Reaches}
 use Rattle.edit_laws.proofs.Back.{place_is}
 use Rattle.edit_laws.proofs.Wellformed.{sound_hive}
 use Rattle.edit_laws.proofs.Raised.{raised_well, owned_still, raised_done}
-use Rattle.key_index.specs.Lists.{payload_in, hints_in}
+use Rattle.key_index.specs.Lists.{payload_in}
 use Rattle.edit_laws.proofs.Patches.{IsPatchOf, IsNodeText, node_text, node_patched, part_patches, in_part}
 use Rattle.hive_edit.specs.Hive.{HiveCells, cells_in, hive_of, IsHive}
 use Rattle.hive_edit.specs.Listed.{HasNewLists}
@@ -45,7 +45,7 @@ use Rattle.hive_edit.proofs.HiveLemmas.{hive_opened}
 use Rattle.hive_edit.proofs.NodeLemmas.{node_here}
 use Rattle.hive_edit.proofs.NodeMade.{security_text_is}
 use Rattle.hive_edit.proofs.StandingLemmas.{tree_is}
-use Rattle.hive_edit.proofs.ToldLists.{AreAlike, held_alike, node_still, places_still, hints_still, packed_still}
+use Rattle.hive_edit.proofs.ToldLists.{held_alike, HasLists, lists_still}
 use Rattle.hive_edit.proofs.ResultLemmas.{done, some, some_same, ok_same}
 use Rattle.hive_read.proofs.FormFacts.{then-so}
 
@@ -382,47 +382,35 @@ no_node : (p : List ℕ) (s : SecurityCell) (n : KeyNode) → security_at p ≡ 
 no_node p s n e f = let a = eqb-true (u16_in p 0) 0x6b73 (security_text_is p s e).sign in let b = (node_text p n f).sign in
     absurd (omega (arith, a, b))
 
--- new lists are new lists
-lists_told : (old mid new : HiveCells) (path : List (List ℕ)) (field first second at : ℕ)
-    → IsTold mid path field first second new → HasNewLists old mid at → HasNewLists old new at
-lists_told old mid new path field first second at told l = go (key_place (cells_in mid) path mid.root) refl
+-- the lists of a key are still in packed form
+lists_told : (mid new : HiveCells) (path : List (List ℕ)) (field first second at : ℕ)
+    → IsTold mid path field first second new → HasLists (cells_in mid) at → HasLists (cells_in new) at
+lists_told mid new path field first second at told h = go (key_place (cells_in mid) path mid.root) refl
   where
-    free : (o : ℕ) → In (list_cells_at (cells_in old) at) o → held_at new.bins o ≡ None
-    free o i = told.free o (l.freed o i)
+    at_node : (x : ℕ) → IsToldAt mid new x field first second → HasLists (cells_in new) at
+    at_node x there = lists_still (cells_in mid) (cells_in new) x there.raises
+        (λ o differs. held_alike mid.bins new.bins o
+        (there.written.two.others o differs ∙ there.written.one.others o differs)) at h
 
-    go : (o : Option ℕ) → key_place (cells_in mid) path mid.root ≡ o → HasNewLists old new at
+    go : (o : Option ℕ) → key_place (cells_in mid) path mid.root ≡ o → HasLists (cells_in new) at
     go None e =
-        let same : cells_in mid ≡ cells_in new = sym (λ i. look_up (told.version i) (told.none e i)) in
-        record {
-          node = l.node;
-          read = subst (λ (c : Cells). reading key_node_at c at ≡ done l.node) same l.read;
-          lists = λ some. subst (λ (c : Cells).
-              IsPackedList c l.node.child_list (child_places c at) (hints_in c (child_places c at))) same (l.lists some);
-          freed = free;
-        }
-    go (Some x) e =
-        let there = told.here x e in
-        let b = cells_in mid in
-        let c = cells_in new in
-        let others : (o : ℕ) → (o ≡ x → ⊥) → AreAlike (c.payload o) (b.payload o) =
-        λ o differs. held_alike mid.bins new.bins o
-        (there.written.two.others o differs ∙ there.written.one.others o differs) in
-        let s = node_still b c x there.raises others at l.node l.read in
-        let places = places_still b c x there.raises others at l.node l.read in
-        let hints : hints_in c (child_places c at) ≡ hints_in b (child_places b at) =
-        ap (hints_in c) places ∙ hints_still b c x there.raises others (child_places b at) in
-        record {
-          node = s.node;
-          read = s.read;
-          lists = λ some. subst (λ (z : ℕ). IsPackedList c z (child_places c at) (hints_in c (child_places c at)))
-              (sym s.list)
-              (subst (λ (os : List ℕ). IsPackedList c l.node.child_list os (hints_in c (child_places c at))) (sym places)
-              (subst (λ (hs : List (List ℕ)). IsPackedList c l.node.child_list (child_places b at) hs) (sym hints)
-              (packed_still b c x there.raises others l.node.child_list (child_places b at)
-              (hints_in b (child_places b at))
-              (l.lists (subst (λ (k : ℕ). 0 < k) s.count some)))));
-          freed = free;
-        }
+        let same : cells_in new ≡ cells_in mid = λ i. look_up (told.version i) (told.none e i) in
+        subst (λ (c : Cells). HasLists c at) (sym same) h
+    go (Some x) e = at_node x (told.here x e)
+
+-- new lists are new lists still
+new_lists_told : (old mid new : HiveCells) (path : List (List ℕ)) (field first second at : ℕ)
+    → IsTold mid path field first second new → HasNewLists old mid at → HasNewLists old new at
+new_lists_told old mid new path field first second at told l =
+    go (lists_told mid new path field first second at told (record { node = l.node; read = l.read; lists = l.lists; }))
+  where
+    go : HasLists (cells_in new) at → HasNewLists old new at
+    go h = record {
+      node = h.node;
+      read = h.read;
+      lists = h.lists;
+      freed = λ o i. told.free o (l.freed o i);
+    }
 
 -- a step that was made is made also where a node that it names tells greater lengths
 pub stepped_told : (old mid new : HiveCells) (step : Step) (path : List (List ℕ)) (field first second : ℕ)
@@ -439,7 +427,7 @@ stepped_told old mid new step path field first second well s names told = record
   secure = by_place (λ (c : Cells). KeepsSecurity old.root (changes_of (cells_in old) old.root old.tree step)
       (cells_in old) c) s.secure
       (λ x at g o i. kept (changes_of (cells_in old) old.root old.tree step o) o x (s.secure o i) g);
-  lists = λ at among. lists_told old mid new path field first second at told (s.lists at among);
+  lists = λ at among. new_lists_told old mid new path field first second at told (s.lists at among);
   freed = λ o given. told.free o (s.freed o given);
   long = (let l = told.long in let m = s.long in omega (arith, l, m));
   room = (let l = told.long in

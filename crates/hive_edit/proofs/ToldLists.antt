@@ -1,6 +1,6 @@
 -- Where a node tells greater lengths, the lists of each key are as they were.
-use Rattle.std.proofs.Common.{◌≡◌, ◌<◌, ℕ, Bool, true, false, cond, List, [], ◌∷◌, ◌++◌, length, take, drop, Some, None, Result, Ok, Err, inl, inr, refl, sym, ap, subst, ◌∙◌, ⊎_elim, arith}
-use Rattle.std.specs.Prelude.{◌==◌, nat_lt}
+use Rattle.std.proofs.Common.{◌≡◌, ◌<◌, ℕ, Bool, true, false, cond, List, [], ◌∷◌, ◌++◌, length, take, drop, Result, Ok, Err, inl, inr, refl, sym, ap, subst, ◌∙◌, ⊎_elim, arith}
+use Rattle.std.specs.Prelude.{◌⊎◌, ◌==◌, nat_lt}
 use Rattle.std.proofs.lemmas.Bool.{cases_eq}
 use Rattle.nt_bytes.specs.Fields.{u16_in}
 use Rattle.nt_bytes.specs.declared.fault.HiveFaultKind.{HiveFaultKind}
@@ -75,7 +75,7 @@ unfolding list_at
 no_list p n l e f =
     go (nat_lt (length p) 2) (subst (λ (s : ℕ). by_sign s ≡ done l) (node_text p n e).sign f)
   where
-    abbrev by_sign : ℕ → Result SubkeyList HiveFaultKind
+    by_sign : ℕ → Result SubkeyList HiveFaultKind
     by_sign s =
         cond (nat_lt (length p) 2) (Err FormShort)
         (cond (s == 0x696c) (list_of Li 4 p)
@@ -121,12 +121,26 @@ node_said cells o n read =
 
 -- ---- the cells
 
+-- the lists of the node at an offset are in packed form
+pub record HasLists (c : Cells) (at : ℕ) : Type 0 where
+  pub node : KeyNode
+  pub read : reading key_node_at c at ≡ done node
+  pub lists : 0 < node.child_count
+      → IsPackedList c node.child_list (child_places c at) (hints_in c (child_places c at))
+
+packed_as : (c : Cells) (k l : ℕ) (os ps : List ℕ) (hs is : List (List ℕ)) → l ≡ k → ps ≡ os → is ≡ hs
+    → IsPackedList c k os hs → IsPackedList c l ps is
+packed_as c k l os ps hs is e f g w =
+    subst (λ (z : ℕ). IsPackedList c z ps is) (sym e)
+    (subst (λ (z : List ℕ). IsPackedList c k z is) (sym f)
+    (subst (λ (z : List (List ℕ)). IsPackedList c k os z) (sym g) w))
+
 -- the node at an offset names the same list as before
-record IsNodeStill (c : Cells) (at : ℕ) (n : KeyNode) : Type 0 where
-  node : KeyNode
-  read : reading key_node_at c at ≡ done node
-  count : node.child_count ≡ n.child_count
-  list : node.child_list ≡ n.child_list
+pub record IsNodeStill (c : Cells) (at : ℕ) (n : KeyNode) : Type 0 where
+  pub node : KeyNode
+  pub read : reading key_node_at c at ≡ done node
+  pub count : node.child_count ≡ n.child_count
+  pub list : node.child_list ≡ n.child_list
 
 module _ (b c : Cells) (x : ℕ) (g : RaisesLengths b c x)
     (others : (o : ℕ) → (o ≡ x → ⊥) → AreAlike (c.payload o) (b.payload o))
@@ -169,38 +183,63 @@ module _ (b c : Cells) (x : ℕ) (g : RaisesLengths b c x)
         go os true = joined_alike os
         go os false = refl
 
-    pub node_still : (at : ℕ) (n : KeyNode) → reading key_node_at b at ≡ done n → IsNodeStill c at n
-    node_still at n read = ⊎_elim
-        (λ (e : at ≡ x). subst (λ (z : ℕ). IsNodeStill c z n) (sym e)
-        (let same : g.old ≡ n = ok_same g.old n (sym g.read ∙ subst (λ (z : ℕ). reading key_node_at b z ≡ done n) e read) in
-        record {
-          node = g.new;
-          read = g.read_new;
-          count = ap (λ (m : KeyNode). m.child_count) g.same ∙ ap (λ (m : KeyNode). m.child_count) same;
-          list = ap (λ (m : KeyNode). m.child_list) g.same ∙ ap (λ (m : KeyNode). m.child_list) same;
-        }))
-        (λ (e : at ≡ x → ⊥). let p = then-so (b.payload at) key_node_at n read in record {
-          node = n;
-          read = ap (λ (r : Result (List ℕ) HiveFaultKind). r >>= key_node_at) (g.others at p.0 p.1 e) ∙ p.2;
-          count = refl;
-          list = refl;
-        })
-        (cases_eq at x)
+    still_here : (n : KeyNode) → g.old ≡ n → IsNodeStill c x n
+    still_here n same = record {
+      node = g.new;
+      read = g.read_new;
+      count = ap (λ (m : KeyNode). m.child_count) g.same ∙ ap (λ (m : KeyNode). m.child_count) same;
+      list = ap (λ (m : KeyNode). m.child_list) g.same ∙ ap (λ (m : KeyNode). m.child_list) same;
+    }
 
-    pub places_still : (at : ℕ) (n : KeyNode) → reading key_node_at b at ≡ done n
+    still_there : (at : ℕ) (n : KeyNode) (p : List ℕ) → b.payload at ≡ done p → key_node_at p ≡ done n → (at ≡ x → ⊥)
+        → IsNodeStill c at n
+    still_there at n p held read e = record {
+      node = n;
+      read = ap (λ (r : Result (List ℕ) HiveFaultKind). r >>= key_node_at) (g.others at p held e) ∙ read;
+      count = refl;
+      list = refl;
+    }
+
+    node_still : (at : ℕ) (n : KeyNode) → reading key_node_at b at ≡ done n → IsNodeStill c at n
+    node_still at n read = go (cases_eq at x)
+      where
+        there : (p : List ℕ) × (b.payload at ≡ done p) × (key_node_at p ≡ done n)
+        there = then-so (b.payload at) key_node_at n read
+
+        at_x : at ≡ x → reading key_node_at b x ≡ done n
+        at_x e = subst (λ (z : ℕ). reading key_node_at b z ≡ done n) e read
+
+        go : ((at ≡ x) ⊎ (at ≡ x → ⊥)) → IsNodeStill c at n
+        go (inl e) = subst (λ (z : ℕ). IsNodeStill c z n) (sym e)
+            (still_here n (ok_same g.old n (sym g.read ∙ at_x e)))
+        go (inr e) = still_there at n there.0 there.1 there.2 e
+
+    places_still : (at : ℕ) (n : KeyNode) → reading key_node_at b at ≡ done n → (s : IsNodeStill c at n)
         → child_places c at ≡ child_places b at
     unfolding child_places
-    places_still at n read =
-        let s = node_still at n read in
+    places_still at n read s =
         of_node_is c at s.node (λ m. cond (m.child_count == 0) [] (of_read (entries_at c m.child_list) (λ os. os))) s.read
-        ∙ ap (λ (k : ℕ). cond (k == 0) [] (of_read (entries_at c s.node.child_list) (λ os. os))) s.count
-        ∙ ap (λ (o : ℕ). cond (n.child_count == 0) [] (of_read (entries_at c o) (λ os. os))) s.list
-        ∙ ap (λ (l : List ℕ). cond (n.child_count == 0) [] l)
-        (listed_alike (entries_at c n.child_list) (entries_at b n.child_list) (entries_alike n.child_list))
+        ∙ by_count s.node.child_count n.child_count s.node.child_list s.count
+        ∙ by_list s.node.child_list n.child_list n.child_count s.list
+        ∙ by_cells n.child_count n.child_list
         ∙ sym (of_node_is b at n (λ m. cond (m.child_count == 0) [] (of_read (entries_at b m.child_list) (λ os. os)))
         read)
+      where
+        by_count : (k l list : ℕ) → k ≡ l → cond (k == 0) [] (of_read (entries_at c list) (λ os. os))
+            ≡ cond (l == 0) [] (of_read (entries_at c list) (λ os. os))
+        by_count k l list e = ap (λ (m : ℕ). cond (m == 0) [] (of_read (entries_at c list) (λ os. os))) e
+
+        by_list : (k l count : ℕ) → k ≡ l → cond (count == 0) [] (of_read (entries_at c k) (λ os. os))
+            ≡ cond (count == 0) [] (of_read (entries_at c l) (λ os. os))
+        by_list k l count e = ap (λ (m : ℕ). cond (count == 0) [] (of_read (entries_at c m) (λ os. os))) e
+
+        by_cells : (count list : ℕ) → cond (count == 0) [] (of_read (entries_at c list) (λ os. os))
+            ≡ cond (count == 0) [] (of_read (entries_at b list) (λ os. os))
+        by_cells count list = ap (λ (l : List ℕ). cond (count == 0) [] l)
+            (listed_alike (entries_at c list) (entries_at b list) (entries_alike list))
 
     hint_still : (o : ℕ) → hint_in c o ≡ hint_in b o
+    unfolding payload_in
     hint_still o = ⊎_elim
         (λ (e : o ≡ x). subst (λ (z : ℕ). hint_in c z ≡ hint_in b z) (sym e) here)
         (λ (e : o ≡ x → ⊥). there e) (cases_eq o x)
@@ -214,12 +253,11 @@ module _ (b c : Cells) (x : ℕ) (g : RaisesLengths b c x)
             λ i. stored_hint (g.version i) (is_narrow_key (flags i)) (name i)
 
         there : (o ≡ x → ⊥) → hint_in c o ≡ hint_in b o
-        unfolding payload_in
         there e =
             let same : payload_in c o ≡ payload_in b o = listed_alike (c.payload o) (b.payload o) (others o e) in
             λ i. node_hint (g.version i) (same i)
 
-    pub hints_still : (os : List ℕ) → hints_in c os ≡ hints_in b os
+    hints_still : (os : List ℕ) → hints_in c os ≡ hints_in b os
     hints_still [] = refl
     hints_still (o ∷ os) = λ i. hint_still o i ∷ hints_still os i
 
@@ -242,7 +280,7 @@ module _ (b c : Cells) (x : ℕ) (g : RaisesLengths b c x)
     parts_still (at ∷ lists) os hs w =
         (list_still at (take 500 os) (take 500 hs) w.0, parts_still lists (drop 500 os) (drop 500 hs) w.1)
 
-    pub packed_still : (list : ℕ) (os : List ℕ) (hs : List (List ℕ)) → IsPackedList b list os hs
+    packed_still : (list : ℕ) (os : List ℕ) (hs : List (List ℕ)) → IsPackedList b list os hs
         → IsPackedList c list os hs
     packed_still list os hs (inl s) =
         inl (record { some = s.some; few = s.few; whole = list_still list os hs s.whole; })
@@ -254,3 +292,21 @@ module _ (b c : Cells) (x : ℕ) (g : RaisesLengths b c x)
           whole = begins_still list (ri_text p.lists) (λ rest n. no_node_lists p.lists rest n) p.whole;
           parts = parts_still p.lists os hs p.parts;
         })
+
+    lists_by : (at : ℕ) (h : HasLists b at) → (s : IsNodeStill c at h.node) → child_places c at ≡ child_places b at
+        → HasLists c at
+    lists_by at h s places = record {
+      node = s.node;
+      read = s.read;
+      lists = λ some. packed_as c h.node.child_list s.node.child_list (child_places b at) (child_places c at)
+          (hints_in b (child_places b at)) (hints_in c (child_places c at)) s.list places
+          (ap (λ (os : List ℕ). hints_in c os) places ∙ hints_still (child_places b at))
+          (packed_still h.node.child_list (child_places b at) (hints_in b (child_places b at))
+          (h.lists (subst (λ (k : ℕ). 0 < k) s.count some)));
+    }
+
+    pub lists_still : (at : ℕ) → HasLists b at → HasLists c at
+    lists_still at h = by_node (node_still at h.node h.read)
+      where
+        by_node : IsNodeStill c at h.node → HasLists c at
+        by_node s = lists_by at h s (places_still at h.node h.read s)
