@@ -48,4 +48,3 @@ pub mod ChildrenColumn
 pub mod Siblings
 pub mod ValueSteps
 pub mod KeySteps
-pub mod Raised

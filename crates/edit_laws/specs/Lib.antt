@@ -1,6 +1,5 @@
 pub mod Owned
 pub mod Parents
-pub mod Greatest
 pub mod Framed
 pub mod Sound
 pub mod Pairs

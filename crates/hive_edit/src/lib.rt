@@ -27,7 +27,6 @@ mod path;
 mod set;
 mod steps;
 mod strain;
-mod telling;
 mod unset;
 mod uses;
 mod values;

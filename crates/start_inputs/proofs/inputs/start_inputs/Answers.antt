@@ -1,148 +1,125 @@
-use Rattle.std.proofs.Common.{◌≡◌, ◌∙◌, ◌+◌, ℕ, true, List, ap, subst}
+use Rattle.std.proofs.Common.{◌≡◌, ◌∙◌, ◌+◌, ℕ, List, ap, subst}
 use Rattle.std.specs.Prelude.{Ok, Err}
-use Rattle.nt_edge.specs.Host.{Files, KeepsHost, KeepsFiles}
+use Rattle.nt_edge.specs.Host.{Files}
 use Rattle.arc_path.specs.Reading.{arc_of}
 use Rattle.boot_script.specs.declared.event.Event.{Event}
 use Rattle.command_parts.specs.declared.inputs.HiveFiles.{HiveFiles}
-use Rattle.command_parts.specs.Inputs.{system_in, bytes_in, ini_in, behind_step}
+use Rattle.command_parts.specs.Inputs.{system_in, bytes_in, ini_in}
 use Rattle.command_parts.specs.Leaves.{AsksUntil, Gives, Reads, more, named}
 use Rattle.command_parts.proofs.AskLemmas.{more_more, reads_asks, first_asks, next_asks, behind_asks, more_behind}
 use Rattle.command_parts.proofs.LeaveLemmas.{looks_then}
 use Rattle.start_inputs.specs.declared.inputs.StartInputs.{StartInputs}
 use Rattle.start_inputs.specs.Inputs.{asks_start, files_seen, script_in}
 use Rattle.start_inputs.proofs.AskLemmas.{by_events, by_text, by_hive, script_asked, text_asked, ini_asked, hive_asked}
-use Rattle.start_inputs.proofs.inputs.start_inputs.Given.{Over}
 use Rattle.start_inputs.proofs.inputs.start_inputs.Goals as goal
-use Rattle.start_inputs.proofs.inputs.start_inputs.Goals.{In_ok-system, In_ok-script, In_ok-text, In_ok-ini}
-
--- the system's path has a reading
-system_read : (g : Over) (c : In_ok-system g) → system_in (arc_of (files_seen c.args.files).system) ≡ Ok
-    c.in_ok-system.system
-system_read g c = subst (λ (p : List ℕ). system_in (arc_of p) ≡ Ok c.in_ok-system.system)
-    c.as_bytes.ensures.value c.in_ok-system.ensures
-
--- boot.ini is asked for next
-text_next : (g : Over) (c : In_ok-script g) → let old = g.H.Host.state c.args.host.now in
-    let asked = files_seen c.args.files in old.tells ≡ true
-    → asks_start asked old.files ≡ named asked.script + by_events asked old.files
-text_next g c tells =
-    text_asked (g.H.Host.state c.args.host.now).files (files_seen c.args.files) c.in_ok-system.system
-    c.in_ok-script.script
-    (system_read g (goal.at.In_ok-script g c).In_ok-system) (c.in_ok-script.ensures.looks.found tells)
-
--- it was, and what it has is read
-ini_next : (g : Over) (c : In_ok-text g) → let old = g.H.Host.state c.args.host.now in
-    let asked = files_seen c.args.files in old.tells ≡ true
-    → asks_start asked old.files
-    ≡ named asked.boot_ini + named asked.script + behind_step (ini_in c.in_ok-text.text asked.system)
-    (λ ini. by_hive asked old.files)
-ini_next g c tells =
-    let first = c.in_ok-script.ensures.looks in
-    ini_asked (g.H.Host.state c.args.host.now).files (files_seen c.args.files) c.in_ok-text.text
-    (text_next g (goal.at.In_ok-text g c).In_ok-script tells)
-    (subst (λ (f : Files). bytes_in f (files_seen c.args.files).boot_ini ≡ Ok c.in_ok-text.text) (first.files tells)
-    (c.in_ok-text.ensures.looks.found (first.keeps.tells ∙ tells)))
-
-text_gets : (g : Over) (c : In_ok-text g) → let old = g.H.Host.state c.args.host.now in
-    let asked = files_seen c.args.files in (g.H.Host.state c.bytes_in.new.host).gets ≡ more
-    (named asked.boot_ini + named asked.script) old.gets
-text_gets g c =
-    c.in_ok-text.ensures.asks ∙ ap (more (named (files_seen c.args.files).boot_ini)) c.in_ok-script.ensures.asks
-    ∙ more_more (named (files_seen c.args.files).boot_ini) (named (files_seen c.args.files).script)
-    (g.H.Host.state c.args.host.now).gets
-
-text_kept : (g : Over) (c : In_ok-text g) → let old = g.H.Host.state c.args.host.now in
-    KeepsHost old (g.H.Host.state c.bytes_in.new.host)
-    × KeepsFiles old (g.H.Host.state c.bytes_in.new.host)
-text_kept g c =
-    let first = c.in_ok-script.ensures.looks in
-    looks_then (g.H.Host.state c.args.host.now) (g.H.Host.state c.script_in.new.host)
-    (g.H.Host.state c.bytes_in.new.host) first.keeps c.in_ok-text.ensures.looks.keeps first.files
-    c.in_ok-text.ensures.looks.files
-
--- the hive is asked for last
-hive_next : (g : Over) (c : In_ok-ini g) → let old = g.H.Host.state c.args.host.now in
-    let asked = files_seen c.args.files in old.tells ≡ true
-    → asks_start asked old.files
-    ≡ named asked.boot_ini + named asked.script + by_hive asked old.files
-hive_next g c tells =
-    hive_asked (g.H.Host.state c.args.host.now).files (files_seen c.args.files) c.in_ok-text.text c.in_ok-ini.ini
-    (ini_next g (goal.at.In_ok-ini g c).In_ok-text tells)
-    (subst (λ (t : List ℕ). ini_in t (files_seen c.args.files).system ≡ Ok c.in_ok-ini.ini) c.as_slice.ensures
-    (subst (λ (p : List ℕ). ini_in c.as_slice.result.now p ≡ Ok c.in_ok-ini.ini)
-    c.as_bytes-2.ensures.value c.in_ok-ini.ensures))
 
 pub returns-in_err-script-clause-asks : goal.returns-in_err-script-clause-asks
 returns-in_err-script-clause-asks g c = λ tells.
     let old = g.H.Host.state c.args.host.now in
-    let system = system_read g (goal.at.returns-in_err-script-clause-asks g c).In_ok-system in
-    first_asks (List Event) StartInputs (asks_start (files_seen c.args.files) old.files)
-    (named (files_seen c.args.files).script)
-    (script_in old.files (files_seen c.args.files).script) (λ events. by_events (files_seen c.args.files) old.files)
+    let asked = files_seen c.args.files in
+    let system = subst (λ (p : List ℕ). system_in (arc_of p) ≡ Ok c.in_ok-system.system)
+    c.as_bytes.ensures.value c.in_ok-system.ensures in
+    first_asks (List Event) StartInputs (asks_start asked old.files) (named asked.script)
+    (script_in old.files asked.script) (λ events. by_events asked old.files)
     c.in_err-script.field-0.0 c.from_residual-in_err-script.result
-    old.gets (g.H.Host.state c.script_in.new.host).gets (script_asked old.files (files_seen c.args.files)
-    c.in_ok-system.system system)
+    old.gets (g.H.Host.state c.script_in.new.host).gets (script_asked old.files asked c.in_ok-system.system system)
     (c.in_err-script.ensures.looks.found tells)
     c.in_err-script.ensures.looks.unwritten c.in_err-script.ensures.until c.from_residual-in_err-script.ensures.1
 
 pub returns-in_err-text-clause-asks : goal.returns-in_err-text-clause-asks
 returns-in_err-text-clause-asks g c = λ tells.
     let old = g.H.Host.state c.args.host.now in
+    let asked = files_seen c.args.files in
+    let system = subst (λ (p : List ℕ). system_in (arc_of p) ≡ Ok c.in_ok-system.system)
+    c.as_bytes.ensures.value c.in_ok-system.ensures in
     let first = c.in_ok-script.ensures.looks in
-    let gives = subst (λ (f : Files). Gives (bytes_in f (files_seen c.args.files).boot_ini)
-    (Err c.in_err-text.field-0.0))
-    (first.files tells) (c.in_err-text.ensures.looks.found (first.keeps.tells ∙ tells)) in
-    next_asks (List ℕ) StartInputs (asks_start (files_seen c.args.files) old.files)
-    (named (files_seen c.args.files).script) (named (files_seen c.args.files).boot_ini)
-    (bytes_in old.files (files_seen c.args.files).boot_ini) (by_text (files_seen c.args.files) old.files)
-    c.in_err-text.field-0.0
+    let events = first.found tells in
+    let n = text_asked old.files asked c.in_ok-system.system c.in_ok-script.script system events in
+    let gives = subst (λ (f : Files). Gives (bytes_in f asked.boot_ini) (Err c.in_err-text.field-0.0)) (first.files tells)
+    (c.in_err-text.ensures.looks.found (first.keeps.tells ∙ tells)) in
+    next_asks (List ℕ) StartInputs (asks_start asked old.files) (named asked.script) (named asked.boot_ini)
+    (bytes_in old.files asked.boot_ini) (by_text asked old.files) c.in_err-text.field-0.0
     c.from_residual-in_err-text.result old.gets (g.H.Host.state c.script_in.new.host).gets
-    (g.H.Host.state c.bytes_in.new.host).gets (text_next g (goal.at.returns-in_err-text-clause-asks g c).In_ok-script
-    tells)
-    c.in_ok-script.ensures.asks gives
+    (g.H.Host.state c.bytes_in.new.host).gets n c.in_ok-script.ensures.asks gives
     c.in_err-text.ensures.looks.unwritten c.in_err-text.ensures.until c.from_residual-in_err-text.ensures.1
 
 pub returns-in_err-ini-clause-asks : goal.returns-in_err-ini-clause-asks
 returns-in_err-ini-clause-asks g c = λ tells.
     let old = g.H.Host.state c.args.host.now in
-    let here = (goal.at.returns-in_err-ini-clause-asks g c).In_ok-text in
-    let reads = subst (λ (t : List ℕ). Reads (ini_in t (files_seen c.args.files).system) (Err c.in_err-ini.field-0.0))
-    c.as_slice.ensures
+    let asked = files_seen c.args.files in
+    let system = subst (λ (p : List ℕ). system_in (arc_of p) ≡ Ok c.in_ok-system.system)
+    c.as_bytes.ensures.value c.in_ok-system.ensures in
+    let first = c.in_ok-script.ensures.looks in
+    let events = first.found tells in
+    let n = text_asked old.files asked c.in_ok-system.system c.in_ok-script.script system events in
+    let named_ini = named asked.boot_ini in
+    let asks = c.in_ok-text.ensures.asks ∙ ap (more named_ini) c.in_ok-script.ensures.asks
+    ∙ more_more named_ini (named asked.script) old.gets in
+    let text = subst (λ (f : Files). bytes_in f asked.boot_ini ≡ Ok c.in_ok-text.text) (first.files tells)
+    (c.in_ok-text.ensures.looks.found (first.keeps.tells ∙ tells)) in
+    let m = ini_asked old.files asked c.in_ok-text.text n text in
+    let reads = subst (λ (t : List ℕ). Reads (ini_in t asked.system) (Err c.in_err-ini.field-0.0)) c.as_slice.ensures
     (subst (λ (p : List ℕ). Reads (ini_in c.as_slice.result.now p) (Err c.in_err-ini.field-0.0))
     c.as_bytes-2.ensures.value c.in_err-ini.ensures) in
-    reads_asks (asks_start (files_seen c.args.files) old.files)
-    (named (files_seen c.args.files).boot_ini + named (files_seen c.args.files).script) _
-    (λ i. by_hive (files_seen c.args.files) old.files) c.in_err-ini.field-0.0 c.from_residual-in_err-ini.result
-    old.gets _
-    (ini_next g here tells) reads c.from_residual-in_err-ini.ensures.1 (text_gets g here)
+    reads_asks (asks_start asked old.files) (named_ini + named asked.script) _
+    (λ i. by_hive asked old.files) c.in_err-ini.field-0.0 c.from_residual-in_err-ini.result old.gets _
+    m reads c.from_residual-in_err-ini.ensures.1 asks
 
 pub returns-in_err-hive-clause-asks : goal.returns-in_err-hive-clause-asks
 returns-in_err-hive-clause-asks g c = λ tells.
     let old = g.H.Host.state c.args.host.now in
+    let asked = files_seen c.args.files in
+    let system = subst (λ (p : List ℕ). system_in (arc_of p) ≡ Ok c.in_ok-system.system)
+    c.as_bytes.ensures.value c.in_ok-system.ensures in
+    let first = c.in_ok-script.ensures.looks in
+    let events = first.found tells in
+    let n = text_asked old.files asked c.in_ok-system.system c.in_ok-script.script system events in
+    let named_ini = named asked.boot_ini in
+    let asks = c.in_ok-text.ensures.asks ∙ ap (more named_ini) c.in_ok-script.ensures.asks
+    ∙ more_more named_ini (named asked.script) old.gets in
+    let text = subst (λ (f : Files). bytes_in f asked.boot_ini ≡ Ok c.in_ok-text.text) (first.files tells)
+    (c.in_ok-text.ensures.looks.found (first.keeps.tells ∙ tells)) in
+    let m = ini_asked old.files asked c.in_ok-text.text n text in
+    let ini = subst (λ (t : List ℕ). ini_in t asked.system ≡ Ok c.in_ok-ini.ini) c.as_slice.ensures
+    (subst (λ (p : List ℕ). ini_in c.as_slice.result.now p ≡ Ok c.in_ok-ini.ini)
+    c.as_bytes-2.ensures.value c.in_ok-ini.ensures) in
+    let all = hive_asked old.files asked c.in_ok-text.text c.in_ok-ini.ini m ini in
     let mid = g.H.Host.state c.bytes_in.new.host in
     let new = g.H.Host.state c.hive_in.new.host in
-    let here = (goal.at.returns-in_err-hive-clause-asks g c).In_ok-text in
-    let keeps = text_kept g here in
-    let asks = subst (λ (f : Files). AsksUntil {A = HiveFiles} (by_hive (files_seen c.args.files) f)
-    (Err c.in_err-hive.field-0.0)
-    mid.gets new.gets) (keeps.1 tells) (c.in_err-hive.ensures.asks (keeps.0.tells ∙ tells)) in
-    behind_asks HiveFiles (asks_start (files_seen c.args.files) old.files)
-    (named (files_seen c.args.files).boot_ini + named (files_seen c.args.files).script)
-    (by_hive (files_seen c.args.files) old.files)
-    c.in_err-hive.field-0.0 c.from_residual-in_err-hive.result old.gets mid.gets new.gets
-    (hive_next g (goal.at.returns-in_err-hive-clause-asks g c).In_ok-ini tells) (text_gets g here) asks
+    let keeps = looks_then old (g.H.Host.state c.script_in.new.host)
+    mid first.keeps c.in_ok-text.ensures.looks.keeps first.files c.in_ok-text.ensures.looks.files in
+    let told = keeps.0.tells ∙ tells in
+    let here = subst (λ (f : Files). AsksUntil {A = HiveFiles} (by_hive asked f) (Err c.in_err-hive.field-0.0)
+    mid.gets new.gets) (keeps.1 tells) (c.in_err-hive.ensures.asks told) in
+    behind_asks HiveFiles (asks_start asked old.files) (named_ini + named asked.script) (by_hive asked old.files)
+    c.in_err-hive.field-0.0 c.from_residual-in_err-hive.result old.gets mid.gets new.gets all asks here
     c.from_residual-in_err-hive.ensures.1
 
 pub returns-clause-asks : goal.returns-clause-asks
 returns-clause-asks g c = λ tells.
     let old = g.H.Host.state c.args.host.now in
+    let asked = files_seen c.args.files in
+    let system = subst (λ (p : List ℕ). system_in (arc_of p) ≡ Ok c.in_ok-system.system)
+    c.as_bytes.ensures.value c.in_ok-system.ensures in
+    let first = c.in_ok-script.ensures.looks in
+    let events = first.found tells in
+    let n = text_asked old.files asked c.in_ok-system.system c.in_ok-script.script system events in
+    let named_ini = named asked.boot_ini in
+    let asks = c.in_ok-text.ensures.asks ∙ ap (more named_ini) c.in_ok-script.ensures.asks
+    ∙ more_more named_ini (named asked.script) old.gets in
+    let text = subst (λ (f : Files). bytes_in f asked.boot_ini ≡ Ok c.in_ok-text.text) (first.files tells)
+    (c.in_ok-text.ensures.looks.found (first.keeps.tells ∙ tells)) in
+    let m = ini_asked old.files asked c.in_ok-text.text n text in
+    let ini = subst (λ (t : List ℕ). ini_in t asked.system ≡ Ok c.in_ok-ini.ini) c.as_slice.ensures
+    (subst (λ (p : List ℕ). ini_in c.as_slice.result.now p ≡ Ok c.in_ok-ini.ini)
+    c.as_bytes-2.ensures.value c.in_ok-ini.ensures) in
+    let all = hive_asked old.files asked c.in_ok-text.text c.in_ok-ini.ini m ini in
     let mid = g.H.Host.state c.bytes_in.new.host in
     let new = g.H.Host.state c.hive_in.new.host in
-    let here = (goal.at.returns-clause-asks g c).In_ok-text in
-    let keeps = text_kept g here in
-    let asks = subst (λ (f : Files). new.gets ≡ more (by_hive (files_seen c.args.files) f) mid.gets) (keeps.1 tells)
-    (c.in_ok-hive.ensures.asks (keeps.0.tells ∙ tells)) in
-    more_behind (asks_start (files_seen c.args.files) old.files)
-    (named (files_seen c.args.files).boot_ini + named (files_seen c.args.files).script)
-    (by_hive (files_seen c.args.files) old.files)
-    old.gets mid.gets new.gets (hive_next g (goal.at.returns-clause-asks g c).In_ok-ini tells) (text_gets g here) asks
+    let keeps = looks_then old (g.H.Host.state c.script_in.new.host)
+    mid first.keeps c.in_ok-text.ensures.looks.keeps first.files c.in_ok-text.ensures.looks.files in
+    let told = keeps.0.tells ∙ tells in
+    let here = subst (λ (f : Files). new.gets ≡ more (by_hive asked f) mid.gets) (keeps.1 tells)
+    (c.in_ok-hive.ensures.asks told) in
+    more_behind (asks_start asked old.files) (named_ini + named asked.script) (by_hive asked old.files)
+    old.gets mid.gets new.gets all asks here
