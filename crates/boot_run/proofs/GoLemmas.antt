@@ -23,7 +23,7 @@ use Rattle.boot_run.proofs.StepLemmas.{go_none, go_zero, go_next}
 
 pub enough_most : (o : Option Start) (m : RunState) (tree : Tree) (q : ℕ × Bool) (count : ℕ)
     → option_map (λ (s : Start). (s.number, s.on_good)) o ≡ Some q → m.live ≡ tree
-    → count ≡ length (services_of (unwrap_or (set_of tree q.0) no_set)) → IsRunningBy o tree
+    → length (services_of (unwrap_or (set_of tree q.0) no_set)) ≤ count → IsRunningBy o tree
     → enough_steps o m ≤ count + 4294967295 + 3
 enough_most None m tree q count is live many h = absurd h
 enough_most (Some s) m tree q count is live many h =
@@ -33,9 +33,8 @@ enough_most (Some s) m tree q count is live many h =
     let at : live_set m s.number ≡ unwrap_or (set_of tree q.0) no_set =
     ap (λ (t : Tree). unwrap_or (set_of t s.number) no_set) live
     ∙ ap (λ (n : ℕ). unwrap_or (set_of tree n) no_set) number in
-    let services : length (services_of (live_set m s.number)) ≡ count =
-    ap (λ (t : Tree). length (services_of t)) at ∙ sym many in
-    omega (arith, h.few, services)
+    let P : Tree → Type 0 = λ t. length (services_of t) ≤ count in
+    omega (arith, h.few, subst P (sym at) many)
 
 pub if_ok_map : {T E : Type 0} → (P Q : T → Type 0) (r : Result T E) → ((x : T) → P x → Q x) → IfOk r P → IfOk r Q
 if_ok_map P Q (Ok x) f h = f x h

@@ -1,16 +1,19 @@
 //! The session of a start that runs, with what was read of it.
 
-ghost use Rattle.std.specs.Prelude.{◌≡◌, ◌⊎◌, ◌↔◌, true, map, IfOk, OnOk, OnErr};
+ghost use Rattle.std.specs.Prelude.{◌≡◌, ◌≤◌, ◌⊎◌, ◌↔◌, true, length, map, IfOk, OnOk, OnErr};
+ghost use Rattle.std.specs.Option.{unwrap_or};
 ghost use Rattle.std.specs.List.{All};
 ghost use Rattle.hive_model.specs.Base.{version_of};
 ghost use Rattle.hive_model.specs.Edit.{edited};
 ghost use Rattle.reg_tree.specs.Fitting.{Fits};
 ghost use Rattle.reg_tree.specs.Makes.{Makes, step_of};
-ghost use Rattle.start_model.specs.Starter.{good_is_usable};
+ghost use Rattle.start_model.specs.Entries.{services_of};
+ghost use Rattle.start_model.specs.Sets.{set_of};
+ghost use Rattle.start_model.specs.Starter.{good_is_usable, no_set};
 ghost use Rattle.boot_run.specs.Begins.{IsTaken};
 ghost use Rattle.boot_run.specs.Kept.{current_set, AreRead};
 
-use crate::sets::{good_is_usable, live_lists};
+use crate::sets::{count_services, good_is_usable, live_lists};
 use boot_machine::SetLists;
 use hive_edit::HiveBytes;
 use hive_store::Hive;
@@ -82,6 +85,18 @@ impl Live {
         let usable = good_is_usable(alloc, &self.hive)?;
         self.usable = Some(usable);
         Ok(usable)
+    }
+
+    /// A number that the services of the current set, whose number this is, don't exceed: 2^32 - 1 where its lists are kept, or else
+    /// their count.
+    pub(crate) fn most_services(&self, alloc: Global, number: u32) -> Result<usize, AllocError>
+        requires { IsTaken self.now.tree number }
+        ensures { IfOk result (λ n. length (services_of (unwrap_or (set_of self.now.tree number) no_set)) ≤ n) }
+    {
+        if let Some(_) = &self.lists {
+            return Ok(u32::MAX as usize);
+        }
+        count_services(alloc, &self.hive, number)
     }
 
     /// Hands out the lists of the current set, whose number this is: those that are kept, or else read anew.

@@ -10,7 +10,6 @@ ghost use Rattle.start_model.specs.Starter.{good_is_usable, no_set};
 ghost use Rattle.boot_run.specs.Begins.{IsTaken};
 ghost use Rattle.boot_run.specs.Kept.{current_set, AreRead};
 
-use crate::live::Live;
 use boot_machine::SetLists;
 use hive_store::Hive;
 use nt_bytes::{Names, Units};
@@ -94,12 +93,12 @@ pub(crate) fn live_lists(alloc: Global, hive: &Hive, number: u32) -> Result<SetL
 }
 
 /// How many keys are below `Services` of the set of this number, which must be there. No key is copied.
-pub(crate) fn count_services(alloc: Global, live: &Live, number: u32) -> Result<usize, AllocError>
-    requires { is_usable live.now.tree number ≡ true }
-    ensures { IfOk result (λ n. n ≡ length (services_of (unwrap_or (set_of live.now.tree number) no_set))) }
+pub(crate) fn count_services(alloc: Global, hive: &Hive, number: u32) -> Result<usize, AllocError>
+    requires { is_usable hive.now.tree number ≡ true }
+    ensures { IfOk result (λ n. n ≡ length (services_of (unwrap_or (set_of hive.now.tree number) no_set))) }
 {
     let mut path = set_path(alloc, number)?;
     path.push(Units::from_slice(alloc, &SERVICES)?)?;
-    let names = live.hive.names_below(alloc, &path)?;
+    let names = hive.names_below(alloc, &path)?;
     Ok(names.len())
 }

@@ -23,7 +23,6 @@ use crate::missing::stop_without;
 use crate::runner::Runner;
 use crate::saving::save_where_due;
 use crate::saying::say;
-use crate::sets::count_services;
 use crate::stop::RunStop;
 use crate::unmet::say_unmet;
 use crate::words::{try_word, verdict_after};
@@ -326,7 +325,7 @@ fn enough(alloc: Global, hive: &Live, runner: &Runner) -> Result<u128, RunStop>
     let Some((number, _)) = runner.machine.running() else {
         unreachable!()
     };
-    let Ok(services) = count_services(alloc, hive, number) else {
+    let Ok(services) = hive.most_services(alloc, number) else {
         return Err(RunStop::Memory);
     };
     Ok(services as u128 + u32::MAX as u128 + 3)

@@ -48,3 +48,4 @@ pub mod ChildrenColumn
 pub mod Siblings
 pub mod ValueSteps
 pub mod KeySteps
+pub mod Raised

@@ -114,19 +114,19 @@ record NamesValues (t : Tree) (step : Step) (path : List (List ℕ)) (name : Lis
   value_of : (p : List (List ℕ)) (n : List ℕ) → Folds path p → folds_same name n ≡ true → Matches t step p (value n)
 
 -- the values that a key had, in parts
-record WereValues (b : Cells) (front gone back : List ℕ) (values before went behind : List Item) : Type 0 where
-  read_front : items_at b front ≡ Ok before
-  read_gone : items_at b gone ≡ Ok went
-  read_back : items_at b back ≡ Ok behind
-  whole : values ≡ before ++ (went ++ behind)
-  differ : ItemsDiffer values
+pub record WereValues (b : Cells) (front gone back : List ℕ) (values before went behind : List Item) : Type 0 where
+  pub read_front : items_at b front ≡ Ok before
+  pub read_gone : items_at b gone ≡ Ok went
+  pub read_back : items_at b back ≡ Ok behind
+  pub whole : values ≡ before ++ (went ++ behind)
+  pub differ : ItemsDiffer values
 
-levels_left : (b : Cells) (root : ℕ) (t : Tree) (p : List (List ℕ)) (x : ℕ) → IsWellFormed b root t
+pub levels_left : (b : Cells) (root : ℕ) (t : Tree) (p : List (List ℕ)) (x : ℕ) → IsWellFormed b root t
     → Reaches b root p x → length p + suc (511 - length p) ≡ 512
 levels_left b root t p x well reached = let s = (sound_hive b root t well).shallow p x reached in omega (arith, s)
 
 -- the key gets other values
-value_rewritten : (b c : Cells) (root : ℕ) (t k : Tree) (path p : List (List ℕ)) (x : ℕ)
+pub value_rewritten : (b c : Cells) (root : ℕ) (t k : Tree) (path p : List (List ℕ)) (x : ℕ)
     (front gone put back : List ℕ) (come : List Item) (f : List Item → List Item) → IsWellFormed b root t
     → Reaches b root p x → find_key path t ≡ Some k → Stands b x k → HasApartNames k
     → ChangesValues b c x front gone put back come → ((vs : List Item) → ItemsDiffer vs → ItemsDiffer (f vs))

@@ -1,5 +1,6 @@
 pub mod Owned
 pub mod Parents
+pub mod Greatest
 pub mod Framed
 pub mod Sound
 pub mod Pairs

@@ -7,6 +7,7 @@
 #![tactic(auto)]
 
 mod deletion;
+mod greatest;
 mod growth;
 mod keys;
 mod outside;
@@ -15,6 +16,7 @@ mod rooms;
 mod values;
 
 pub use deletion::{a_key_is_taken_out, a_key_takes_its_size_along};
+pub use greatest::greater_lengths_are_told;
 pub use growth::{other_children_change_the_size, other_values_change_the_size};
 pub use keys::{a_child_is_added, a_child_is_copied, a_key_is_deleted, a_key_is_made};
 pub use outside::{

@@ -1,5 +1,5 @@
 -- The step that adds a child: what it is judged by, and that it is made.
-use Rattle.std.proofs.Common.{◌≡◌, ◌≤◌, ◌<◌, ◌^◌, ℕ, ◌+◌, ◌-◌, Bool, true, false, List, [], ◌∷◌, ◌++◌, length, Option, Some, None, Result, Ok, Err, refl, sym, ap, subst, ◌∙◌, arith}
+use Rattle.std.proofs.Common.{◌≡◌, ◌≤◌, ◌<◌, ◌^◌, ℕ, ◌+◌, ◌-◌, Bool, true, false, List, [], ◌∷◌, ◌++◌, length, Option, Some, None, Result, Ok, Err, refl, sym, ap, subst, ◌∙◌, ⊎_elim, arith}
 use Rattle.std.specs.Prelude.{nat_lt, find, is_some, MatchBool, IfOk}
 use Rattle.std.specs.Result.{IsOk}
 use Rattle.std.specs.Option.{IfSome}
@@ -36,6 +36,7 @@ use Rattle.hive_edit.specs.Grafted.{descriptor_of, sharing}
 use Rattle.hive_edit.specs.Children.{IsFreeName, RefusesName, IsNewChild, MayGraft, IsGraftedIn, LacksGraftRoom, IsAddedIn, security_listed}
 use Rattle.hive_edit.specs.Hive.{HiveCells, cells_in, hive_of, IsHive}
 use Rattle.hive_edit.specs.Stepped.{IsStepped, LacksStepRoom}
+use Rattle.hive_edit.specs.Listed.{HasNewLists}
 use Rattle.hive_edit.specs.Standing.{tree_of}
 use Rattle.hive_edit.proofs.EditLemmas.{the_tree}
 use Rattle.hive_edit.proofs.JudgeLemmas.{key_present, key_absent, counted_children}
@@ -188,6 +189,8 @@ add_stepped old new name k well f holds low a =
           (changes_of (cells_in old) old.root t (add_child name k)) well
           (λ o s. subst (λ (l : List Bool). IsKeptSecurity (cells_in old) (cells_in new) l o)
           (λ i. comers (sharing_renamed (head t).security name k i) (a.same i) o) (g.secure o s));
+      lists = λ at i. ⊎_elim (λ e. subst (HasNewLists old new) e g.lists) (λ (z : ⊥). absurd z) i;
+      freed = λ o given. absurd given;
       long = g.long;
       room = subst (λ (w : Tree). bins_size new.bins ≤ bins_size old.bins
           + room_of (needed_sizes old.version t (add_child name k) w)) (sym tree)

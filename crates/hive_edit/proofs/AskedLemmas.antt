@@ -1,5 +1,5 @@
 -- What judging whether a key may be made answers, by the hive's cells.
-use Rattle.std.proofs.Common.{◌≡◌, ◌≤◌, ◌<◌, ℕ, ◌+◌, ◌-◌, true, false, List, length, Option, Some, None, Result, Ok, Err, refl, sym, ap, subst, ◌∙◌, arith, Bool, cond, []}
+use Rattle.std.proofs.Common.{◌≡◌, ◌≤◌, ◌<◌, ℕ, ◌+◌, ◌-◌, true, false, List, length, Option, Some, None, Result, Ok, Err, refl, sym, ap, subst, ◌∙◌, arith, Bool, cond, [], ◌∷◌}
 use Rattle.std.specs.Prelude.{find, is_some}
 use Rattle.nt_bytes.specs.declared.version.HiveVersion.{HiveVersion}
 use Rattle.hive_model.specs.Bins.{Bin, Cells, bins_size, look_up}
@@ -16,6 +16,7 @@ use Rattle.edit_laws.proofs.Out.{placed_at}
 use Rattle.hive_edit.specs.Hive.{HiveCells, cells_in, hive_of, IsHive}
 use Rattle.hive_edit.specs.Standing.{tree_of}
 use Rattle.hive_edit.specs.Stepped.{IsStepped, LacksStepRoom}
+use Rattle.edit_laws.specs.Owned.{In}
 use Rattle.hive_edit.specs.Making.{made_tree, IsOpen, MayMake}
 use Rattle.hive_edit.specs.Places.{IsKeyAt}
 use Rattle.hive_edit.proofs.ResultLemmas.{done, some}
@@ -187,6 +188,9 @@ already_stepped bins root version bulk h parent name is view m =
           (sym (ap (λ (v : Bool). cond v []
           (comers 1 (of_key (cells_in h) h.root parent (security_cell_at (cells_in h))) o)) m.present))
           (secure_same (cells_in h) (cells_in h) h.root h.tree well o s refl));
+      lists = λ at i. absurd (subst (λ (v : Bool). In (cond v [] (of_key (cells_in h) h.root parent (λ x. x ∷ []))) at)
+          m.present i);
+      freed = λ o given. absurd given;
       long = omega arith;
       room = omega arith;
     }

@@ -5,7 +5,7 @@ use Rattle.std.specs.List.{position_or_len}
 use Rattle.std.proofs.lemmas.List.{length-append, take-append-drop}
 use Rattle.nt_bytes.specs.declared.version.HiveVersion.{HiveVersion}
 use Rattle.hive_model.specs.Bins.{Bin, bins_size, look_up, spelled}
-use Rattle.hive_model.specs.KeyNode.{KeyNode}
+use Rattle.hive_model.specs.KeyNode.{KeyNode, key_node_at}
 use Rattle.hive_model.specs.Tree.{Tree, key, head, children}
 use Rattle.hive_model.specs.Valid.{HoldsKeys}
 use Rattle.hive_model.specs.Size.{size, list_size, bulk_of}
@@ -17,7 +17,10 @@ use Rattle.hive_cells.specs.Holes.{new_bin_size}
 use Rattle.hive_pack.specs.Below.{beside}
 use Rattle.hive_pack.specs.Numbers.{HasNumbers}
 use Rattle.hive_pack.proofs.Formed.{apart}
-use Rattle.hive_read.proofs.FormFacts.{IsBytes}
+use Rattle.hive_read.proofs.FormFacts.{IsBytes, then-so}
+use Rattle.reg_tree.proofs.Sound.{some_size}
+use Rattle.edit_laws.specs.Owned.{In}
+use Rattle.edit_laws.proofs.Ins.{in_from, contains_from}
 use Rattle.hive_read.proofs.ValidTrees.{well-formed-valid, cells-bytes}
 use Rattle.edit_laws.specs.Relists.{ChangesChildren, HasPlace}
 use Rattle.edit_laws.proofs.KeySteps.{root_gets}
@@ -26,10 +29,11 @@ use Rattle.edit_laws.proofs.Totals.{list_total, list_more, child_size}
 use Rattle.key_index.specs.Lists.{children_at, name_in, is_behind}
 use Rattle.key_index.proofs.Runs.{list_least}
 use Rattle.hive_edit.specs.declared.making.Above.{Above}
-use Rattle.hive_edit.specs.Making.{above_children}
+use Rattle.hive_edit.specs.Making.{above_children, above_lists}
 use Rattle.hive_edit.specs.Grafted.{IsRunPut, CanGraft, IsGrafted, LacksGraftLists}
 use Rattle.hive_edit.specs.Children.{MayGraft, IsNewChild, IsGraftedIn, LacksGraftRoom, security_listed}
 use Rattle.hive_edit.specs.Hive.{HiveCells, hive_of, IsHive}
+use Rattle.hive_edit.specs.Listed.{HasNewLists}
 use Rattle.hive_edit.specs.Runs.{IsPlace}
 use Rattle.hive_edit.specs.Standing.{tree_of}
 use Rattle.hive_edit.proofs.HiveLemmas.{hive_opened}
@@ -39,7 +43,8 @@ use Rattle.hive_edit.proofs.ParentLemmas.{Keeps, kept_well}
 use Rattle.hive_edit.proofs.StandingLemmas.{tree_is}
 use Rattle.hive_edit.proofs.GraftRuns.{graft_run, run_there}
 use Rattle.hive_edit.proofs.GraftLemmas.{changes, stands_new, kept_secure}
-use Rattle.hive_edit.proofs.GraftedLemmas.{Ready, linkable, front, back, placed, siblings_count, grafts}
+use Rattle.hive_edit.proofs.GraftedLemmas.{Ready, linkable, front, back, lists_still, placed, siblings_count, grafts}
+use Rattle.hive_edit.proofs.ListedLemmas.{inserted_lists}
 
 -- ---- the root
 
@@ -150,6 +155,47 @@ grown version name k t bulk count own new b c o n =
 renamed_itself : (k : Tree) → renamed (head k).name k ≡ k
 renamed_itself (key h ts) = refl
 
+-- the root has new lists
+graft_lists : (version : HiveVersion) (old new : List Bin) (root : ℕ) (above : Above) (shared : List ℕ) (k : Tree) (at : ℕ)
+    → (r : IsReady version old root above shared k at) → (a : IsGrafted version root above shared k at old new)
+    → ChangesChildren (look_up version old) (look_up version new) root root 511
+    (front version old a.mid root (tree_in version old root) r.node above shared k at r.ready a.numbers r.holds a.put) []
+    (at ∷ [])
+    (back version old a.mid root (tree_in version old root) r.node above shared k at r.ready a.numbers r.holds a.put)
+    (security_listed above.security)
+    → HasNewLists (hive_of old root version) (hive_of new root version) root
+graft_lists version old new root above shared k at r a ch =
+    let t = tree_in version old root in
+    let n = r.node in
+    let sp = above.security in
+    let fr = front version old a.mid root t n above shared k at r.ready a.numbers r.holds a.put in
+    let bk = back version old a.mid root t n above shared k at r.ready a.numbers r.holds a.put in
+    let g = grafts version old new root t n above shared k at r.ready r.holds a in
+    let still = lists_still version old a.mid root t n above shared k at r.ready a.numbers r.holds a.put in
+    let read = node_read (look_up version a.mid) at k g.formed.well.stands in
+    let q = then-so ((look_up version a.mid).payload at) key_node_at read.0 read.1 in
+    let some = some_size version shared k in
+    inserted_lists version old a.mid a.linked.listed new root t [] root t n at a.linked.list sp 511
+    (above_lists version above a.mid) fr bk (security_listed sp)
+    (record {
+      parent = r.ready.parent;
+      keeps = g.kept_m;
+      gone_to = λ o i. subst (λ (s : List ℕ). In s o) still (in_from (above_lists version above a.mid) o i);
+      gone_from = λ o i. contains_from (above_lists version above a.mid) o
+          (subst (λ (s : List ℕ). In s o) (sym still) i);
+      lists = a.linked.lists;
+      fresh = λ z e. g.fresh at z (omega arith) (omega (arith, some)) e;
+      there = (q.0, q.1);
+      places = g.places;
+      small = g.small;
+      few = g.few;
+      volatile = g.volatile;
+      noted = g.node_c;
+      others = λ o nx ns. a.linked.counted.others o ns ∙ a.linked.fields.others o nx;
+      secure = r.ready.shares.used;
+    })
+    ch
+
 pub record IsGraftMade (h : HiveCells) (new : List Bin) (root : ℕ) (version : HiveVersion) (bulk : ℕ) (sp : ℕ)
     (shared : List ℕ) (k : Tree) : Type 0 where
   pub hive : IsHive new root version bulk
@@ -213,6 +259,7 @@ graft_made old new root version bulk count own after h above shared k at is view
         stands = stands;
         place = place;
         secure = kept_secure b m l c root t n k at sz sp a.linked.list shared fr bk g;
+        lists = graft_lists version old new root above shared k at r a ch;
         long = omega (arith, noted, counted, put_least, lists_least);
         room = total (bins_size old) (bins_size a.mid) (bins_size a.linked.listed) (bins_size a.linked.noted)
             (bins_size new) (new_bin_size sz)

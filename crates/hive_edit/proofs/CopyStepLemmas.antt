@@ -1,5 +1,5 @@
 -- The step that copies a child: what it is judged by, and that it is made.
-use Rattle.std.proofs.Common.{◌≡◌, ◌≤◌, ◌<◌, ◌^◌, ℕ, ◌+◌, Bool, false, not, List, [], ◌∷◌, length, Option, Some, None, Result, Ok, Err, refl, sym, ap, subst, ◌∙◌, arith}
+use Rattle.std.proofs.Common.{◌≡◌, ◌≤◌, ◌<◌, ◌^◌, ℕ, ◌+◌, Bool, false, not, List, [], ◌∷◌, length, Option, Some, None, Result, Ok, Err, refl, sym, ap, subst, ◌∙◌, ⊎_elim, arith}
 use Rattle.std.specs.Prelude.{nat_lt, find, is_some, option_and_then}
 use Rattle.std.specs.Option.{IfSome, option_map_or}
 use Rattle.std.proofs.lemmas.Bool.{le-ltb}
@@ -31,6 +31,7 @@ use Rattle.hive_edit.specs.Copying.{SharesChild, IsCopiedIn}
 use Rattle.hive_edit.specs.Hive.{HiveCells, cells_in, hive_of, IsHive}
 use Rattle.hive_edit.specs.Standing.{tree_of}
 use Rattle.hive_edit.specs.Stepped.{IsStepped, LacksStepRoom}
+use Rattle.hive_edit.specs.Listed.{HasNewLists}
 use Rattle.hive_edit.proofs.EditLemmas.{the_tree}
 use Rattle.hive_edit.proofs.KeyLemmas.{node_read}
 use Rattle.hive_edit.proofs.ParentLemmas.{node_stands, security_at_node, security_there}
@@ -196,6 +197,8 @@ copy_stepped old new from to k well found f holds low a =
           (changes_of (cells_in old) old.root t (copy_child from to)) well
           (λ o s. subst (λ (l : List Bool). IsKeptSecurity (cells_in old) (cells_in new) l o)
           (λ i. comers (count i) (a.same i) o) (g.secure o s));
+      lists = λ at i. ⊎_elim (λ e. subst (HasNewLists old new) e g.lists) (λ (z : ⊥). absurd z) i;
+      freed = λ o given. absurd given;
       long = g.long;
       room = subst (λ (x : Tree). bins_size new.bins ≤ bins_size old.bins
           + room_of (needed_sizes old.version t (copy_child from to) x)) (sym tree)

@@ -13,7 +13,8 @@ use Rattle.reg_tree.specs.Makes.{refusal_of, IsRefused, Makes}
 use Rattle.hive_edit.specs.Hive.{HiveCells}
 use Rattle.hive_edit.specs.Edits.{IsPackedAnew, IsPackedForRoom}
 use Rattle.hive_edit.specs.Stepped.{IsStepped, LacksStepRoom}
-use Rattle.hive_edit.specs.Deleting.{DropsUses, IsDeletedInPlace}
+use Rattle.hive_edit.specs.Deleting.{DropsUses}
+use Rattle.hive_edit.specs.Deleted.{IsDeletedInPlace}
 use Rattle.hive_edit.proofs.EditLemmas.{the_tree}
 use Rattle.hive_edit.proofs.SteppedLemmas.{packed_for_room, step_within, step_full, stepped_kept}
 use Rattle.hive_model.specs.Forms.{◌>>=◌}

@@ -11,7 +11,7 @@ use Rattle.hive_model.specs.Tree.{Tree, key, head, children, is_named, find_key}
 use Rattle.hive_model.specs.Size.{node_size, class_size, security_size, items_size, list_size, count, size, size_of_all, bulk_of}
 use Rattle.hive_model.specs.Edit.{Refusal, no_key, delete_key, without_key, unless, key_deleted, after_step}
 use Rattle.hive_model.specs.Walk.{reading}
-use Rattle.hive_model.specs.Footprint.{child_places, needed_sizes, room_of, list_strain_of, unless_refused, security_cell_at}
+use Rattle.hive_model.specs.Footprint.{child_places, needed_sizes, room_of, list_strain_of, unless_refused, security_cell_at, list_cells_at}
 use Rattle.hive_model.specs.Stands.{IsWellFormed}
 use Rattle.hive_model.specs.InPlace.{IsKeptSecurity, KeepsSecurity}
 use Rattle.hive_model.specs.Security.{security_at}
@@ -24,30 +24,36 @@ use Rattle.edit_laws.specs.Done.{IsDone}
 use Rattle.edit_laws.specs.Lessened.{HasChildThere}
 use Rattle.edit_laws.specs.Uses.{tree_uses}
 use Rattle.edit_laws.proofs.Lessening.{deleted_step, lessened_size, lessened_strain}
-use Rattle.edit_laws.proofs.TakenOut.{key_taken_out}
-use Rattle.key_index.specs.Lists.{children_at, without_child}
+use Rattle.edit_laws.specs.Takes.{TakesChild}
+use Rattle.edit_laws.proofs.Ins.{contains_from}
+use Rattle.edit_laws.proofs.TakenOut.{key_taken_out, noted as noted_node, recounted, removed}
+use Rattle.key_index.specs.Lists.{children_at, lists_at, without_child}
 use Rattle.hive_edit.specs.declared.deleting.KeyPair.{KeyPair}
 use Rattle.hive_edit.specs.declared.making.Above.{Above}
 use Rattle.hive_edit.specs.Hive.{HiveCells, cells_in, hive_of, IsHive}
 use Rattle.hive_edit.specs.Standing.{tree_of}
 use Rattle.hive_edit.specs.Stepped.{IsStepped, LacksStepRoom}
+use Rattle.hive_edit.specs.Listed.{HasNewLists}
 use Rattle.hive_edit.specs.Making.{AboveIs}
 use Rattle.hive_edit.specs.Dropped.{AreShortened, left_children, times}
 use Rattle.hive_edit.specs.Deleting.{pair_place, levels_left, DropsUses, IsPairTaken, IsPairKept}
 use Rattle.hive_edit.proofs.StandingLemmas.{tree_is}
 use Rattle.hive_edit.proofs.HiveLemmas.{hive_opened}
 use Rattle.hive_edit.proofs.EditLemmas.{the_tree}
-use Rattle.hive_edit.proofs.ParentLemmas.{children_are, node_no_security, list_no_security}
+use Rattle.hive_edit.proofs.ParentLemmas.{lists_are, children_are, node_no_security, list_no_security}
 use Rattle.hive_edit.proofs.JudgeLemmas.{counted_children}
 use Rattle.edit_laws.specs.Owned.{In, security}
 use Rattle.hive_edit.proofs.DroppedLemmas.{shortened_keeps}
 use Rattle.hive_edit.proofs.RemovedLemmas.{SplitsAt, split_one, kids_apart, takes}
 use Rattle.hive_edit.proofs.PairLemmas.{a_pair, no_pair, PairHere, pair_here, pair_absent, no_node, no_list, secure_cells, in_lists, can_remove, in_hive}
 use Rattle.hive_edit.specs.Secured.{changes_of}
+use Rattle.hive_edit.proofs.ListedLemmas.{removed_lists}
+use Rattle.hive_edit.specs.GivenUp.{plain_cells}
+use Rattle.hive_edit.proofs.GivenUpLemmas.{plain_use}
 use Rattle.hive_edit.proofs.SecuredLemmas.{keeps_security, secure_reads, secure_own, secure_same, many_go}
 use Rattle.hive_edit.proofs.ResultLemmas.{done}
 use Rattle.edit_laws.proofs.FromLists.{length_more}
-use Rattle.edit_laws.proofs.Around.{once_two, hive_uses, hive_once}
+use Rattle.edit_laws.proofs.Around.{once_two, hive_uses, hive_once, used_held}
 use Rattle.edit_laws.proofs.OwnedUses.{secure_there}
 use Rattle.edit_laws.proofs.Held.{are_held}
 use Rattle.edit_laws.specs.Relists.{IsSecurityCell}
@@ -249,6 +255,65 @@ pair_secure version old new root t path p well place g =
         subst (λ (k : ℕ). IsKeptSecurity b c (replicate k false) o) (sym n.1)
         (secure_same b c root t well o s (held_payload new o q.0 same ∙ sym q.1))
 
+-- the key above it has new lists
+pair_lists : (version : HiveVersion) (old new : List Bin) (root : ℕ) (t : Tree) (path : List (List ℕ)) (p : KeyPair)
+    → IsWellFormed (look_up version old) root t → pair_place (look_up version old) path root ≡ a_pair p
+    → IsPairTaken version path p old new
+    → HasNewLists (hive_of old root version) (hive_of new root version) p.above
+pair_lists version old new root t path p well place g =
+    removed_lists version old new root t h.stored p.above h.there n g.above p.at left uses s.front s.back
+    (recounted b l c root t h.stored p.above left n s.front s.back p.at g.removed.list well h.reached h.stored_deep
+    takes_it)
+    (noted_node b l c root t h.stored p.above left n s.front s.back p.at g.removed.list well h.reached h.stored_deep takes_it)
+    h.parent_is g.removed
+    (removed b l c root t h.stored p.above left n s.front s.back p.at g.removed.list well h.reached h.stored_deep
+    takes_it)
+    s.whole left_is s.others
+    (λ o i. contains_from (lists_at b g.above.list g.above.count) o
+    (subst (λ (w : List ℕ). In w o) (sym lists_is) i))
+    (λ o v i. let q = used_held b root t well (o, v) (in_hive b root t path p h (o, v) i) in
+    (q.0, payload_held old o q.0 q.1))
+    (λ o v i j. no_list b root t path p h o v i j)
+  where
+    b : Cells
+    b = look_up version old
+
+    l : Cells
+    l = look_up version g.removed.listed
+
+    c : Cells
+    c = look_up version new
+
+    h : PairHere b root t path p
+    h = pair_here b root t path p well place
+
+    n : KeyNode
+    n = h.node
+
+    left : ℕ
+    left = levels_left path
+
+    uses : List (ℕ × Bool)
+    uses = tree_uses left b p.at
+
+    s : SplitsAt (child_places b p.above) p.at
+    s = split_here b root t path p h
+
+    says : AboveIs g.above n
+    says = g.says n h.parent_is.read
+
+    takes_it : TakesChild b l c p.above left n s.front s.back p.at g.removed.list
+    takes_it = takes version old new root t h.stored p.above h.there n g.above p.at left uses h.parent_is says s g.few
+        refl (λ v i. no_node b root t path p h p.above v i refl) g.removed (secure_cells b root t path p h)
+        (λ o i. no_list b root t path p h o true i)
+
+    lists_is : lists_at b g.above.list g.above.count ≡ list_cells_at b p.above
+    lists_is = (λ i. lists_at b (says.list i) (says.count i)) ∙ lists_are b root t h.stored p.above h.there n h.parent_is
+
+    left_is : left_children version g.above p.at old ≡ s.front ++ s.back
+    left_is = ap (without_child p.at) ((λ i. children_at b (says.list i) (says.count i))
+        ∙ children_are b root t h.stored p.above h.there n h.parent_is) ∙ s.others
+
 -- ---- the hive
 
 -- the bins and the bulk are those of a hive in which the key was deleted
@@ -281,6 +346,14 @@ pair_gone old new root version bulk bulk_then h path p is view place taken bytes
         tree = d.step ∙ ap the_tree (sym tree);
         done = subst (λ (v : Tree). IsDone b c root t v (delete_key path)) (sym tree) d.made;
         secure = pair_secure version old new root t path p is.stands place taken;
+        lists = λ at among.
+            let one : In (p.above ∷ []) at = subst (λ (l : List ℕ). In l at)
+            (λ i. option_map_or (λ (q : KeyPair). q.above ∷ []) (place i) []) among in
+            ⊎_elim (λ same. subst (HasNewLists (hive_of old root version) (hive_of new root version)) same
+            (pair_lists version old new root t path p is.stands place taken)) (λ (z : ⊥). absurd z) one;
+        freed = λ o given. taken.removed.dropped.freed o (plain_use (tree_uses (levels_left path) b p.at) o
+            (subst (λ (l : List ℕ). In l o)
+            (λ i. option_map_or (λ (q : KeyPair). plain_cells (tree_uses (levels_left path) b q.at)) (place i) []) given));
         long = d.long;
         room = subst (λ (v : Tree). bins_size new ≤ bins_size old
             + room_of (needed_sizes version t (delete_key path) v)) (sym tree) d.room;

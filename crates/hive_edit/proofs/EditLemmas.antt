@@ -1,32 +1,17 @@
--- What an edit of one value amounts to: the edit of the book, the bulk, the footprint; and what a packed tree leaves.
-use Rattle.std.proofs.Common.{◌≡◌, ◌≤◌, ℕ, ◌+◌, ◌*◌, Bool, true, false, eqb, cond, List, [], ◌∷◌, ◌++◌, length, Option, Some, Result, Ok, Err, refl, sym, ap, subst, ◌∙◌, inr, arith}
+-- What an edit of one value amounts to: the edit of the book and the bulk; and what a packed tree leaves.
+use Rattle.std.proofs.Common.{◌≡◌, ◌≤◌, ℕ, ◌+◌, ◌*◌, Bool, true, false, eqb, cond, List, [], ◌∷◌, ◌++◌, length, Option, Some, Result, Ok, Err, refl, sym, ap, subst, ◌∙◌, arith}
 use Rattle.std.specs.Prelude.{nat_lt, find, is_some, ◌&&◌}
-use Rattle.std.specs.Option.{is_none, option_map_or}
-use Rattle.std.proofs.lemmas.Bool.{ltb-false, le-ltb, eqb-true, eqb-false}
-use Rattle.std.proofs.lemmas.List.Elements.{Contains-append_left, Contains-append_right}
-use Rattle.nt_bytes.specs.declared.fault.HiveFaultKind.{HiveFaultKind}
+use Rattle.std.specs.Option.{is_none}
+use Rattle.std.proofs.lemmas.Bool.{ltb-false, le-ltb}
 use Rattle.nt_bytes.specs.declared.version.HiveVersion.{HiveVersion}
 use Rattle.nt_bytes.specs.Folding.{folded_unit, folds_same}
-use Rattle.hive_model.specs.Bins.{Cells, bins_size}
-use Rattle.hive_model.specs.KeyNode.{KeyNode, key_node_at}
-use Rattle.hive_model.specs.Lists.{offsets_in}
 use Rattle.hive_model.specs.Size.{cell, name_bytes, segment_count, segment_sizes, data_sizes, cells_sum, item_size, items_sum, items_size, size, bulk_of}
 use Rattle.nt_bytes.specs.Counts.{capped}
 use Rattle.hive_model.specs.Tree.{Tree, Item, head, find_key, find_item, is_item}
-use Rattle.hive_model.specs.Edit.{Step, set_value, Refusal, no_key, name_too_long, data_too_long, full, unless, at_first, with_item, of_items, at_key, value_set, after_step, after_steps, most_bulk, edited}
-use Rattle.hive_model.specs.Walk.{reading, value_checks}
-use Rattle.hive_model.specs.Footprint.{of_read, of_node, used_in, key_place, is_value_named, named_value_cells, value_cells_at, named_nodes, changed_cells, step_cells, unless_refused, IsInFootprint}
-use Rattle.hive_cells.specs.Held.{held_at}
+use Rattle.hive_model.specs.Edit.{Step, set_value, Refusal, no_key, name_too_long, data_too_long, full, unless, at_first, with_item, of_items, at_key, value_set, after_steps, most_bulk, edited}
 use Rattle.hive_pack.proofs.Items.{not_big}
-use Rattle.edit_laws.specs.Owned.{In}
-use Rattle.edit_laws.proofs.Ins.{contains_from}
 use Rattle.edit_laws.proofs.Sizes.{revalued_size}
-use Rattle.edit_laws.specs.Parents.{NamesParents}
-use Rattle.hive_edit.specs.Hive.{HiveCells, cells_in}
-use Rattle.hive_edit.specs.Edits.{IsEditedInPlace}
-use Rattle.hive_edit.specs.Places.{value_places, value_place}
-use Rattle.hive_edit.proofs.ResultLemmas.{done, some, some_same}
-use Rattle.hive_edit.proofs.InPlaceLemmas.{found_among, ListedValues, listed_values, value_first}
+use Rattle.hive_edit.proofs.ResultLemmas.{some, some_same}
 use Rattle.hive_model.specs.Forms.{◌>>=◌}
 
 -- ---- names
@@ -138,66 +123,6 @@ same_bulk version t k path name kind bytes item found there old new =
     let grown = revalued_size version [] path t k (with_item name kind bytes) found in
     let same : size version [] (set_tree path name kind bytes t) ≡ size version [] t = omega (arith, grown, sizes) in
     ap (λ (n : ℕ). capped (32 + n)) same
-
--- ---- the footprint
-
-named_cells : (b : Cells) (name : List ℕ) (key v : ℕ) (node : KeyNode) (front back : List ℕ)
-    → reading key_node_at b key ≡ done node → ListedValues b key node front back v
-    → find (is_value_named b name) (front ++ (v ∷ back)) ≡ some v → In (value_cells_at b name key) v
-unfolding value_cells_at named_value_cells
-named_cells b name key v node front back r l e =
-    let whole : of_node b key
-    (λ n. cond (eqb n.value_count 0) [] (n.value_list ∷ of_read (reading (offsets_in n.value_count) b n.value_list)
-    (λ os. option_map_or (λ at. used_in (value_checks b [] at)) (find (is_value_named b name) os) [])))
-    ≡ node.value_list ∷ used_in (value_checks b [] v) =
-    ap (λ (q : Result KeyNode HiveFaultKind). of_read q
-    (λ n. cond (eqb n.value_count 0) [] (n.value_list ∷ of_read (reading (offsets_in n.value_count) b n.value_list)
-    (λ os. option_map_or (λ at. used_in (value_checks b [] at)) (find (is_value_named b name) os) [])))) r
-    ∙ ap (λ (t : Bool). cond t [] (node.value_list ∷ of_read (reading (offsets_in node.value_count) b node.value_list)
-    (λ os. option_map_or (λ at. used_in (value_checks b [] at)) (find (is_value_named b name) os) []))) l.some_values
-    ∙ ap (λ (q : Result (List ℕ) HiveFaultKind). node.value_list
-    ∷ of_read q (λ os. option_map_or (λ at. used_in (value_checks b [] at)) (find (is_value_named b name) os) []))
-    l.offsets
-    ∙ ap (λ (o : Option ℕ). node.value_list ∷ option_map_or (λ at. used_in (value_checks b [] at)) o []) e in
-    subst (λ (os : List ℕ). In os v) (sym whole) (inr (value_first b v))
-
--- the cell of a value that is set is in the footprint
-pub in_footprint : (b : Cells) (root : ℕ) (t : Tree) (path : List (List ℕ)) (name : List ℕ) (kind : ℕ) (bytes : List ℕ)
-    (key v : ℕ) (node : KeyNode) → reading key_node_at b key ≡ done node
-    → key_place b path root ≡ some key → value_place b name key ≡ some v
-    → IsInFootprint b root t (set_value path name kind bytes ∷ []) v
-in_footprint b root t path name kind bytes key v node r k e =
-    let among = found_among (is_value_named b name) (value_places b key) v e in
-    let l = listed_values b key node among.front among.back v r among.whole in
-    let here = named_cells b name key v node among.front among.back r l
-    (ap (find (is_value_named b name)) (sym among.whole) ∙ e) in
-    let changed : In (changed_cells b root t (set_value path name kind bytes)) v =
-    subst (λ (o : Option ℕ). In (option_map_or (value_cells_at b name) o []) v) (sym k) here in
-    let step = set_value path name kind bytes in
-    Contains-append_left (step_cells b root t step) (unless_refused [] (after_step step t) (λ u. [])) v
-    (Contains-append_right (named_nodes b root step) (changed_cells b root t step) v
-    (contains_from (changed_cells b root t step) v changed))
-
--- where one cell was patched, each other one is as before
-pub kept_in_place : (old new : HiveCells) (step : Step) (v : ℕ)
-    → IsInFootprint (cells_in old) old.root old.tree (step ∷ []) v
-    → ((o : ℕ) → (o ≡ v → ⊥) → held_at new.bins o ≡ held_at old.bins o) → new.root ≡ old.root
-    → bins_size old.bins ≤ bins_size new.bins
-    → (NamesParents (cells_in old) old.root → NamesParents (cells_in new) new.root) → IsEditedInPlace old (step ∷ []) new
-kept_in_place old new step v foot others root long parents = record {
-  kept = λ o p held outside. go o p held outside (eqb o v) refl;
-  root = root;
-  long = long;
-  parents = parents;
-}
-  where
-    go : (o : ℕ) (p : List ℕ) → held_at old.bins o ≡ Some p
-        → (IsInFootprint (cells_in old) old.root old.tree (step ∷ []) o → ⊥)
-        → (b : Bool) → eqb o v ≡ b → held_at new.bins o ≡ Some p
-    go o p held outside true e =
-        let same : o ≡ v = eqb-true o v e in
-        absurd (outside (subst (IsInFootprint (cells_in old) old.root old.tree (step ∷ [])) (sym same) foot))
-    go o p held outside false e = others o (eqb-false o v e) ∙ held
 
 -- ---- repacked
 

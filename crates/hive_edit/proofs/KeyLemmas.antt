@@ -1,7 +1,7 @@
 -- A hive in which a key was made, or in which nothing was made.
-use Rattle.std.proofs.Common.{◌≡◌, ◌≤◌, ◌<◌, ◌^◌, ℕ, ◌+◌, ◌*◌, ◌||◌, Bool, true, false, cond, List, [], ◌∷◌, ◌++◌, length, take, drop, Option, Result, Ok, refl, sym, ap, subst, ◌∙◌, arith}
+use Rattle.std.proofs.Common.{◌≡◌, ◌≤◌, ◌<◌, ◌^◌, ℕ, ◌+◌, ◌*◌, ◌||◌, Bool, true, false, cond, List, [], ◌∷◌, ◌++◌, length, take, drop, Option, Result, Ok, refl, sym, ap, subst, ◌∙◌, ⊎_elim, arith}
 use Rattle.std.specs.Prelude.{◌==◌, slice_index}
-use Rattle.std.specs.Option.{IsSome, IsSomeAnd}
+use Rattle.std.specs.Option.{IsSome, IsSomeAnd, option_map_or}
 use Rattle.std.specs.Result.{IsOk}
 use Rattle.std.specs.List.{list_any, position_or_len}
 use Rattle.std.proofs.lemmas.Bool.{ltb-false}
@@ -27,6 +27,8 @@ use Rattle.hive_cells.specs.Holes.{new_bin_size}
 use Rattle.hive_cells.proofs.HeldLemmas.{payload_held, held_payload}
 use Rattle.hive_read.proofs.FormFacts.{IsBytes, then-so}
 use Rattle.edit_laws.specs.Owned.{In}
+use Rattle.hive_edit.specs.Listed.{HasNewLists}
+use Rattle.hive_edit.proofs.KeyLists.{key_lists}
 use Rattle.edit_laws.proofs.Ins.{in_from}
 use Rattle.edit_laws.proofs.Out.{placed_at}
 use Rattle.edit_laws.proofs.Patches.{node_text}
@@ -295,6 +297,13 @@ is_made old new root version bulk h parent name place above stamp node is view r
     (omega (arith, one, two, three, four)) (omega (arith, n, room, three, four, five, six))
     (key_secure version old new root t parent r.path place.at r.there r.node above name r.parent_is r.says r.may r.few a
     r.absent r.at)
+    (λ x among.
+    let one : In (place.at ∷ []) x = subst (λ (l : List ℕ). In l x)
+    (λ i. cond (r.absent i) [] (option_map_or (λ (at : ℕ). at ∷ []) (r.at i) [])) among in
+    ⊎_elim (λ same. subst (HasNewLists (hive_of old root version) (hive_of new root version)) same
+    (key_lists version old new root t r.path place.at r.there r.node above name r.parent_is r.says r.may r.few a))
+    (λ (z : ⊥). absurd z) one)
+    (λ o given. absurd given)
 
 -- ---- nothing is made
 

@@ -9,6 +9,7 @@ pub mod FoundLemmas
 pub mod HiveLemmas
 pub mod InPlaceLemmas
 pub mod EditLemmas
+pub mod GivenUpLemmas
 pub mod SetLemmas
 pub mod PackedParents
 pub mod AnewLemmas
@@ -27,7 +28,9 @@ pub mod ParentLemmas
 pub mod SecuredLemmas
 pub mod PlacedLemmas
 pub mod AddedLemmas
+pub mod ListedLemmas
 pub mod MakingLemmas
+pub mod KeyLists
 pub mod JudgeLemmas
 pub mod KeyLemmas
 pub mod PutLemmas
@@ -51,6 +54,9 @@ pub mod ChildLemmas
 pub mod AddStepLemmas
 pub mod GraftLinks
 pub mod CopyStepLemmas
+pub mod ToldLists
+pub mod ToldLemmas
+pub mod InsideLemmas
 pub mod StrainedLemmas
 pub mod GapLemmas
 pub mod HoldingLemmas

@@ -35,6 +35,7 @@ use Rattle.hive_edit.specs.Given.{with_fields}
 use Rattle.hive_edit.specs.NewValue.{behind_list, added_cells, added_size, CanAdd, IsRelistedAt, LacksRoomForValue, ListsThese, PutsValue}
 use Rattle.hive_cells.specs.Holes.{new_bin_size}
 use Rattle.hive_edit.specs.Runs.{IsRunPutAt}
+use Rattle.hive_edit.proofs.GivenUpLemmas.{list_free}
 use Rattle.hive_edit.proofs.GiveLemmas.{data_run_stands}
 use Rattle.hive_edit.proofs.GoneLemmas.{is_held, and_some}
 use Rattle.hive_edit.proofs.NewRunLemmas.{more_fit, more_long, added_space}
@@ -184,6 +185,8 @@ adds_value version old new x place count list v run can c_is l_is e room fit is 
     fresh = λ o i. unheld o (let u = used.within o i in r.put.fresh o u.0 (omega (arith, u.1, long)));
     once = used.once;
   };
+  freed = list_free b new x can.node can.read
+      (λ n. ap (held_at new) (sym l_is) ∙ r.freed (λ z. n (sym c_is ∙ z)));
   least = omega (arith, r.long, r.put.least);
   long = subst (λ (m : ℕ). bins_size new ≤ bins_size old + new_bin_size m)
       (long ∙ ap (λ (k : ℕ). added_size version k v) c_is) (omega (arith, r.long, r.put.long));

@@ -47,6 +47,7 @@ use Rattle.hive_edit.proofs.ResultLemmas.{done, some, ok_same}
 use Rattle.hive_edit.proofs.LowLemmas.{items_length, bulk_is, bulk_then}
 use Rattle.hive_edit.proofs.SteppedLemmas.{IsStepMade, stepped, lacks_room}
 use Rattle.hive_edit.proofs.UnsetLemmas.{held_offsets, sized, none_named}
+use Rattle.hive_edit.proofs.GivenUpLemmas.{replaced_list}
 use Rattle.hive_edit.proofs.SecuredLemmas.{none_counted, set_counts_none}
 
 -- ---- the values of a key
@@ -377,10 +378,13 @@ new_set old new root version bulk after h path name x kind bytes is view isnew f
     ap (λ (m : KeyNode). m.value_count) node ∙ values_many version old x n.key n.well can in
     let r = run_within version t n.key path name kind bytes put.node.value_count n.found n.none many in
     let l = put.long in
+    let none = subst (λ (g : HiveCells). value_place (cells_in g) name x ≡ None) (sym view) isnew.absent in
     stepped old new root version bulk after h u (set_value path name kind bytes)
     is view d.step made_of small told put.least (omega (arith, l, r))
     (none_counted b c root t u (set_value path name kind bytes) is.stands made_of
     (set_counts_none t path name kind bytes))
+    (λ key among. absurd among)
+    (λ o given. put.freed o (subst (λ (l : List ℕ). In l o) (replaced_list b path name root x n.place none) given))
 
 -- where a new bin for the run is not to be had
 pub new_lacks : (bins : List Bin) (root : ℕ) (version : HiveVersion) (bulk : ℕ) (h : HiveCells) (path : List (List ℕ))

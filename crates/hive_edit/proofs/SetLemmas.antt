@@ -1,44 +1,37 @@
 -- A value of a hive that holds its data itself, and gets other such data.
-use Rattle.std.proofs.Common.{◌≡◌, ◌≤◌, ◌<◌, ◌^◌, ℕ, ◌+◌, ◌-◌, Bool, true, false, eqb, cond, List, [], ◌∷◌, length, get_or, take, Option, Some, None, Result, Ok, Err, refl, sym, ap, subst, ◌∙◌, arith}
+use Rattle.std.proofs.Common.{◌≡◌, ◌≤◌, ◌<◌, ℕ, ◌+◌, ◌-◌, Bool, true, false, eqb, cond, List, [], ◌∷◌, length, take, Option, Some, None, Result, Ok, Err, refl, sym, ap, subst, ◌∙◌, arith}
 use Rattle.std.specs.Prelude.{nat_lt, is_some, Contains}
-use Rattle.std.specs.Option.{option_and_then, option_map, IsSomeAnd, is_none}
+use Rattle.std.specs.Option.{option_and_then, IsSomeAnd, is_none}
 use Rattle.std.specs.Int.{w32, to_le_bytes}
 use Rattle.std.proofs.lemmas.Bool.{le-ltb, lt-ltb, ne_eqb}
 use Rattle.std.proofs.lemmas.Bool.Decides.{nat_tests}
-use Rattle.std.proofs.lemmas.List.Elements.{All-cons, All-nil}
 use Rattle.nt_bytes.specs.declared.fault.HiveFaultKind.{HiveFaultKind}
 use Rattle.nt_bytes.specs.declared.version.HiveVersion.{HiveVersion}
 use Rattle.nt_bytes.specs.Fields.{u32_in}
-use Rattle.hive_model.specs.Bins.{Bin, Cells, bins_size, look_up}
+use Rattle.hive_model.specs.Bins.{Bin, Cells, look_up}
 use Rattle.hive_model.specs.Forms.{◌>>=◌}
-use Rattle.hive_model.specs.KeyNode.{KeyNode, key_node_at}
 use Rattle.hive_model.specs.KeyValue.{KeyValue, key_value_at, data_inside, is_in_place}
 use Rattle.hive_model.specs.Size.{bulk_of}
 use Rattle.hive_model.specs.Tree.{Tree, Item, find_item}
-use Rattle.hive_model.specs.Tree.{key as tree_key}
 use Rattle.hive_model.specs.Edit.{set_value, Refusal, full, most_bulk, edited, after_step}
 use Rattle.hive_model.specs.Walk.{reading, data_checks}
 use Rattle.hive_model.specs.Footprint.{key_place, is_value_named, of_read, used_in}
-use Rattle.hive_model.specs.Stands.{Stands, data_of, item_at, IsWellFormed}
-use Rattle.hive_cells.specs.Held.{held_at, patched}
+use Rattle.hive_model.specs.Stands.{data_of, item_at, IsWellFormed}
+use Rattle.hive_cells.specs.Held.{held_at}
 use Rattle.hive_read.proofs.FormFacts.{held-short, value-facts, then-so}
-use Rattle.reg_tree.specs.Fitting.{Fits}
-use Rattle.reg_tree.proofs.Edited.{edited_valid}
 use Rattle.key_index.specs.Lists.{payload_in}
 use Rattle.edit_laws.proofs.Ins.{in_from}
 use Rattle.edit_laws.proofs.FromCells.{data_held_inside}
 use Rattle.hive_edit.specs.Hive.{HiveCells, cells_in, hive_of, IsHive}
-use Rattle.hive_edit.specs.Edits.{value_fields, held_itself, holds_itself, if_inside, inside_place, IsEditedInPlace}
+use Rattle.hive_edit.specs.Edits.{value_fields, held_itself, holds_itself, if_inside, inside_place}
 use Rattle.hive_edit.specs.Places.{IsItemHere, value_place, value_places, data_places}
 use Rattle.hive_edit.specs.Standing.{tree_of}
 use Rattle.hive_edit.proofs.ResultLemmas.{done, some, some_same, ok_same}
-use Rattle.hive_edit.proofs.StandingLemmas.{tree_is}
 use Rattle.hive_edit.proofs.PlaceLemmas.{key_there, IsItemAt, place_of_item}
 use Rattle.hive_cells.proofs.HeldLemmas.{payload_held}
 use Rattle.hive_edit.proofs.ItemLemmas.{item_facts, value_facts}
-use Rattle.hive_edit.proofs.HiveLemmas.{hive_opened}
-use Rattle.hive_edit.proofs.InPlaceLemmas.{patched_at, fields_for, set_done, inside_data, found_among, named_folds}
-use Rattle.hive_edit.proofs.EditLemmas.{folds_length, set_tree, set_edited, same_bulk, in_footprint, kept_in_place, the_tree, made}
+use Rattle.hive_edit.proofs.InPlaceLemmas.{inside_data, found_among, named_folds}
+use Rattle.hive_edit.proofs.EditLemmas.{folds_length, set_tree, set_edited, same_bulk, made}
 use Rattle.hive_edit.specs.Freed.{FreesData}
 
 -- ---- where it is
@@ -184,12 +177,12 @@ short_item b name key v k value well e r inside =
     go (Some item) f p = with_data item f p (data_inside value) refl inside
 
 -- the edit, where the value is there and holds its data itself: it is refused for the bulk alone, which stays
-record EditThere (version : HiveVersion) (t : Tree) (path : List (List ℕ)) (name : List ℕ) (kind : ℕ)
+pub record EditThere (version : HiveVersion) (t : Tree) (path : List (List ℕ)) (name : List ℕ) (kind : ℕ)
     (bytes : List ℕ) : Type 0 where
-  step : after_step (set_value path name kind bytes) t ≡ Ok (set_tree path name kind bytes t)
-  edit : edited version t (set_value path name kind bytes ∷ [])
+  pub step : after_step (set_value path name kind bytes) t ≡ Ok (set_tree path name kind bytes t)
+  pub edit : edited version t (set_value path name kind bytes ∷ [])
       ≡ cond (nat_lt most_bulk (bulk_of version t)) (Err full) (Ok (set_tree path name kind bytes t))
-  bulk : bulk_of version (set_tree path name kind bytes t) ≡ bulk_of version t
+  pub bulk : bulk_of version (set_tree path name kind bytes t) ≡ bulk_of version t
 
 pub name_short : (b : Cells) (name : List ℕ) (key v : ℕ) (value : KeyValue) → value_place b name key ≡ some v
     → reading key_value_at b v ≡ done value → length name ≤ 16383
@@ -200,7 +193,7 @@ name_short b name key v value e r =
     let same = folds_length name value.name (named_folds b name v value r among.passes) in
     omega (arith, long, same)
 
-edit_there : (b : Cells) (version : HiveVersion) (root : ℕ) (t : Tree) (path : List (List ℕ)) (name : List ℕ) (kind : ℕ)
+pub edit_there : (b : Cells) (version : HiveVersion) (root : ℕ) (t : Tree) (path : List (List ℕ)) (name : List ℕ) (kind : ℕ)
     (bytes : List ℕ) (v : ℕ) → IsWellFormed b root t
     → InsideThere b path name root v → length bytes ≤ 4 → EditThere version t path name kind bytes
 edit_there b version root t path name kind bytes v well i short =
@@ -258,56 +251,6 @@ inside_frees h path name v e new = λ at there o i.
     none : (o : Option (List ℕ)) → data_inside k.value ≡ o → is_some o ≡ true → cells k.value ≡ []
     none None f g = absurd cc
     none (Some bytes) f g = (data_held_inside b k.value bytes f).0
-
--- where the value was written in place
-pub record IsSet (h : HiveCells) (new : List Bin) (root : ℕ) (version : HiveVersion) (bulk : ℕ) (path : List (List ℕ))
-    (name : List ℕ) (kind : ℕ) (bytes : List ℕ) : Type 0 where
-  pub hive : IsHive new root version bulk
-  pub edit : edited h.version h.tree (set_value path name kind bytes ∷ []) ≡ Ok (tree_of (look_up version new) root)
-  pub kept : IsEditedInPlace h (set_value path name kind bytes ∷ []) (hive_of new root version)
-
-pub is_set : (old new : List Bin) (root : ℕ) (version : HiveVersion) (bulk : ℕ) (h : HiveCells) (path : List (List ℕ))
-    (name : List ℕ) (kind : ℕ) (bytes : List ℕ) (v : ℕ)
-    → IsHive old root version bulk → hive_of old root version ≡ h → inside_place (cells_in h) path name h.root ≡ some v
-    → length bytes ≤ 4
-    → ((i : ℕ) → get_or bytes i 0 < 256) → kind < 2 ^ 32 → bulk ≤ 16773120
-    → held_at new v ≡ option_map (patched 4 (fields_for kind bytes)) (held_at old v)
-    → ((o : ℕ) → (o ≡ v → ⊥) → held_at new o ≡ held_at old o) → bins_size new ≡ bins_size old
-    → IsSet h new root version bulk path name kind bytes
-is_set old new root version bulk h path name kind bytes v is view e short small fits room here others long =
-    let b = look_up version old in
-    let c = look_up version new in
-    let t = tree_of b root in
-    let u = set_tree path name kind bytes t in
-    let i = inside_there b path name root v
-    (subst (λ (g : HiveCells). inside_place (cells_in g) path name g.root ≡ some v) (sym view) e) in
-    let d = edit_there b version root t path name kind bytes v is.stands i short in
-    let patch = patched_at version old new v 4 (fields_for kind bytes) here others in
-    let made = set_done b c root t path name i.key v kind bytes i.value is.stands i.place i.named patch i.read short
-    small fits u d.step in
-    let within : nat_lt most_bulk (bulk_of version t) ≡ false =
-    le-ltb most_bulk (bulk_of version t) (subst (λ (n : ℕ). n ≤ 16773120) is.counted room) in
-    let edit : edited version t (set_value path name kind bytes ∷ []) ≡ Ok u =
-    d.edit ∙ ap (λ (q : Bool). cond q (Err full) (Ok u)) within in
-    let tree : tree_of c root ≡ u = tree_is c root u made.stands in
-    let there = key_there b path root t i.key is.stands i.place in
-    let node = node_read b i.key there.there there.well.stands in
-    let valid = edited_valid version t u (set_value path name kind bytes ∷ []) is.valid
-    (All-cons Fits (set_value path name kind bytes) [] tt (All-nil Fits)) edit in
-    record {
-      hive = hive_opened new new root version bulk u refl made.stands valid (is.counted ∙ sym d.bulk);
-      edit = subst (λ (g : HiveCells). edited g.version g.tree (set_value path name kind bytes ∷ [])
-          ≡ the_tree (tree_of c root)) view (edit ∙ sym (ap the_tree tree));
-      kept = subst (λ (g : HiveCells). IsEditedInPlace g (set_value path name kind bytes ∷ [])
-          (hive_of new root version)) view
-          (kept_in_place (hive_of old root version) (hive_of new root version) (set_value path name kind bytes) v
-          (in_footprint b root t path name kind bytes i.key v node.0 node.1 i.place i.named) others refl
-          (omega (arith, long)) made.parents);
-    }
-  where
-    node_read : (cells : Cells) (at : ℕ) (k : Tree) → Stands cells at k
-        → (n : KeyNode) × (reading key_node_at cells at ≡ done n)
-    node_read cells at (tree_key g ts) s = (s.1.node, s.1.read)
 
 -- ---- where the search for it ends
 

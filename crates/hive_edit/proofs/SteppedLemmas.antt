@@ -33,6 +33,10 @@ use Rattle.hive_edit.proofs.EditLemmas.{the_tree}
 use Rattle.hive_edit.proofs.HiveLemmas.{hive_opened}
 use Rattle.hive_edit.proofs.StandingLemmas.{tree_is}
 use Rattle.hive_edit.specs.Secured.{changes_of}
+use Rattle.hive_edit.specs.Listed.{HasNewLists, relisted_keys}
+use Rattle.hive_edit.specs.GivenUp.{given_up}
+use Rattle.hive_cells.specs.Held.{held_at}
+use Rattle.edit_laws.specs.Owned.{In}
 use Rattle.hive_model.specs.Forms.{◌>>=◌}
 use Rattle.hive_model.specs.InPlace.{KeepsSecurity}
 
@@ -57,8 +61,11 @@ pub stepped : (old new : List Bin) (root : ℕ) (version : HiveVersion) (bulk bu
     → bins_size old ≤ bins_size new → IsWithinRoom version old new root step u
     → KeepsSecurity root (changes_of (look_up version old) root (tree_of (look_up version old) root) step)
     (look_up version old) (look_up version new)
+    → ((at : ℕ) → In (relisted_keys (look_up version old) root (tree_of (look_up version old) root) step) at
+    → HasNewLists (hive_of old root version) (hive_of new root version) at)
+    → ((o : ℕ) → In (given_up (look_up version old) root step) o → held_at new o ≡ None)
     → IsStepMade h new root version bulk_then step
-stepped old new root version bulk bulk_then h u step is view ok made bytes counted long room secure =
+stepped old new root version bulk bulk_then h u step is view ok made bytes counted long room secure lists freed =
     let b = look_up version old in
     let c = look_up version new in
     let t = tree_of b root in
@@ -72,6 +79,8 @@ stepped old new root version bulk bulk_then h u step is view ok made bytes count
         tree = ok ∙ sym (ap the_tree tree);
         done = subst (λ (w : Tree). IsDone b c root t w step) (sym tree) made;
         secure = secure;
+        lists = lists;
+        freed = freed;
         long = long;
         room = subst (λ (w : Tree). IsWithinRoom version old new root step w) (sym tree) room;
       });
@@ -192,6 +201,7 @@ stepped_kept h g step s = record {
   root = s.root;
   long = s.long;
   parents = λ n. subst (NamesParents (cells_in g)) (sym s.root) (s.done.parents n);
+  stepped = (g, s, refl);
 }
 
 pub lacks_over : (h : HiveCells) (u : Tree) (step : Step) → LacksStepRoom h step → after_step step h.tree ≡ the_tree u
@@ -285,6 +295,7 @@ ordered_kept steps a b well m = record {
   long = longer steps a b m;
   parents = λ n. subst (NamesParents (cells_in b)) (sym (same_root steps a b m))
       (parents_done a.root steps (cells_in a) (cells_in b) a.tree b.tree (done_in_order steps a b m) n);
+  stepped = m;
 }
 
 -- ---- their edit, by the bulk at the end

@@ -31,6 +31,9 @@ use Rattle.hive_edit.proofs.SteppedLemmas.{IsStepMade, IsWithinRoom, stepped, la
 use Rattle.hive_edit.proofs.ThereLemmas.{ThereIs, there_in, edit_there, there_done}
 use Rattle.hive_edit.proofs.NewValueLemmas.{kept_name}
 use Rattle.hive_edit.proofs.SecuredLemmas.{none_counted, set_counts_none}
+use Rattle.hive_edit.proofs.GivenUpLemmas.{replaced_there}
+use Rattle.edit_laws.specs.Owned.{In}
+use Rattle.edit_laws.proofs.Ins.{contains_from}
 use Rattle.hive_model.specs.Forms.{◌>>=◌}
 
 abbrev become : ℕ → List ℕ → Item → Item
@@ -140,6 +143,10 @@ there_set old new root version bulk after h path name kind bytes v is view e few
     (none_counted b (look_up version new) root t u (set_value path name kind bytes) is.stands
     (there_done old new root version bulk h path name kind bytes v is view e few kind_fits g)
     (set_counts_none t path name kind bytes))
+    (λ key among. absurd among)
+    (λ o given. g.freed o (contains_from (data_places b v) o
+    (subst (λ (l : List ℕ). In l o) (replaced_there b path name root v
+    (subst (λ (z : HiveCells). place_in (cells_in z) path name z.root ≡ some v) (sym view) e)) given)))
   where
     by_length : (q : Bool) → nat_lt 4 (length bytes) ≡ q
         → bins_size new ≤ bins_size old + cond q (new_bin_size (data_size version bytes)) 0

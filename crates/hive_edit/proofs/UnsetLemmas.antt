@@ -56,6 +56,7 @@ use Rattle.hive_edit.proofs.GoneLemmas.{is_held, and_some, at_place, ListFacts, 
 use Rattle.hive_edit.proofs.DataLemmas.{segments_used}
 use Rattle.hive_edit.proofs.KeyLemmas.{node_read}
 use Rattle.hive_edit.specs.Freed.{FreesValue}
+use Rattle.hive_edit.proofs.GivenUpLemmas.{dropped_free, dropped_there}
 use Rattle.hive_edit.proofs.SecuredLemmas.{none_counted, delete_counts_none}
 use Rattle.key_index.proofs.Tests.{value_of, is_ok_of}
 
@@ -604,6 +605,9 @@ is_unset old new root version bulk after h path name x v is view k e taken bytes
     stepped old new root version bulk after h u (delete_value path name) is view d made bytes told (omega (arith, long))
     (omega (arith, long))
     (none_counted b c root t u (delete_value path name) is.stands made (delete_counts_none t path name))
+    (λ key among. absurd among)
+    (λ o given. dropped_free b new x v taken.front taken.back taken.places taken.freed taken.unlisted o
+    (subst (λ (l : List ℕ). In l o) (dropped_there b path name root x v n.key n.value) given))
 
 -- its cells are free
 pub frees_value : (old new : List Bin) (root : ℕ) (version : HiveVersion) (h : HiveCells) (path : List (List ℕ))

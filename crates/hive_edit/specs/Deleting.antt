@@ -14,9 +14,7 @@ use Rattle.edit_laws.specs.Uses.{tree_uses}
 use Rattle.hive_edit.specs.declared.deleting.KeyPair.{KeyPair}
 use Rattle.hive_edit.specs.declared.making.Above.{Above}
 use Rattle.hive_edit.specs.Making.{AboveIs}
-use Rattle.hive_model.specs.Edit.{delete_key, edited}
 use Rattle.hive_edit.specs.Hive.{HiveCells, cells_in}
-use Rattle.hive_edit.specs.Edits.{IsEditedInPlace}
 use Rattle.hive_edit.specs.Dropped.{times, IsRecounted, IsRemoved, LacksRoomWithout}
 
 -- the key at an offset, below the one above it
@@ -64,10 +62,3 @@ pub record DropsUses (old : HiveCells) (path : List (List ℕ)) (new : HiveCells
   pub gone : (o : ℕ) → In (tree_uses (levels_left path) (cells_in old) pair.at) (o, false) → held_at new.bins o ≡ None
   pub counted : (o : ℕ) (q : List ℕ) → In (tree_uses (levels_left path) (cells_in old) pair.at) (o, true) → held_at old.bins o ≡ Some q
       → (r : List ℕ) × (held_at new.bins o ≡ Some r) × IsRecounted (times o (tree_uses (levels_left path) (cells_in old) pair.at)) q r
-
--- The key at a path is deleted in place: the tree is that of the book's edit, and what the key and those below it used is dropped.
-pub record IsDeletedInPlace (old : HiveCells) (path : List (List ℕ)) (new : HiveCells) : Type 0 where
-  pub edit : edited old.version old.tree (delete_key path ∷ []) ≡ Ok new.tree
-  pub version : new.version ≡ old.version
-  pub kept : IsEditedInPlace old (delete_key path ∷ []) new
-  pub drops : DropsUses old path new

@@ -14,19 +14,22 @@ use Rattle.hive_cells.specs.Changes.{at_cell, with_part}
 use Rattle.edit_laws.specs.Parents.{NamesParents}
 use Rattle.hive_edit.specs.Hive.{HiveCells, cells_in}
 use Rattle.hive_edit.specs.Places.{value_place}
+use Rattle.hive_edit.specs.Steps.{AreStepped}
 
 -- where each key below another named the node of that one as its parent, each does
 abbrev pub KeepsParents : HiveCells → HiveCells → Type 0
 KeepsParents old new = NamesParents (cells_in old) old.root → NamesParents (cells_in new) new.root
 
--- in place: each cell that was allocated, and is in the footprint of no step, has its offset and its payload, the root is where it was,
--- the bins data are as long as before, or longer, and where each key below another named the node of that one as its parent, each does
+-- In place: each cell that was allocated, and is in the footprint of no step, has its offset and its payload, the root is where it was,
+-- the bins data are as long as before, or longer, and where each key below another named the node of that one as its parent, each does.
+-- The steps were made one by one, each on the cells that the one before left, and `IsStepped` says what each made of them.
 pub record IsEditedInPlace (old : HiveCells) (steps : List Step) (new : HiveCells) : Type 0 where
   pub kept : (o : ℕ) (p : List ℕ) → held_at old.bins o ≡ Some p → (IsInFootprint (cells_in old) old.root old.tree steps o → ⊥)
       → held_at new.bins o ≡ Some p
   pub root : new.root ≡ old.root
   pub long : bins_size old.bins ≤ bins_size new.bins
   pub parents : KeepsParents old new
+  pub stepped : AreStepped old steps new
 
 -- repacked: the cells are those of the packed form of the tree, and each key below another names the node of that one as its parent
 pub record IsPackedAnew (h : HiveCells) : Type 0 where

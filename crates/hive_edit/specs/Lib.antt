@@ -14,6 +14,10 @@ pub mod Making
 pub mod NewValue
 pub mod Dropped
 pub mod Deleting
+pub mod Deleted
 pub mod Secured
+pub mod Listed
+pub mod GivenUp
 pub mod Stepped
+pub mod Told
 pub mod Steps

@@ -60,7 +60,7 @@ pub record IsRelistedAt (x list count place : ℕ) (run : List ℕ) (old new : L
   pub others : (o : ℕ) → (o ≡ x → ⊥) → ((count ≡ 0 → ⊥) → o ≡ list → ⊥) → held_at new o ≡ held_at mid o
   pub long : bins_size new ≡ bins_size mid
 
--- a value of a new name was put after the others of a key
+-- a value of a new name was put after the others of a key, whose old value list is free
 pub record PutsValue (version : HiveVersion) (old new : List Bin) (x : ℕ) (v : Item) : Type 0 where
   pub node : KeyNode
   pub offsets : List ℕ
@@ -70,6 +70,7 @@ pub record PutsValue (version : HiveVersion) (old new : List Bin) (x : ℕ) (v :
   pub read : reading key_node_at (look_up version old) x ≡ Ok node
   pub places : value_places (look_up version old) x ≡ offsets
   pub adds : AddsValue (look_up version old) (look_up version new) x node offsets place text list v
+  pub freed : (o : ℕ) → In (value_list_at (look_up version old) x) o → held_at new o ≡ None
   pub least : bins_size old ≤ bins_size new
   pub long : bins_size new ≤ bins_size old + new_bin_size (added_size version node.value_count v)
 

@@ -1,6 +1,6 @@
 //! A key made in place.
 
-ghost use Rattle.std.specs.Prelude.{◌≡◌, ◌≤◌, ◌+◌, ◌-◌, length, Ok, IfOk, MatchBool, MatchResult};
+ghost use Rattle.std.specs.Prelude.{◌≡◌, ◌≤◌, ◌+◌, ◌-◌, ◌*◌, length, true, Ok, IfOk, MatchBool, MatchResult};
 ghost use Rattle.std.specs.Option.{MatchOption};
 ghost use Rattle.hive_model.specs.Edit.{make_key, is_bad_name, after_step};
 ghost use Rattle.hive_model.specs.Size.{cell, list_size, name_bytes};
@@ -12,12 +12,14 @@ ghost use Rattle.hive_edit.specs.Hive.{cells_in};
 ghost use Rattle.hive_edit.specs.Making.{AboveIs, IsOpen, MayMake};
 ghost use Rattle.hive_edit.specs.Places.{IsKeyAt};
 ghost use Rattle.hive_edit.specs.Stepped.{IsStepped, LacksStepRoom};
+ghost use Rattle.hive_edit.specs.Told.{IsToldAfter};
 ghost use Rattle.hive_model.specs.Valid.{longest_key_name};
 
 use crate::cells::are_bytes;
 use crate::hive::HiveBytes;
 use crate::making::{Above, add_node, new_node, node_fits};
 use crate::path::{child_at, key_at};
+use crate::telling::{CHILDREN, wide_len};
 use hive_cells::Source;
 use hive_pack::{cell_size, list_len, name_len};
 use key_index::{bins_fit, payload};
@@ -162,6 +164,28 @@ impl HiveBytes {
         Ok(true)
     }
 
+    /// The same, and the node of the key above tells no less than the length of the name.
+    fn make_told(
+        &mut self,
+        alloc: Global,
+        place: NewPlace,
+        parent: &Names,
+        name: &[u16],
+    ) -> Result<bool, AllocError>
+        requires may { MayMake self.old parent.now name.now place }
+        ensures made { IfOk result (λ done. MatchBool done (IsStepped self.old (make_key parent.now name.now) self.new)
+            (LacksStepRoom self.old (make_key parent.now name.now))) }
+        ensures told { result ≡ Ok true → IsToldAfter self.old (make_key parent.now name.now) parent.now 0 (2 * length name.now) 0 self.new }
+    {
+        self.stands();
+        if self.make_at(alloc, place, parent, name)? {
+            let wide = wide_len(name);
+            self.tell(parent, CHILDREN, wide, 0);
+            return Ok(true);
+        }
+        Ok(false)
+    }
+
     /// Gives the key that a path leads to a child of this name, unless it has one, whatever the bulk of the tree then: with
     /// its stamp and its security, and nothing else, in the order of folded names. Its node is put into a cell that was
     /// none, the parent's lists are rewritten, and the security counts one key more. `false` where there is no room for
@@ -181,7 +205,7 @@ impl HiveBytes {
             Ok(None) => Ok(true),
             Ok(Some(at)) => match self.new_place(at, parent, name) {
                 None => Ok(false),
-                Some(place) => match self.make_at(alloc, place, parent, name) {
+                Some(place) => match self.make_told(alloc, place, parent, name) {
                     Ok(true) => Ok(true),
                     Ok(false) => Ok(false),
                     Err(_) => Err(EditStop::Memory),

@@ -1,6 +1,6 @@
 //! A child of the root added with all below it.
 
-ghost use Rattle.std.specs.Prelude.{◌≡◌, ◌≤◌, ◌<◌, ◌^◌, ◌+◌, ◌-◌, [], min, Ok, IfOk, MatchBool, MatchResult};
+ghost use Rattle.std.specs.Prelude.{◌≡◌, ◌≤◌, ◌<◌, ◌^◌, ◌+◌, ◌-◌, ◌*◌, [], length, min, true, Ok, IfOk, MatchBool, MatchResult};
 ghost use Rattle.std.specs.Option.{IfSome, MatchOption};
 ghost use Rattle.std.specs.Result.{IsOk};
 ghost use Rattle.hive_model.specs.Tree.{head};
@@ -13,6 +13,7 @@ ghost use Rattle.hive_edit.specs.Children.{IsAddedIn, IsFreeName, IsGraftedIn, I
 ghost use Rattle.hive_edit.specs.Grafted.{descriptor_of};
 ghost use Rattle.hive_edit.specs.Runs.{IsPlace};
 ghost use Rattle.hive_edit.specs.Stepped.{IsStepped, LacksStepRoom};
+ghost use Rattle.hive_edit.specs.Told.{IsToldAfter};
 
 use crate::adding::above_at;
 use crate::cells::{are_bytes, place_for};
@@ -20,6 +21,7 @@ use crate::grafting::graft_cells;
 use crate::hive::HiveBytes;
 use crate::making::Above;
 use crate::path::child_at;
+use crate::telling::class_len;
 use cell_forms::read_sk;
 use hive_cells::{OpenHeap, Source};
 use hive_pack::{NOWHERE, list_len};
@@ -227,6 +229,28 @@ impl HiveBytes {
         }
     }
 
+    /// The same, and the root's node tells no less than the lengths of the name and of the class.
+    fn add_told(&mut self, alloc: Global, name: &[u16], key: &Key) -> Result<bool, EditStop>
+        requires free { IsFreeName self.old name.now }
+        requires fits { Fits (add_child name.now key.now) }
+        ensures made { MatchResult result
+            (λ done. MatchBool done (IsStepped self.old (add_child name.now key.now) self.new) (LacksStepRoom self.old (add_child name.now key.now)))
+            (IsRefused (after_step (add_child name.now key.now) self.old.tree)) }
+        ensures told { result ≡ Ok true
+            → IsToldAfter self.old (add_child name.now key.now) [] 0 (2 * length name.now) (length (head key.now).class) self.new }
+    {
+        self.stands();
+        match self.add_named(alloc, name, key) {
+            Ok(true) => {
+                let class = class_len(key);
+                self.tell_child(alloc, name, class);
+                Ok(true)
+            }
+            Ok(false) => Ok(false),
+            Err(stop) => Err(stop),
+        }
+    }
+
     /// Gives the root a child of this name, which is this key with all below it, whatever the bulk of the tree then: one run of
     /// cells, new lists of the root, and that many uses more of the root's security as keys share it. `false` where there is no
     /// room for the run or for the lists. The hive is a draft, to be dropped then, and after an `Err`.
@@ -243,7 +267,7 @@ impl HiveBytes {
     {
         match self.judge_name(name) {
             Err(stop) => Err(stop),
-            Ok(()) => self.add_named(alloc, name, key),
+            Ok(()) => self.add_told(alloc, name, key),
         }
     }
 }

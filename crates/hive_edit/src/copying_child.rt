@@ -1,6 +1,6 @@
 //! A child of the root copied with all below it: what was read of it is added under the other name, and shares its descriptor.
 
-ghost use Rattle.std.specs.Prelude.{◌≡◌, ◌≤◌, [], ◌∷◌, true, find, Some, IfOk, MatchBool, MatchResult};
+ghost use Rattle.std.specs.Prelude.{◌≡◌, ◌≤◌, ◌*◌, [], ◌∷◌, length, true, find, Some, Ok, IfOk, MatchBool, MatchResult};
 ghost use Rattle.hive_model.specs.Tree.{children, head, is_named};
 ghost use Rattle.hive_model.specs.Valid.{HoldsKeys, levels};
 ghost use Rattle.hive_model.specs.Size.{size};
@@ -9,12 +9,14 @@ ghost use Rattle.reg_tree.specs.Makes.{IsRefused};
 ghost use Rattle.hive_edit.specs.Children.{IsFreeName, IsGraftedIn, IsNewChild, LacksGraftRoom, MayGraft};
 ghost use Rattle.hive_edit.specs.Copying.{HasSecurityOf, IsCopiedIn, SharesChild};
 ghost use Rattle.hive_edit.specs.Stepped.{IsStepped, LacksStepRoom};
+ghost use Rattle.hive_edit.specs.Told.{IsToldAfter};
 
 use crate::adding::above_at;
 use crate::adding_child::{descriptor, offset_fits, renamed, size_below};
 use crate::hive::HiveBytes;
 use crate::making::Above;
 use crate::path::child_at;
+use crate::telling::class_len;
 use hive_cells::Source;
 use nt_bytes::{Names, Units};
 use reg_tree::{EditStop, Key};
@@ -141,6 +143,36 @@ impl HiveBytes {
         }
     }
 
+    /// The same, and the root's node tells no less than the lengths of the name and of the class.
+    fn copy_told(
+        &mut self,
+        alloc: Global,
+        from: &[u16],
+        to: &[u16],
+        key: &Key,
+    ) -> Result<bool, EditStop>
+        requires found { find (is_named from.now) (children self.old.tree) ≡ Some key.now }
+        requires free { IsFreeName self.old to.now }
+        requires holds { HoldsKeys key.now }
+        requires low { levels key.now ≤ 511 }
+        ensures made { MatchResult result
+            (λ done. MatchBool done (IsStepped self.old (copy_child from.now to.now) self.new) (LacksStepRoom self.old (copy_child from.now to.now)))
+            (IsRefused (after_step (copy_child from.now to.now) self.old.tree)) }
+        ensures told { result ≡ Ok true
+            → IsToldAfter self.old (copy_child from.now to.now) [] 0 (2 * length to.now) (length (head key.now).class) self.new }
+    {
+        self.stands();
+        match self.copy_named(alloc, from, to, key) {
+            Ok(true) => {
+                let class = class_len(key);
+                self.tell_child(alloc, to, class);
+                Ok(true)
+            }
+            Ok(false) => Ok(false),
+            Err(stop) => Err(stop),
+        }
+    }
+
     /// Gives the root a child of the name `to` that is as its child of the name `from`, with all below it, whatever the bulk of the
     /// tree then: one run of cells, new lists of the root, and that many uses more of the security of `from` as keys share it.
     /// `false` where there is no room for the run or for the lists. The hive is a draft, to be dropped then, and after an `Err`.
@@ -159,7 +191,7 @@ impl HiveBytes {
             None => Err(EditStop::NoKey),
             Some(key) => match self.judge_name(to) {
                 Err(stop) => Err(stop),
-                Ok(()) => self.copy_named(alloc, from, to, &key),
+                Ok(()) => self.copy_told(alloc, from, to, &key),
             },
         }
     }

@@ -14,7 +14,8 @@ ghost use Rattle.hive_edit.specs.Hive.{cells_in};
 ghost use Rattle.hive_edit.specs.Places.{IsKeyAt};
 ghost use Rattle.hive_edit.specs.Edits.{IsEditedInPlace, IsPackedAnew, IsPackedForRoom, KeepsParents};
 ghost use Rattle.hive_edit.specs.Stepped.{IsStepped, LacksStepRoom};
-ghost use Rattle.hive_edit.specs.Deleting.{levels_left, pair_place, DropsUses, IsDeletedInPlace, IsPairKept, IsPairTaken, IsPairThere};
+ghost use Rattle.hive_edit.specs.Deleting.{levels_left, pair_place, DropsUses, IsPairKept, IsPairTaken, IsPairThere};
+ghost use Rattle.hive_edit.specs.Deleted.{IsDeletedInPlace};
 
 use crate::adding::above_at;
 use crate::dropping::take_child;

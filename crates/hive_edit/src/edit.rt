@@ -15,11 +15,15 @@ ghost use Rattle.reg_tree.specs.Makes.{IsRefused, Makes, step_of};
 ghost use Rattle.reg_tree.specs.declared.stop.EditStop.TheVariants.{Full, Memory};
 ghost use Rattle.hive_edit.specs.Hive.{cells_in};
 ghost use Rattle.hive_edit.specs.Edits.{inside_place, value_fields, IsEditedInPlace, IsPackedAnew, IsPackedForRoom, KeepsParents, WritesFields};
+ghost use Rattle.hive_edit.specs.Stepped.{IsStepped};
+ghost use Rattle.hive_edit.specs.Told.{IsToldAfter, TellsData, WritesValue};
 ghost use Rattle.hive_edit.specs.Freed.{FreesData};
 
+use crate::cells::are_bytes;
 use crate::give::inside_fields;
 use crate::hive::HiveBytes;
 use crate::path::key_at;
+use crate::telling::VALUES;
 use crate::values::{if_inside, value_at};
 use hive_cells::{Source, read_cells};
 use hive_pack::{pack, tree_fits};
@@ -69,7 +73,7 @@ impl HiveBytes {
     }
 
     /// A tree is in the cells.
-    fn stands(&self)
+    pub(crate) fn stands(&self)
         ensures { IsWellFormed (cells_in self.now) self.now.root self.now.tree }
     {
         let _root = self.root();
@@ -208,6 +212,7 @@ impl HiveBytes {
         ensures refused { OnErr result (self.new ≡ self.old) }
         ensures version { self.new.version ≡ self.old.version }
         ensures done { result ≡ Ok true → IsEditedInPlace self.old (set_value path.now name.now kind bytes.now ∷ []) self.new }
+        ensures tells { result ≡ Ok true → TellsData self.new path.now (length bytes.now) }
         ensures freed { result ≡ Ok true → FreesData self.old path.now name.now self.new }
         ensures no_room { result ≡ Ok false → (u : Tree) → edited self.old.version self.old.tree (set_value path.now name.now kind bytes.now ∷ []) ≡ Ok u
             → 16777216 < strain_of self.old.version (bins_size self.old.bins) self.old.tree (set_value path.now name.now kind bytes.now ∷ []) }
@@ -234,6 +239,7 @@ impl HiveBytes {
         ensures room { OnOk result (IsEditedInPlace self.old (set_value path.now name.now kind bytes.now ∷ []) self.new
             ⊎ IsPackedForRoom self.old (set_value path.now name.now kind bytes.now ∷ []) self.new) }
         ensures parents { OnOk result (KeepsParents self.old self.new) }
+        ensures told { OnOk result (TellsData self.new path.now (length bytes.now) ⊎ IsPackedAnew self.new) }
         ensures freed { OnOk result (FreesData self.old path.now name.now self.new
             ⊎ IsPackedForRoom self.old (set_value path.now name.now kind bytes.now ∷ []) self.new) }
     {
@@ -246,12 +252,41 @@ impl HiveBytes {
         self.set_anew(alloc, path, name, kind, bytes)
     }
 
+    /// Writes twelve bytes of a value that holds its data itself, and is to hold these.
+    fn write_inside(&mut self, path: &Names, name: &[u16], at: u32, kind: u32, bytes: &[u8])
+        requires there { inside_place (cells_in self.old) path.now name.now self.old.root ≡ Some at }
+        requires few { length bytes.now ≤ 4 }
+        ensures stepped { IsStepped self.old (set_value path.now name.now kind bytes.now) self.new }
+        ensures bulk { bulk_of self.old.version self.new.tree ≡ bulk_of self.old.version self.old.tree }
+        ensures written { WritesFields at (value_fields (2147483648 + length bytes.now) (from_le_bytes w32 bytes.now) kind) self.old.bins self.new.bins }
+    {
+        let fields = inside_fields(kind, bytes);
+        self.cells.patch(at, 4, &fields);
+        are_bytes(&self.cells);
+    }
+
+    /// The same, and the node of the key tells no less than the length of the data.
+    fn set_inside(&mut self, path: &Names, name: &[u16], at: u32, kind: u32, bytes: &[u8])
+        requires there { inside_place (cells_in self.old) path.now name.now self.old.root ≡ Some at }
+        requires few { length bytes.now ≤ 4 }
+        ensures stepped { IsStepped self.old (set_value path.now name.now kind bytes.now) self.new }
+        ensures bulk { bulk_of self.old.version self.new.tree ≡ bulk_of self.old.version self.old.tree }
+        ensures told { IsToldAfter self.old (set_value path.now name.now kind bytes.now) path.now 2 0 (length bytes.now) self.new }
+        ensures written { WritesValue self.old path.now at (value_fields (2147483648 + length bytes.now) (from_le_bytes w32 bytes.now) kind)
+            (length bytes.now) self.new }
+    {
+        self.stands();
+        self.write_inside(path, name, at, kind, bytes);
+        self.tell(path, VALUES, 0, bytes.len() as u32);
+    }
+
     /// Gives the key that a path leads to a value: in place of the one that has the name, letters of either case
     /// taken for one, which keeps its own, or as the last. Where the value is there, twelve bytes of its cell are
     /// written, new cells take data of over four bytes, and the cells of the old data are freed; where these were in the
     /// value itself, and so are the new, no memory is wanted. For a value of a new name one run of cells takes the list
     /// with it, its own cell and those of its data, eight bytes of the key's node say so, and the old list is freed.
-    /// What there is no room for repacks the tree. After an `Err` the hive is as before.
+    /// Where the node told smaller greatest lengths of its values, it tells these. What there is no room for repacks the
+    /// tree. After an `Err` the hive is as before.
     pub fn set_value(
         &mut self,
         alloc: Global,
@@ -267,12 +302,13 @@ impl HiveBytes {
         ensures room { OnOk result (IsEditedInPlace self.old (set_value path.now name.now kind bytes.now ∷ []) self.new
             ⊎ IsPackedForRoom self.old (set_value path.now name.now kind bytes.now ∷ []) self.new) }
         ensures parents { OnOk result (KeepsParents self.old self.new) }
+        ensures told { OnOk result (TellsData self.new path.now (length bytes.now) ⊎ IsPackedAnew self.new) }
         ensures freed { OnOk result (FreesData self.old path.now name.now self.new
             ⊎ IsPackedForRoom self.old (set_value path.now name.now kind bytes.now ∷ []) self.new) }
         ensures in_place { is_some (inside_place (cells_in self.old) path.now name.now self.old.root) ≡ true → length bytes.now ≤ 4
             → OnOk result (IsEditedInPlace self.old (set_value path.now name.now kind bytes.now ∷ []) self.new) }
         ensures twelve_bytes { (at : ℕ) → inside_place (cells_in self.old) path.now name.now self.old.root ≡ Some at → length bytes.now ≤ 4
-            → OnOk result (WritesFields at (value_fields (2147483648 + length bytes.now) (from_le_bytes w32 bytes.now) kind) self.old.bins self.new.bins) }
+            → OnOk result (WritesValue self.old path.now at (value_fields (2147483648 + length bytes.now) (from_le_bytes w32 bytes.now) kind) (length bytes.now) self.new) }
         ensures no_memory { is_some (inside_place (cells_in self.old) path.now name.now self.old.root) ≡ true → length bytes.now ≤ 4
             → IfErr result (λ stop. stop ≡ Full) }
     {
@@ -287,8 +323,7 @@ impl HiveBytes {
                 if bulk > MOST_BULK {
                     return Err(EditStop::Full);
                 }
-                let fields = inside_fields(kind, bytes);
-                self.cells.patch(at, 4, &fields);
+                self.set_inside(path, name, at, kind, bytes);
                 Ok(())
             }
         }

@@ -27,6 +27,7 @@ mod path;
 mod set;
 mod steps;
 mod strain;
+mod telling;
 mod unset;
 mod uses;
 mod values;

@@ -25,6 +25,7 @@ ghost use Rattle.hive_edit.specs.NewValue.{added_cells, added_size, CanAdd, IsNe
 ghost use Rattle.hive_edit.specs.Places.{value_place};
 ghost use Rattle.hive_edit.specs.Runs.{IsPlace};
 ghost use Rattle.hive_edit.specs.Stepped.{IsStepped, LacksStepRoom};
+ghost use Rattle.hive_edit.specs.Told.{IsToldAfter, TellsData};
 ghost use Rattle.hive_model.specs.Valid.{longest_data, longest_value_name};
 
 use crate::cells::{MOST_BINS, are_bytes, place_for, put_run};
@@ -33,6 +34,7 @@ use crate::hive::HiveBytes;
 use crate::making::cell_bytes;
 use crate::measure::{cell_len, data_len};
 use crate::path::key_at;
+use crate::telling::{VALUES, wide_len};
 use crate::unset::{list_len, two_fields, values_of};
 use crate::values::value_at;
 use cell_forms::{VkForm, vk_bytes};
@@ -365,6 +367,35 @@ impl HiveBytes {
         Ok(false)
     }
 
+    /// The same, and the key's node tells no less than the lengths of the name and of the data.
+    fn put_told(
+        &mut self,
+        alloc: Global,
+        path: &Names,
+        name: &[u16],
+        key: u32,
+        kind: u32,
+        bytes: &[u8],
+        bulk: u64,
+    ) -> Result<bool, AllocError>
+        requires new { IsNewIn self.old path.now name.now key }
+        requires few { length bytes.now ≤ longest_data }
+        requires bulk { bulk ≡ bulk_of self.old.version (set_tree path.now name.now kind bytes.now self.old.tree) }
+        ensures stepped { IfOk result (λ done. MatchBool done (IsStepped self.old (set_value path.now name.now kind bytes.now) self.new)
+            (LacksStepRoom self.old (set_value path.now name.now kind bytes.now) × (self.new ≡ self.old))) }
+        ensures told { result ≡ Ok true → IsToldAfter self.old (set_value path.now name.now kind bytes.now) path.now 2 (2 * length name.now) (length bytes.now) self.new }
+        ensures bulk { result ≡ Ok true → bulk ≡ bulk_of self.old.version self.new.tree }
+        ensures refused { OnErr result (self.new ≡ self.old) }
+    {
+        self.stands();
+        if self.put_new(alloc, path, name, key, kind, bytes, bulk)? {
+            let wide = wide_len(name);
+            self.tell(path, VALUES, wide, bytes.len() as u32);
+            return Ok(true);
+        }
+        Ok(false)
+    }
+
     /// Puts a value of a new name into a key in place. `false` where there is no room for it; the hive is as before then,
     /// and after an `Err`.
     fn add_new(
@@ -385,6 +416,7 @@ impl HiveBytes {
         ensures refused { OnErr result (self.new ≡ self.old) }
         ensures version { self.new.version ≡ self.old.version }
         ensures done { result ≡ Ok true → IsEditedInPlace self.old (set_value path.now name.now kind bytes.now ∷ []) self.new }
+        ensures tells { result ≡ Ok true → TellsData self.new path.now (length bytes.now) }
         ensures no_room { result ≡ Ok false → (u : Tree) → edited self.old.version self.old.tree (set_value path.now name.now kind bytes.now ∷ []) ≡ Ok u
             → 16777216 < strain_of self.old.version (bins_size self.old.bins) self.old.tree (set_value path.now name.now kind bytes.now ∷ []) }
     {
@@ -392,7 +424,7 @@ impl HiveBytes {
         if bulk > MOST_BULK {
             return Err(EditStop::Full);
         }
-        if self.put_new(alloc, path, name, key, kind, bytes, bulk)? {
+        if self.put_told(alloc, path, name, key, kind, bytes, bulk)? {
             return Ok(true);
         }
         Ok(false)
@@ -416,6 +448,7 @@ impl HiveBytes {
         ensures refused { OnErr result (self.new ≡ self.old) }
         ensures version { self.new.version ≡ self.old.version }
         ensures done { result ≡ Ok true → IsEditedInPlace self.old (set_value path.now name.now kind bytes.now ∷ []) self.new }
+        ensures tells { result ≡ Ok true → TellsData self.new path.now (length bytes.now) }
         ensures fresh { result ≡ Ok true → place_in (cells_in self.old) path.now name.now self.old.root ≡ None }
         ensures no_room { result ≡ Ok false → place_in (cells_in self.old) path.now name.now self.old.root ≡ None
             → (u : Tree) → edited self.old.version self.old.tree (set_value path.now name.now kind bytes.now ∷ []) ≡ Ok u
@@ -484,11 +517,11 @@ impl HiveBytes {
         match self.value_in(path, name, key) {
             None => {
                 let bulk = self.bulk_with(path, name, key, kind, bytes);
-                self.put_new(alloc, path, name, key, kind, bytes, bulk)
+                self.put_told(alloc, path, name, key, kind, bytes, bulk)
             }
             Some(at) => {
                 let bulk = self.bulk_given(path, name, at, kind, bytes);
-                self.give_there(alloc, path, name, at, kind, bytes, bulk)
+                self.give_told(alloc, path, name, at, kind, bytes, bulk)
             }
         }
     }

@@ -12,6 +12,7 @@ ghost use Rattle.hive_edit.specs.Edits.{IsEditedInPlace};
 ghost use Rattle.hive_edit.specs.Given.{place_in};
 ghost use Rattle.hive_edit.specs.NewValue.{set_tree};
 ghost use Rattle.hive_edit.specs.Stepped.{IsStepped, LacksStepRoom};
+ghost use Rattle.hive_edit.specs.Told.{IsToldAfter, TellsData};
 ghost use Rattle.hive_edit.specs.Freed.{FreesData};
 ghost use Rattle.hive_edit.specs.Places.{data_places};
 ghost use Rattle.hive_model.specs.Valid.{longest_data};
@@ -21,6 +22,7 @@ use crate::data::{data_places, data_room};
 use crate::give::give;
 use crate::hive::HiveBytes;
 use crate::path::key_at;
+use crate::telling::VALUES;
 use crate::values::value_at;
 use hive_cells::Source;
 use hive_pack::data_len;
@@ -70,7 +72,7 @@ impl HiveBytes {
 
     /// Gives the value that is there a type and data, whatever the bulk then, which is reported. `false` where there is no
     /// room for the data; the hive is as before then, and where there is no memory.
-    pub(crate) fn give_there(
+    fn give_there(
         &mut self,
         alloc: Global,
         path: &Names,
@@ -111,6 +113,35 @@ impl HiveBytes {
         Ok(false)
     }
 
+    /// The same, and the node of the key tells no less than the length of the data.
+    pub(crate) fn give_told(
+        &mut self,
+        alloc: Global,
+        path: &Names,
+        name: &[u16],
+        at: u32,
+        kind: u32,
+        bytes: &[u8],
+        bulk: u64,
+    ) -> Result<bool, AllocError>
+        requires there { place_in (cells_in self.old) path.now name.now self.old.root ≡ Some at }
+        requires few { length bytes.now ≤ longest_data }
+        requires bulk { bulk ≡ bulk_of self.old.version (set_tree path.now name.now kind bytes.now self.old.tree) }
+        ensures stepped { IfOk result (λ done. MatchBool done (IsStepped self.old (set_value path.now name.now kind bytes.now) self.new)
+            (LacksStepRoom self.old (set_value path.now name.now kind bytes.now) × (self.new ≡ self.old))) }
+        ensures told { result ≡ Ok true → IsToldAfter self.old (set_value path.now name.now kind bytes.now) path.now 2 0 (length bytes.now) self.new }
+        ensures freed { result ≡ Ok true → (o : ℕ) → Contains (data_places (cells_in self.old) at) o → held_at self.new.bins o ≡ None }
+        ensures bulk { result ≡ Ok true → bulk ≡ bulk_of self.old.version self.new.tree }
+        ensures refused { OnErr result (self.new ≡ self.old) }
+    {
+        self.stands();
+        if self.give_there(alloc, path, name, at, kind, bytes, bulk)? {
+            self.tell(path, VALUES, 0, bytes.len() as u32);
+            return Ok(true);
+        }
+        Ok(false)
+    }
+
     /// Sets a value that is there in place. `false` where there is none, or no room for its data; the hive is as before
     /// then, and after an `Err`.
     pub(crate) fn set_there(
@@ -129,6 +160,7 @@ impl HiveBytes {
         ensures refused { OnErr result (self.new ≡ self.old) }
         ensures version { self.new.version ≡ self.old.version }
         ensures done { result ≡ Ok true → IsEditedInPlace self.old (set_value path.now name.now kind bytes.now ∷ []) self.new }
+        ensures tells { result ≡ Ok true → TellsData self.new path.now (length bytes.now) }
         ensures freed { result ≡ Ok true → FreesData self.old path.now name.now self.new }
         ensures no_room { result ≡ Ok false → (at : ℕ) → place_in (cells_in self.old) path.now name.now self.old.root ≡ Some at
             → 16777216 < strain_of self.old.version (bins_size self.old.bins) self.old.tree (set_value path.now name.now kind bytes.now ∷ []) }
@@ -140,7 +172,7 @@ impl HiveBytes {
         if bulk > MOST_BULK {
             return Err(EditStop::Full);
         }
-        if self.give_there(alloc, path, name, at, kind, bytes, bulk)? {
+        if self.give_told(alloc, path, name, at, kind, bytes, bulk)? {
             return Ok(true);
         }
         Ok(false)

@@ -7,4 +7,4 @@ pub mod Below
 pub mod Runs
 pub mod Meeting
 pub mod Fresh
-pub mod Hinted
+pub mod Packing

@@ -11,13 +11,15 @@ use Rattle.std.proofs.lemmas.List.{append-nil, length-append, length-take, lengt
 use Rattle.std.proofs.lemmas.List.Elements.{All-cons, All-nil, Contains-append_left, Contains-push, Contains-push_cases}
 use Rattle.std.proofs.lemmas.List.Sums.{sum_by-append, sum_by-cons}
 use Rattle.std.proofs.lemmas.List.Folds.{sum_by-replicate}
+use Rattle.nt_bytes.specs.Fields.{u16_in}
 use Rattle.nt_bytes.specs.declared.version.HiveVersion.{HiveVersion}
 use Rattle.nt_bytes.specs.declared.version.HiveVersion.TheVariants.{V3, V5}
 use Rattle.nt_bytes.specs.declared.fault.HiveFaultKind.{HiveFaultKind}
-use Rattle.hive_model.specs.Size.{cell, is_narrow, part_count, list_size}
+use Rattle.hive_model.specs.Size.{cell, part_count, list_size}
 use Rattle.hive_model.specs.Bins.{Cell, Bin, Cells, cell_size, cells_size, bin_size, bins_size, IsCell, in_cells, in_bins, or_else, payload_at, look_up}
+use Rattle.hive_model.specs.KeyNode.{is_narrow_key}
 use Rattle.hive_model.specs.Lists.{AreOffsets, AreHints, list_at, offsets_text, ri_text}
-use Rattle.hive_model.specs.Packed.{filled, allocated_cell, text, rounded, part_places, list_cells, name_hint, parts}
+use Rattle.hive_model.specs.Packed.{filled, allocated_cell, text, rounded, part_places, list_cells, parts}
 use Rattle.hive_model.specs.Footprint.{of_read, list_sizes, room_of, list_strain_of}
 use Rattle.hive_model.proofs.Spelling.{length_offsets}
 use Rattle.hive_pack.proofs.Rows.{space, length_filled, length_hint_of, space_list, cell_text_is, length_part_places, lists_many}
@@ -29,7 +31,7 @@ use Rattle.hive_cells.proofs.GrowLemmas.{new_long}
 use Rattle.hive_cells.proofs.Made.{run_made, packed_bytes}
 use Rattle.hive_cells.proofs.HeldLemmas.{held_payload, payload_held}
 use Rattle.key_index.specs.Relists.{list_run, IsFirstFit, IsPut, AreRelisted, Relists}
-use Rattle.key_index.specs.Lists.{IsNode, ListsSiblings, hints_in, lists_at, lists_lists, name_in, offsets_of, payload_in, without_child}
+use Rattle.key_index.specs.Lists.{IsNode, ListsSiblings, hints_in, lists_at, lists_lists, name_in, offsets_of, payload_in, stored_hint, without_child}
 use Rattle.key_index.proofs.Fresh.{lists_inside, lists_once}
 use Rattle.key_index.proofs.Below.{ChildLists, UsedLists, child_lists, used_lists}
 use Rattle.hive_pack.proofs.Whole.{used_size}
@@ -414,6 +416,10 @@ put_is version gone offsets hints old mid new at held fit some same four room fi
           fresh o r.0 r.1;
       once = lists_once (look_up version new) at offsets hints written some same fit four room;
       long = long_too ∙ long;
+      run = λ o p h. (
+        others o (stays o p h) ∙ filled o ∙ ap (λ (x : Option (List ℕ)). or_else x (held_at old o)) h,
+        unheld o p h,
+      );
     }
   where
     first : (x y : Option (List ℕ)) (p : List ℕ) → ((q : List ℕ) → x ≡ Some q → y ≡ None) → y ≡ Some p
@@ -477,6 +483,7 @@ relisted version gone offsets hints old mid new at size p same long room e some 
           (list_strain_of (bins_size old) (length offsets)) p.long k strain;
       kept_long = let l = p.long in let least = room_longer size old mid at room in omega (arith, l, least);
       first = subst (λ (m : ℕ). IsFirstFit m old new at) e (first_fit size old mid new at room p.long);
+      run = λ o q h. let r = p.run o q h in (r.0, sym (same o) ∙ r.1);
     }
   where
     within : (a b d r s : ℕ) → d ≡ b → b ≤ a + r → a + r ≤ s → d ≤ s
@@ -530,13 +537,16 @@ lists_held version bins list (suc n) s = go (lists_lists (payload_in cells list)
         (All-cons (λ o. IsSome (held_at bins o)) list (offsets_of (payload_in cells list)) here
         (λ k d lt. read_held version bins _ ((own.many e).0 k d lt)))
 
-hint_four : (version : HiveVersion) (name : List ℕ) → length (name_hint version name) ≡ 4
-hint_four V3 name = length_hint_of (is_narrow name) name
-hint_four V5 name = refl
+hint_four : (version : HiveVersion) (narrow : Bool) (name : List ℕ) → length (stored_hint version narrow name) ≡ 4
+hint_four V3 narrow name = length_hint_of narrow name
+hint_four V5 narrow name = refl
 
 pub hints_four : (cells : Cells) (offsets : List ℕ) → AreHints (hints_in cells offsets)
 hints_four cells [] = tt
-hints_four cells (x ∷ xs) = (hint_four cells.version (name_in cells x), hints_four cells xs)
+hints_four cells (x ∷ xs) = (
+  hint_four cells.version (is_narrow_key (u16_in (payload_in cells x) 2)) (name_in cells x),
+  hints_four cells xs,
+)
 
 pub without_nodes : (cells : Cells) (child : ℕ) (offsets : List ℕ) → All (IsNode cells) offsets
     → All (IsNode cells) (without_child child offsets)

@@ -3,13 +3,15 @@ use Rattle.std.specs.Prelude.{◌≡◌, ◌<◌, ℕ, ◌==◌, Bool, true, fal
 use Rattle.std.specs.Result.{IsOk}
 use Rattle.std.specs.Ordering.{is_gt}
 use Rattle.std.specs.List.{All, AllPairs, flat_map, position_or_len}
+use Rattle.std.specs.Int.{w32, to_le_bytes}
 use Rattle.nt_bytes.specs.Fields.{u16_in}
 use Rattle.nt_bytes.specs.Folding.{folds_same, folded_order}
+use Rattle.nt_bytes.specs.declared.version.HiveVersion.{HiveVersion}
+use Rattle.nt_bytes.specs.declared.version.HiveVersion.TheVariants.{V3, V5}
 use Rattle.hive_model.specs.Bins.{Cells}
-use Rattle.hive_model.specs.KeyNode.{key_node_at}
-use Rattle.hive_model.specs.Lists.{list_at}
+use Rattle.hive_model.specs.KeyNode.{is_narrow_key, key_node_at}
+use Rattle.hive_model.specs.Lists.{list_at, hint_of, hash_of}
 use Rattle.hive_model.specs.Walk.{entries_at, entries_checks}
-use Rattle.hive_model.specs.Packed.{name_hint}
 use Rattle.hive_model.specs.Footprint.{of_read, used_in, is_node_named}
 
 -- ---- what a payload says, empty where it is not read
@@ -99,9 +101,19 @@ with_child cells child offsets =
 abbrev pub without_child : ℕ → List ℕ → List ℕ
 without_child child offsets = filter (λ at. not (at == child)) offsets
 
+-- the four bytes that a list has for a name that is stored with one byte a unit, or with two: of the name itself, in version 1.5
+-- its hash
+abbrev pub stored_hint : HiveVersion → Bool → List ℕ → List ℕ
+stored_hint V3 narrow name = hint_of narrow name
+stored_hint V5 narrow name = to_le_bytes w32 (hash_of name)
+
+-- the bytes that a list has beside the key node in a payload, by how its name is stored there
+abbrev pub node_hint : HiveVersion → List ℕ → List ℕ
+node_hint version p = stored_hint version (is_narrow_key (u16_in p 2)) (name_of p)
+
 -- the bytes that a list has for the key node at an offset beside it
 abbrev pub hint_in : Cells → ℕ → List ℕ
-hint_in cells at = name_hint cells.version (name_in cells at)
+hint_in cells at = node_hint cells.version (payload_in cells at)
 
 -- the same of each of these
 abbrev pub hints_in : Cells → List ℕ → List (List ℕ)

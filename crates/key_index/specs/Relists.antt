@@ -28,7 +28,8 @@ IsFirstFit size old new at = (IsLowestHole size old at × (bins_size new ≡ bin
 
 -- The lists of these children begin here, in packed form, cell after cell, in the first free cell that had room for them, if one had.
 -- The old cells of lists are gone, each other cell that was held is as it was, and nothing else is held. The lists use each cell
--- once, and none of these was held. The bins data are longer by at most the room for each list.
+-- once, and none of these was held. The bins data are longer by at most the room for each list. Each cell of the lists in packed form
+-- is held, and was none (run).
 pub record AreRelisted (version : HiveVersion) (gone offsets : List ℕ) (hints : List (List ℕ)) (old new : List Bin) (at : ℕ) : Type 0 where
   pub lists : ListsAt (look_up version new) at offsets
   pub freed : (o : ℕ) → Contains gone o → held_at new o ≡ None
@@ -39,6 +40,7 @@ pub record AreRelisted (version : HiveVersion) (gone offsets : List ℕ) (hints 
   pub long : bins_size new ≤ list_strain_of (bins_size old) (length offsets)
   pub kept_long : bins_size old ≤ bins_size new
   pub first : IsFirstFit (list_size (length offsets)) old new at
+  pub run : (o : ℕ) (p : List ℕ) → held_among o at (list_run version at offsets hints) ≡ Some p → (held_at new o ≡ Some p) × (held_at old o ≡ None)
 
 -- The lists of these children were put here, and the old ones freed.
 pub record IsPut (version : HiveVersion) (gone offsets : List ℕ) (hints : List (List ℕ)) (old new : List Bin) (at : ℕ) : Type 0 where
@@ -49,6 +51,7 @@ pub record IsPut (version : HiveVersion) (gone offsets : List ℕ) (hints : List
   pub fresh : (o : ℕ) → Contains (used_in (entries_checks (look_up version new) at)) o → held_at old o ≡ None
   pub once : AreUsedOnce (entries_checks (look_up version new) at)
   pub long : bins_size new ≡ bins_size old
+  pub run : (o : ℕ) (p : List ℕ) → held_among o at (list_run version at offsets hints) ≡ Some p → (held_at new o ≡ Some p) × (held_at old o ≡ None)
 
 -- the room for lists of that many children is over 16 MiB, and the cells are as they were
 abbrev pub LacksRoom : ℕ → List Bin → List Bin → Type 0

@@ -1,6 +1,6 @@
 //! The four bytes that a list has for each name, out of the bytes that the name is stored in.
 
-ghost use Rattle.std.specs.Prelude.{◌≡◌, ◌+◌, ◌*◌, ◌%◌, IfOk, slice_index};
+ghost use Rattle.std.specs.Prelude.{◌≡◌, ◌+◌, ◌*◌, ◌%◌, true, false, IfOk, slice_index};
 ghost use Rattle.std.specs.Result.{IsOk};
 ghost use Rattle.std.specs.List.{All};
 ghost use Rattle.nt_bytes.specs.Folding.{folded_unit};
@@ -8,16 +8,13 @@ ghost use Rattle.nt_bytes.specs.Text.{wide_of};
 ghost use Rattle.hive_model.specs.StoredNames.{stored_name};
 ghost use Rattle.hive_model.specs.KeyNode.{key_node_at};
 ghost use Rattle.hive_model.specs.Lists.{hash_of, hint_of};
-ghost use Rattle.hive_model.specs.Size.{is_narrow};
-ghost use Rattle.hive_model.specs.Packed.{name_hint};
-ghost use Rattle.key_index.specs.Lists.{IsNode, hint_in, hints_in, name_of};
+ghost use Rattle.key_index.specs.Lists.{IsNode, hint_in, hints_in, node_hint, stored_hint};
 ghost use Rattle.hive_cells.specs.Sources.{cells_of};
 
 use crate::node::{is_narrow, stored_bytes};
 use crate::source::payload;
 use hive_cells::Source;
-use hive_pack::name_hint;
-use nt_bytes::{HiveVersion, fold, wide};
+use nt_bytes::{HiveVersion, fold};
 use std::alloc::{AllocError, Global};
 
 // ---- of a name with one byte a unit
@@ -56,7 +53,7 @@ fn byte_or_zero(bytes: &[u8], at: usize) -> u8
 
 /// The first four bytes of a name, zeros after a short one.
 fn first_bytes(stored: &[u8]) -> [u8; 4]
-    ensures { result ≡ hint_of (is_narrow stored.now) stored.now }
+    ensures { result ≡ hint_of true stored.now }
 {
     [
         byte_or_zero(stored, 0),
@@ -68,7 +65,7 @@ fn first_bytes(stored: &[u8]) -> [u8; 4]
 
 /// The four bytes for a name.
 fn hint_narrow(version: HiveVersion, stored: &[u8]) -> [u8; 4]
-    ensures { result ≡ name_hint version stored.now }
+    ensures { result ≡ stored_hint version true stored.now }
 {
     match version {
         HiveVersion::V3 => first_bytes(stored),
@@ -94,50 +91,42 @@ fn hash_wide(stored: &[u8]) -> u32
 }
 
 /// The four bytes for a name.
-fn hint_wide(alloc: Global, version: HiveVersion, stored: &[u8]) -> Result<[u8; 4], AllocError>
-    ensures { IfOk result (λ h. h ≡ name_hint version (wide_of stored.now)) }
+fn hint_wide(version: HiveVersion, stored: &[u8]) -> [u8; 4]
+    ensures { result ≡ stored_hint version false (wide_of stored.now) }
 {
     match version {
-        HiveVersion::V3 => {
-            let name = wide(alloc, stored)?;
-            Ok(name_hint(version, name.as_slice()))
-        }
-        HiveVersion::V5 => Ok(hash_wide(stored).to_le_bytes()),
+        HiveVersion::V3 => [0; 4],
+        HiveVersion::V5 => hash_wide(stored).to_le_bytes(),
     }
 }
 
 // ---- of key nodes
 
 /// The four bytes for a name that is stored in these.
-fn hint_stored(
-    alloc: Global,
-    version: HiveVersion,
-    is_narrow: bool,
-    stored: &[u8],
-) -> Result<[u8; 4], AllocError>
-    ensures { IfOk result (λ h. h ≡ name_hint version (stored_name is_narrow stored.now)) }
+fn hint_stored(version: HiveVersion, is_narrow: bool, stored: &[u8]) -> [u8; 4]
+    ensures { result ≡ stored_hint version is_narrow (stored_name is_narrow stored.now) }
 {
     if is_narrow {
-        Ok(hint_narrow(version, stored))
+        hint_narrow(version, stored)
     } else {
-        hint_wide(alloc, version, stored)
+        hint_wide(version, stored)
     }
 }
 
 /// The four bytes for the name of the key node in a payload.
-fn hint_of_node(alloc: Global, version: HiveVersion, node: &[u8]) -> Result<[u8; 4], AllocError>
+fn hint_of_node(version: HiveVersion, node: &[u8]) -> [u8; 4]
     requires { IsOk (key_node_at node.now) }
-    ensures { IfOk result (λ h. h ≡ name_hint version (name_of node.now)) }
+    ensures { result ≡ node_hint version node.now }
 {
-    hint_stored(alloc, version, is_narrow(node), stored_bytes(node))
+    hint_stored(version, is_narrow(node), stored_bytes(node))
 }
 
 /// The four bytes for the name of the key node at an offset.
-fn hint_at(alloc: Global, cells: &Source, at: u32) -> Result<[u8; 4], AllocError>
+fn hint_at(cells: &Source, at: u32) -> [u8; 4]
     requires { IsNode (cells_of cells.now) at }
-    ensures { IfOk result (λ h. h ≡ hint_in (cells_of cells.now) at) }
+    ensures { result ≡ hint_in (cells_of cells.now) at }
 {
-    hint_of_node(alloc, cells.version, payload(cells, at))
+    hint_of_node(cells.version, payload(cells, at))
 }
 
 /// Those for each of these.
@@ -152,7 +141,7 @@ pub(crate) fn hints(
     let mut made = Vec::new(alloc);
     made.resize(offsets.len(), [0; 4])?;
     for (i, at) in offsets.iter().enumerate() {
-        made[i] = hint_at(alloc, cells, *at)?;
+        made[i] = hint_at(cells, *at);
     }
     Ok(made)
 }

@@ -1,7 +1,6 @@
 use Rattle.std.proofs.Common.{◌≡◌, ◌++◌, ◌∷◌, [], ℕ, List, ap, length, ◌∙◌}
 use Rattle.std.specs.Prelude.{codes}
 use Rattle.hive_store.specs.Found.{found_names}
-use Rattle.hive_store.specs.Session.{Session}
 use Rattle.start_model.specs.Sets.{set_name}
 use Rattle.boot_run.proofs.SetLemmas.{service_names}
 use Rattle.boot_run.proofs.sets.count_services.Goals as goal
@@ -11,6 +10,5 @@ returns c =
     let path : c.push.new.self ≡ set_name c.args.number ∷ codes "Services" ∷ [] =
     c.in_ok-push.ensures.ok ∙ (λ i. c.in_ok-path.ensures i ++ c.in_ok-from_slice.ensures i ∷ []) in
     c.len.ensures ∙ ap length
-    (c.in_ok-names.ensures ∙ ap (λ (p : List (List ℕ)). found_names p c.live.inside.hive.tree) path)
-    ∙ ap (λ (s : Session). length (found_names (set_name c.args.number ∷ codes "Services" ∷ []) s.tree)) c.live.view_is
-    ∙ service_names c.args.live.now.tree c.args.number
+    (c.in_ok-names.ensures ∙ ap (λ (p : List (List ℕ)). found_names p c.args.hive.now.tree) path)
+    ∙ service_names c.args.hive.now.tree c.args.number

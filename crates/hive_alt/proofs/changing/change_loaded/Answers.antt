@@ -6,11 +6,12 @@ use Rattle.hive_commit.specs.Stages.{closed_of}
 use Rattle.hive_store.specs.Checks.{held_state}
 use Rattle.hive_alt.specs.Changes.{Change, nothing, no_select, too_large, change_of, after_change, IsEitherOf, StandsAfter}
 use Rattle.hive_alt.specs.Plans.{IsPlanOf}
+use Rattle.hive_alt.specs.declared.planning.Plan.TheVariants as plans
 use Rattle.hive_alt.proofs.ChangeLemmas.{IsCleanAs, nothing_done, kept_crash, left_mended, change_answers, change_mended, change_crash}
 use Rattle.hive_alt.proofs.KeptLemmas.{kept_still}
 use Rattle.hive_alt.proofs.changing.change_loaded.Given.{Over}
 use Rattle.hive_alt.proofs.changing.change_loaded.Goals as goal
-use Rattle.hive_alt.proofs.changing.change_loaded.Goals.{After-settled_is_clean, In_ok-next}
+use Rattle.hive_alt.proofs.changing.change_loaded.Goals.{After-settled_is_clean, In_ok-next, In-Pack}
 
 -- what was loaded stands with nothing to repair
 clean_here : (g : Over) (c : After-settled_is_clean g) → g.D.Disk.tells ≡ true
@@ -31,6 +32,9 @@ cut_here g c tells =
     (kept_still g.S.Scheme.stands s s refl (c.requires.still tells) found.base found.bins
     (record { dirty = false; kept = clean_here g c tells }))
 
+version_is : (g : Over) (c : In_ok-next g) → c.version.result ≡ version_of c.args.loaded.found.base.minor
+version_is g c = c.version.ensures ∙ ap (λ (r : Recovered). version_of r.base.minor) c.found.view_is
+
 -- and that is the tree as it is to be, where the plan leaves the tree
 left_here : (g : Over) (c : In_ok-next g) → g.D.Disk.tells ≡ true → (change : Change)
     → change_of c.version.result c.args.loaded.tree c.args.number ≡ change
@@ -39,10 +43,21 @@ left_here : (g : Over) (c : In_ok-next g) → g.D.Disk.tells ≡ true → (chang
     (StandsAfter g.S.Scheme.stands c.args.loaded.found c.args.loaded.tree c.args.number)
 left_here g c tells change is left =
     left_mended g.S.Scheme.stands c.args.loaded.found c.args.loaded.tree c.args.number (c.requires.holds tells) change
-    c.version.result (c.version.ensures ∙ ap (λ (r : Recovered). version_of r.base.minor) c.found.view_is) is left
-    (g.D.Disk.state c.args.disk.now) (c.requires.still tells)
-    (c.settled_is_clean.ensures (g.D.Disk.state c.args.disk.now).held c.args.loaded.found.base
-    c.args.loaded.found.bins c.requires.sized (c.requires.settled tells))
+    c.version.result (version_is g c) is left (g.D.Disk.state c.args.disk.now) (c.requires.still tells)
+    (clean_here g (goal.at.In_ok-next g c).After-settled_is_clean tells)
+
+-- what is packed holds the changed tree
+packed : (g : Over) (c : In-Pack g) → IsPlanOf c.version.result
+    (change_of c.version.result c.args.loaded.tree c.args.number) (plans.Pack c.in-Pack.new)
+packed g c = subst (IsPlanOf c.version.result (change_of c.version.result c.args.loaded.tree c.args.number))
+    c.in-Pack.is c.in_ok-next.ensures
+
+-- the commit is given what was loaded
+given_is : (g : Over) (c : In-Pack g) → c.found.inside.base ≡ c.args.loaded.found.base
+given_is g c = ap (λ (r : Recovered). r.base) c.found.view_is
+
+old_is : (g : Over) (c : In-Pack g) → c.as_slice-old.result.now ≡ c.args.loaded.found.bins
+old_is g c = c.as_slice-old.ensures ∙ ap (λ (r : Recovered). r.bins) c.found.view_is
 
 pub returns-in_err-next-clause-crash : goal.returns-in_err-next-clause-crash
 returns-in_err-next-clause-crash g c = cut_here g (goal.at.returns-in_err-next-clause-crash g c).After-settled_is_clean
@@ -58,38 +73,27 @@ returns-in-Full-clause-crash g c = cut_here g (goal.at.returns-in-Full-clause-cr
 
 pub returns-in-Nothing-clause-answers : goal.returns-in-Nothing-clause-answers
 returns-in-Nothing-clause-answers g c = λ tells image read.
-    let stands = g.S.Scheme.stands in
-    let found = c.args.loaded.found in
-    let tree = c.args.loaded.tree in
-    let number = c.args.number in
-    let holds = c.requires.holds tells in
     let s = g.D.Disk.state c.args.disk.now in
     let loaded_is = ap (λ (b : Base). b.first) c.base.view_is ∙ ap (λ (r : Recovered). r.base.first) c.found.view_is in
     let mended_is = ap (λ (r : Recovered). r.dirty) c.found.view_is in
-    let version_is = c.version.ensures ∙ ap (λ (r : Recovered). version_of r.base.minor) c.found.view_is in
-    let plan = subst (IsPlanOf c.version.result (change_of c.version.result tree number))
+    let plan = subst (IsPlanOf c.version.result (change_of c.version.result c.args.loaded.tree c.args.number))
     c.in-Nothing.is c.in_ok-next.ensures in
-    nothing_done stands found tree number holds c.base.inside.first c.found.inside.dirty loaded_is mended_is image
-    s.held c.version.result version_is read plan
+    nothing_done g.S.Scheme.stands c.args.loaded.found c.args.loaded.tree c.args.number (c.requires.holds tells)
+    c.base.inside.first c.found.inside.dirty loaded_is mended_is image
+    s.held c.version.result (version_is g (goal.at.returns-in-Nothing-clause-answers g c).In_ok-next) read plan
     (clean_here g (goal.at.returns-in-Nothing-clause-answers g c).After-settled_is_clean tells)
 
 pub returns-clause-answers : goal.returns-clause-answers
 returns-clause-answers g c = λ tells image read.
-    let stands = g.S.Scheme.stands in
-    let found = c.args.loaded.found in
-    let tree = c.args.loaded.tree in
-    let number = c.args.number in
-    let holds = c.requires.holds tells in
     let loaded_is = ap (λ (b : Base). b.first) c.base.view_is ∙ ap (λ (r : Recovered). r.base.first) c.found.view_is in
     let mended_is = ap (λ (r : Recovered). r.dirty) c.found.view_is in
-    let version_is = c.version.ensures ∙ ap (λ (r : Recovered). version_of r.base.minor) c.found.view_is in
-    let x = subst (IsPlanOf c.version.result (change_of c.version.result tree number))
-    c.in-Pack.is c.in_ok-next.ensures in
-    let given_is = ap (λ (r : Recovered). r.base) c.found.view_is in
-    let old_is = c.as_slice-old.ensures ∙ ap (λ (r : Recovered). r.bins) c.found.view_is in
+    let here = (goal.at.returns-clause-answers g c).In-Pack in
+    let x = packed g here in
     let t = g.D.Disk.state c.commit_change.new.disk in
-    change_answers stands found tree number holds x.0 c.in-Pack.new c.version.result version_is x.1 x.2
-    c.found.inside.base c.as_slice-old.result.now c.as_slice-packed.result.now given_is old_is c.as_slice-packed.ensures
+    change_answers g.S.Scheme.stands c.args.loaded.found c.args.loaded.tree c.args.number (c.requires.holds tells) x.0
+    c.in-Pack.new c.version.result (version_is g (goal.at.returns-clause-answers g c).In_ok-next) x.1 x.2
+    c.found.inside.base c.as_slice-old.result.now c.as_slice-packed.result.now (given_is g here) (old_is g here)
+    c.as_slice-packed.ensures
     c.base.inside.first c.found.inside.dirty loaded_is mended_is image t.held read
     (g.S.Scheme.settled t.held (closed_of c.found.inside.base c.as_slice-packed.result.now 32)
     c.as_slice-packed.result.now)
@@ -118,19 +122,14 @@ returns-in-Full-clause-mended g c = λ tells decided.
 
 pub returns-clause-mended : goal.returns-clause-mended
 returns-clause-mended g c = λ tells.
-    let stands = g.S.Scheme.stands in
-    let found = c.args.loaded.found in
-    let tree = c.args.loaded.tree in
-    let number = c.args.number in
-    let version_is = c.version.ensures ∙ ap (λ (r : Recovered). version_of r.base.minor) c.found.view_is in
-    let x = subst (IsPlanOf c.version.result (change_of c.version.result tree number))
-    c.in-Pack.is c.in_ok-next.ensures in
-    let given_is = ap (λ (r : Recovered). r.base) c.found.view_is in
-    let old_is = c.as_slice-old.ensures ∙ ap (λ (r : Recovered). r.bins) c.found.view_is in
+    let here = (goal.at.returns-clause-mended g c).In-Pack in
+    let x = packed g here in
     let t = g.D.Disk.state c.commit_change.new.disk in
-    change_mended stands found tree number (c.requires.holds tells) x.0 c.in-Pack.new c.version.result version_is
+    change_mended g.S.Scheme.stands c.args.loaded.found c.args.loaded.tree c.args.number (c.requires.holds tells) x.0
+    c.in-Pack.new c.version.result (version_is g (goal.at.returns-clause-mended g c).In_ok-next)
     x.1 x.2
-    c.found.inside.base c.as_slice-old.result.now c.as_slice-packed.result.now given_is old_is c.as_slice-packed.ensures
+    c.found.inside.base c.as_slice-old.result.now c.as_slice-packed.result.now (given_is g here) (old_is g here)
+    c.as_slice-packed.ensures
     c.base.inside.first c.found.inside.dirty t
     (g.S.Scheme.settled t.held (closed_of c.found.inside.base c.as_slice-packed.result.now 32)
     c.as_slice-packed.result.now)
@@ -141,16 +140,10 @@ returns-clause-mended g c = λ tells.
 
 pub returns-clause-crash : goal.returns-clause-crash
 returns-clause-crash g c = λ tells.
-    let stands = g.S.Scheme.stands in
-    let found = c.args.loaded.found in
-    let tree = c.args.loaded.tree in
-    let number = c.args.number in
-    let holds = c.requires.holds tells in
-    let version_is = c.version.ensures ∙ ap (λ (r : Recovered). version_of r.base.minor) c.found.view_is in
-    let x = subst (IsPlanOf c.version.result (change_of c.version.result tree number))
-    c.in-Pack.is c.in_ok-next.ensures in
-    let given_is = ap (λ (r : Recovered). r.base) c.found.view_is in
-    let old_is = c.as_slice-old.ensures ∙ ap (λ (r : Recovered). r.bins) c.found.view_is in
-    change_crash stands found tree number holds x.0 c.in-Pack.new c.version.result version_is x.1 x.2
-    c.found.inside.base c.as_slice-old.result.now c.as_slice-packed.result.now given_is old_is c.as_slice-packed.ensures
+    let here = (goal.at.returns-clause-crash g c).In-Pack in
+    let x = packed g here in
+    change_crash g.S.Scheme.stands c.args.loaded.found c.args.loaded.tree c.args.number (c.requires.holds tells) x.0
+    c.in-Pack.new c.version.result (version_is g (goal.at.returns-clause-crash g c).In_ok-next) x.1 x.2
+    c.found.inside.base c.as_slice-old.result.now c.as_slice-packed.result.now (given_is g here) (old_is g here)
+    c.as_slice-packed.ensures
     (g.D.Disk.state c.commit_change.new.disk) (c.commit_change.ensures.crash tells)

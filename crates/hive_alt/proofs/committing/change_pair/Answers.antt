@@ -1,14 +1,58 @@
-use Rattle.std.proofs.Common.{rules, inl}
+use Rattle.std.proofs.Common.{◌≡◌, true, rules, inl}
 use Rattle.hive_model.specs.Image.{Primary, Log}
 use Rattle.hive_model.specs.Recovery.{bit}
+use Rattle.nt_edge.specs.Crash.{EachCrash, AgreeOutside}
 use Rattle.hive_commit.specs.Stages.{opened_of, closed_of}
 use Rattle.hive_commit.proofs.CallLemmas.{stopped}
-use Rattle.hive_commit.proofs.Four.{asked, held_left}
-use Rattle.hive_alt.specs.Copies.{copy_in}
+use Rattle.hive_commit.proofs.Four.{IsAsked, asked, held_left}
+use Rattle.hive_alt.specs.Copies.{copy_in, in_copy, IsWritten}
+use Rattle.hive_alt.specs.Schemes.{IsKeptAsEither}
+use Rattle.hive_alt.specs.Twin.{twin_of}
 use Rattle.hive_alt.proofs.CopyLemmas.{written_as, rewriting_as}
 use Rattle.hive_alt.proofs.PairCalls.{in_second, in_first, pair_made}
 use Rattle.hive_alt.proofs.PairLemmas.{second_stays, before_cut, first_stays, first_cut, pair_after}
+use Rattle.hive_alt.proofs.committing.change_pair.Given.{Over}
 use Rattle.hive_alt.proofs.committing.change_pair.Goals as goal
+use Rattle.hive_alt.proofs.committing.change_pair.Goals.{After-mark_dirty, In_ok-rewrite, After-rewrite-2}
+
+-- the old bins data and the new, as the stages ask for them
+stages_ask : (g : Over) (c : After-mark_dirty g) → g.D.Disk.tells ≡ true
+    → IsAsked c.args.base.now c.args.old.now c.args.new.now c.args.root (bit c.mark_dirty.new.into)
+stages_ask g c tells =
+    asked (copy_in Primary (g.D.Disk.state c.args.disk.now).held) c.args.base.now c.args.old.now c.args.new.now
+    c.args.root c.mark_dirty.new.into (c.requires.settled tells).first c.numbers_fit.ensures c.texts_fit.ensures
+    c.requires.sized (search rules) c.mark_dirty.ensures
+
+-- once the second copy is written, all outside it is as it was, and it has the new data
+other_left : (g : Over) (c : In_ok-rewrite g) → g.D.Disk.tells ≡ true
+    → AgreeOutside (in_copy Log) (g.D.Disk.state c.args.disk.now).held (g.D.Disk.state c.rewrite.new.disk).held
+other_left g c tells =
+    let s = g.D.Disk.state c.rewrite.new.disk in c.rewrite.ensures.other tells s.held (held_left s)
+
+second_written : (g : Over) (c : In_ok-rewrite g) → g.D.Disk.tells ≡ true
+    → IsWritten Log (g.D.Disk.state c.rewrite.new.disk).held
+    (closed_of c.args.base.now c.args.new.now c.args.root) c.args.new.now
+second_written g c tells =
+    written_as Log (g.D.Disk.state c.rewrite.new.disk).held c.closed_block-closed.result
+    (closed_of c.args.base.now c.args.new.now c.args.root) c.args.new.now c.closed_block-closed.ensures
+    (c.in_ok-rewrite.ensures.written tells)
+
+-- a cut while the primary is written, or after it
+cut_in_primary : (g : Over) (c : After-rewrite-2 g) → g.D.Disk.tells ≡ true
+    → EachCrash (g.D.Disk.state c.rewrite-2.new.disk) (IsKeptAsEither twin_of c.args.base.now c.args.old.now
+    (closed_of c.args.base.now c.args.new.now c.args.root) c.args.new.now)
+cut_in_primary g c tells image left =
+    let base = c.args.base.now in
+    let new = c.args.new.now in
+    let second = (goal.at.After-rewrite-2 g c).In_ok-rewrite in
+    let h1 = (g.D.Disk.state c.rewrite.new.disk).held in
+    first_cut base c.args.old.now new c.args.root (bit c.mark_dirty.new.into)
+    (stages_ask g (goal.at.After-rewrite-2 g c).After-mark_dirty tells) (g.D.Disk.state c.args.disk.now).held
+    (c.requires.settled tells) h1 (other_left g second tells) (second_written g second tells) image
+    (c.rewrite-2.ensures.other tells image left)
+    (rewriting_as Primary h1 image c.opened_block-opened.result (opened_of base) c.closed_block-closed.result
+    (closed_of base new c.args.root) new c.opened_block-opened.ensures c.closed_block-closed.ensures
+    (c.rewrite-2.ensures.crash tells image left))
 
 pub returns-in_err-rewrite-clause-made : goal.returns-in_err-rewrite-clause-made
 returns-in_err-rewrite-clause-made g c =
@@ -37,112 +81,40 @@ returns-clause-made g c =
 
 pub rewrite-requires-clause-stays : goal.rewrite-requires-clause-stays
 rewrite-requires-clause-stays g c = λ tells.
-    let base = c.args.base.now in
-    let old = c.args.old.now in
-    let new = c.args.new.now in
-    let root = c.args.root in
-    let bits = bit c.mark_dirty.new.into in
-    let h0 = (g.D.Disk.state c.args.disk.now).held in
-    let is0 = c.requires.settled tells in
-    let is = asked (copy_in Primary h0)
-    base old new root c.mark_dirty.new.into is0.first c.numbers_fit.ensures c.texts_fit.ensures c.requires.sized
-    (search rules) c.mark_dirty.ensures in
-    second_stays base old new root bits is h0 is0
+    second_stays c.args.base.now c.args.old.now c.args.new.now c.args.root (bit c.mark_dirty.new.into)
+    (stages_ask g (goal.at.rewrite-requires-clause-stays g c).After-mark_dirty tells)
+    (g.D.Disk.state c.args.disk.now).held (c.requires.settled tells)
 
 pub rewrite-requires-2-clause-stays : goal.rewrite-requires-2-clause-stays
 rewrite-requires-2-clause-stays g c = λ tells.
-    let base = c.args.base.now in
-    let old = c.args.old.now in
-    let new = c.args.new.now in
-    let root = c.args.root in
-    let bits = bit c.mark_dirty.new.into in
-    let h0 = (g.D.Disk.state c.args.disk.now).held in
-    let is0 = c.requires.settled tells in
-    let is = asked (copy_in Primary h0)
-    base old new root c.mark_dirty.new.into is0.first c.numbers_fit.ensures c.texts_fit.ensures c.requires.sized
-    (search rules) c.mark_dirty.ensures in
-    let s1 = g.D.Disk.state c.rewrite.new.disk in
-    let other1 = c.rewrite.ensures.other tells s1.held (held_left s1) in
-    let written1 = written_as Log s1.held c.closed_block-closed.result (closed_of base new root)
-    new c.closed_block-closed.ensures (c.in_ok-rewrite.ensures.written tells) in
-    first_stays base old new root bits is h0 is0 s1.held other1 written1
+    let second = (goal.at.rewrite-requires-2-clause-stays g c).In_ok-rewrite in
+    first_stays c.args.base.now c.args.old.now c.args.new.now c.args.root (bit c.mark_dirty.new.into)
+    (stages_ask g (goal.at.rewrite-requires-2-clause-stays g c).After-mark_dirty tells)
+    (g.D.Disk.state c.args.disk.now).held (c.requires.settled tells) (g.D.Disk.state c.rewrite.new.disk).held
+    (other_left g second tells) (second_written g second tells)
 
 pub returns-in_err-rewrite-clause-crash : goal.returns-in_err-rewrite-clause-crash
 returns-in_err-rewrite-clause-crash g c = λ tells image left.
-    let base = c.args.base.now in
-    let old = c.args.old.now in
-    let new = c.args.new.now in
-    let root = c.args.root in
-    let bits = bit c.mark_dirty.new.into in
-    let h0 = (g.D.Disk.state c.args.disk.now).held in
-    let is0 = c.requires.settled tells in
-    let is = asked (copy_in Primary h0)
-    base old new root c.mark_dirty.new.into is0.first c.numbers_fit.ensures c.texts_fit.ensures c.requires.sized
-    (search rules) c.mark_dirty.ensures in
-    inl (before_cut base old new root bits is h0 is0 image (c.rewrite.ensures.other tells image left))
+    inl (before_cut c.args.base.now c.args.old.now c.args.new.now c.args.root (bit c.mark_dirty.new.into)
+    (stages_ask g (goal.at.returns-in_err-rewrite-clause-crash g c).After-mark_dirty tells)
+    (g.D.Disk.state c.args.disk.now).held (c.requires.settled tells) image (c.rewrite.ensures.other tells image left))
 
 pub returns-in_err-rewrite-2-clause-crash : goal.returns-in_err-rewrite-2-clause-crash
-returns-in_err-rewrite-2-clause-crash g c = λ tells image left.
-    let base = c.args.base.now in
-    let old = c.args.old.now in
-    let new = c.args.new.now in
-    let root = c.args.root in
-    let bits = bit c.mark_dirty.new.into in
-    let h0 = (g.D.Disk.state c.args.disk.now).held in
-    let is0 = c.requires.settled tells in
-    let is = asked (copy_in Primary h0)
-    base old new root c.mark_dirty.new.into is0.first c.numbers_fit.ensures c.texts_fit.ensures c.requires.sized
-    (search rules) c.mark_dirty.ensures in
-    let s1 = g.D.Disk.state c.rewrite.new.disk in
-    let other1 = c.rewrite.ensures.other tells s1.held (held_left s1) in
-    let written1 = written_as Log s1.held c.closed_block-closed.result (closed_of base new root)
-    new c.closed_block-closed.ensures (c.in_ok-rewrite.ensures.written tells) in
-    first_cut base old new root bits is h0 is0 s1.held other1 written1 image
-    (c.rewrite-2.ensures.other tells image left)
-    (rewriting_as Primary s1.held image c.opened_block-opened.result (opened_of base) c.closed_block-closed.result
-    (closed_of base new root) new c.opened_block-opened.ensures c.closed_block-closed.ensures
-    (c.rewrite-2.ensures.crash tells image left))
+returns-in_err-rewrite-2-clause-crash g c = cut_in_primary g (goal.at.returns-in_err-rewrite-2-clause-crash g
+    c).After-rewrite-2
 
 pub returns-clause-crash : goal.returns-clause-crash
-returns-clause-crash g c = λ tells image left.
-    let base = c.args.base.now in
-    let old = c.args.old.now in
-    let new = c.args.new.now in
-    let root = c.args.root in
-    let bits = bit c.mark_dirty.new.into in
-    let h0 = (g.D.Disk.state c.args.disk.now).held in
-    let is0 = c.requires.settled tells in
-    let is = asked (copy_in Primary h0)
-    base old new root c.mark_dirty.new.into is0.first c.numbers_fit.ensures c.texts_fit.ensures c.requires.sized
-    (search rules) c.mark_dirty.ensures in
-    let s1 = g.D.Disk.state c.rewrite.new.disk in
-    let other1 = c.rewrite.ensures.other tells s1.held (held_left s1) in
-    let written1 = written_as Log s1.held c.closed_block-closed.result (closed_of base new root)
-    new c.closed_block-closed.ensures (c.in_ok-rewrite.ensures.written tells) in
-    first_cut base old new root bits is h0 is0 s1.held other1 written1 image
-    (c.rewrite-2.ensures.other tells image left)
-    (rewriting_as Primary s1.held image c.opened_block-opened.result (opened_of base) c.closed_block-closed.result
-    (closed_of base new root) new c.opened_block-opened.ensures c.closed_block-closed.ensures
-    (c.rewrite-2.ensures.crash tells image left))
+returns-clause-crash g c = cut_in_primary g (goal.at.returns-clause-crash g c).After-rewrite-2
 
 pub returns-clause-settled : goal.returns-clause-settled
 returns-clause-settled g c = λ tells.
     let base = c.args.base.now in
-    let old = c.args.old.now in
     let new = c.args.new.now in
-    let root = c.args.root in
-    let bits = bit c.mark_dirty.new.into in
-    let h0 = (g.D.Disk.state c.args.disk.now).held in
-    let is0 = c.requires.settled tells in
-    let is = asked (copy_in Primary h0)
-    base old new root c.mark_dirty.new.into is0.first c.numbers_fit.ensures c.texts_fit.ensures c.requires.sized
-    (search rules) c.mark_dirty.ensures in
-    let s1 = g.D.Disk.state c.rewrite.new.disk in
-    let other1 = c.rewrite.ensures.other tells s1.held (held_left s1) in
-    let written1 = written_as Log s1.held c.closed_block-closed.result (closed_of base new root)
-    new c.closed_block-closed.ensures (c.in_ok-rewrite.ensures.written tells) in
+    let second = (goal.at.returns-clause-settled g c).In_ok-rewrite in
     let s2 = g.D.Disk.state c.rewrite-2.new.disk in
-    pair_after base old new root bits is h0 is0 s1.held other1 written1 s2.held
-    (c.rewrite-2.ensures.other tells s2.held (held_left s2))
-    (written_as Primary s2.held c.closed_block-closed.result (closed_of base new root) new c.closed_block-closed.ensures
-    (c.in_ok-rewrite-2.ensures.written tells))
+    pair_after base c.args.old.now new c.args.root (bit c.mark_dirty.new.into)
+    (stages_ask g (goal.at.returns-clause-settled g c).After-mark_dirty tells) (g.D.Disk.state c.args.disk.now).held
+    (c.requires.settled tells) (g.D.Disk.state c.rewrite.new.disk).held (other_left g second tells)
+    (second_written g second tells) s2.held (c.rewrite-2.ensures.other tells s2.held (held_left s2))
+    (written_as Primary s2.held c.closed_block-closed.result (closed_of base new c.args.root) new
+    c.closed_block-closed.ensures (c.in_ok-rewrite-2.ensures.written tells))

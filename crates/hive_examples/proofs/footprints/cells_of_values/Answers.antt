@@ -12,34 +12,31 @@ use Rattle.hive_model.specs.Walk.{entries_at, leaf_at, security_checks, value_ch
 use Rattle.hive_model.specs.Footprint.{child_places, list_cells_at, named_value_cells, value_cells_at, security_cell_at, checks_below, named_nodes}
 use Rattle.hive_examples.proofs.footprints.cells_of_values.Goals as goal
 
-pub returns-clause-there : goal.returns-clause-there
+-- what each clause says is computed
+computed : goal.returns-clause-there
+    × goal.returns-clause-new
+    × goal.returns-clause-deleted
+    × goal.returns-clause-root
 unfolding packed_bins filled item_cells items_cells class_cells security_cells head_cells list_cells cell_bytes
     offsets_in key_node_at key_name_at key_value_at value_name_at key_value_text key_node_text lf_text lh_text list_at
     list_of bytes_in security_at security_text entries_at leaf_at security_checks value_checks data_checks
     entries_checks key_checks class_checks values_checks children_checks node_at child_places list_cells_at
     named_value_cells value_cells_at security_cell_at checks_below named_nodes
-returns-clause-there c = elim [ V3 ↦ refl | V5 ↦ refl ]
+computed = (
+  λ c. elim [ V3 ↦ refl | V5 ↦ refl ],
+  λ c. elim [ V3 ↦ refl | V5 ↦ refl ],
+  λ c. elim [ V3 ↦ refl | V5 ↦ refl ],
+  λ c. elim [ V3 ↦ refl | V5 ↦ refl ],
+)
+
+pub returns-clause-there : goal.returns-clause-there
+returns-clause-there = computed.0
 
 pub returns-clause-new : goal.returns-clause-new
-unfolding packed_bins filled item_cells items_cells class_cells security_cells head_cells list_cells cell_bytes
-    offsets_in key_node_at key_name_at key_value_at value_name_at key_value_text key_node_text lf_text lh_text list_at
-    list_of bytes_in security_at security_text entries_at leaf_at security_checks value_checks data_checks
-    entries_checks key_checks class_checks values_checks children_checks node_at child_places list_cells_at
-    named_value_cells value_cells_at security_cell_at checks_below named_nodes
-returns-clause-new c = elim [ V3 ↦ refl | V5 ↦ refl ]
+returns-clause-new = computed.1
 
 pub returns-clause-deleted : goal.returns-clause-deleted
-unfolding packed_bins filled item_cells items_cells class_cells security_cells head_cells list_cells cell_bytes
-    offsets_in key_node_at key_name_at key_value_at value_name_at key_value_text key_node_text lf_text lh_text list_at
-    list_of bytes_in security_at security_text entries_at leaf_at security_checks value_checks data_checks
-    entries_checks key_checks class_checks values_checks children_checks node_at child_places list_cells_at
-    named_value_cells value_cells_at security_cell_at checks_below named_nodes
-returns-clause-deleted c = elim [ V3 ↦ refl | V5 ↦ refl ]
+returns-clause-deleted = computed.2
 
 pub returns-clause-root : goal.returns-clause-root
-unfolding packed_bins filled item_cells items_cells class_cells security_cells head_cells list_cells cell_bytes
-    offsets_in key_node_at key_name_at key_value_at value_name_at key_value_text key_node_text lf_text lh_text list_at
-    list_of bytes_in security_at security_text entries_at leaf_at security_checks value_checks data_checks
-    entries_checks key_checks class_checks values_checks children_checks node_at child_places list_cells_at
-    named_value_cells value_cells_at security_cell_at checks_below named_nodes
-returns-clause-root c = elim [ V3 ↦ refl | V5 ↦ refl ]
+returns-clause-root = computed.3

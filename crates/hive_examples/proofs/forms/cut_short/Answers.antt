@@ -11,44 +11,44 @@ use Rattle.hive_model.specs.Walk.{node_at, big_data_of, leaf_at}
 use Rattle.hive_laws.specs.Samples.{root_alone}
 use Rattle.hive_examples.proofs.forms.cut_short.Goals as goal
 
-pub returns-clause-no_sign : goal.returns-clause-no_sign
+-- what each clause says is computed
+computed : goal.returns-clause-no_sign
+    × goal.returns-clause-node
+    × goal.returns-clause-name
+    × goal.returns-clause-whole
+    × goal.returns-clause-value
+    × goal.returns-clause-descriptor
+    × goal.returns-clause-big_data
 unfolding key_name_at value_name_at key_node_at key_node_text key_value_at key_value_text bytes_in security_at
     security_text list_of list_at big_data_at big_data_text li_text lf_text lh_text ri_text offsets_in header_at size_at
     node_at big_data_of leaf_at root_alone
-returns-clause-no_sign c = refl
+computed = (
+  λ c. refl,
+  λ c. refl,
+  λ c. refl,
+  λ c. refl,
+  λ c. refl,
+  λ c. refl,
+  λ c. refl,
+)
+
+pub returns-clause-no_sign : goal.returns-clause-no_sign
+returns-clause-no_sign = computed.0
 
 pub returns-clause-node : goal.returns-clause-node
-unfolding key_name_at value_name_at key_node_at key_node_text key_value_at key_value_text bytes_in security_at
-    security_text list_of list_at big_data_at big_data_text li_text lf_text lh_text ri_text offsets_in header_at size_at
-    node_at big_data_of leaf_at root_alone
-returns-clause-node c = refl
+returns-clause-node = computed.1
 
 pub returns-clause-name : goal.returns-clause-name
-unfolding key_name_at value_name_at key_node_at key_node_text key_value_at key_value_text bytes_in security_at
-    security_text list_of list_at big_data_at big_data_text li_text lf_text lh_text ri_text offsets_in header_at size_at
-    node_at big_data_of leaf_at root_alone
-returns-clause-name c = refl
+returns-clause-name = computed.2
 
 pub returns-clause-whole : goal.returns-clause-whole
-unfolding key_name_at value_name_at key_node_at key_node_text key_value_at key_value_text bytes_in security_at
-    security_text list_of list_at big_data_at big_data_text li_text lf_text lh_text ri_text offsets_in header_at size_at
-    node_at big_data_of leaf_at root_alone
-returns-clause-whole c = refl
+returns-clause-whole = computed.3
 
 pub returns-clause-value : goal.returns-clause-value
-unfolding key_name_at value_name_at key_node_at key_node_text key_value_at key_value_text bytes_in security_at
-    security_text list_of list_at big_data_at big_data_text li_text lf_text lh_text ri_text offsets_in header_at size_at
-    node_at big_data_of leaf_at root_alone
-returns-clause-value c = refl
+returns-clause-value = computed.4
 
 pub returns-clause-descriptor : goal.returns-clause-descriptor
-unfolding key_name_at value_name_at key_node_at key_node_text key_value_at key_value_text bytes_in security_at
-    security_text list_of list_at big_data_at big_data_text li_text lf_text lh_text ri_text offsets_in header_at size_at
-    node_at big_data_of leaf_at root_alone
-returns-clause-descriptor c = refl
+returns-clause-descriptor = computed.5
 
 pub returns-clause-big_data : goal.returns-clause-big_data
-unfolding key_name_at value_name_at key_node_at key_node_text key_value_at key_value_text bytes_in security_at
-    security_text list_of list_at big_data_at big_data_text li_text lf_text lh_text ri_text offsets_in header_at size_at
-    node_at big_data_of leaf_at root_alone
-returns-clause-big_data c = refl
+returns-clause-big_data = computed.6

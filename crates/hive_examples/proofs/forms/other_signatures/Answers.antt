@@ -11,32 +11,34 @@ use Rattle.hive_model.specs.Walk.{node_at, big_data_of, leaf_at}
 use Rattle.hive_laws.specs.Samples.{root_alone}
 use Rattle.hive_examples.proofs.forms.other_signatures.Goals as goal
 
-pub returns-clause-node : goal.returns-clause-node
+-- what each clause says is computed
+computed : goal.returns-clause-node
+    × goal.returns-clause-value
+    × goal.returns-clause-security
+    × goal.returns-clause-list
+    × goal.returns-clause-big_data
 unfolding key_name_at value_name_at key_node_at key_node_text key_value_at key_value_text bytes_in security_at
     security_text list_of list_at big_data_at big_data_text li_text lf_text lh_text ri_text offsets_in header_at size_at
     node_at big_data_of leaf_at root_alone
-returns-clause-node c = refl
+computed = (
+  λ c. refl,
+  λ c. refl,
+  λ c. refl,
+  λ c. refl,
+  λ c. refl,
+)
+
+pub returns-clause-node : goal.returns-clause-node
+returns-clause-node = computed.0
 
 pub returns-clause-value : goal.returns-clause-value
-unfolding key_name_at value_name_at key_node_at key_node_text key_value_at key_value_text bytes_in security_at
-    security_text list_of list_at big_data_at big_data_text li_text lf_text lh_text ri_text offsets_in header_at size_at
-    node_at big_data_of leaf_at root_alone
-returns-clause-value c = refl
+returns-clause-value = computed.1
 
 pub returns-clause-security : goal.returns-clause-security
-unfolding key_name_at value_name_at key_node_at key_node_text key_value_at key_value_text bytes_in security_at
-    security_text list_of list_at big_data_at big_data_text li_text lf_text lh_text ri_text offsets_in header_at size_at
-    node_at big_data_of leaf_at root_alone
-returns-clause-security c = refl
+returns-clause-security = computed.2
 
 pub returns-clause-list : goal.returns-clause-list
-unfolding key_name_at value_name_at key_node_at key_node_text key_value_at key_value_text bytes_in security_at
-    security_text list_of list_at big_data_at big_data_text li_text lf_text lh_text ri_text offsets_in header_at size_at
-    node_at big_data_of leaf_at root_alone
-returns-clause-list c = refl
+returns-clause-list = computed.3
 
 pub returns-clause-big_data : goal.returns-clause-big_data
-unfolding key_name_at value_name_at key_node_at key_node_text key_value_at key_value_text bytes_in security_at
-    security_text list_of list_at big_data_at big_data_text li_text lf_text lh_text ri_text offsets_in header_at size_at
-    node_at big_data_of leaf_at root_alone
-returns-clause-big_data c = refl
+returns-clause-big_data = computed.4

@@ -16,60 +16,51 @@ use Rattle.hive_examples.proofs.Driver.{is_cell, cells_in}
 use Rattle.hive_examples.proofs.Faults.{walk_fault}
 use Rattle.hive_examples.proofs.loads.forms_of_one_driver.Goals as goal
 
-pub returns-clause-node_sign : goal.returns-clause-node_sign
+-- what each clause says is computed
+computed : goal.returns-clause-node_sign
+    × goal.returns-clause-list_sign
+    × goal.returns-clause-list_count
+    × goal.returns-clause-name_length
+    × goal.returns-clause-no_name
+    × goal.returns-clause-backslash
+    × goal.returns-clause-half_unit
+    × goal.returns-clause-inner_list
 unfolding mixed_words head_text summed_text base_text base_of fields_of sector recovered_of key_name_at key_node_at
     value_name_at key_value_at bytes_in security_at offsets_in list_of list_at cell_bytes head_bytes node_at leaf_at
     entries_at all_checks key_checks class_checks security_checks data_checks value_checks values_checks entries_checks
     children_checks file_of driver_words driver_bin driver_with is_cell cells_in
-returns-clause-node_sign c = walk_fault ((36, 0x78) ∷ []) (fault_at FormSign 32) refl refl refl refl refl
+computed = (
+  λ c. walk_fault ((36, 0x78) ∷ []) (fault_at FormSign 32) refl refl refl refl refl,
+  λ c. walk_fault ((348, 0x78) ∷ []) (fault_at FormSign 344) refl refl refl refl refl,
+  λ c. walk_fault ((350, 2) ∷ []) (fault_at FormShort 344) refl refl refl refl refl,
+  λ c. walk_fault ((436, 0x64) ∷ []) (fault_at FormShort 360) refl refl refl refl refl,
+  λ c. walk_fault ((436, 0) ∷ []) (fault_at FormName 360) refl refl refl refl refl,
+  λ c. walk_fault ((440, 0x5C) ∷ []) (fault_at FormName 360) refl refl refl refl refl,
+  λ c. walk_fault ((366, 0) ∷ (436, 3) ∷ []) (fault_at FormLength 360) refl refl refl refl refl,
+  λ c. walk_fault ((124, 0x72) ∷ (125, 0x69) ∷ (128, 0xF0) ∷ (244, 0x72) ∷ (245, 0x69) ∷ []) (fault_at FormKind 240)
+      refl refl refl refl refl,
+)
+
+pub returns-clause-node_sign : goal.returns-clause-node_sign
+returns-clause-node_sign = computed.0
 
 pub returns-clause-list_sign : goal.returns-clause-list_sign
-unfolding mixed_words head_text summed_text base_text base_of fields_of sector recovered_of key_name_at key_node_at
-    value_name_at key_value_at bytes_in security_at offsets_in list_of list_at cell_bytes head_bytes node_at leaf_at
-    entries_at all_checks key_checks class_checks security_checks data_checks value_checks values_checks entries_checks
-    children_checks file_of driver_words driver_bin driver_with is_cell cells_in
-returns-clause-list_sign c = walk_fault ((348, 0x78) ∷ []) (fault_at FormSign 344) refl refl refl refl refl
+returns-clause-list_sign = computed.1
 
 pub returns-clause-list_count : goal.returns-clause-list_count
-unfolding mixed_words head_text summed_text base_text base_of fields_of sector recovered_of key_name_at key_node_at
-    value_name_at key_value_at bytes_in security_at offsets_in list_of list_at cell_bytes head_bytes node_at leaf_at
-    entries_at all_checks key_checks class_checks security_checks data_checks value_checks values_checks entries_checks
-    children_checks file_of driver_words driver_bin driver_with is_cell cells_in
-returns-clause-list_count c = walk_fault ((350, 2) ∷ []) (fault_at FormShort 344) refl refl refl refl refl
+returns-clause-list_count = computed.2
 
 pub returns-clause-name_length : goal.returns-clause-name_length
-unfolding mixed_words head_text summed_text base_text base_of fields_of sector recovered_of key_name_at key_node_at
-    value_name_at key_value_at bytes_in security_at offsets_in list_of list_at cell_bytes head_bytes node_at leaf_at
-    entries_at all_checks key_checks class_checks security_checks data_checks value_checks values_checks entries_checks
-    children_checks file_of driver_words driver_bin driver_with is_cell cells_in
-returns-clause-name_length c = walk_fault ((436, 0x64) ∷ []) (fault_at FormShort 360) refl refl refl refl refl
+returns-clause-name_length = computed.3
 
 pub returns-clause-no_name : goal.returns-clause-no_name
-unfolding mixed_words head_text summed_text base_text base_of fields_of sector recovered_of key_name_at key_node_at
-    value_name_at key_value_at bytes_in security_at offsets_in list_of list_at cell_bytes head_bytes node_at leaf_at
-    entries_at all_checks key_checks class_checks security_checks data_checks value_checks values_checks entries_checks
-    children_checks file_of driver_words driver_bin driver_with is_cell cells_in
-returns-clause-no_name c = walk_fault ((436, 0) ∷ []) (fault_at FormName 360) refl refl refl refl refl
+returns-clause-no_name = computed.4
 
 pub returns-clause-backslash : goal.returns-clause-backslash
-unfolding mixed_words head_text summed_text base_text base_of fields_of sector recovered_of key_name_at key_node_at
-    value_name_at key_value_at bytes_in security_at offsets_in list_of list_at cell_bytes head_bytes node_at leaf_at
-    entries_at all_checks key_checks class_checks security_checks data_checks value_checks values_checks entries_checks
-    children_checks file_of driver_words driver_bin driver_with is_cell cells_in
-returns-clause-backslash c = walk_fault ((440, 0x5C) ∷ []) (fault_at FormName 360) refl refl refl refl refl
+returns-clause-backslash = computed.5
 
 pub returns-clause-half_unit : goal.returns-clause-half_unit
-unfolding mixed_words head_text summed_text base_text base_of fields_of sector recovered_of key_name_at key_node_at
-    value_name_at key_value_at bytes_in security_at offsets_in list_of list_at cell_bytes head_bytes node_at leaf_at
-    entries_at all_checks key_checks class_checks security_checks data_checks value_checks values_checks entries_checks
-    children_checks file_of driver_words driver_bin driver_with is_cell cells_in
-returns-clause-half_unit c = walk_fault ((366, 0) ∷ (436, 3) ∷ []) (fault_at FormLength 360) refl refl refl refl refl
+returns-clause-half_unit = computed.6
 
 pub returns-clause-inner_list : goal.returns-clause-inner_list
-unfolding mixed_words head_text summed_text base_text base_of fields_of sector recovered_of key_name_at key_node_at
-    value_name_at key_value_at bytes_in security_at offsets_in list_of list_at cell_bytes head_bytes node_at leaf_at
-    entries_at all_checks key_checks class_checks security_checks data_checks value_checks values_checks entries_checks
-    children_checks file_of driver_words driver_bin driver_with is_cell cells_in
-returns-clause-inner_list c =
-    walk_fault ((124, 0x72) ∷ (125, 0x69) ∷ (128, 0xF0) ∷ (244, 0x72) ∷ (245, 0x69) ∷ []) (fault_at FormKind 240)
-    refl refl refl refl refl
+returns-clause-inner_list = computed.7

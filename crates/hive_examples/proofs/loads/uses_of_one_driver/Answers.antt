@@ -16,45 +16,40 @@ use Rattle.hive_examples.proofs.Driver.{is_cell, cells_in}
 use Rattle.hive_examples.proofs.Faults.{walk_fault}
 use Rattle.hive_examples.proofs.loads.uses_of_one_driver.Goals as goal
 
-pub returns-clause-root : goal.returns-clause-root
+-- what each clause says is computed
+computed : goal.returns-clause-root
+    × goal.returns-clause-twice
+    × goal.returns-clause-free
+    × goal.returns-clause-inside
+    × goal.returns-clause-itself
+    × goal.returns-clause-free_root
 unfolding mixed_words head_text summed_text base_text base_of fields_of sector recovered_of key_name_at key_node_at
     value_name_at key_value_at bytes_in security_at offsets_in list_of list_at cell_bytes head_bytes node_at leaf_at
     entries_at all_checks key_checks class_checks security_checks data_checks value_checks values_checks entries_checks
     children_checks file_of driver_words driver_bin driver_with is_cell cells_in
-returns-clause-root c = walk_fault ((128, 0x20) ∷ []) (fault_at Shared 32) refl refl refl refl refl
+computed = (
+  λ c. walk_fault ((128, 0x20) ∷ []) (fault_at Shared 32) refl refl refl refl refl,
+  λ c. walk_fault ((136, 0x90) ∷ (137, 0) ∷ []) (fault_at Shared 144) refl refl refl refl refl,
+  λ c. walk_fault ((136, 8) ∷ (137, 3) ∷ []) (fault_at FreeCell 776) refl refl refl refl refl,
+  λ c. walk_fault ((136, 0x94) ∷ (137, 0) ∷ []) (fault_at OutOfRange 148) refl refl refl refl refl,
+  λ c. walk_fault ((352, 0) ∷ []) (fault_at Shared 256) refl refl refl refl refl,
+  λ c. walk_fault ((32, 0x58) ∷ (33, 0) ∷ (34, 0) ∷ (35, 0) ∷ []) (fault_at FreeCell 32) refl refl refl refl refl,
+)
+
+pub returns-clause-root : goal.returns-clause-root
+returns-clause-root = computed.0
 
 pub returns-clause-twice : goal.returns-clause-twice
-unfolding mixed_words head_text summed_text base_text base_of fields_of sector recovered_of key_name_at key_node_at
-    value_name_at key_value_at bytes_in security_at offsets_in list_of list_at cell_bytes head_bytes node_at leaf_at
-    entries_at all_checks key_checks class_checks security_checks data_checks value_checks values_checks entries_checks
-    children_checks file_of driver_words driver_bin driver_with is_cell cells_in
-returns-clause-twice c = walk_fault ((136, 0x90) ∷ (137, 0) ∷ []) (fault_at Shared 144) refl refl refl refl refl
+returns-clause-twice = computed.1
 
 pub returns-clause-free : goal.returns-clause-free
-unfolding mixed_words head_text summed_text base_text base_of fields_of sector recovered_of key_name_at key_node_at
-    value_name_at key_value_at bytes_in security_at offsets_in list_of list_at cell_bytes head_bytes node_at leaf_at
-    entries_at all_checks key_checks class_checks security_checks data_checks value_checks values_checks entries_checks
-    children_checks file_of driver_words driver_bin driver_with is_cell cells_in
-returns-clause-free c = walk_fault ((136, 8) ∷ (137, 3) ∷ []) (fault_at FreeCell 776) refl refl refl refl refl
+returns-clause-free = computed.2
 
 pub returns-clause-inside : goal.returns-clause-inside
-unfolding mixed_words head_text summed_text base_text base_of fields_of sector recovered_of key_name_at key_node_at
-    value_name_at key_value_at bytes_in security_at offsets_in list_of list_at cell_bytes head_bytes node_at leaf_at
-    entries_at all_checks key_checks class_checks security_checks data_checks value_checks values_checks entries_checks
-    children_checks file_of driver_words driver_bin driver_with is_cell cells_in
-returns-clause-inside c = walk_fault ((136, 0x94) ∷ (137, 0) ∷ []) (fault_at OutOfRange 148) refl refl refl refl refl
+returns-clause-inside = computed.3
 
 pub returns-clause-itself : goal.returns-clause-itself
-unfolding mixed_words head_text summed_text base_text base_of fields_of sector recovered_of key_name_at key_node_at
-    value_name_at key_value_at bytes_in security_at offsets_in list_of list_at cell_bytes head_bytes node_at leaf_at
-    entries_at all_checks key_checks class_checks security_checks data_checks value_checks values_checks entries_checks
-    children_checks file_of driver_words driver_bin driver_with is_cell cells_in
-returns-clause-itself c = walk_fault ((352, 0) ∷ []) (fault_at Shared 256) refl refl refl refl refl
+returns-clause-itself = computed.4
 
 pub returns-clause-free_root : goal.returns-clause-free_root
-unfolding mixed_words head_text summed_text base_text base_of fields_of sector recovered_of key_name_at key_node_at
-    value_name_at key_value_at bytes_in security_at offsets_in list_of list_at cell_bytes head_bytes node_at leaf_at
-    entries_at all_checks key_checks class_checks security_checks data_checks value_checks values_checks entries_checks
-    children_checks file_of driver_words driver_bin driver_with is_cell cells_in
-returns-clause-free_root c =
-    walk_fault ((32, 0x58) ∷ (33, 0) ∷ (34, 0) ∷ (35, 0) ∷ []) (fault_at FreeCell 32) refl refl refl refl refl
+returns-clause-free_root = computed.5

@@ -11,7 +11,36 @@ use Rattle.hive_log.proofs.AskedParts.{asks_behind, asks_in_whole, asks_no_more}
 use Rattle.hive_log.proofs.AskedWhole.{behind_bits, log_asked, all_asked}
 use Rattle.hive_log.proofs.Looked.{fault_of_log, no_bins, dirty_ok}
 use Rattle.hive_log.proofs.SoFar.{fault_on}
+use Rattle.hive_log.proofs.looking.read_dirty.Given.{Over}
 use Rattle.hive_log.proofs.looking.read_dirty.Goals as goal
+use Rattle.hive_log.proofs.looking.read_dirty.Goals.{After-read_by_bits}
+
+-- the bins data by the log's bits are those that are read
+bins_read : (g : Over) (c : After-read_by_bits g) → g.D.Disk.tells ≡ true
+    → bins_by (g.D.Disk.state c.args.disk.now).held c.in_ok-logged.field-0.logged.size
+    (bit c.in_ok-logged.field-0.bitmap)
+    ≡ bins_by (g.D.Disk.state c.read_log_bits.new.disk).held c.logged.inside.size (bit c.as_slice.result.now)
+bins_read g c tells =
+    let h = (g.D.Disk.state c.args.disk.now).held in
+    let size = c.logged.inside.size in
+    sym (ap (λ (i : Image). bins_by i size (bit c.as_slice.result.now)) (c.read_log_bits.ensures.look.held tells)
+    ∙ ap (λ n. bins_by h n (bit c.as_slice.result.now)) (ap (λ (b : Base). b.size) c.logged.view_is)
+    ∙ ap (λ (l : List ℕ). bins_by h c.in_ok-logged.field-0.logged.size (bit l)) c.as_slice.ensures)
+
+-- the log's bits and what is read by them are all that the log asks for
+all_read : (g : Over) (c : After-read_by_bits g) → g.D.Disk.tells ≡ true
+    → asked_log_bits (g.D.Disk.state c.args.disk.now).held c.args.opened.now
+    (asked_by_bits (g.D.Disk.state c.read_log_bits.new.disk).held c.logged.inside.size (bit c.as_slice.result.now) [])
+    ≡ asked_log (g.D.Disk.state c.args.disk.now).held c.args.opened.now
+all_read g c tells =
+    let h = (g.D.Disk.state c.args.disk.now).held in
+    let part = asked_log_bits h c.args.opened.now in
+    let logged = c.in_ok-logged.field-0.logged in
+    ap (λ (i : Image). part (asked_by_bits i c.logged.inside.size (bit c.as_slice.result.now) []))
+    (c.read_log_bits.ensures.look.held tells)
+    ∙ ap (λ n. part (asked_by_bits h n (bit c.as_slice.result.now) [])) (ap (λ (b : Base). b.size) c.logged.view_is)
+    ∙ ap (λ (l : List ℕ). part (asked_by_bits h logged.size (bit l) [])) c.as_slice.ensures
+    ∙ all_asked h c.args.opened.now logged c.in_ok-logged.field-0.bitmap (c.in_ok-logged.ensures.bits tells)
 
 pub returns-in_err-logged-clause-exact : goal.returns-in_err-logged-clause-exact
 returns-in_err-logged-clause-exact g c = λ tells.
@@ -24,80 +53,43 @@ returns-in_err-logged-clause-exact g c = λ tells.
 pub returns-in_err-logged-clause-asked : goal.returns-in_err-logged-clause-asked
 returns-in_err-logged-clause-asked g c =
     let h = (g.D.Disk.state c.args.disk.now).held in
-    let opened = c.args.opened.now in
     let p = err_from_is_err_and c.from_residual.result c.from_residual.ensures.1 in
+    let opened = c.args.opened.now in
     rw (p.1, p.2) (asks_no_more c.in_err-logged.ensures.asked Reading (behind_bits h opened) (asked_log h opened)
     (λ tells. log_asked h opened))
 
 pub returns-in_err-bins-clause-exact : goal.returns-in_err-bins-clause-exact
 returns-in_err-bins-clause-exact g c = λ tells.
     let h = (g.D.Disk.state c.args.disk.now).held in
-    let h1 = (g.D.Disk.state c.read_log_bits.new.disk).held in
-    let opened = c.args.opened.now in
-    let logged = c.in_ok-logged.field-0.logged in
-    let bits = c.in_ok-logged.field-0.bitmap in
-    let size : c.logged.inside.size ≡ logged.size = ap (λ (b : Base). b.size) c.logged.view_is in
-    let same : bins_by h logged.size (bit bits) ≡ bins_by h1 c.logged.inside.size (bit c.as_slice.result.now) =
-    sym (ap (λ (i : Image). bins_by i c.logged.inside.size (bit c.as_slice.result.now))
-    (c.read_log_bits.ensures.look.held tells)
-    ∙ ap (λ n. bins_by h n (bit c.as_slice.result.now)) size
-    ∙ ap (λ (l : List ℕ). bins_by h logged.size (bit l)) c.as_slice.ensures) in
+    let here = (goal.at.returns-in_err-bins-clause-exact g c).After-read_by_bits in
     let p = err_from_is_err_and c.from_residual-in_err-bins.result c.from_residual-in_err-bins.ensures.1 in
     rw (p.1, p.2)
-    (fault_on c.in_err-bins.field-0.0 (bins_by h1 c.logged.inside.size (bit c.as_slice.result.now)) (recovered_of h)
-    (λ f is. no_bins h opened (c.requires.block tells) c.requires.unfinished logged bits
-    (c.in_ok-logged.ensures.bits tells) f (same ∙ is))
+    (fault_on c.in_err-bins.field-0.0 _ (recovered_of h)
+    (λ f is. no_bins h c.args.opened.now (c.requires.block tells) c.requires.unfinished c.in_ok-logged.field-0.logged
+    c.in_ok-logged.field-0.bitmap (c.in_ok-logged.ensures.bits tells) f (bins_read g here tells ∙ is))
     (c.in_err-bins.ensures.bins tells))
 
 pub returns-in_err-bins-clause-asked : goal.returns-in_err-bins-clause-asked
 returns-in_err-bins-clause-asked g c =
-    let h = (g.D.Disk.state c.args.disk.now).held in
     let h1 = (g.D.Disk.state c.read_log_bits.new.disk).held in
-    let opened = c.args.opened.now in
-    let logged = c.in_ok-logged.field-0.logged in
-    let bits = c.in_ok-logged.field-0.bitmap in
-    let size : c.logged.inside.size ≡ logged.size = ap (λ (b : Base). b.size) c.logged.view_is in
-    let part = asked_log_bits h opened in
+    let here = (goal.at.returns-in_err-bins-clause-asked g c).After-read_by_bits in
     let p = err_from_is_err_and c.from_residual-in_err-bins.result c.from_residual-in_err-bins.ensures.1 in
     rw (p.1, p.2)
     (asks_no_more (asks_behind {second = asked_by_bits h1 c.logged.inside.size (bit c.as_slice.result.now)}
-    c.in_ok-logged.ensures.asked c.in_err-bins.ensures.asked) Reading [] (asked_log h opened)
-    (λ tells. ap (λ (i : Image). part (asked_by_bits i c.logged.inside.size (bit c.as_slice.result.now) []))
-    (c.read_log_bits.ensures.look.held tells)
-    ∙ ap (λ n. part (asked_by_bits h n (bit c.as_slice.result.now) [])) size
-    ∙ ap (λ (l : List ℕ). part (asked_by_bits h logged.size (bit l) [])) c.as_slice.ensures
-    ∙ all_asked h opened logged bits (c.in_ok-logged.ensures.bits tells)))
+    c.in_ok-logged.ensures.asked c.in_err-bins.ensures.asked) Reading []
+    (asked_log (g.D.Disk.state c.args.disk.now).held c.args.opened.now) (all_read g here))
 
 pub returns-clause-exact : goal.returns-clause-exact
 returns-clause-exact g c = λ tells.
-    let h = (g.D.Disk.state c.args.disk.now).held in
-    let h1 = (g.D.Disk.state c.read_log_bits.new.disk).held in
-    let opened = c.args.opened.now in
-    let logged = c.in_ok-logged.field-0.logged in
-    let bits = c.in_ok-logged.field-0.bitmap in
-    let size : c.logged.inside.size ≡ logged.size = ap (λ (b : Base). b.size) c.logged.view_is in
-    let same : bins_by h logged.size (bit bits) ≡ bins_by h1 c.logged.inside.size (bit c.as_slice.result.now) =
-    sym (ap (λ (i : Image). bins_by i c.logged.inside.size (bit c.as_slice.result.now))
-    (c.read_log_bits.ensures.look.held tells)
-    ∙ ap (λ n. bins_by h n (bit c.as_slice.result.now)) size
-    ∙ ap (λ (l : List ℕ). bins_by h logged.size (bit l)) c.as_slice.ensures) in
-    dirty_ok h opened (c.requires.block tells) c.requires.unfinished logged bits (c.in_ok-logged.ensures.bits tells)
-    c.in_ok-bins.bins (same ∙ c.in_ok-bins.ensures.bins tells)
+    dirty_ok (g.D.Disk.state c.args.disk.now).held c.args.opened.now (c.requires.block tells) c.requires.unfinished
+    c.in_ok-logged.field-0.logged c.in_ok-logged.field-0.bitmap (c.in_ok-logged.ensures.bits tells) c.in_ok-bins.bins
+    (bins_read g (goal.at.returns-clause-exact g c).After-read_by_bits tells ∙ c.in_ok-bins.ensures.bins tells)
     ∙ ap (λ (b : Base). Ok (record { base = b; bins = c.in_ok-bins.bins; dirty = true })) (sym c.closed_block.ensures)
 
 pub returns-clause-asked : goal.returns-clause-asked
 returns-clause-asked g c =
-    let h = (g.D.Disk.state c.args.disk.now).held in
-    let h1 = (g.D.Disk.state c.read_log_bits.new.disk).held in
-    let opened = c.args.opened.now in
-    let logged = c.in_ok-logged.field-0.logged in
-    let bits = c.in_ok-logged.field-0.bitmap in
-    let size : c.logged.inside.size ≡ logged.size = ap (λ (b : Base). b.size) c.logged.view_is in
-    let part = asked_log_bits h opened in
-    asks_in_whole (asks_behind {second = asked_by_bits h1 c.logged.inside.size (bit c.as_slice.result.now)}
-    {result = Ok c.in_ok-bins.bins} c.in_ok-logged.ensures.asked c.in_ok-bins.ensures.asked) (asked_log h opened)
-    (λ tells. ap (λ (i : Image). part (asked_by_bits i c.logged.inside.size (bit c.as_slice.result.now) []))
-    (c.read_log_bits.ensures.look.held tells)
-    ∙ ap (λ n. part (asked_by_bits h n (bit c.as_slice.result.now) [])) size
-    ∙ ap (λ (l : List ℕ). part (asked_by_bits h logged.size (bit l) [])) c.as_slice.ensures
-    ∙ all_asked h opened logged bits (c.in_ok-logged.ensures.bits tells))
+    asks_in_whole (asks_behind {second = asked_by_bits (g.D.Disk.state c.read_log_bits.new.disk).held
+    c.logged.inside.size (bit c.as_slice.result.now)}
+    {result = Ok c.in_ok-bins.bins} c.in_ok-logged.ensures.asked c.in_ok-bins.ensures.asked)
+    (asked_log (g.D.Disk.state c.args.disk.now).held c.args.opened.now)
+    (all_read g (goal.at.returns-clause-asked g c).After-read_by_bits)

@@ -1,15 +1,41 @@
-use Rattle.std.proofs.Common.{◌≡◌, Ok, sym, ◌∙◌, ap}
+use Rattle.std.proofs.Common.{◌≡◌, true, List, Ok, sym, ◌∙◌, ap}
 use Rattle.std.proofs.lemmas.Result.{err_from_is_err_and}
 use Rattle.nt_bytes.specs.declared.fault.HiveFaultKind.TheVariants.{LogSequence}
 use Rattle.hive_model.specs.Asked.{asked_if_read}
 use Rattle.hive_model.specs.Base.{Base, fault_at}
-use Rattle.hive_model.specs.Image.{Image}
+use Rattle.hive_model.specs.Image.{Address, Image}
 use Rattle.hive_model.specs.Recovery.{logged_in}
 use Rattle.hive_log.specs.declared.looking.LogBits.{LogBits}
-use Rattle.hive_log.specs.Asked.{asked_bitmap, asked_log_bits}
+use Rattle.hive_log.specs.Asked.{AsksFirst, asked_bitmap, asked_log_bits}
 use Rattle.hive_log.proofs.AskedParts.{asks_behind, asks_as, asks_kept, asks_unkept, asks_cut, asks_end}
 use Rattle.hive_log.proofs.AskedWhole.{log_part, behind_block, block_refused, numbers_asked, bits_asked}
+use Rattle.hive_log.proofs.looking.read_log_bits.Given.{Over}
 use Rattle.hive_log.proofs.looking.read_log_bits.Goals as goal
+use Rattle.hive_log.proofs.looking.read_log_bits.Goals.{After-read_bitmap, In_ok-text}
+
+-- after the log's base block the bits are asked for
+bits_follow : (g : Over) (c : After-read_bitmap g) → g.D.Disk.tells ≡ true → (more : List Address)
+    → log_part (g.D.Disk.state c.args.disk.now).held c.args.opened.now
+    (asked_bitmap (g.D.Disk.state c.read_log_block.new.disk).held c.logged.inside.size more)
+    ≡ asked_log_bits (g.D.Disk.state c.args.disk.now).held c.args.opened.now more
+bits_follow g c tells more =
+    let h = (g.D.Disk.state c.args.disk.now).held in
+    let opened = c.args.opened.now in
+    ap (λ (i : Image). log_part h opened (asked_bitmap i c.logged.inside.size more))
+    (c.read_log_block.ensures.look.held tells)
+    ∙ ap (λ n. log_part h opened (asked_bitmap h n more)) (ap (λ (b : Base). b.size) c.logged.view_is)
+    ∙ bits_asked h opened c.in_ok-logged.logged (c.in_ok-logged.ensures.block tells)
+    (sym c.goes_with.ensures ∙ c.if-not-goes_with.false) more
+
+-- the log was read as far as its bits
+bits_read : (g : Over) (c : In_ok-text g)
+    → AsksFirst (g.D.Disk.calls c.args.disk.now) (g.D.Disk.calls c.read_bitmap.new.disk) g.D.Disk.tells
+    (asked_log_bits (g.D.Disk.state c.args.disk.now).held c.args.opened.now) (Ok c.in_ok-text.text)
+bits_read g c =
+    asks_as (asks_behind {second = asked_bitmap (g.D.Disk.state c.read_log_block.new.disk).held c.logged.inside.size}
+    {result = Ok c.in_ok-text.text} c.in_ok-logged.ensures.asked c.in_ok-text.ensures.asked)
+    (asked_log_bits (g.D.Disk.state c.args.disk.now).held c.args.opened.now)
+    (bits_follow g (goal.at.In_ok-text g c).After-read_bitmap)
 
 pub returns-in_err-logged-clause-asked : goal.returns-in_err-logged-clause-asked
 returns-in_err-logged-clause-asked g c =
@@ -31,56 +57,18 @@ returns-then-not-goes_with-clause-asked g c =
 
 pub returns-in_err-text-clause-asked : goal.returns-in_err-text-clause-asked
 returns-in_err-text-clause-asked g c =
-    let h = (g.D.Disk.state c.args.disk.now).held in
     let h1 = (g.D.Disk.state c.read_log_block.new.disk).held in
-    let opened = c.args.opened.now in
-    let logged = c.in_ok-logged.logged in
-    let size = c.logged.inside.size in
-    let e : size ≡ logged.size = ap (λ (b : Base). b.size) c.logged.view_is in
     let p = err_from_is_err_and c.from_residual-in_err-text.result c.from_residual-in_err-text.ensures.1 in
     rw (p.1, p.2)
     (asks_cut
-    (asks_as (asks_behind {second = asked_bitmap h1 size} c.in_ok-logged.ensures.asked c.in_err-text.ensures.asked)
-    (asked_log_bits h opened)
-    (λ tells more. ap (λ (i : Image). log_part h opened (asked_bitmap i size more))
-    (c.read_log_block.ensures.look.held tells)
-    ∙ ap (λ n. log_part h opened (asked_bitmap h n more)) e
-    ∙ bits_asked h opened logged (c.in_ok-logged.ensures.block tells)
-    (sym c.goes_with.ensures ∙ c.if-not-goes_with.false) more)) LogBits (λ more. more))
+    (asks_as (asks_behind {second = asked_bitmap h1 c.logged.inside.size} c.in_ok-logged.ensures.asked
+    c.in_err-text.ensures.asked) (asked_log_bits (g.D.Disk.state c.args.disk.now).held c.args.opened.now)
+    (bits_follow g (goal.at.returns-in_err-text-clause-asked g c).After-read_bitmap)) LogBits (λ more. more))
 
 pub returns-in_err-bitmap-clause-asked : goal.returns-in_err-bitmap-clause-asked
 returns-in_err-bitmap-clause-asked g c =
-    let h = (g.D.Disk.state c.args.disk.now).held in
-    let h1 = (g.D.Disk.state c.read_log_block.new.disk).held in
-    let opened = c.args.opened.now in
-    let logged = c.in_ok-logged.logged in
-    let size = c.logged.inside.size in
-    let e : size ≡ logged.size = ap (λ (b : Base). b.size) c.logged.view_is in
     let p = err_from_is_err_and c.from_residual-in_err-bitmap.result c.from_residual-in_err-bitmap.ensures.1 in
-    rw (p.1, p.2)
-    (asks_unkept
-    (asks_as (asks_behind {second = asked_bitmap h1 size} {result = Ok c.in_ok-text.text} c.in_ok-logged.ensures.asked
-    c.in_ok-text.ensures.asked) (asked_log_bits h opened)
-    (λ tells more. ap (λ (i : Image). log_part h opened (asked_bitmap i size more))
-    (c.read_log_block.ensures.look.held tells)
-    ∙ ap (λ n. log_part h opened (asked_bitmap h n more)) e
-    ∙ bits_asked h opened logged (c.in_ok-logged.ensures.block tells)
-    (sym c.goes_with.ensures ∙ c.if-not-goes_with.false) more)) LogBits)
+    rw (p.1, p.2) (asks_unkept (bits_read g (goal.at.returns-in_err-bitmap-clause-asked g c).In_ok-text) LogBits)
 
 pub returns-clause-asked : goal.returns-clause-asked
-returns-clause-asked g c =
-    let h = (g.D.Disk.state c.args.disk.now).held in
-    let h1 = (g.D.Disk.state c.read_log_block.new.disk).held in
-    let opened = c.args.opened.now in
-    let logged = c.in_ok-logged.logged in
-    let size = c.logged.inside.size in
-    let e : size ≡ logged.size = ap (λ (b : Base). b.size) c.logged.view_is in
-    asks_kept
-    (asks_as (asks_behind {second = asked_bitmap h1 size} {result = Ok c.in_ok-text.text} c.in_ok-logged.ensures.asked
-    c.in_ok-text.ensures.asked) (asked_log_bits h opened)
-    (λ tells more. ap (λ (i : Image). log_part h opened (asked_bitmap i size more))
-    (c.read_log_block.ensures.look.held tells)
-    ∙ ap (λ n. log_part h opened (asked_bitmap h n more)) e
-    ∙ bits_asked h opened logged (c.in_ok-logged.ensures.block tells)
-    (sym c.goes_with.ensures ∙ c.if-not-goes_with.false) more))
-    _
+returns-clause-asked g c = asks_kept (bits_read g (goal.at.returns-clause-asked g c).In_ok-text) _

@@ -1,33 +1,46 @@
 use Rattle.std.proofs.Common.{◌≡◌, ◌++◌, List, ℕ, length, sym, ap, ◌∙◌, arith}
-use Rattle.hive_model.specs.Tree.{Item, Tree, trees, head, children}
+use Rattle.hive_model.specs.Tree.{Item, Tree, trees, listed, head, children}
 use Rattle.hive_model.specs.Size.{security_size, items_size}
 use Rattle.hive_model.specs.KeyNode.{key_node_text}
-use Rattle.hive_model.specs.Packed.{cell_text, text, node_of, class_cells, security_cells, sharers_of_all, items_cells}
+use Rattle.hive_model.specs.Packed.{descriptor_place, cell_text, text, node_of, class_cells, security_cells, sharers_of_all, items_cells}
 use Rattle.hive_pack.specs.Writes.{above}
 use Rattle.reg_tree.proofs.Outcomes.{on_ok}
 use Rattle.reg_tree.proofs.Trees.{listed_trees}
 use Rattle.hive_pack.proofs.Written.{size_parted, own_security, class_at, values_at, head_written}
 use Rattle.hive_pack.proofs.Counts.{few_of_all}
 use Rattle.hive_pack.proofs.write.write_head.Goals as goal
+use Rattle.hive_pack.proofs.write.write_head.Goals.{In_ok-write_node, In_ok-write_class}
+
+-- the node was written, then the class
+node_is : (c : In_ok-write_node) → let old = c.args.out.now in let t = c.args.key.now in
+    c.write_node.new.out ≡ old ++ cell_text (key_node_text
+    (node_of c.args.version (above c.args.up) (length old) (head t) (listed (trees (children t)))))
+node_is c =
+    let old = c.args.out.now in
+    c.in_ok-write_node.ensures
+    ∙ ap (λ (ks : List Tree). old ++ cell_text (key_node_text (node_of c.args.version (above c.args.up) (length old)
+    (head c.args.key.now) ks))) (sym (listed_trees (children c.args.key.now)))
+
+class_is : (c : In_ok-write_class)
+    → c.write_class.new.out ≡ c.write_node.new.out ++ text (class_cells (head c.args.key.now).class)
+class_is c = c.in_ok-write_class.ensures ∙ ap (λ (b : List ℕ). c.write_node.new.out ++ text (class_cells b))
+    c.class.ensures
+
+-- the descriptor is next
+security_next : (c : In_ok-write_class)
+    → length c.write_class.new.out ≡ descriptor_place (length c.args.out.now) (head c.args.key.now)
+security_next c =
+    class_at c.args.version (above c.args.up) (head c.args.key.now) (trees (children c.args.key.now)) c.args.out.now
+    c.write_node.new.out c.write_class.new.out (node_is (goal.at.In_ok-write_class c).In_ok-write_node) (class_is c)
 
 pub write_security-requires-clause-room : goal.write_security-requires-clause-room
 write_security-requires-clause-room c =
-    let t = c.args.key.now in
     let up = above c.args.up in
-    let old = c.args.out.now in
-    let cs = children t in
-    let node =
-    c.in_ok-write_node.ensures
-    ∙ ap (λ (ks : List Tree). old ++ cell_text (key_node_text (node_of c.args.version up (length old) (head t) ks)))
-    (sym (listed_trees cs)) in
-    let class = c.in_ok-write_class.ensures
-    ∙ ap (λ (b : List ℕ). c.write_node.new.out ++ text (class_cells b)) c.class.ensures in
     omega (
       arith,
-      class_at c.args.version up (head t) (trees cs)
-          old c.write_node.new.out c.write_class.new.out node class,
+      security_next (goal.at.write_security-requires-clause-room c).In_ok-write_class,
       ap (λ (s : List ℕ). security_size up.security s) c.security.ensures,
-      size_parted c.args.version up.security t,
+      size_parted c.args.version up.security c.args.key.now,
       c.requires.room,
     )
 
@@ -52,13 +65,7 @@ write_values-requires-clause-room c =
     let old = c.args.out.now in
     let cs = children t in
     let two = c.write_class.new.out in
-    let node =
-    c.in_ok-write_node.ensures
-    ∙ ap (λ (ks : List Tree). old ++ cell_text (key_node_text (node_of c.args.version up (length old) (head t) ks)))
-    (sym (listed_trees cs)) in
-    let class = c.in_ok-write_class.ensures
-    ∙ ap (λ (b : List ℕ). c.write_node.new.out ++ text (class_cells b)) c.class.ensures in
-    let own = class_at c.args.version up (head t) (trees cs) old c.write_node.new.out two node class in
+    let own = security_next (goal.at.write_values-requires-clause-room c).In_ok-write_class in
     let three : c.write_security.new.out ≡ two ++ text (own_security up (length old) (head t) (trees cs)) =
     c.in_ok-write_security.ensures
     ∙ (λ j. two ++ text (security_cells up (own j) (c.security.ensures j)
@@ -79,18 +86,13 @@ returns c =
     let cs = children t in
     let two = c.write_class.new.out in
     let three = c.write_security.new.out in
-    let node =
-    c.in_ok-write_node.ensures
-    ∙ ap (λ (ks : List Tree). old ++ cell_text (key_node_text (node_of c.args.version up (length old) (head t) ks)))
-    (sym (listed_trees cs)) in
-    let class = c.in_ok-write_class.ensures
-    ∙ ap (λ (b : List ℕ). c.write_node.new.out ++ text (class_cells b)) c.class.ensures in
     let security =
     c.in_ok-write_security.ensures
     ∙ (λ j. two ++ text (security_cells up (length two) (c.security.ensures j)
     (sharers_of_all (c.security.ensures j) (trees (c.subkeys.ensures j))))) in
     on_ok c.write_values.result _ _
     (λ e. head_written c.args.version up (head t) (trees cs)
-    old c.write_node.new.out two three c.write_values.new.out node class security
+    old c.write_node.new.out two three c.write_values.new.out
+    (node_is (goal.at.returns c).In_ok-write_node) (class_is (goal.at.returns c).In_ok-write_class) security
     (e ∙ ap (λ (vs : List Item). three ++ text (items_cells c.args.version (length three) vs)) c.items.ensures))
     c.write_values.ensures

@@ -1,16 +1,30 @@
-use Rattle.std.proofs.Common.{◌≡◌, ◌||◌, ◌∷◌, [], Ok, sym, ap, subst, ◌∙◌}
+use Rattle.std.proofs.Common.{◌≡◌, ◌||◌, ◌∷◌, ℕ, List, [], Ok, sym, ap, subst, ◌∙◌}
 use Rattle.std.proofs.lemmas.Result.{err_from_is_err_and}
 use Rattle.nt_bytes.specs.Folding.{folds_same}
 use Rattle.hive_model.specs.KeyValue.{KeyValue}
 use Rattle.hive_model.specs.Stands.{data_of}
 use Rattle.hive_cells.specs.Sources.{cells_of}
-use Rattle.hive_read.specs.Taken.{has_name}
+use Rattle.hive_read.specs.Taken.{has_name, Knows}
 use Rattle.hive_read.specs.Walked.{Stops, walk}
-use Rattle.hive_model.specs.Walk.{name_check, data_checks}
+use Rattle.hive_model.specs.Walk.{name_check, data_checks, value_checks}
 use Rattle.cell_forms.specs.Views.{value_seen}
 use Rattle.hive_read.proofs.Walks.{stops-on, walk-on, walk-off}
 use Rattle.hive_read.proofs.ValueWalks.{value-off, value-named, item-stands, item_of}
 use Rattle.hive_read.proofs.value.read_value.Goals as goal
+use Rattle.hive_read.proofs.value.read_value.Goals.{In_ok-take_name}
+
+-- its name is taken, and its data are next
+data_next : (c : In_ok-take_name) (names : List (List ℕ)) → Knows c.args.taken.now names
+    → walk (cells_of c.args.cells.now) c.args.used.now (value_checks (cells_of c.args.cells.now) names c.args.at)
+    ≡ walk (cells_of c.args.cells.now) c.use_value.new.used
+    (data_checks (cells_of c.args.cells.now) (value_seen c.in_ok-seen.seen))
+data_next c names k =
+    let cells = cells_of c.args.cells.now in
+    let v = value_seen c.in_ok-seen.seen in
+    value-named cells c.args.used.now c.use_value.new.used names c.args.at v c.in_ok-seen.ensures.0
+    c.in_ok-seen.ensures.1
+    ∙ walk-on cells c.use_value.new.used c.use_value.new.used (name_check names c.args.at v.name ∷ [])
+    (data_checks cells v) (c.in_ok-take_name.ensures.walked names k cells c.use_value.new.used).0
 
 pub returns-in_err-seen-clause-walked : goal.returns-in_err-seen-clause-walked
 returns-in_err-seen-clause-walked c = λ names k.
@@ -33,30 +47,21 @@ pub returns-in_err-bytes-clause-walked : goal.returns-in_err-bytes-clause-walked
 returns-in_err-bytes-clause-walked c = λ names k.
     let p = err_from_is_err_and c.from_residual-in_err-bytes.result c.from_residual-in_err-bytes.ensures.1 in
     let cells = cells_of c.args.cells.now in
-    let u = c.in_ok-seen.ensures in
-    let v = value_seen c.in_ok-seen.seen in
-    let t = c.in_ok-take_name.ensures.walked names k cells c.use_value.new.used in
     rw (p.1, p.2) (stops-on c.in_err-bytes.field-0.0 _ _
-    (λ f e. value-named cells c.args.used.now c.use_value.new.used names c.args.at v u.0 u.1
-    ∙ walk-on cells c.use_value.new.used c.use_value.new.used (name_check names c.args.at v.name ∷ [])
-    (data_checks cells v) t.0 ∙ e)
+    (λ f e. data_next (goal.at.returns-in_err-bytes-clause-walked c).In_ok-take_name names k ∙ e)
     (subst (λ (k : KeyValue). Stops (walk cells c.use_value.new.used (data_checks cells k)) c.in_err-bytes.field-0.0)
     c.in_ok-form.ensures c.in_err-bytes.ensures))
 
 pub returns-clause-walked : goal.returns-clause-walked
 returns-clause-walked c = λ names k.
     let cells = cells_of c.args.cells.now in
-    let u = c.in_ok-seen.ensures in
     let v = value_seen c.in_ok-seen.seen in
-    let t = c.in_ok-take_name.ensures.walked names k cells c.use_value.new.used in
     let w = subst (λ (k : KeyValue). walk cells c.use_value.new.used (data_checks cells k) ≡ Ok c.read_data.new.used)
     c.in_ok-form.ensures c.in_ok-bytes.ensures.0 in
     let b = subst (λ (k : KeyValue). data_of cells k ≡ Ok c.in_ok-bytes.bytes)
     c.in_ok-form.ensures c.in_ok-bytes.ensures.1 in (
-      value-named cells c.args.used.now c.use_value.new.used names c.args.at v u.0 u.1
-          ∙ walk-on cells c.use_value.new.used c.use_value.new.used (name_check names c.args.at v.name ∷ [])
-          (data_checks cells v) t.0 ∙ w,
-      item-stands cells c.args.at v c.in_ok-bytes.bytes u.1 b
+      data_next (goal.at.returns-clause-walked c).In_ok-take_name names k ∙ w,
+      item-stands cells c.args.at v c.in_ok-bytes.bytes c.in_ok-seen.ensures.1 b
           ∙ ap (λ (k : KeyValue). Ok (item_of k c.in_ok-bytes.bytes)) (sym c.in_ok-form.ensures),
     )
 

@@ -1,10 +1,7 @@
-use Rattle.std.proofs.Common.{arith}
 use Rattle.hive_pack.proofs.Parts.{first_four}
-use Rattle.key_index.proofs.Hinted.{narrow_bytes}
 use Rattle.key_index.proofs.hints.first_bytes.Goals as goal
 
 pub returns : goal.returns
 returns c =
-    let low = narrow_bytes c.args.stored.now (λ i. omega (arith, c.type_inv.stored i)) in
-    rw (low, c.byte_or_zero.ensures, c.byte_or_zero-2.ensures, c.byte_or_zero-3.ensures, c.byte_or_zero-4.ensures)
+    rw (c.byte_or_zero.ensures, c.byte_or_zero-2.ensures, c.byte_or_zero-3.ensures, c.byte_or_zero-4.ensures)
     (first_four c.args.stored.now)

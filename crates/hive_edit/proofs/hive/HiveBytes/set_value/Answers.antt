@@ -1,10 +1,14 @@
 use Rattle.std.proofs.Common.{◌≡◌, ℕ, ◌+◌, length, subst, is_some, inl, refl, sym, ap, ◌∙◌, arith}
 use Rattle.std.specs.Int.{w32, from_le_bytes}
-use Rattle.hive_cells.specs.Changes.{at_cell, with_part}
-use Rattle.hive_edit.specs.Hive.{HiveCells, hive_of}
-use Rattle.hive_edit.specs.Edits.{value_fields, WritesFields}
+use Rattle.hive_model.specs.Edit.{set_value}
+use Rattle.hive_model.specs.Size.{bulk_of}
+use Rattle.hive_edit.specs.Hive.{HiveCells}
+use Rattle.hive_edit.specs.Edits.{value_fields}
+use Rattle.hive_edit.specs.Told.{WritesValue}
 use Rattle.hive_edit.proofs.ResultLemmas.{some_same}
-use Rattle.hive_edit.proofs.SetLemmas.{set_full, is_set, inside_frees, patch_room, fields_long}
+use Rattle.hive_edit.proofs.SetLemmas.{set_full, inside_frees}
+use Rattle.hive_edit.proofs.SteppedLemmas.{stepped_edit, stepped_kept}
+use Rattle.hive_edit.proofs.ToldLemmas.{tells_after}
 use Rattle.hive_edit.proofs.hive.HiveBytes.set_value.Goals as goal
 
 pub returns-in-None-clause-in_place : goal.returns-in-None-clause-in_place
@@ -22,50 +26,30 @@ returns-then-bulk-gt-MOST_BULK-clause-made c =
       refl,
     )
 
-pub patch-requires : goal.patch-requires
-patch-requires c =
-    let i = c.self.inside in
-    patch_room i.cells i.root i.version i.bulk c.args.self.now c.args.path.now c.args.name.now c.in-Some.at
-    c.inside_fields-fields.result
-    c.self.invariant c.self.view_is (sym c.in-Some.ensures)
-    (ap length c.inside_fields-fields.ensures
-    ∙ fields_long (2147483648 + length c.args.bytes.now) (from_le_bytes w32 c.args.bytes.now) c.args.kind)
-
-pub invariant_of-self : goal.invariant_of-self
-invariant_of-self c =
-    let i = c.self.inside in
-    (is_set i.cells c.patch.new.self i.root i.version i.bulk c.args.self.now c.args.path.now c.args.name.now c.args.kind
-    c.args.bytes.now c.in-Some.at
-    c.self.invariant c.self.view_is (sym c.in-Some.ensures) (omega arith) (λ k. omega (arith, c.type_inv.bytes k))
-    (omega arith) c.if-bulk-gt-MOST_BULK.false
-    (rw c.inside_fields-fields.ensures at c.patch.ensures.here) c.patch.ensures.others c.patch.ensures.long).hive
+pub set_inside-requires-clause-there : goal.set_inside-requires-clause-there
+set_inside-requires-clause-there c = sym c.in-Some.ensures
 
 pub returns-else-bulk-gt-MOST_BULK-clause-made : goal.returns-else-bulk-gt-MOST_BULK-clause-made
 returns-else-bulk-gt-MOST_BULK-clause-made c =
     let i = c.self.inside in
-    (is_set i.cells c.patch.new.self i.root i.version i.bulk c.args.self.now c.args.path.now c.args.name.now c.args.kind
-    c.args.bytes.now c.in-Some.at
-    c.self.invariant c.self.view_is (sym c.in-Some.ensures) (omega arith) (λ k. omega (arith, c.type_inv.bytes k))
-    (omega arith) c.if-bulk-gt-MOST_BULK.false
-    (rw c.inside_fields-fields.ensures at c.patch.ensures.here) c.patch.ensures.others c.patch.ensures.long).edit
+    let counted : i.bulk ≡ bulk_of c.args.self.now.version c.args.self.now.tree =
+    c.self.invariant.counted ∙ ap (λ (g : HiveCells). bulk_of g.version g.tree) c.self.view_is in
+    stepped_edit c.args.self.now c.set_inside.new.self
+    (set_value c.args.path.now c.args.name.now c.args.kind c.args.bytes.now) c.set_inside.ensures.stepped
+    (omega (arith, c.set_inside.ensures.bulk, counted, c.if-bulk-gt-MOST_BULK.false))
+
+pub returns-else-bulk-gt-MOST_BULK-clause-version : goal.returns-else-bulk-gt-MOST_BULK-clause-version
+returns-else-bulk-gt-MOST_BULK-clause-version c = c.set_inside.ensures.stepped.version
 
 pub returns-else-bulk-gt-MOST_BULK-clause-cells : goal.returns-else-bulk-gt-MOST_BULK-clause-cells
 returns-else-bulk-gt-MOST_BULK-clause-cells c =
-    let i = c.self.inside in
-    inl (is_set i.cells c.patch.new.self i.root i.version i.bulk c.args.self.now c.args.path.now c.args.name.now
-    c.args.kind c.args.bytes.now c.in-Some.at
-    c.self.invariant c.self.view_is (sym c.in-Some.ensures) (omega arith) (λ k. omega (arith, c.type_inv.bytes k))
-    (omega arith) c.if-bulk-gt-MOST_BULK.false
-    (rw c.inside_fields-fields.ensures at c.patch.ensures.here) c.patch.ensures.others c.patch.ensures.long).kept
+    inl (stepped_kept c.args.self.now c.set_inside.new.self
+    (set_value c.args.path.now c.args.name.now c.args.kind c.args.bytes.now) c.set_inside.ensures.stepped)
 
 pub returns-else-bulk-gt-MOST_BULK-clause-in_place : goal.returns-else-bulk-gt-MOST_BULK-clause-in_place
 returns-else-bulk-gt-MOST_BULK-clause-in_place c = λ there few.
-    let i = c.self.inside in
-    (is_set i.cells c.patch.new.self i.root i.version i.bulk c.args.self.now c.args.path.now c.args.name.now c.args.kind
-    c.args.bytes.now c.in-Some.at
-    c.self.invariant c.self.view_is (sym c.in-Some.ensures) (omega arith) (λ k. omega (arith, c.type_inv.bytes k))
-    (omega arith) c.if-bulk-gt-MOST_BULK.false
-    (rw c.inside_fields-fields.ensures at c.patch.ensures.here) c.patch.ensures.others c.patch.ensures.long).kept
+    stepped_kept c.args.self.now c.set_inside.new.self
+    (set_value c.args.path.now c.args.name.now c.args.kind c.args.bytes.now) c.set_inside.ensures.stepped
 
 pub returns-in-None-clause-twelve_bytes : goal.returns-in-None-clause-twelve_bytes
 returns-in-None-clause-twelve_bytes c = λ at there few. absurd (let e = c.in-None.ensures ∙ there in cc)
@@ -73,35 +57,26 @@ returns-in-None-clause-twelve_bytes c = λ at there few. absurd (let e = c.in-No
 pub returns-else-bulk-gt-MOST_BULK-clause-twelve_bytes : goal.returns-else-bulk-gt-MOST_BULK-clause-twelve_bytes
 returns-else-bulk-gt-MOST_BULK-clause-twelve_bytes c = λ at there few.
     let fields = value_fields (2147483648 + length c.args.bytes.now) (from_le_bytes w32 c.args.bytes.now) c.args.kind in
-    let same = some_same c.in-Some.at at (c.in-Some.ensures ∙ there) in
-    let new = c.patch.new.self in
-    let exact = rw c.inside_fields-fields.ensures at c.patch.ensures.exact in
-    subst (λ (h : HiveCells). WritesFields at fields h.bins new) c.self.view_is
-    (record {
-      exact = subst (λ (a : ℕ). new ≡ at_cell a (with_part 4 fields) c.self.inside.cells) same exact;
-      long = c.patch.ensures.long;
-    })
+    subst (λ (a : ℕ). WritesValue c.args.self.now c.args.path.now a fields (length c.args.bytes.now)
+    c.set_inside.new.self) (some_same c.in-Some.at at (c.in-Some.ensures ∙ there)) c.set_inside.ensures.written
 
 pub returns-else-bulk-gt-MOST_BULK-clause-room : goal.returns-else-bulk-gt-MOST_BULK-clause-room
 returns-else-bulk-gt-MOST_BULK-clause-room c =
-    let i = c.self.inside in
-    inl (is_set i.cells c.patch.new.self i.root i.version i.bulk c.args.self.now c.args.path.now c.args.name.now
-    c.args.kind c.args.bytes.now c.in-Some.at
-    c.self.invariant c.self.view_is (sym c.in-Some.ensures) (omega arith) (λ k. omega (arith, c.type_inv.bytes k))
-    (omega arith) c.if-bulk-gt-MOST_BULK.false
-    (rw c.inside_fields-fields.ensures at c.patch.ensures.here) c.patch.ensures.others c.patch.ensures.long).kept
+    inl (stepped_kept c.args.self.now c.set_inside.new.self
+    (set_value c.args.path.now c.args.name.now c.args.kind c.args.bytes.now) c.set_inside.ensures.stepped)
 
 pub returns-else-bulk-gt-MOST_BULK-clause-freed : goal.returns-else-bulk-gt-MOST_BULK-clause-freed
 returns-else-bulk-gt-MOST_BULK-clause-freed c =
-    let i = c.self.inside in
     inl (inside_frees c.args.self.now c.args.path.now c.args.name.now c.in-Some.at (sym c.in-Some.ensures)
-    (hive_of c.patch.new.self i.root i.version))
+    c.set_inside.new.self)
 
 pub returns-else-bulk-gt-MOST_BULK-clause-parents : goal.returns-else-bulk-gt-MOST_BULK-clause-parents
 returns-else-bulk-gt-MOST_BULK-clause-parents c =
-    let i = c.self.inside in
-    (is_set i.cells c.patch.new.self i.root i.version i.bulk c.args.self.now c.args.path.now c.args.name.now c.args.kind
-    c.args.bytes.now c.in-Some.at
-    c.self.invariant c.self.view_is (sym c.in-Some.ensures) (omega arith) (λ k. omega (arith, c.type_inv.bytes k))
-    (omega arith) c.if-bulk-gt-MOST_BULK.false
-    (rw c.inside_fields-fields.ensures at c.patch.ensures.here) c.patch.ensures.others c.patch.ensures.long).kept.parents
+    (stepped_kept c.args.self.now c.set_inside.new.self
+    (set_value c.args.path.now c.args.name.now c.args.kind c.args.bytes.now) c.set_inside.ensures.stepped).parents
+
+pub returns-else-bulk-gt-MOST_BULK-clause-told : goal.returns-else-bulk-gt-MOST_BULK-clause-told
+returns-else-bulk-gt-MOST_BULK-clause-told c =
+    inl (tells_after c.args.self.now c.set_inside.new.self
+    (set_value c.args.path.now c.args.name.now c.args.kind c.args.bytes.now) c.args.path.now 0 (length c.args.bytes.now)
+    c.set_inside.ensures.told)

@@ -1,5 +1,7 @@
-use Rattle.std.proofs.Common.{◌++◌, ◌∙◌, [], length, refl, sym, ap}
+use Rattle.std.proofs.Common.{◌≡◌, ◌++◌, ◌∙◌, true, [], length, refl, sym, ap}
 use Rattle.std.proofs.lemmas.List.{append-nil}
+use Rattle.nt_bytes.specs.declared.fault.HiveFault.{HiveFault}
+use Rattle.hive_model.specs.Load.{LoadFault}
 use Rattle.hive_model.specs.Recovery.{Recovered, bit}
 use Rattle.nt_edge.specs.Calls.{reads_of}
 use Rattle.hive_commit.specs.Calls.{closing_calls}
@@ -9,8 +11,22 @@ use Rattle.hive_commit.proofs.Rest.{rest_kept, rest_restored}
 use Rattle.hive_mend.specs.Loaded.{Loaded, loaded_state}
 use Rattle.hive_store.proofs.LoadingLemmas.{loads_or_fails, kept_loads, restored_loads, found_again}
 use Rattle.hive_mend.proofs.LoadingCalls.{stopped_look, stopped_restore}
+use Rattle.hive_mend.proofs.hive.LoadedHive.load.Given.{Over}
 use Rattle.hive_mend.proofs.hive.LoadedHive.load.Goals as goal
-use Rattle.hive_mend.proofs.hive.LoadedHive.load.Goals.{then-dirty+in_ok-restore, else-dirty}
+use Rattle.hive_mend.proofs.hive.LoadedHive.load.Goals.{In_ok-hive, then-dirty+in_ok-restore, else-dirty}
+
+-- what was read, as what is recovered
+abbrev seen : (g : Over) → In_ok-hive g → Recovered
+seen g c =
+    let looked = c.in_ok-hive.field-0 in
+    record { base = looked.hive.base; bins = looked.hive.bins; dirty = looked.dirty }
+
+-- a hive that loads has no fault
+no_fault : (g : Over) (c : In_ok-hive g) → g.D.Disk.tells ≡ true → (fault : HiveFault)
+    → LoadFault (g.D.Disk.state c.args.disk.now).held fault → ⊥
+no_fault g c tells fault =
+    loads_or_fails (g.D.Disk.state c.args.disk.now).held (loaded_state c.in_ok-hive.field-0.hive)
+    c.in_ok-hive.field-0.dirty fault (c.in_ok-hive.ensures.exact tells).loads
 
 pub returns-in_err-hive-clause-made : goal.returns-in_err-hive-clause-made
 returns-in_err-hive-clause-made g c =
@@ -22,8 +38,7 @@ returns-in_err-hive-clause-made g c =
 pub returns-in_err-restore-clause-made : goal.returns-in_err-restore-clause-made
 returns-in_err-restore-clause-made g c =
     let image = (g.D.Disk.state c.args.disk.now).held in
-    let looked = c.in_ok-hive.field-0 in
-    let view : Recovered = record { base = looked.hive.base; bins = looked.hive.bins; dirty = looked.dirty } in
+    let view = seen g (goal.at.returns-in_err-restore-clause-made g c).In_ok-hive in
     let asked = c.in_ok-hive.ensures.asked in
     let closed = c.hive.inside.base in
     let bitmap = c.as_slice.result.now in
@@ -34,20 +49,18 @@ returns-in_err-restore-clause-made g c =
     (λ tells. stopped_restore image c.from_residual-in_err-restore.result c.in_err-restore.field-0.0
     (reads_of asked.sectors ++ made.front) c.from_residual-in_err-restore.ensures.1
     (restored_front image asked.sectors (asked.are tells) view (c.in_ok-hive.ensures.exact tells).recovered
-    closed bitmap bins looked.bitmap c.if-dirty.true (c.in_ok-hive.ensures.dirty tells c.if-dirty.true)
+    closed bitmap bins c.in_ok-hive.field-0.bitmap c.if-dirty.true (c.in_ok-hive.ensures.dirty tells c.if-dirty.true)
     (ap (λ (h : Loaded). h.base) c.hive.view_is) c.as_slice.ensures
     (c.as_slice-then-dirty.ensures ∙ ap (λ (h : Loaded). h.bins) c.hive.view_is)
     made.front (record { rest = made.rest; cut = made.cut }))
-    (λ fault. loads_or_fails image (loaded_state looked.hive) looked.dirty fault
-    (c.in_ok-hive.ensures.exact tells).loads))
+    (no_fault g (goal.at.returns-in_err-restore-clause-made g c).In_ok-hive tells))
 
 pub returns-clause-made : goal.returns-clause-made
 returns-clause-made g c =
     let start = g.D.Disk.calls c.args.disk.now in
     let one = g.D.Disk.calls c.read_unmended.new.disk in
     let image = (g.D.Disk.state c.args.disk.now).held in
-    let looked = c.in_ok-hive.field-0 in
-    let view : Recovered = record { base = looked.hive.base; bins = looked.hive.bins; dirty = looked.dirty } in
+    let view = seen g (goal.at.returns-clause-made g c).In_ok-hive in
     let asked = c.in_ok-hive.ensures.asked in
     elim c.if-dirty.branch [
       | then-dirty+in_ok-restore w ↦
@@ -59,7 +72,8 @@ returns-clause-made g c =
           (read_then start one _ asked.sectors asked.made (g.D.Disk.calls w.restore.new.disk) closed (bit bitmap) bins
           (record { front = calls; rest = []; cut = sym (append-nil calls); made = w.in_ok-restore.ensures.made })
           (λ tells. restored_all image asked.sectors (asked.are tells) view (c.in_ok-hive.ensures.exact tells).recovered
-          closed bitmap bins looked.bitmap w.if-dirty.true (c.in_ok-hive.ensures.dirty tells w.if-dirty.true)
+          closed bitmap bins c.in_ok-hive.field-0.bitmap w.if-dirty.true
+          (c.in_ok-hive.ensures.dirty tells w.if-dirty.true)
           (ap (λ (h : Loaded). h.base) c.hive.view_is) w.as_slice.ensures
           (w.as_slice-then-dirty.ensures ∙ ap (λ (h : Loaded). h.bins) c.hive.view_is)))
       | else-dirty w ↦ rw w.disk-is
@@ -76,8 +90,7 @@ returns-in_err-hive-clause-crash g c = λ tells.
 
 pub returns-in_err-restore-clause-crash : goal.returns-in_err-restore-clause-crash
 returns-in_err-restore-clause-crash g c = λ tells.
-    let looked = c.in_ok-hive.field-0 in
-    let view : Recovered = record { base = looked.hive.base; bins = looked.hive.bins; dirty = looked.dirty } in
+    let view = seen g (goal.at.returns-in_err-restore-clause-crash g c).In_ok-hive in
     restored_loads (g.D.Disk.state c.args.disk.now).held view (c.in_ok-hive.ensures.exact tells).recovered
     c.hive.inside.base c.as_slice-then-dirty.result.now (ap (λ (h : Loaded). h.base) c.hive.view_is)
     (c.as_slice-then-dirty.ensures ∙ ap (λ (h : Loaded). h.bins) c.hive.view_is)
@@ -86,8 +99,7 @@ returns-in_err-restore-clause-crash g c = λ tells.
 pub returns-clause-crash : goal.returns-clause-crash
 returns-clause-crash g c = λ tells.
     let s0 = g.D.Disk.state c.args.disk.now in
-    let looked = c.in_ok-hive.field-0 in
-    let view : Recovered = record { base = looked.hive.base; bins = looked.hive.bins; dirty = looked.dirty } in
+    let view = seen g (goal.at.returns-clause-crash g c).In_ok-hive in
     elim c.if-dirty.branch [
       | then-dirty+in_ok-restore w ↦ rw w.disk-is
           (restored_loads s0.held view (c.in_ok-hive.ensures.exact tells).recovered
@@ -103,7 +115,7 @@ pub returns-clause-loads : goal.returns-clause-loads
 returns-clause-loads g c = λ tells.
     let s0 = g.D.Disk.state c.args.disk.now in
     let looked = c.in_ok-hive.field-0 in
-    let view : Recovered = record { base = looked.hive.base; bins = looked.hive.bins; dirty = looked.dirty } in
+    let view = seen g (goal.at.returns-clause-loads g c).In_ok-hive in
     let is = c.in_ok-hive.ensures.exact tells in
     let found = found_again s0.held (loaded_state looked.hive)
     looked.dirty view is.loads is.recovered c.in_ok-hive.ensures.sized in
@@ -118,16 +130,12 @@ returns-clause-loads g c = λ tells.
     ]
 
 pub returns-in_err-restore-clause-faulty : goal.returns-in_err-restore-clause-faulty
-returns-in_err-restore-clause-faulty g c = λ tells fault fails.
-    let looked = c.in_ok-hive.field-0 in
-    absurd (loads_or_fails (g.D.Disk.state c.args.disk.now).held (loaded_state looked.hive) looked.dirty fault
-    (c.in_ok-hive.ensures.exact tells).loads fails)
+returns-in_err-restore-clause-faulty g c = λ tells fault fails. absurd
+    (no_fault g (goal.at.returns-in_err-restore-clause-faulty g c).In_ok-hive tells fault fails)
 
 pub returns-clause-faulty : goal.returns-clause-faulty
-returns-clause-faulty g c = λ tells fault fails.
-    let looked = c.in_ok-hive.field-0 in
-    absurd (loads_or_fails (g.D.Disk.state c.args.disk.now).held (loaded_state looked.hive) looked.dirty fault
-    (c.in_ok-hive.ensures.exact tells).loads fails)
+returns-clause-faulty g c = λ tells fault fails. absurd (no_fault g (goal.at.returns-clause-faulty g c).In_ok-hive
+    tells fault fails)
 
 pub returns-in_err-hive-clause-rest : goal.returns-in_err-hive-clause-rest
 returns-in_err-hive-clause-rest g c = λ tells base bins is.
@@ -154,10 +162,9 @@ returns-clause-log g c = λ tells.
 
 pub returns-in_err-restore-clause-rest : goal.returns-in_err-restore-clause-rest
 returns-in_err-restore-clause-rest g c = λ tells base bins is.
-    let looked = c.in_ok-hive.field-0 in
     rest_restored (g.D.Disk.state c.args.disk.now) (g.D.Disk.state c.restore.new.disk)
     (g.D.Disk.state c.read_unmended.new.disk).held base bins
-    (record { base = looked.hive.base; bins = looked.hive.bins; dirty = looked.dirty })
+    (seen g (goal.at.returns-in_err-restore-clause-rest g c).In_ok-hive)
     c.as_slice-then-dirty.result.now (c.read_unmended.ensures.look.held tells)
     (c.in_ok-hive.ensures.exact tells).recovered
     (c.as_slice-then-dirty.ensures ∙ ap (λ (h : Loaded). h.bins) c.hive.view_is) is (c.restore.ensures.rest tells)
@@ -167,11 +174,10 @@ returns-clause-rest g c = λ tells base bins is.
     let s0 = g.D.Disk.state c.args.disk.now in
     let s1 = g.D.Disk.state c.read_unmended.new.disk in
     let look = c.read_unmended.ensures.look in
-    let looked = c.in_ok-hive.field-0 in
     elim c.if-dirty.branch [
       | then-dirty+in_ok-restore w ↦ rw w.disk-is
           (rest_restored s0 (g.D.Disk.state w.restore.new.disk) s1.held base bins
-          (record { base = looked.hive.base; bins = looked.hive.bins; dirty = looked.dirty })
+          (seen g (goal.at.returns-clause-rest g c).In_ok-hive)
           w.as_slice-then-dirty.result.now (look.held tells) (c.in_ok-hive.ensures.exact tells).recovered
           (w.as_slice-then-dirty.ensures ∙ ap (λ (h : Loaded). h.bins) c.hive.view_is) is
           (w.restore.ensures.rest tells))

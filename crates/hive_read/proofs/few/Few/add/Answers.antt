@@ -1,18 +1,35 @@
-use Rattle.std.proofs.Common.{◌≡◌, ℕ, List, not, ◌||◌, map, sym, ap, subst, ◌∙◌}
+use Rattle.std.proofs.Common.{◌≡◌, ℕ, List, true, false, not, ◌||◌, map, sym, ap, subst, ◌∙◌}
 use Rattle.std.specs.List.{list_any}
-use Rattle.nt_bytes.specs.Folding.{folds_same}
+use Rattle.std.specs.Ordering.{is_gt}
+use Rattle.nt_bytes.specs.Folding.{folds_same, folded_order}
 use Rattle.cell_forms.specs.declared.stored.StoredName.{StoredName}
 use Rattle.cell_forms.specs.Views.{name_of}
 use Rattle.hive_read.specs.Taken.{folded_name, folds_to, has_name}
 use Rattle.hive_read.proofs.FewLemmas.{above-unknown, above-none, has-pushed, none-pushed, not-behind-itself, not-above, known-again, is-known}
 use Rattle.hive_read.proofs.few.Few.add.Goals as goal
+use Rattle.hive_read.proofs.few.Few.add.Goals.{Then-is_gt, Else-is_gt, After-has_same}
+
+-- whether the name comes after the greatest
+after : (c : Then-is_gt) → is_gt (folded_order (name_of c.args.name) (name_of c.self.inside.greatest)) ≡ true
+after c = sym (ap is_gt c.compare_stored.ensures) ∙ sym c.is_gt.ensures ∙ c.if-is_gt.true
+
+not_after : (c : Else-is_gt) → is_gt (folded_order (name_of c.args.name) (name_of c.self.inside.greatest)) ≡ false
+not_after c = sym (ap is_gt c.compare_stored.ensures) ∙ sym c.is_gt.ensures ∙ c.if-is_gt.false
+
+-- the search in the names answers whether the name is known
+answered : (c : After-has_same)
+    → has_name (map folded_name c.self.inside.names.items) (name_of c.args.name) ≡ c.has_same.result
+answered c =
+    is-known (name_of c.args.name) c.self.inside.names.items c.has_same.result
+    (c.has_same.ensures
+    ∙ ap (λ (xs : List StoredName). list_any (folds_to (name_of c.args.name)) (map folded_name xs))
+    c.as_slice.ensures.value)
 
 pub invariant_of-self-then-is_gt : goal.invariant_of-self-then-is_gt
 invariant_of-self-then-is_gt c =
     let names = c.self.inside.names.items in
     let none = above-none (name_of c.self.inside.greatest) (name_of c.args.name) (map folded_name names)
-    c.self.invariant (sym (ap Rattle.std.specs.Ordering.is_gt c.compare_stored.ensures) ∙ sym c.is_gt.ensures
-    ∙ c.if-is_gt.true) in
+    c.self.invariant (after (goal.at.invariant_of-self-then-is_gt c).Then-is_gt) in
     rw c.in_ok-push.ensures.items
     (none-pushed (name_of c.args.name) names c.args.name none (not-behind-itself c.args.name))
 
@@ -20,7 +37,7 @@ pub returns-then-is_gt-clause-fresh : goal.returns-then-is_gt-clause-fresh
 returns-then-is_gt-clause-fresh c =
     ap not (sym (above-unknown (name_of c.self.inside.greatest) (name_of c.args.name)
     (map folded_name c.self.inside.names.items) c.self.invariant
-    (sym (ap Rattle.std.specs.Ordering.is_gt c.compare_stored.ensures) ∙ sym c.is_gt.ensures ∙ c.if-is_gt.true)))
+    (after (goal.at.returns-then-is_gt-clause-fresh c).Then-is_gt)))
     ∙ ap (λ (ks : List (List ℕ)). not (has_name ks (name_of c.args.name))) c.self.view_is
 
 pub returns-then-is_gt-clause-added : goal.returns-then-is_gt-clause-added
@@ -32,17 +49,13 @@ returns-then-is_gt-clause-added c = λ n.
 pub returns-then-has_same-clause-fresh : goal.returns-then-has_same-clause-fresh
 returns-then-has_same-clause-fresh c =
     let name = name_of c.args.name in
-    let known = is-known name c.self.inside.names.items c.has_same.result
-    (c.has_same.ensures ∙ ap (λ (xs : List StoredName). list_any (folds_to name) (map folded_name xs))
-    c.as_slice.ensures.value) in
+    let known = answered (goal.at.returns-then-has_same-clause-fresh c).After-has_same in
     ap not (sym (known ∙ c.if-has_same.true)) ∙ ap (λ (ks : List (List ℕ)). not (has_name ks name)) c.self.view_is
 
 pub returns-then-has_same-clause-added : goal.returns-then-has_same-clause-added
 returns-then-has_same-clause-added c = λ n.
     let name = name_of c.args.name in
-    let known = is-known name c.self.inside.names.items c.has_same.result
-    (c.has_same.ensures ∙ ap (λ (xs : List StoredName). list_any (folds_to name) (map folded_name xs))
-    c.as_slice.ensures.value) in
+    let known = answered (goal.at.returns-then-has_same-clause-added c).After-has_same in
     subst (λ (ks : List (List ℕ)). has_name ks n ≡ (has_name ks n || folds_same n name)) c.self.view_is
     (known-again name n (map folded_name c.self.inside.names.items) (known ∙ c.if-has_same.true))
 
@@ -51,15 +64,12 @@ invariant_of-self-2 c =
     let top = name_of c.self.inside.greatest in
     rw c.in_ok-push-2.ensures.items
     (none-pushed top c.self.inside.names.items c.args.name c.self.invariant
-    (not-above top c.args.name
-    (sym (ap Rattle.std.specs.Ordering.is_gt c.compare_stored.ensures) ∙ sym c.is_gt.ensures ∙ c.if-is_gt.false)))
+    (not-above top c.args.name (not_after (goal.at.invariant_of-self-2 c).Else-is_gt)))
 
 pub returns-clause-fresh : goal.returns-clause-fresh
 returns-clause-fresh c =
     let name = name_of c.args.name in
-    let known = is-known name c.self.inside.names.items c.has_same.result
-    (c.has_same.ensures ∙ ap (λ (xs : List StoredName). list_any (folds_to name) (map folded_name xs))
-    c.as_slice.ensures.value) in
+    let known = answered (goal.at.returns-clause-fresh c).After-has_same in
     ap not (sym (known ∙ c.if-has_same.false)) ∙ ap (λ (ks : List (List ℕ)). not (has_name ks name)) c.self.view_is
 
 pub returns-clause-added : goal.returns-clause-added

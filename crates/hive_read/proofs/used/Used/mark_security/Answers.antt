@@ -3,54 +3,54 @@ use Rattle.std.proofs.lemmas.Result.{err_from_is_err_and}
 use Rattle.hive_read.specs.Marks.{has_bit}
 use Rattle.hive_read.proofs.MarkLemmas.{clash-marks, mark-kept, mark-security, same-marks}
 use Rattle.hive_read.proofs.used.Used.mark_security.Goals as goal
+use Rattle.hive_read.proofs.used.Used.mark_security.Goals.{Then-is_set, Else-is_set}
+
+-- the cell was used as one of security, or not
+used_so : (c : Then-is_set) → has_bit c.self.inside.security.items (c.args.at / 8) ≡ true
+used_so c = rw c.as_slice.ensures.value at (sym c.is_set.ensures ∙ c.if-is_set.true)
+
+not_so : (c : Else-is_set) → has_bit c.self.inside.security.items (c.args.at / 8) ≡ false
+not_so c = rw c.as_slice.ensures.value at (sym c.is_set.ensures ∙ c.if-is_set.false)
 
 pub returns-then-is_set-clause-fresh : goal.returns-then-is_set-clause-fresh
 returns-then-is_set-clause-fresh c =
-    let plain = c.self.inside.plain.items in
-    let security = c.self.inside.security.items in
-    let kept : has_bit security (c.args.at / 8) ≡ true =
-    rw c.as_slice.ensures.value at (sym c.is_set.ensures ∙ c.if-is_set.true) in
-    rw (← c.self.view_is) (rw (clash-marks plain security c.args.at true c.requires, kept) refl)
+    let kept = used_so (goal.at.returns-then-is_set-clause-fresh c).Then-is_set in
+    rw (← c.self.view_is)
+    (rw (clash-marks c.self.inside.plain.items c.self.inside.security.items c.args.at true c.requires, kept) refl)
 
 pub returns-then-is_set-clause-marked : goal.returns-then-is_set-clause-marked
 returns-then-is_set-clause-marked c = λ _.
-    let plain = c.self.inside.plain.items in
-    let security = c.self.inside.security.items in
-    let kept : has_bit security (c.args.at / 8) ≡ true =
-    rw c.as_slice.ensures.value at (sym c.is_set.ensures ∙ c.if-is_set.true) in
-    rw (← c.self.view_is) (mark-kept plain security c.args.at c.requires kept)
+    rw (← c.self.view_is)
+    (mark-kept c.self.inside.plain.items c.self.inside.security.items c.args.at c.requires
+    (used_so (goal.at.returns-then-is_set-clause-marked c).Then-is_set))
 
 pub returns-then-is_set-2-clause-fresh : goal.returns-then-is_set-2-clause-fresh
 returns-then-is_set-2-clause-fresh c =
     let plain = c.self.inside.plain.items in
-    let security = c.self.inside.security.items in
-    let kept : has_bit security (c.args.at / 8) ≡ false =
-    rw c.as_slice.ensures.value at (sym c.is_set.ensures ∙ c.if-is_set.false) in
+    let kept = not_so (goal.at.returns-then-is_set-2-clause-fresh c).Else-is_set in
     let taken : has_bit plain (c.args.at / 8) ≡ true =
     rw c.as_slice-2.ensures.value at (sym c.is_set-2.ensures ∙ c.if-is_set-2.true) in
-    rw (← c.self.view_is) (rw (clash-marks plain security c.args.at true c.requires, kept, taken) refl)
+    rw (← c.self.view_is)
+    (rw (clash-marks plain c.self.inside.security.items c.args.at true c.requires, kept, taken) refl)
 
 pub returns-in_err-_fresh-clause-err : goal.returns-in_err-_fresh-clause-err
 returns-in_err-_fresh-clause-err c =
     let p = err_from_is_err_and c.from_residual.result c.from_residual.ensures.1 in
     let plain = c.self.inside.plain.items in
-    let security = c.self.inside.security.items in
     rw (p.1, ← c.self.view_is)
-    (same-marks plain security plain c.set.new.words.items (λ _. refl) c.in_err-_fresh.ensures.err)
+    (same-marks plain c.self.inside.security.items plain c.set.new.words.items (λ _. refl) c.in_err-_fresh.ensures.err)
 
 pub returns-clause-fresh : goal.returns-clause-fresh
 returns-clause-fresh c =
     let plain = c.self.inside.plain.items in
-    let security = c.self.inside.security.items in
-    let kept : has_bit security (c.args.at / 8) ≡ false =
-    rw c.as_slice.ensures.value at (sym c.is_set.ensures ∙ c.if-is_set.false) in
+    let kept = not_so (goal.at.returns-clause-fresh c).Else-is_set in
     let taken : has_bit plain (c.args.at / 8) ≡ false =
     rw c.as_slice-2.ensures.value at (sym c.is_set-2.ensures ∙ c.if-is_set-2.false) in
-    rw (← c.self.view_is) (rw (clash-marks plain security c.args.at true c.requires, kept, taken) refl)
+    rw (← c.self.view_is)
+    (rw (clash-marks plain c.self.inside.security.items c.args.at true c.requires, kept, taken) refl)
 
 pub returns-clause-marked : goal.returns-clause-marked
 returns-clause-marked c = λ _.
-    let plain = c.self.inside.plain.items in
-    let security = c.self.inside.security.items in
     rw (← c.self.view_is)
-    (mark-security plain security c.set.new.words.items c.args.at c.requires c.in_ok-_fresh.ensures.ok)
+    (mark-security c.self.inside.plain.items c.self.inside.security.items c.set.new.words.items c.args.at c.requires
+    c.in_ok-_fresh.ensures.ok)

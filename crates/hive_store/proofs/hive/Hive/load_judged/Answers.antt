@@ -1,5 +1,7 @@
-use Rattle.std.proofs.Common.{◌++◌, ◌∙◌, [], refl, sym, ap}
+use Rattle.std.proofs.Common.{◌≡◌, ◌++◌, ◌∙◌, true, [], refl, sym, ap}
 use Rattle.std.proofs.lemmas.List.{append-nil}
+use Rattle.nt_bytes.specs.declared.fault.HiveFault.{HiveFault}
+use Rattle.hive_model.specs.Load.{LoadFault}
 use Rattle.hive_model.specs.Recovery.{Recovered, bit}
 use Rattle.hive_commit.specs.Calls.{closing_calls}
 use Rattle.hive_commit.proofs.RecoveryCalls.{only_read, read_then, restored_front, restored_all, clean_all}
@@ -8,8 +10,22 @@ use Rattle.hive_store.specs.Session.{Session}
 use Rattle.hive_store.specs.Loading.{loaded_state}
 use Rattle.hive_store.proofs.LoadingLemmas.{loads_or_fails, kept_loads, restored_loads, found_again}
 use Rattle.hive_store.proofs.LoadingCalls.{stopped_look, stopped_restore}
+use Rattle.hive_store.proofs.hive.Hive.load_judged.Given.{Over}
 use Rattle.hive_store.proofs.hive.Hive.load_judged.Goals as goal
-use Rattle.hive_store.proofs.hive.Hive.load_judged.Goals.{then-dirty+in_ok-restore, else-dirty}
+use Rattle.hive_store.proofs.hive.Hive.load_judged.Goals.{In_ok-hive, then-dirty+in_ok-restore, else-dirty}
+
+-- what was read, as what is recovered
+abbrev seen : (g : Over) → In_ok-hive g → Recovered
+seen g c =
+    let looked = c.in_ok-hive.field-0 in
+    record { base = looked.hive.base; bins = looked.hive.bins; dirty = looked.dirty }
+
+-- a hive that loads has no fault
+no_fault : (g : Over) (c : In_ok-hive g) → g.D.Disk.tells ≡ true → (fault : HiveFault)
+    → LoadFault (g.D.Disk.state c.args.disk.now).held fault → ⊥
+no_fault g c tells fault =
+    loads_or_fails (g.D.Disk.state c.args.disk.now).held (loaded_state c.in_ok-hive.field-0.hive)
+    c.in_ok-hive.field-0.dirty fault (c.in_ok-hive.ensures.exact tells)
 
 pub returns-in_err-hive-clause-made : goal.returns-in_err-hive-clause-made
 returns-in_err-hive-clause-made g c =
@@ -21,8 +37,7 @@ returns-in_err-hive-clause-made g c =
 pub returns-in_err-restore-clause-made : goal.returns-in_err-restore-clause-made
 returns-in_err-restore-clause-made g c =
     let image = (g.D.Disk.state c.args.disk.now).held in
-    let looked = c.in_ok-hive.field-0 in
-    let view : Recovered = record { base = looked.hive.base; bins = looked.hive.bins; dirty = looked.dirty } in
+    let view = seen g (goal.at.returns-in_err-restore-clause-made g c).In_ok-hive in
     let asked = c.in_ok-hive.ensures.asked in
     let closed = c.hive.inside.base in
     let bitmap = c.as_slice.result.now in
@@ -33,19 +48,18 @@ returns-in_err-restore-clause-made g c =
     (λ tells. stopped_restore image c.from_residual-in_err-restore.result c.in_err-restore.field-0.0
     (reads_of asked.sectors ++ made.front) c.from_residual-in_err-restore.ensures.1
     (restored_front image asked.sectors (asked.are tells) view (c.in_ok-hive.ensures.recovered tells)
-    closed bitmap bins looked.bitmap c.if-dirty.true (c.in_ok-hive.ensures.found tells c.if-dirty.true)
+    closed bitmap bins c.in_ok-hive.field-0.bitmap c.if-dirty.true (c.in_ok-hive.ensures.found tells c.if-dirty.true)
     (ap (λ (s : Session). s.base) c.hive.view_is) c.as_slice.ensures
     (c.carried-bins.ensures ∙ ap (λ (s : Session). s.bins) c.hive.view_is)
     made.front (record { rest = made.rest; cut = made.cut }))
-    (λ fault. loads_or_fails image (loaded_state looked.hive) looked.dirty fault (c.in_ok-hive.ensures.exact tells)))
+    (no_fault g (goal.at.returns-in_err-restore-clause-made g c).In_ok-hive tells))
 
 pub returns-clause-made : goal.returns-clause-made
 returns-clause-made g c =
     let start = g.D.Disk.calls c.args.disk.now in
     let one = g.D.Disk.calls c.look.new.disk in
     let image = (g.D.Disk.state c.args.disk.now).held in
-    let looked = c.in_ok-hive.field-0 in
-    let view : Recovered = record { base = looked.hive.base; bins = looked.hive.bins; dirty = looked.dirty } in
+    let view = seen g (goal.at.returns-clause-made g c).In_ok-hive in
     let asked = c.in_ok-hive.ensures.asked in
     elim c.if-dirty.branch [
       | then-dirty+in_ok-restore w ↦
@@ -57,7 +71,8 @@ returns-clause-made g c =
           (read_then start one _ asked.sectors asked.made (g.D.Disk.calls w.restore.new.disk) closed (bit bitmap) bins
           (record { front = calls; rest = []; cut = sym (append-nil calls); made = w.in_ok-restore.ensures.made })
           (λ tells. restored_all image asked.sectors (asked.are tells) view (c.in_ok-hive.ensures.recovered tells)
-          closed bitmap bins looked.bitmap w.if-dirty.true (c.in_ok-hive.ensures.found tells w.if-dirty.true)
+          closed bitmap bins c.in_ok-hive.field-0.bitmap w.if-dirty.true
+          (c.in_ok-hive.ensures.found tells w.if-dirty.true)
           (ap (λ (s : Session). s.base) c.hive.view_is) w.as_slice.ensures
           (w.carried-bins.ensures ∙ ap (λ (s : Session). s.bins) c.hive.view_is)))
       | else-dirty w ↦ rw w.disk-is
@@ -73,9 +88,8 @@ returns-in_err-hive-clause-crash g c = λ tells.
 
 pub returns-in_err-restore-clause-crash : goal.returns-in_err-restore-clause-crash
 returns-in_err-restore-clause-crash g c = λ tells.
-    let looked = c.in_ok-hive.field-0 in
     restored_loads (g.D.Disk.state c.args.disk.now).held
-    (record { base = looked.hive.base; bins = looked.hive.bins; dirty = looked.dirty })
+    (seen g (goal.at.returns-in_err-restore-clause-crash g c).In_ok-hive)
     (c.in_ok-hive.ensures.recovered tells)
     c.hive.inside.base c.carried-bins.result.now (ap (λ (s : Session). s.base) c.hive.view_is)
     (c.carried-bins.ensures ∙ ap (λ (s : Session). s.bins) c.hive.view_is)
@@ -84,10 +98,9 @@ returns-in_err-restore-clause-crash g c = λ tells.
 pub returns-clause-crash : goal.returns-clause-crash
 returns-clause-crash g c = λ tells.
     let s0 = g.D.Disk.state c.args.disk.now in
-    let looked = c.in_ok-hive.field-0 in
     elim c.if-dirty.branch [
       | then-dirty+in_ok-restore w ↦ rw w.disk-is
-          (restored_loads s0.held (record { base = looked.hive.base; bins = looked.hive.bins; dirty = looked.dirty })
+          (restored_loads s0.held (seen g (goal.at.returns-clause-crash g c).In_ok-hive)
           (c.in_ok-hive.ensures.recovered tells)
           c.hive.inside.base w.carried-bins.result.now (ap (λ (s : Session). s.base) c.hive.view_is)
           (w.carried-bins.ensures ∙ ap (λ (s : Session). s.bins) c.hive.view_is)
@@ -102,7 +115,7 @@ returns-clause-loads g c = λ tells.
     let s0 = g.D.Disk.state c.args.disk.now in
     let looked = c.in_ok-hive.field-0 in
     let found = found_again s0.held (loaded_state looked.hive) looked.dirty
-    (record { base = looked.hive.base; bins = looked.hive.bins; dirty = looked.dirty })
+    (seen g (goal.at.returns-clause-loads g c).In_ok-hive)
     (c.in_ok-hive.ensures.exact tells) (c.in_ok-hive.ensures.recovered tells) c.in_ok-hive.ensures.sized in
     elim c.if-dirty.branch [
       | then-dirty+in_ok-restore w ↦ rw w.disk-is
@@ -115,11 +128,9 @@ returns-clause-loads g c = λ tells.
     ]
 
 pub returns-in_err-restore-clause-faulty : goal.returns-in_err-restore-clause-faulty
-returns-in_err-restore-clause-faulty g c = λ tells fault fails.
-    absurd (loads_or_fails (g.D.Disk.state c.args.disk.now).held (loaded_state c.in_ok-hive.field-0.hive)
-    c.in_ok-hive.field-0.dirty fault (c.in_ok-hive.ensures.exact tells) fails)
+returns-in_err-restore-clause-faulty g c = λ tells fault fails. absurd
+    (no_fault g (goal.at.returns-in_err-restore-clause-faulty g c).In_ok-hive tells fault fails)
 
 pub returns-clause-faulty : goal.returns-clause-faulty
-returns-clause-faulty g c = λ tells fault fails.
-    absurd (loads_or_fails (g.D.Disk.state c.args.disk.now).held (loaded_state c.in_ok-hive.field-0.hive)
-    c.in_ok-hive.field-0.dirty fault (c.in_ok-hive.ensures.exact tells) fails)
+returns-clause-faulty g c = λ tells fault fails. absurd (no_fault g (goal.at.returns-clause-faulty g c).In_ok-hive
+    tells fault fails)
