@@ -16,6 +16,8 @@ use Rattle.edit_laws.proofs.Out.{placed_at}
 use Rattle.hive_edit.specs.Hive.{HiveCells, cells_in, hive_of, IsHive}
 use Rattle.hive_edit.specs.Standing.{tree_of}
 use Rattle.hive_edit.specs.Stepped.{IsStepped, LacksStepRoom}
+use Rattle.hive_edit.specs.Tells.{IsToldStep}
+use Rattle.hive_edit.proofs.ToldLemmas.{there_told}
 use Rattle.edit_laws.specs.Owned.{In}
 use Rattle.hive_edit.specs.Making.{made_tree, IsOpen, MayMake}
 use Rattle.hive_edit.specs.Places.{IsKeyAt}
@@ -171,7 +173,7 @@ module _ (bins heap : List Bin) (root : ℕ) (version : HiveVersion) (bulk : ℕ
 
 -- ---- a key that is there makes nothing
 
-pub already_stepped : (bins : List Bin) (root : ℕ) (version : HiveVersion) (bulk : ℕ) (h : HiveCells)
+already_stepped : (bins : List Bin) (root : ℕ) (version : HiveVersion) (bulk : ℕ) (h : HiveCells)
     (parent : List (List ℕ)) (name : List ℕ) → IsHive bins root version bulk
     → hive_of bins root version ≡ h → IsMadeAlready h parent name → IsStepped h (make_key parent name) h
 already_stepped bins root version bulk h parent name is view m =
@@ -194,6 +196,12 @@ already_stepped bins root version bulk h parent name is view m =
       long = omega arith;
       room = omega arith;
     }
+
+pub already_told : (bins : List Bin) (root : ℕ) (version : HiveVersion) (bulk : ℕ) (h : HiveCells)
+    (parent : List (List ℕ)) (name : List ℕ) → IsHive bins root version bulk
+    → hive_of bins root version ≡ h → IsMadeAlready h parent name → IsToldStep h (make_key parent name) h
+already_told bins root version bulk h parent name is view m =
+    there_told h h parent name (already_stepped bins root version bulk h parent name is view m) m.present
 
 -- ---- a key that may be made
 

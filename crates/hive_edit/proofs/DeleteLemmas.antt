@@ -17,6 +17,7 @@ use Rattle.hive_edit.specs.Deleting.{DropsUses}
 use Rattle.hive_edit.specs.Deleted.{IsDeletedInPlace}
 use Rattle.hive_edit.proofs.EditLemmas.{the_tree}
 use Rattle.hive_edit.proofs.SteppedLemmas.{packed_for_room, step_within, step_full, stepped_kept}
+use Rattle.hive_edit.proofs.ToldLemmas.{deleted_told}
 use Rattle.hive_model.specs.Forms.{◌>>=◌}
 
 -- ---- one step as an edit
@@ -64,7 +65,7 @@ pub deleted_in_place : (old new : HiveCells) (path : List (List ℕ)) → IsStep
 deleted_in_place old new path s d small = record {
   edit = step_within old.version old.tree new.tree (delete_key path) s.tree small;
   version = s.version;
-  kept = stepped_kept old new (delete_key path) s;
+  kept = stepped_kept old new (delete_key path) (deleted_told old new path s);
   drops = d;
 }
 

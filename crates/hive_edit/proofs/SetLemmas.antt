@@ -24,6 +24,8 @@ use Rattle.edit_laws.proofs.Ins.{in_from}
 use Rattle.edit_laws.proofs.FromCells.{data_held_inside}
 use Rattle.hive_edit.specs.Hive.{HiveCells, cells_in, hive_of, IsHive}
 use Rattle.hive_edit.specs.Edits.{value_fields, held_itself, holds_itself, if_inside, inside_place}
+use Rattle.hive_edit.specs.Tells.{new_name_length}
+use Rattle.hive_edit.proofs.ToldLemmas.{there_long}
 use Rattle.hive_edit.specs.Places.{IsItemHere, value_place, value_places, data_places}
 use Rattle.hive_edit.specs.Standing.{tree_of}
 use Rattle.hive_edit.proofs.ResultLemmas.{done, some, some_same, ok_same}
@@ -251,6 +253,13 @@ inside_frees h path name v e new = λ at there o i.
     none : (o : Option (List ℕ)) → data_inside k.value ≡ o → is_some o ≡ true → cells k.value ≡ []
     none None f g = absurd cc
     none (Some bytes) f g = (data_held_inside b k.value bytes f).0
+
+-- nor is its name new
+pub inside_long : (h : HiveCells) (path : List (List ℕ)) (name : List ℕ) (v : ℕ)
+    → inside_place (cells_in h) path name h.root ≡ some v → new_name_length (cells_in h) path name h.root ≤ 0
+inside_long h path name v e =
+    let k = inside_there (cells_in h) path name h.root v e in
+    there_long h path name v (ap (option_and_then (value_place (cells_in h) name)) k.place ∙ k.named)
 
 -- ---- where the search for it ends
 

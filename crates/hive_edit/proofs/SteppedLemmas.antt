@@ -29,6 +29,7 @@ use Rattle.hive_edit.specs.Hive.{HiveCells, cells_in, hive_of, IsHive}
 use Rattle.hive_edit.specs.Standing.{tree_of}
 use Rattle.hive_edit.specs.Stepped.{IsStepped, LacksStepRoom}
 use Rattle.hive_edit.specs.Steps.{AreStepped, AreStrained}
+use Rattle.hive_edit.specs.Tells.{IsToldStep}
 use Rattle.hive_edit.proofs.EditLemmas.{the_tree}
 use Rattle.hive_edit.proofs.HiveLemmas.{hive_opened}
 use Rattle.hive_edit.proofs.StandingLemmas.{tree_is}
@@ -193,14 +194,14 @@ pub stepped_edit : (h g : HiveCells) (step : Step) → IsStepped h step g → bu
     → edited h.version h.tree (step ∷ []) ≡ the_tree g.tree
 stepped_edit h g step s room = step_within h.version h.tree g.tree step s.tree room
 
-pub stepped_kept : (h g : HiveCells) (step : Step) → IsStepped h step g → IsEditedInPlace h (step ∷ []) g
+pub stepped_kept : (h g : HiveCells) (step : Step) → IsToldStep h step g → IsEditedInPlace h (step ∷ []) g
 stepped_kept h g step s = record {
-  kept = λ o p held outside. payload_held g.bins o p (s.done.leaves.rest o p (held_payload h.bins o p held)
+  kept = λ o p held outside. payload_held g.bins o p (s.stepped.done.leaves.rest o p (held_payload h.bins o p held)
       (λ i. outside (Contains-append_left (step_cells (cells_in h) h.root h.tree step)
       (unless_refused [] (after_step step h.tree) (λ w. [])) o i)));
-  root = s.root;
-  long = s.long;
-  parents = λ n. subst (NamesParents (cells_in g)) (sym s.root) (s.done.parents n);
+  root = s.stepped.root;
+  long = s.stepped.long;
+  parents = λ n. subst (NamesParents (cells_in g)) (sym s.stepped.root) (s.stepped.done.parents n);
   stepped = (g, s, refl);
 }
 
@@ -234,9 +235,9 @@ same_hive old new root version h view e = ap (λ (bs : List Bin). hive_of bs roo
 
 -- ---- steps in order
 
-pub stepped_more : (front : List Step) (a b c : HiveCells) (step : Step) → AreStepped a front b → IsStepped b step c
+pub stepped_more : (front : List Step) (a b c : HiveCells) (step : Step) → AreStepped a front b → IsToldStep b step c
     → AreStepped a (front ++ step ∷ []) c
-stepped_more [] a b c step e s = (c, subst (λ (g : HiveCells). IsStepped g step c) (sym e) s, refl)
+stepped_more [] a b c step e s = (c, subst (λ (g : HiveCells). IsToldStep g step c) (sym e) s, refl)
 stepped_more (first ∷ front) a b c step m s = (m.0, m.1, stepped_more front m.0 b c step m.2 s)
 
 pub done_in_order : (steps : List Step) (a b : HiveCells) → AreStepped a steps b
@@ -245,24 +246,24 @@ done_in_order [] a b e = (ap (λ (g : HiveCells). cells_in g) e, ap (λ (g : Hiv
 done_in_order (step ∷ steps) a b m = (
   m.0.tree,
   cells_in m.0,
-  m.1.tree,
-  m.1.done,
-  subst (λ (root : ℕ). AreDone root (cells_in m.0) m.0.tree steps (cells_in b) b.tree) m.1.root
+  m.1.stepped.tree,
+  m.1.stepped.done,
+  subst (λ (root : ℕ). AreDone root (cells_in m.0) m.0.tree steps (cells_in b) b.tree) m.1.stepped.root
       (done_in_order steps m.0 b m.2),
 )
 
 pub same_version : (steps : List Step) (a b : HiveCells) → AreStepped a steps b → b.version ≡ a.version
 same_version [] a b e = ap (λ (g : HiveCells). g.version) (sym e)
-same_version (step ∷ steps) a b m = same_version steps m.0 b m.2 ∙ m.1.version
+same_version (step ∷ steps) a b m = same_version steps m.0 b m.2 ∙ m.1.stepped.version
 
 same_root : (steps : List Step) (a b : HiveCells) → AreStepped a steps b → b.root ≡ a.root
 same_root [] a b e = ap (λ (g : HiveCells). g.root) (sym e)
-same_root (step ∷ steps) a b m = same_root steps m.0 b m.2 ∙ m.1.root
+same_root (step ∷ steps) a b m = same_root steps m.0 b m.2 ∙ m.1.stepped.root
 
 longer : (steps : List Step) (a b : HiveCells) → AreStepped a steps b → bins_size a.bins ≤ bins_size b.bins
 longer [] a b e = let s : bins_size a.bins ≡ bins_size b.bins = ap (λ (g : HiveCells). bins_size g.bins) e in
     omega (arith, s)
-longer (step ∷ steps) a b m = let d = longer steps m.0 b m.2 in let l = m.1.long in omega (arith, d, l)
+longer (step ∷ steps) a b m = let d = longer steps m.0 b m.2 in let l = m.1.stepped.long in omega (arith, d, l)
 
 grown_in_order : (steps : List Step) (a b : HiveCells) → AreStepped a steps b
     → AreGrown a.version (bins_size a.bins) a.tree steps (bins_size b.bins) b.tree
@@ -273,10 +274,11 @@ grown_in_order (step ∷ steps) a b m = (
   m.0.tree,
   bins_size m.0.bins,
   needed_sizes a.version a.tree step m.0.tree,
-  m.1.tree,
+  m.1.stepped.tree,
   some_all (needed_sizes a.version a.tree step m.0.tree),
-  m.1.room,
-  subst (λ (v : HiveVersion). AreGrown v (bins_size m.0.bins) m.0.tree steps (bins_size b.bins) b.tree) m.1.version
+  m.1.stepped.room,
+  subst (λ (v : HiveVersion). AreGrown v (bins_size m.0.bins) m.0.tree steps (bins_size b.bins) b.tree)
+      m.1.stepped.version
       (grown_in_order steps m.0 b m.2),
 )
 

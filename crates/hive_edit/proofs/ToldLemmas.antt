@@ -1,8 +1,8 @@
 -- A node that tells greater lengths: what is read of it, and what that leaves of the hive.
-use Rattle.std.proofs.Common.{◌≡◌, ◌≤◌, ◌<◌, ◌^◌, ℕ, zero, suc, ◌+◌, Bool, true, false, cond, List, [], ◌∷◌, ◌++◌, length, Option, Some, None, Result, Ok, inl, inr, ⊎_elim, refl, sym, ap, subst, ◌∙◌, arith}
-use Rattle.std.specs.Prelude.{◌⊎◌, nat_lt}
+use Rattle.std.proofs.Common.{◌≡◌, ◌≤◌, ◌<◌, ◌^◌, ℕ, zero, suc, ◌+◌, ◌*◌, Bool, true, false, cond, List, [], ◌∷◌, ◌++◌, length, Option, Some, None, Result, Ok, Err, inl, inr, ⊎_elim, refl, sym, ap, subst, ◌∙◌, arith}
+use Rattle.std.specs.Prelude.{◌⊎◌, find, nat_lt, MatchBool, MatchResult}
 use Rattle.std.specs.Int.{w16, w32, w64, to_le_bytes, from_le_bytes}
-use Rattle.std.specs.Option.{IsSomeAnd, option_map}
+use Rattle.std.specs.Option.{IsSomeAnd, option_map, option_map_or, option_and_then}
 use Rattle.std.proofs.lemmas.Bool.{ltb-false, ltb-true, lt-ltb, eqb-true, cases_eq}
 use Rattle.std.proofs.lemmas.Nat.{from_le_bytes-to_le_bytes_4}
 use Rattle.nt_bytes.specs.Fields.{u16_in, u32_in}
@@ -14,15 +14,16 @@ use Rattle.hive_model.specs.KeyNode.{KeyNode, key_node_in, key_node_at}
 use Rattle.hive_model.specs.Walk.{reading}
 use Rattle.hive_model.specs.InPlace.{count_after, IsKeptSecurity, KeepsSecurity}
 use Rattle.hive_model.specs.Security.{SecurityCell, security_at}
-use Rattle.hive_model.specs.Tree.{Tree, head}
+use Rattle.hive_model.specs.Tree.{Tree, head, children, is_named}
 use Rattle.hive_model.specs.Tree.{key as tree_key}
-use Rattle.hive_model.specs.Edit.{Step, set_value, make_key, add_child, copy_child}
+use Rattle.hive_model.specs.Edit.{Step, set_value, delete_value, make_key, delete_key, add_child, copy_child}
 use Rattle.hive_model.specs.Valid.{HoldsKeys}
-use Rattle.hive_model.specs.Footprint.{key_place, needed_sizes, room_of}
+use Rattle.hive_model.specs.Footprint.{has_key, key_place, needed_sizes, room_of}
 use Rattle.hive_model.specs.Stands.{IsWellFormed}
 use Rattle.hive_cells.specs.Changes.{at_cell, with_part}
 use Rattle.hive_cells.specs.Held.{held_at, patched}
 use Rattle.hive_cells.proofs.HeldLemmas.{payload_held, held_payload}
+use Rattle.reg_tree.specs.declared.stop.EditStop.{EditStop}
 use Rattle.edit_laws.specs.Done.{IsDone}
 use Rattle.edit_laws.specs.Greatest.{with_lengths, IsNoLonger, RaisesLengths, IsNamedPath}
 use Rattle.edit_laws.proofs.Made.{parent_is}
@@ -35,11 +36,13 @@ use Rattle.key_index.specs.Lists.{payload_in}
 use Rattle.edit_laws.proofs.Patches.{IsPatchOf, IsNodeText, node_text, node_patched, part_patches, in_part}
 use Rattle.hive_edit.specs.Hive.{HiveCells, cells_in, hive_of, IsHive}
 use Rattle.hive_edit.specs.Listed.{HasNewLists}
-use Rattle.hive_edit.specs.Places.{IsKeyAt}
+use Rattle.hive_edit.specs.Given.{place_in}
+use Rattle.hive_edit.specs.Places.{IsKeyAt, value_place}
 use Rattle.hive_edit.specs.Secured.{changes_of}
 use Rattle.hive_edit.specs.Standing.{tree_of}
 use Rattle.hive_edit.specs.Stepped.{IsStepped}
-use Rattle.hive_edit.specs.Told.{length_place, length_told, raised, IsRaisedTo, AreRaisedTo, IsToldAt, IsTold, IsToldAfter, TellsData}
+use Rattle.hive_edit.specs.Tells.{length_told, class_length, new_name_length, TellsBoth, TellsAt, TellsItem, IsToldStep}
+use Rattle.hive_edit.specs.Told.{length_place, raised, IsRaisedTo, AreRaisedTo, IsToldAt, IsTold}
 use Rattle.hive_edit.proofs.EditLemmas.{the_tree}
 use Rattle.hive_edit.proofs.HiveLemmas.{hive_opened}
 use Rattle.hive_edit.proofs.NodeLemmas.{node_here}
@@ -477,33 +480,27 @@ add_path name k = record { key = name ∷ []; named = inl refl; is = inr refl }
 pub copy_path : (from to : List ℕ) → IsNamedPath (copy_child from to) []
 copy_path from to = record { key = to ∷ []; named = inr (inl refl); is = inr refl }
 
--- the number that is told, by how long something is
-pub told_as : (old new : HiveCells) (path : List (List ℕ)) (field a b c d : ℕ) → a ≡ c → b ≡ d
-    → IsTold old path field a b new → IsTold old path field c d new
-told_as old new path field a b c d e f t =
-    subst (λ (z : ℕ). IsTold old path field z d new) e (subst (λ (z : ℕ). IsTold old path field a z new) f t)
-
 pub class_short : (k : Tree) → HoldsKeys k → length (head k).class < 65536
 class_short (tree_key h ts) holds = let c = holds.0.class in omega (arith, c)
 
 -- ---- what the node tells then
 
 -- the key at the path is the one whose node was raised, and it tells that much
-pub tells_after : (old new : HiveCells) (step : Step) (path : List (List ℕ)) (first size : ℕ)
-    → IsToldAfter old step path 2 first size new → TellsData new path size
-tells_after old new step path first size a = record { each = each }
+tells_after : (old mid new : HiveCells) (step : Step) (path : List (List ℕ)) (field first second : ℕ)
+    → IsStepped old step mid → IsTold mid path field first second new → TellsAt new path field first second
+tells_after old mid new step path field first second stepped told = each
   where
     m : Cells
-    m = cells_in a.mid
+    m = cells_in mid
 
     c : Cells
     c = cells_in new
 
-    well : IsWellFormed m old.root a.mid.tree
-    well = a.stepped.done.stands
+    well : IsWellFormed m old.root mid.tree
+    well = stepped.done.stands
 
     root_same : new.root ≡ old.root
-    root_same = a.told.root ∙ a.stepped.root
+    root_same = told.root ∙ stepped.root
 
     one : (x y : ℕ) → key_place m path old.root ≡ Some x → key_place m path old.root ≡ Some y → x ≡ y
     one x y e f = some_same x y (sym e ∙ f)
@@ -514,26 +511,132 @@ tells_after old new step path first size a = record { each = each }
     from x y n g e f read =
         let w = placed_at m path old.root x e in
         let v = placed_at c path old.root y f in
-        let own = owned_still m c old.root a.mid.tree w.stored x well w.reached g v.stored node y
+        let own = owned_still m c old.root mid.tree w.stored x well w.reached g v.stored node y
         (record { at = y; reached = v.reached; has = refl }) in
         let there : Reaches m old.root v.stored y =
         subst (λ (z : ℕ). Reaches m old.root v.stored z) own.has own.reached in
-        let same : x ≡ y = one x y e (place_is m path v.stored old.root y (sound_hive m old.root a.mid.tree well).all v.folds
+        let same : x ≡ y = one x y e (place_is m path v.stored old.root y (sound_hive m old.root mid.tree well).all v.folds
         there) in
         ok_same n g.new (sym read ∙ ap (reading key_node_at c) (sym same) ∙ g.read_new)
 
-    each : (y : ℕ) (n : KeyNode) → key_place c path new.root ≡ Some y → reading key_node_at c y ≡ Ok n
-        → size ≤ n.greatest_value_size
-    each y n at read = go (key_place m path a.mid.root) refl
+    each : TellsAt new path field first second
+    each y n at read = go (key_place m path mid.root) refl
       where
         at_old : key_place c path old.root ≡ Some y
         at_old = subst (λ (r : ℕ). key_place c path r ≡ Some y) root_same at
 
-        go : (o : Option ℕ) → key_place m path a.mid.root ≡ o → size ≤ n.greatest_value_size
-        go None e = absurd (let same : c ≡ m = λ i. look_up (a.told.version i) (a.told.none e i) in
-            let d = sym (subst (λ (r : ℕ). key_place m path r ≡ no_number) a.stepped.root e)
+        go : (o : Option ℕ) → key_place m path mid.root ≡ o → TellsBoth field first second n
+        go None e = absurd (let same : c ≡ m = λ i. look_up (told.version i) (told.none e i) in
+            let d = sym (subst (λ (r : ℕ). key_place m path r ≡ no_number) stepped.root e)
             ∙ sym (ap (λ (z : Cells). key_place z path old.root) same) ∙ at_old in cc)
         go (Some x) e =
-            let t = a.told.here x e in
-            let same = from x y n t.raises (subst (λ (r : ℕ). key_place m path r ≡ Some x) a.stepped.root e) at_old read in
-            subst (λ (k : KeyNode). size ≤ k.greatest_value_size) (sym same) t.second_told
+            let t = told.here x e in
+            let same = from x y n t.raises (subst (λ (r : ℕ). key_place m path r ≡ Some x) stepped.root e) at_old read in
+            subst (TellsBoth field first second) (sym same)
+            (record { first_told = t.first_told; second_told = t.second_told; })
+
+-- a node that tells so much tells less
+less_told : (h : HiveCells) (path : List (List ℕ)) (field a b first second : ℕ) → first ≤ a → second ≤ b
+    → TellsAt h path field a b → TellsAt h path field first second
+less_told h path field a b first second e f t = λ x n at read.
+    let both = t x n at read in
+    let one = both.first_told in
+    let two = both.second_told in
+    record { first_told = omega (arith, e, one); second_told = omega (arith, f, two); }
+
+-- a step was made, and then the node of a key that it names tells no less than the lengths of the item
+step_told : (old mid new : HiveCells) (step : Step) (path : List (List ℕ)) (field a b first second : ℕ)
+    → IsWellFormed (cells_in old) old.root old.tree → IsStepped old step mid → IsNamedPath step path
+    → IsTold mid path field a b new → first ≤ a → second ≤ b
+    → (TellsAt new path field first second → TellsItem old step new) → IsToldStep old step new
+step_told old mid new step path field a b first second well stepped names told e f item = record {
+  stepped = stepped_told old mid new step path field a b well stepped names told;
+  told = item (less_told new path field a b first second e f
+      (tells_after old mid new step path field a b stepped told));
+}
+
+none_or : (b : Bool) (n a : ℕ) → a ≡ n → cond b 0 n ≤ a
+none_or true n a e = omega arith
+none_or false n a e = omega (arith, e)
+
+none_if : (o : Option ℕ) (n a : ℕ) → a ≡ n → option_map_or (λ at. 0) o n ≤ a
+none_if (Some at) n a e = omega arith
+none_if None n a e = omega (arith, e)
+
+no_less : (a b : ℕ) → a ≡ b → b ≤ a
+no_less a b e = omega (arith, e)
+
+pub value_told : (old mid new : HiveCells) (path : List (List ℕ)) (name : List ℕ) (kind : ℕ) (bytes : List ℕ) (a : ℕ)
+    → IsWellFormed (cells_in old) old.root old.tree → IsStepped old (set_value path name kind bytes) mid
+    → new_name_length (cells_in old) path name old.root ≤ a → IsTold mid path 2 a (length bytes) new
+    → IsToldStep old (set_value path name kind bytes) new
+value_told old mid new path name kind bytes a well stepped long told =
+    step_told old mid new (set_value path name kind bytes) path 2 a (length bytes)
+    (new_name_length (cells_in old) path name old.root) (length bytes) well stepped (set_path path name kind bytes) told
+    long (omega arith) (λ t. t)
+
+-- a value of a new name
+pub new_long : (h : HiveCells) (path : List (List ℕ)) (name : List ℕ) (a : ℕ) → a ≡ 2 * length name
+    → new_name_length (cells_in h) path name h.root ≤ a
+new_long h path name a e =
+    none_if (option_and_then (value_place (cells_in h) name) (key_place (cells_in h) path h.root)) (2 * length name) a e
+
+-- a value that is there
+pub there_long : (h : HiveCells) (path : List (List ℕ)) (name : List ℕ) (at : ℕ)
+    → place_in (cells_in h) path name h.root ≡ Some at → new_name_length (cells_in h) path name h.root ≤ 0
+there_long h path name at e = let d = ap (λ (o : Option ℕ). option_map_or (λ k. 0) o (2 * length name)) e in omega (arith, d)
+
+pub made_told : (old mid new : HiveCells) (parent : List (List ℕ)) (name : List ℕ) (a : ℕ)
+    → IsWellFormed (cells_in old) old.root old.tree → IsStepped old (make_key parent name) mid → a ≡ 2 * length name
+    → IsTold mid parent 0 a 0 new → IsToldStep old (make_key parent name) new
+made_told old mid new parent name a well stepped e told =
+    step_told old mid new (make_key parent name) parent 0 a 0 (cond (has_key parent name old.tree) 0 (2 * length name)) 0
+    well stepped (make_path parent name) told (none_or (has_key parent name old.tree) (2 * length name) a e) (omega arith)
+    (λ t. t)
+
+-- a key that is there is made again
+pub there_told : (old new : HiveCells) (parent : List (List ℕ)) (name : List ℕ) → IsStepped old (make_key parent name) new
+    → has_key parent name old.tree ≡ true → IsToldStep old (make_key parent name) new
+there_told old new parent name stepped e = record {
+  stepped = stepped;
+  told = λ x n at read. record {
+    first_told = (let z : cond (has_key parent name old.tree) 0 (2 * length name) ≡ 0 =
+        ap (λ (b : Bool). cond b 0 (2 * length name)) e in omega (arith, z));
+    second_told = omega arith;
+  };
+}
+
+pub added_told : (old mid new : HiveCells) (name : List ℕ) (k : Tree) (class : ℕ)
+    → IsWellFormed (cells_in old) old.root old.tree → IsStepped old (add_child name k) mid
+    → class ≡ length (head k).class → IsTold mid [] 0 (2 * length name) class new
+    → IsToldStep old (add_child name k) new
+added_told old mid new name k class well stepped e told =
+    step_told old mid new (add_child name k) [] 0 (2 * length name) class (2 * length name) (length (head k).class)
+    well stepped (add_path name k) told (omega arith) (no_less class (length (head k).class) e) (λ t. t)
+
+pub copied_told : (old mid new : HiveCells) (from to : List ℕ) (k : Tree) (class : ℕ)
+    → IsWellFormed (cells_in old) old.root old.tree → IsStepped old (copy_child from to) mid
+    → find (is_named from) (children old.tree) ≡ Some k → class ≡ length (head k).class
+    → IsTold mid [] 0 (2 * length to) class new → IsToldStep old (copy_child from to) new
+copied_told old mid new from to k class well stepped found e told =
+    step_told old mid new (copy_child from to) [] 0 (2 * length to) class (2 * length to) (class_length from old.tree)
+    well stepped (copy_path from to) told (omega arith)
+    (no_less class (class_length from old.tree)
+    (e ∙ sym (ap (λ (o : Option Tree). option_map_or (λ j. length (head j).class) o 0) found))) (λ t. t)
+
+-- ---- steps by which no key gets an item
+
+pub unset_told : (old new : HiveCells) (path : List (List ℕ)) (name : List ℕ) → IsStepped old (delete_value path name) new
+    → IsToldStep old (delete_value path name) new
+unset_told old new path name s = record { stepped = s; told = tt; }
+
+pub deleted_told : (old new : HiveCells) (path : List (List ℕ)) → IsStepped old (delete_key path) new
+    → IsToldStep old (delete_key path) new
+deleted_told old new path s = record { stepped = s; told = tt; }
+
+-- what is so where the step was made
+pub where_made : (A B L : Type 0) (P : EditStop → Type 0) (r : Result Bool EditStop) → (A → B)
+    → MatchResult r (λ d. MatchBool d A L) P → MatchResult r (λ d. MatchBool d B L) P
+where_made A B L P (Ok true) f m = f m
+where_made A B L P (Ok false) f m = m
+where_made A B L P (Err stop) f m = m

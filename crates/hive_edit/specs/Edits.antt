@@ -22,7 +22,7 @@ KeepsParents old new = NamesParents (cells_in old) old.root → NamesParents (ce
 
 -- In place: each cell that was allocated, and is in the footprint of no step, has its offset and its payload, the root is where it was,
 -- the bins data are as long as before, or longer, and where each key below another named the node of that one as its parent, each does.
--- The steps were made one by one, each on the cells that the one before left, and `IsStepped` says what each made of them.
+-- The steps were made one by one, each on the cells that the one before left, and `IsToldStep` says what each made of them.
 pub record IsEditedInPlace (old : HiveCells) (steps : List Step) (new : HiveCells) : Type 0 where
   pub kept : (o : ℕ) (p : List ℕ) → held_at old.bins o ≡ Some p → (IsInFootprint (cells_in old) old.root old.tree steps o → ⊥)
       → held_at new.bins o ≡ Some p

@@ -19,5 +19,6 @@ pub mod Secured
 pub mod Listed
 pub mod GivenUp
 pub mod Stepped
+pub mod Tells
 pub mod Told
 pub mod Steps

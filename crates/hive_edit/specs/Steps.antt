@@ -6,12 +6,12 @@ use Rattle.hive_model.specs.Tree.{Tree, head, children, find_key}
 use Rattle.hive_model.specs.Edit.{Step, edited}
 use Rattle.hive_model.specs.Footprint.{needed_sizes, room_of, strain_of}
 use Rattle.hive_edit.specs.Hive.{HiveCells}
-use Rattle.hive_edit.specs.Stepped.{IsStepped}
+use Rattle.hive_edit.specs.Tells.{IsToldStep}
 
--- the steps were made, each on the cells that the one before left
+-- the steps were made, each on the cells that the one before left, and each key that got an item tells its lengths
 abbrev pub AreStepped : HiveCells → List Step → HiveCells → Type 0
 AreStepped old [] new = old ≡ new
-AreStepped old (step ∷ steps) new = (mid : HiveCells) × IsStepped old step mid × AreStepped mid steps new
+AreStepped old (step ∷ steps) new = (mid : HiveCells) × IsToldStep old step mid × AreStepped mid steps new
 
 -- where the steps are made at all, their strain is over the greatest size of bins data
 abbrev pub AreStrained : HiveCells → List Step → Type 0

@@ -1,31 +1,23 @@
 -- What is done where a key's node is to tell greater lengths? (Regf format 1.3 and 1.5, key node, the bytes at 52 to 67: the greatest
 -- length of a child's name, of its class, of a value's name and of its data, the first of the four fields being 0.)
-use Rattle.std.specs.Prelude.{◌≡◌, ◌≤◌, ◌<◌, ◌^◌, ◌⊎◌, ℕ, zero, suc, ◌+◌, ◌*◌, nat_lt, if◌then◌else◌, List, Some, None, Ok}
+use Rattle.std.specs.Prelude.{◌≡◌, ◌≤◌, ◌<◌, ◌^◌, ◌⊎◌, ℕ, ◌+◌, ◌*◌, nat_lt, if◌then◌else◌, List, Some, None, Ok}
 use Rattle.std.specs.Option.{IsSomeAnd}
 use Rattle.std.specs.Int.{w32, to_le_bytes}
 use Rattle.nt_bytes.specs.Fields.{u32_in}
 use Rattle.hive_model.specs.Bins.{Bin, bins_size, look_up}
 use Rattle.hive_model.specs.KeyNode.{KeyNode, key_node_at}
 use Rattle.hive_model.specs.Walk.{reading}
-use Rattle.hive_model.specs.Edit.{Step}
 use Rattle.hive_model.specs.Footprint.{key_place}
 use Rattle.hive_cells.specs.Held.{held_at, patched}
 use Rattle.hive_cells.specs.Changes.{at_cell, with_part}
 use Rattle.edit_laws.specs.Greatest.{RaisesLengths}
 use Rattle.hive_edit.specs.Edits.{WritesFields}
 use Rattle.hive_edit.specs.Hive.{HiveCells, cells_in}
-use Rattle.hive_edit.specs.Stepped.{IsStepped}
+use Rattle.hive_edit.specs.Tells.{length_told}
 
 -- where one of the four fields is in a node
 abbrev pub length_place : ℕ → ℕ
 length_place field = 52 + 4 * field
-
--- what a node tells in one of the four fields
-abbrev pub length_told : ℕ → KeyNode → ℕ
-length_told zero n = n.greatest_child_name
-length_told (suc zero) n = n.greatest_child_class
-length_told (suc (suc zero)) n = n.greatest_value_name
-length_told (suc (suc (suc field))) n = n.greatest_value_size
 
 -- the number in a field of the node at an offset was less than this one, which was written over it; no other byte differs
 pub record WritesGreater (at field number : ℕ) (old new : List Bin) : Type 0 where
@@ -72,12 +64,6 @@ pub record IsTold (old : HiveCells) (path : List (List ℕ)) (field first second
   pub here : (x : ℕ) → key_place (cells_in old) path old.root ≡ Some x → IsToldAt old new x field first second
   pub none : key_place (cells_in old) path old.root ≡ None → new.bins ≡ old.bins
 
--- a step was made, and then the node of the key at a path, if there is one, tells no less than two numbers, in a field and the next
-pub record IsToldAfter (old : HiveCells) (step : Step) (path : List (List ℕ)) (field first second : ℕ) (new : HiveCells) : Type 0 where
-  pub mid : HiveCells
-  pub stepped : IsStepped old step mid
-  pub told : IsTold mid path field first second new
-
 -- These fields were written over those of the value at an offset, and then, where the node of the key at a path told a smaller greatest
 -- length of its values' data than this, that number was: no other byte differs.
 pub record WritesValue (old : HiveCells) (path : List (List ℕ)) (at : ℕ) (fields : List ℕ) (size : ℕ) (new : HiveCells) : Type 0 where
@@ -85,8 +71,3 @@ pub record WritesValue (old : HiveCells) (path : List (List ℕ)) (at : ℕ) (fi
   pub written : WritesFields at fields old.bins mid
   pub told : (new.bins ≡ mid)
       ⊎ ((key : ℕ) × (key_place (look_up old.version mid) path old.root ≡ Some key) × WritesGreater key 3 size mid new.bins)
-
--- the node of the key at a path tells no less than this as the greatest length of its values' data
-pub record TellsData (h : HiveCells) (path : List (List ℕ)) (size : ℕ) : Type 0 where
-  pub each : (x : ℕ) (n : KeyNode) → key_place (cells_in h) path h.root ≡ Some x → reading key_node_at (cells_in h) x ≡ Ok n
-      → size ≤ n.greatest_value_size

@@ -12,7 +12,7 @@ ghost use Rattle.hive_edit.specs.Hive.{cells_in};
 ghost use Rattle.hive_edit.specs.Making.{AboveIs, IsOpen, MayMake};
 ghost use Rattle.hive_edit.specs.Places.{IsKeyAt};
 ghost use Rattle.hive_edit.specs.Stepped.{IsStepped, LacksStepRoom};
-ghost use Rattle.hive_edit.specs.Told.{IsToldAfter};
+ghost use Rattle.hive_edit.specs.Tells.{IsToldStep};
 ghost use Rattle.hive_model.specs.Valid.{longest_key_name};
 
 use crate::cells::are_bytes;
@@ -74,7 +74,7 @@ impl HiveBytes {
     /// Where a key may be made, in the order of the book. `None` where it is there.
     fn open_place(&self, parent: &Names, name: &[u16]) -> Result<Option<u32>, EditStop>
         ensures judged { MatchResult result
-            (λ r. MatchOption r (IsStepped self.now (make_key parent.now name.now) self.now) (IsOpen self.now parent.now name.now))
+            (λ r. MatchOption r (IsToldStep self.now (make_key parent.now name.now) self.now) (IsOpen self.now parent.now name.now))
             (IsRefused (after_step (make_key parent.now name.now) self.now.tree)) }
     {
         let source = Source {
@@ -173,9 +173,8 @@ impl HiveBytes {
         name: &[u16],
     ) -> Result<bool, AllocError>
         requires may { MayMake self.old parent.now name.now place }
-        ensures made { IfOk result (λ done. MatchBool done (IsStepped self.old (make_key parent.now name.now) self.new)
+        ensures made { IfOk result (λ done. MatchBool done (IsToldStep self.old (make_key parent.now name.now) self.new)
             (LacksStepRoom self.old (make_key parent.now name.now))) }
-        ensures told { result ≡ Ok true → IsToldAfter self.old (make_key parent.now name.now) parent.now 0 (2 * length name.now) 0 self.new }
     {
         self.stands();
         if self.make_at(alloc, place, parent, name)? {
@@ -197,7 +196,7 @@ impl HiveBytes {
         name: &[u16],
     ) -> Result<bool, EditStop>
         ensures made { MatchResult result
-            (λ done. MatchBool done (IsStepped self.old (make_key parent.now name.now) self.new) (LacksStepRoom self.old (make_key parent.now name.now)))
+            (λ done. MatchBool done (IsToldStep self.old (make_key parent.now name.now) self.new) (LacksStepRoom self.old (make_key parent.now name.now)))
             (IsRefused (after_step (make_key parent.now name.now) self.old.tree)) }
     {
         match self.open_place(parent, name) {

@@ -13,7 +13,7 @@ ghost use Rattle.hive_edit.specs.Children.{IsAddedIn, IsFreeName, IsGraftedIn, I
 ghost use Rattle.hive_edit.specs.Grafted.{descriptor_of};
 ghost use Rattle.hive_edit.specs.Runs.{IsPlace};
 ghost use Rattle.hive_edit.specs.Stepped.{IsStepped, LacksStepRoom};
-ghost use Rattle.hive_edit.specs.Told.{IsToldAfter};
+ghost use Rattle.hive_edit.specs.Tells.{IsToldStep};
 
 use crate::adding::above_at;
 use crate::cells::{are_bytes, place_for};
@@ -234,10 +234,8 @@ impl HiveBytes {
         requires free { IsFreeName self.old name.now }
         requires fits { Fits (add_child name.now key.now) }
         ensures made { MatchResult result
-            (λ done. MatchBool done (IsStepped self.old (add_child name.now key.now) self.new) (LacksStepRoom self.old (add_child name.now key.now)))
+            (λ done. MatchBool done (IsToldStep self.old (add_child name.now key.now) self.new) (LacksStepRoom self.old (add_child name.now key.now)))
             (IsRefused (after_step (add_child name.now key.now) self.old.tree)) }
-        ensures told { result ≡ Ok true
-            → IsToldAfter self.old (add_child name.now key.now) [] 0 (2 * length name.now) (length (head key.now).class) self.new }
     {
         self.stands();
         match self.add_named(alloc, name, key) {
@@ -262,7 +260,7 @@ impl HiveBytes {
     ) -> Result<bool, EditStop>
         requires fits { Fits (add_child name.now key.now) }
         ensures made { MatchResult result
-            (λ done. MatchBool done (IsStepped self.old (add_child name.now key.now) self.new) (LacksStepRoom self.old (add_child name.now key.now)))
+            (λ done. MatchBool done (IsToldStep self.old (add_child name.now key.now) self.new) (LacksStepRoom self.old (add_child name.now key.now)))
             (IsRefused (after_step (add_child name.now key.now) self.old.tree)) }
     {
         match self.judge_name(name) {

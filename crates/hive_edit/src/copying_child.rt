@@ -9,7 +9,7 @@ ghost use Rattle.reg_tree.specs.Makes.{IsRefused};
 ghost use Rattle.hive_edit.specs.Children.{IsFreeName, IsGraftedIn, IsNewChild, LacksGraftRoom, MayGraft};
 ghost use Rattle.hive_edit.specs.Copying.{HasSecurityOf, IsCopiedIn, SharesChild};
 ghost use Rattle.hive_edit.specs.Stepped.{IsStepped, LacksStepRoom};
-ghost use Rattle.hive_edit.specs.Told.{IsToldAfter};
+ghost use Rattle.hive_edit.specs.Tells.{IsToldStep};
 
 use crate::adding::above_at;
 use crate::adding_child::{descriptor, offset_fits, renamed, size_below};
@@ -156,10 +156,8 @@ impl HiveBytes {
         requires holds { HoldsKeys key.now }
         requires low { levels key.now ≤ 511 }
         ensures made { MatchResult result
-            (λ done. MatchBool done (IsStepped self.old (copy_child from.now to.now) self.new) (LacksStepRoom self.old (copy_child from.now to.now)))
+            (λ done. MatchBool done (IsToldStep self.old (copy_child from.now to.now) self.new) (LacksStepRoom self.old (copy_child from.now to.now)))
             (IsRefused (after_step (copy_child from.now to.now) self.old.tree)) }
-        ensures told { result ≡ Ok true
-            → IsToldAfter self.old (copy_child from.now to.now) [] 0 (2 * length to.now) (length (head key.now).class) self.new }
     {
         self.stands();
         match self.copy_named(alloc, from, to, key) {
@@ -183,7 +181,7 @@ impl HiveBytes {
         to: &[u16],
     ) -> Result<bool, EditStop>
         ensures made { MatchResult result
-            (λ done. MatchBool done (IsStepped self.old (copy_child from.now to.now) self.new) (LacksStepRoom self.old (copy_child from.now to.now)))
+            (λ done. MatchBool done (IsToldStep self.old (copy_child from.now to.now) self.new) (LacksStepRoom self.old (copy_child from.now to.now)))
             (IsRefused (after_step (copy_child from.now to.now) self.old.tree)) }
     {
         let path = path_of(alloc, from)?;

@@ -16,7 +16,8 @@ ghost use Rattle.reg_tree.specs.declared.stop.EditStop.TheVariants.{Full, Memory
 ghost use Rattle.hive_edit.specs.Hive.{cells_in};
 ghost use Rattle.hive_edit.specs.Edits.{inside_place, value_fields, IsEditedInPlace, IsPackedAnew, IsPackedForRoom, KeepsParents, WritesFields};
 ghost use Rattle.hive_edit.specs.Stepped.{IsStepped};
-ghost use Rattle.hive_edit.specs.Told.{IsToldAfter, TellsData, WritesValue};
+ghost use Rattle.hive_edit.specs.Tells.{IsToldStep};
+ghost use Rattle.hive_edit.specs.Told.{WritesValue};
 ghost use Rattle.hive_edit.specs.Freed.{FreesData};
 
 use crate::cells::are_bytes;
@@ -212,7 +213,6 @@ impl HiveBytes {
         ensures refused { OnErr result (self.new ≡ self.old) }
         ensures version { self.new.version ≡ self.old.version }
         ensures done { result ≡ Ok true → IsEditedInPlace self.old (set_value path.now name.now kind bytes.now ∷ []) self.new }
-        ensures tells { result ≡ Ok true → TellsData self.new path.now (length bytes.now) }
         ensures freed { result ≡ Ok true → FreesData self.old path.now name.now self.new }
         ensures no_room { result ≡ Ok false → (u : Tree) → edited self.old.version self.old.tree (set_value path.now name.now kind bytes.now ∷ []) ≡ Ok u
             → 16777216 < strain_of self.old.version (bins_size self.old.bins) self.old.tree (set_value path.now name.now kind bytes.now ∷ []) }
@@ -239,7 +239,6 @@ impl HiveBytes {
         ensures room { OnOk result (IsEditedInPlace self.old (set_value path.now name.now kind bytes.now ∷ []) self.new
             ⊎ IsPackedForRoom self.old (set_value path.now name.now kind bytes.now ∷ []) self.new) }
         ensures parents { OnOk result (KeepsParents self.old self.new) }
-        ensures told { OnOk result (TellsData self.new path.now (length bytes.now) ⊎ IsPackedAnew self.new) }
         ensures freed { OnOk result (FreesData self.old path.now name.now self.new
             ⊎ IsPackedForRoom self.old (set_value path.now name.now kind bytes.now ∷ []) self.new) }
     {
@@ -269,9 +268,8 @@ impl HiveBytes {
     fn set_inside(&mut self, path: &Names, name: &[u16], at: u32, kind: u32, bytes: &[u8])
         requires there { inside_place (cells_in self.old) path.now name.now self.old.root ≡ Some at }
         requires few { length bytes.now ≤ 4 }
-        ensures stepped { IsStepped self.old (set_value path.now name.now kind bytes.now) self.new }
+        ensures stepped { IsToldStep self.old (set_value path.now name.now kind bytes.now) self.new }
         ensures bulk { bulk_of self.old.version self.new.tree ≡ bulk_of self.old.version self.old.tree }
-        ensures told { IsToldAfter self.old (set_value path.now name.now kind bytes.now) path.now 2 0 (length bytes.now) self.new }
         ensures written { WritesValue self.old path.now at (value_fields (2147483648 + length bytes.now) (from_le_bytes w32 bytes.now) kind)
             (length bytes.now) self.new }
     {
@@ -302,7 +300,6 @@ impl HiveBytes {
         ensures room { OnOk result (IsEditedInPlace self.old (set_value path.now name.now kind bytes.now ∷ []) self.new
             ⊎ IsPackedForRoom self.old (set_value path.now name.now kind bytes.now ∷ []) self.new) }
         ensures parents { OnOk result (KeepsParents self.old self.new) }
-        ensures told { OnOk result (TellsData self.new path.now (length bytes.now) ⊎ IsPackedAnew self.new) }
         ensures freed { OnOk result (FreesData self.old path.now name.now self.new
             ⊎ IsPackedForRoom self.old (set_value path.now name.now kind bytes.now ∷ []) self.new) }
         ensures in_place { is_some (inside_place (cells_in self.old) path.now name.now self.old.root) ≡ true → length bytes.now ≤ 4

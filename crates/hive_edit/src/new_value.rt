@@ -25,7 +25,7 @@ ghost use Rattle.hive_edit.specs.NewValue.{added_cells, added_size, CanAdd, IsNe
 ghost use Rattle.hive_edit.specs.Places.{value_place};
 ghost use Rattle.hive_edit.specs.Runs.{IsPlace};
 ghost use Rattle.hive_edit.specs.Stepped.{IsStepped, LacksStepRoom};
-ghost use Rattle.hive_edit.specs.Told.{IsToldAfter, TellsData};
+ghost use Rattle.hive_edit.specs.Tells.{IsToldStep};
 ghost use Rattle.hive_model.specs.Valid.{longest_data, longest_value_name};
 
 use crate::cells::{MOST_BINS, are_bytes, place_for, put_run};
@@ -381,9 +381,8 @@ impl HiveBytes {
         requires new { IsNewIn self.old path.now name.now key }
         requires few { length bytes.now ≤ longest_data }
         requires bulk { bulk ≡ bulk_of self.old.version (set_tree path.now name.now kind bytes.now self.old.tree) }
-        ensures stepped { IfOk result (λ done. MatchBool done (IsStepped self.old (set_value path.now name.now kind bytes.now) self.new)
+        ensures stepped { IfOk result (λ done. MatchBool done (IsToldStep self.old (set_value path.now name.now kind bytes.now) self.new)
             (LacksStepRoom self.old (set_value path.now name.now kind bytes.now) × (self.new ≡ self.old))) }
-        ensures told { result ≡ Ok true → IsToldAfter self.old (set_value path.now name.now kind bytes.now) path.now 2 (2 * length name.now) (length bytes.now) self.new }
         ensures bulk { result ≡ Ok true → bulk ≡ bulk_of self.old.version self.new.tree }
         ensures refused { OnErr result (self.new ≡ self.old) }
     {
@@ -416,7 +415,6 @@ impl HiveBytes {
         ensures refused { OnErr result (self.new ≡ self.old) }
         ensures version { self.new.version ≡ self.old.version }
         ensures done { result ≡ Ok true → IsEditedInPlace self.old (set_value path.now name.now kind bytes.now ∷ []) self.new }
-        ensures tells { result ≡ Ok true → TellsData self.new path.now (length bytes.now) }
         ensures no_room { result ≡ Ok false → (u : Tree) → edited self.old.version self.old.tree (set_value path.now name.now kind bytes.now ∷ []) ≡ Ok u
             → 16777216 < strain_of self.old.version (bins_size self.old.bins) self.old.tree (set_value path.now name.now kind bytes.now ∷ []) }
     {
@@ -448,7 +446,6 @@ impl HiveBytes {
         ensures refused { OnErr result (self.new ≡ self.old) }
         ensures version { self.new.version ≡ self.old.version }
         ensures done { result ≡ Ok true → IsEditedInPlace self.old (set_value path.now name.now kind bytes.now ∷ []) self.new }
-        ensures tells { result ≡ Ok true → TellsData self.new path.now (length bytes.now) }
         ensures fresh { result ≡ Ok true → place_in (cells_in self.old) path.now name.now self.old.root ≡ None }
         ensures no_room { result ≡ Ok false → place_in (cells_in self.old) path.now name.now self.old.root ≡ None
             → (u : Tree) → edited self.old.version self.old.tree (set_value path.now name.now kind bytes.now ∷ []) ≡ Ok u
@@ -511,7 +508,7 @@ impl HiveBytes {
         requires key { key_place (cells_in self.old) path.now self.old.root ≡ Some key }
         requires short { length name.now ≤ longest_value_name }
         requires few { length bytes.now ≤ longest_data }
-        ensures { IfOk result (λ done. MatchBool done (IsStepped self.old (set_value path.now name.now kind bytes.now) self.new)
+        ensures { IfOk result (λ done. MatchBool done (IsToldStep self.old (set_value path.now name.now kind bytes.now) self.new)
             (LacksStepRoom self.old (set_value path.now name.now kind bytes.now) × (self.new ≡ self.old))) }
     {
         match self.value_in(path, name, key) {
@@ -537,7 +534,7 @@ impl HiveBytes {
         bytes: &[u8],
     ) -> Result<bool, EditStop>
         ensures made { MatchResult result
-            (λ done. MatchBool done (IsStepped self.old (set_value path.now name.now kind bytes.now) self.new)
+            (λ done. MatchBool done (IsToldStep self.old (set_value path.now name.now kind bytes.now) self.new)
             (LacksStepRoom self.old (set_value path.now name.now kind bytes.now)))
             (IsRefused (after_step (set_value path.now name.now kind bytes.now) self.old.tree)) }
     {

@@ -12,7 +12,7 @@ ghost use Rattle.hive_edit.specs.Edits.{IsEditedInPlace};
 ghost use Rattle.hive_edit.specs.Given.{place_in};
 ghost use Rattle.hive_edit.specs.NewValue.{set_tree};
 ghost use Rattle.hive_edit.specs.Stepped.{IsStepped, LacksStepRoom};
-ghost use Rattle.hive_edit.specs.Told.{IsToldAfter, TellsData};
+ghost use Rattle.hive_edit.specs.Tells.{IsToldStep};
 ghost use Rattle.hive_edit.specs.Freed.{FreesData};
 ghost use Rattle.hive_edit.specs.Places.{data_places};
 ghost use Rattle.hive_model.specs.Valid.{longest_data};
@@ -127,9 +127,8 @@ impl HiveBytes {
         requires there { place_in (cells_in self.old) path.now name.now self.old.root ≡ Some at }
         requires few { length bytes.now ≤ longest_data }
         requires bulk { bulk ≡ bulk_of self.old.version (set_tree path.now name.now kind bytes.now self.old.tree) }
-        ensures stepped { IfOk result (λ done. MatchBool done (IsStepped self.old (set_value path.now name.now kind bytes.now) self.new)
+        ensures stepped { IfOk result (λ done. MatchBool done (IsToldStep self.old (set_value path.now name.now kind bytes.now) self.new)
             (LacksStepRoom self.old (set_value path.now name.now kind bytes.now) × (self.new ≡ self.old))) }
-        ensures told { result ≡ Ok true → IsToldAfter self.old (set_value path.now name.now kind bytes.now) path.now 2 0 (length bytes.now) self.new }
         ensures freed { result ≡ Ok true → (o : ℕ) → Contains (data_places (cells_in self.old) at) o → held_at self.new.bins o ≡ None }
         ensures bulk { result ≡ Ok true → bulk ≡ bulk_of self.old.version self.new.tree }
         ensures refused { OnErr result (self.new ≡ self.old) }
@@ -160,7 +159,6 @@ impl HiveBytes {
         ensures refused { OnErr result (self.new ≡ self.old) }
         ensures version { self.new.version ≡ self.old.version }
         ensures done { result ≡ Ok true → IsEditedInPlace self.old (set_value path.now name.now kind bytes.now ∷ []) self.new }
-        ensures tells { result ≡ Ok true → TellsData self.new path.now (length bytes.now) }
         ensures freed { result ≡ Ok true → FreesData self.old path.now name.now self.new }
         ensures no_room { result ≡ Ok false → (at : ℕ) → place_in (cells_in self.old) path.now name.now self.old.root ≡ Some at
             → 16777216 < strain_of self.old.version (bins_size self.old.bins) self.old.tree (set_value path.now name.now kind bytes.now ∷ []) }

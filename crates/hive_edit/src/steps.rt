@@ -5,8 +5,9 @@ ghost use Rattle.std.specs.List.{All};
 ghost use Rattle.hive_model.specs.Edit.{after_step, after_steps};
 ghost use Rattle.reg_tree.specs.Fitting.{Fits};
 ghost use Rattle.reg_tree.specs.Makes.{IsRefused, step_of};
-ghost use Rattle.hive_edit.specs.Stepped.{IsStepped, LacksStepRoom};
+ghost use Rattle.hive_edit.specs.Stepped.{LacksStepRoom};
 ghost use Rattle.hive_edit.specs.Steps.{AreStepped, AreStrained};
+ghost use Rattle.hive_edit.specs.Tells.{IsToldStep};
 
 use crate::cells::MOST_BINS;
 use crate::hive::HiveBytes;
@@ -18,7 +19,7 @@ impl HiveBytes {
     /// dropped then, and after an `Err`.
     fn make_step(&mut self, alloc: Global, step: &TreeStep) -> Result<bool, EditStop>
         requires fits { Fits (step_of step.now) }
-        ensures made { MatchResult result (λ done. MatchBool done (IsStepped self.old (step_of step.now) self.new) (LacksStepRoom self.old (step_of step.now)))
+        ensures made { MatchResult result (λ done. MatchBool done (IsToldStep self.old (step_of step.now) self.new) (LacksStepRoom self.old (step_of step.now)))
             (IsRefused (after_step (step_of step.now) self.old.tree)) }
     {
         match step {

@@ -16,7 +16,7 @@ use name_places::NamePlaces;
 use nt_bytes::{Bytes, Names, Row, Units};
 use reg_tree::{Key, Keys, Values};
 use salvage_bins::DamagedCells;
-use salvage_walk::{Incomplete, Lists, Walk, add_found_beside};
+use salvage_walk::{Incomplete, Lists, Walk, add_found};
 use std::alloc::{AllocError, Global};
 use std::collections::BTreeMap;
 use std::marker::Model;
@@ -254,7 +254,7 @@ fn adopt_among(
     let before = keys.len();
     let path = own.path.as_slice();
     let places = places_of(index, own.at);
-    let found = add_found_beside(
+    let found = add_found(
         alloc,
         cells,
         walk,

@@ -76,33 +76,9 @@ fn names_of(alloc: Global, keys: &[Key]) -> Result<NameSet, AllocError>
     Ok(taken)
 }
 
-/// These children of a key at a path and, judged in turn, those whose nodes are at these places, where that many levels are left. Of
-/// one that is left out nothing is said.
+/// These children of a key at a path and, judged in turn, those whose nodes are at these places, where that many levels are left, beside
+/// lists of segments that are remembered. Of one that is left out nothing is said.
 pub fn add_found(
-    alloc: Global,
-    cells: &DamagedCells<'_>,
-    walk: &mut Walk,
-    notes: &mut Row<Incomplete>,
-    above: &[u8],
-    path: &[Units],
-    left: u32,
-    places: &[u32],
-    children: Keys,
-) -> Result<Keys, AllocError>
-    ensures walked { IfOk result (λ ks. (ks, state_of walk.new)
-        ≡ found_next (judged_key left (ground_of cells.now)) above.now path.now places.now children (state_of walk.old)) }
-    ensures noted { OnOk result (notes.new
-        ≡ found_notes (judged_key left (ground_of cells.now)) (notes_key left (ground_of cells.now)) above.now path.now places.now children
-        (state_of walk.old) notes.old) }
-{
-    let mut lists = Lists::new(alloc, walk);
-    add_found_beside(
-        alloc, cells, walk, &mut lists, notes, above, path, left, places, children,
-    )
-}
-
-/// The same beside lists of segments that are remembered.
-pub fn add_found_beside(
     alloc: Global,
     cells: &DamagedCells<'_>,
     walk: &mut Walk,

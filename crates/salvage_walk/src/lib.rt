@@ -18,7 +18,7 @@ mod segments;
 mod steps;
 mod values;
 
-pub use found::{add_found, add_found_beside};
+pub use found::add_found;
 pub use lines::{Incomplete, KeyPart, Walk, WalkLine};
 pub use lists::Lists;
 pub use root::{Salvaged, WalkedTree, salvage_tree, walk_tree};

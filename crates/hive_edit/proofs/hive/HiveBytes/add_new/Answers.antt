@@ -2,7 +2,6 @@ use Rattle.std.proofs.Common.{Bool, length, Ok, ap, arith}
 use Rattle.hive_model.specs.Edit.{set_value}
 use Rattle.hive_edit.specs.Hive.{HiveCells}
 use Rattle.hive_edit.proofs.SteppedLemmas.{step_full, stepped_edit, stepped_kept, lacks_strained, if_done, if_undone}
-use Rattle.hive_edit.proofs.ToldLemmas.{tells_after}
 use Rattle.hive_edit.proofs.hive.HiveBytes.add_new.Goals as goal
 
 pub returns-then-bulk-gt-MOST_BULK-clause-made : goal.returns-then-bulk-gt-MOST_BULK-clause-made
@@ -17,11 +16,11 @@ returns-then-branch-clause-made c = λ yes.
     let counted = c.in_ok-put_told.ensures.bulk (ap (λ (b : Bool). Ok b) c.if-branch.true) in
     stepped_edit c.args.self.now c.put_told.new.self
     (set_value c.args.path.now c.args.name.now c.args.kind c.args.bytes.now)
-    (if_done _ _ _ c.if-branch.true c.in_ok-put_told.ensures.stepped)
+    (if_done _ _ _ c.if-branch.true c.in_ok-put_told.ensures.stepped).stepped
     (omega (arith, counted, c.if-bulk-gt-MOST_BULK.false))
 
 pub returns-then-branch-clause-version : goal.returns-then-branch-clause-version
-returns-then-branch-clause-version c = (if_done _ _ _ c.if-branch.true c.in_ok-put_told.ensures.stepped).version
+returns-then-branch-clause-version c = (if_done _ _ _ c.if-branch.true c.in_ok-put_told.ensures.stepped).stepped.version
 
 pub returns-then-branch-clause-done : goal.returns-then-branch-clause-done
 returns-then-branch-clause-done c =
@@ -40,9 +39,3 @@ pub returns-clause-no_room : goal.returns-clause-no_room
 returns-clause-no_room c =
     λ no u e. lacks_strained c.args.self.now u (set_value c.args.path.now c.args.name.now c.args.kind c.args.bytes.now)
     (if_undone _ _ _ c.if-branch.false c.in_ok-put_told.ensures.stepped).0 e
-
-pub returns-then-branch-clause-tells : goal.returns-then-branch-clause-tells
-returns-then-branch-clause-tells c =
-    λ yes. tells_after c.args.self.now c.put_told.new.self
-    (set_value c.args.path.now c.args.name.now c.args.kind c.args.bytes.now) c.args.path.now _ (length c.args.bytes.now)
-    (c.in_ok-put_told.ensures.told (ap (λ (b : Bool). Ok b) c.if-branch.true))

@@ -1,8 +1,5 @@
-use Rattle.std.proofs.Common.{◌*◌, [], length, refl}
-use Rattle.hive_model.specs.Edit.{copy_child}
-use Rattle.hive_model.specs.Tree.{head}
 use Rattle.hive_edit.proofs.SteppedLemmas.{if_done}
-use Rattle.hive_edit.proofs.ToldLemmas.{stepped_told, copy_path, told_as}
+use Rattle.hive_edit.proofs.ToldLemmas.{copied_told}
 use Rattle.hive_edit.proofs.hive.HiveBytes.copy_told.Goals as goal
 
 pub tell_child-requires : goal.tell_child-requires
@@ -10,13 +7,7 @@ tell_child-requires c = c.requires.free.short
 
 pub returns-in-Ok-true-clause-made : goal.returns-in-Ok-true-clause-made
 returns-in-Ok-true-clause-made c =
-    stepped_told c.args.self.now c.copy_named.new.self c.tell_child.new.self (copy_child c.args.from.now c.args.to.now) [] 0 _ _ c.stands.ensures
-    (if_done _ _ _ c.in-Ok-true.field-0-test c.in-Ok-true.ensures.made) (copy_path c.args.from.now c.args.to.now) c.tell_child.ensures
-
-pub returns-in-Ok-true-clause-told : goal.returns-in-Ok-true-clause-told
-returns-in-Ok-true-clause-told c = λ yes. record {
-  mid = c.copy_named.new.self;
-  stepped = if_done _ _ _ c.in-Ok-true.field-0-test c.in-Ok-true.ensures.made;
-  told = told_as c.copy_named.new.self c.tell_child.new.self [] 0 (2 * length c.args.to.now) c.class_len-class.result (2 * length c.args.to.now)
-      (length (head c.args.key.now).class) refl c.class_len-class.ensures c.tell_child.ensures;
-}
+    copied_told c.args.self.now c.copy_named.new.self c.tell_child.new.self c.args.from.now c.args.to.now c.args.key.now
+    c.class_len-class.result c.stands.ensures
+    (if_done _ _ _ c.in-Ok-true.field-0-test c.in-Ok-true.ensures.made) c.requires.found c.class_len-class.ensures
+    c.tell_child.ensures

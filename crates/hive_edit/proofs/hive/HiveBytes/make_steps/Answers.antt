@@ -5,8 +5,8 @@ use Rattle.hive_model.specs.Edit.{Step, after_steps}
 use Rattle.reg_tree.specs.Fitting.{Fits}
 use Rattle.reg_tree.specs.Makes.{IsRefused, step_of}
 use Rattle.edit_laws.specs.Sizes.{AreGrown}
-use Rattle.hive_edit.specs.Stepped.{IsStepped}
 use Rattle.hive_edit.specs.Steps.{AreStepped, AreStrained}
+use Rattle.hive_edit.specs.Tells.{IsToldStep}
 use Rattle.hive_edit.proofs.SteppedLemmas.{if_done, if_undone, stepped_more, refused_behind, stopped_strained, fits_here, map_more, map_parts}
 use Rattle.hive_edit.proofs.StrainedLemmas.{step_grown, all_taken}
 use Rattle.hive_edit.proofs.hive.HiveBytes.make_steps.Goals as goal
@@ -55,14 +55,14 @@ returns-then-room-gt-MOST_BINS c =
     let item = c.step-item.result in
     let lt : k < length xs = c.loop-step-test.true in
     let h = c.args.self.now in
-    let made : IsStepped c.loop-step.self (step_of item) c.make_step.new.self =
+    let made : IsToldStep c.loop-step.self (step_of item) c.make_step.new.self =
     if_done _ _ _ c.if-not-branch.false c.in_ok-make_step.ensures.made in
     record {
       made = subst (AreStrained h) (sym (map_parts step_of xs k item lt c.step-item.is))
           (all_taken h c.loop-step.self c.make_step.new.self (map step_of (take k xs)) (map step_of (drop (suc k) xs))
           (step_of item) c.loop-step.room c.least_room-more.result c.saturating_add-room.result
-          c.loop-step.invariant.0 c.loop-step.invariant.1 made
-          (c.least_room-more.ensures c.loop-step.self made c.bulk-before.ensures)
+          c.loop-step.invariant.0 c.loop-step.invariant.1 made.stepped
+          (c.least_room-more.ensures c.loop-step.self made.stepped c.bulk-before.ensures)
           c.saturating_add-room.ensures c.if-room-gt-MOST_BINS.true);
     }
 
@@ -76,7 +76,7 @@ loop-step-preserved c =
     let next : suc k ≡ k + 1 = omega arith in
     let more : map step_of (take (k + 1) xs) ≡ map step_of (take k xs) ++ step_of item ∷ [] =
     ap (λ (n : ℕ). map step_of (take n xs)) (sym next) ∙ map_more step_of xs k item lt c.step-item.is in
-    let made : IsStepped c.loop-step.self (step_of item) c.make_step.new.self =
+    let made : IsToldStep c.loop-step.self (step_of item) c.make_step.new.self =
     if_done _ _ _ c.if-not-branch.false c.in_ok-make_step.ensures.made in (
       subst (λ (l : List Step). AreStepped h l c.make_step.new.self) (sym more)
           (stepped_more (map step_of (take k xs)) h c.loop-step.self c.make_step.new.self (step_of item)
@@ -85,6 +85,6 @@ loop-step-preserved c =
           (bins_size h.bins + c.saturating_add-room.result) c.make_step.new.self.tree) (sym more)
           (step_grown h c.loop-step.self c.make_step.new.self (map step_of (take k xs)) (step_of item)
           c.loop-step.room c.least_room-more.result c.saturating_add-room.result
-          c.loop-step.invariant.0 c.loop-step.invariant.1 made
-          (c.least_room-more.ensures c.loop-step.self made c.bulk-before.ensures) c.saturating_add-room.ensures),
+          c.loop-step.invariant.0 c.loop-step.invariant.1 made.stepped
+          (c.least_room-more.ensures c.loop-step.self made.stepped c.bulk-before.ensures) c.saturating_add-room.ensures),
     )

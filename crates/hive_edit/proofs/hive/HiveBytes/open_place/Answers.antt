@@ -1,5 +1,5 @@
 use Rattle.std.proofs.Common.{ℕ, List, length, sym, ap, ◌∙◌, arith}
-use Rattle.hive_edit.proofs.AskedLemmas.{asks_no_key, asks_bad_name, asks_long, asks_deep, asks_there, asks_open, already_stepped}
+use Rattle.hive_edit.proofs.AskedLemmas.{asks_no_key, asks_bad_name, asks_long, asks_deep, asks_there, asks_open, already_told}
 use Rattle.hive_edit.proofs.hive.HiveBytes.open_place.Goals as goal
 
 pub returns-in-None : goal.returns-in-None
@@ -38,7 +38,7 @@ returns-then-as_slice-gt-MOST_PARENTS c = record {
 
 pub returns-then-is_some : goal.returns-then-is_some
 returns-then-is_some c = record {
-  judged = already_stepped c.self.inside.cells c.self.inside.root c.self.inside.version c.self.inside.bulk
+  judged = already_told c.self.inside.cells c.self.inside.root c.self.inside.version c.self.inside.bulk
       c.args.self.now c.args.parent.now c.args.name.now c.self.invariant c.self.view_is
       (asks_there c.self.inside.cells c.cells.result.now c.self.inside.root c.self.inside.version c.self.inside.bulk
       c.args.self.now c.args.parent.now c.args.name.now c.in-Some.at

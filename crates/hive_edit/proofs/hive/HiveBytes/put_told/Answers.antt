@@ -1,9 +1,8 @@
-use Rattle.std.proofs.Common.{◌*◌, Bool, Ok, length, refl, sym, ap, ◌∙◌}
-use Rattle.hive_model.specs.Edit.{set_value}
+use Rattle.std.proofs.Common.{Bool, Ok, sym, ap, ◌∙◌}
 use Rattle.hive_model.specs.Size.{bulk_of}
 use Rattle.hive_model.specs.Tree.{Tree}
 use Rattle.hive_edit.proofs.SteppedLemmas.{if_done}
-use Rattle.hive_edit.proofs.ToldLemmas.{stepped_told, set_path, told_as}
+use Rattle.hive_edit.proofs.ToldLemmas.{value_told, new_long}
 use Rattle.hive_edit.proofs.hive.HiveBytes.put_told.Goals as goal
 
 pub wide_len-wide-requires : goal.wide_len-wide-requires
@@ -11,18 +10,11 @@ wide_len-wide-requires c = c.requires.new.short
 
 pub returns-then-branch-clause-stepped : goal.returns-then-branch-clause-stepped
 returns-then-branch-clause-stepped c =
-    stepped_told c.args.self.now c.put_new.new.self c.tell.new.self
-    (set_value c.args.path.now c.args.name.now c.args.kind c.args.bytes.now) c.args.path.now 2 _ _ c.stands.ensures
+    value_told c.args.self.now c.put_new.new.self c.tell.new.self c.args.path.now c.args.name.now c.args.kind
+    c.args.bytes.now c.wide_len-wide.result c.stands.ensures
     (if_done _ _ _ c.if-branch.true c.in_ok-put_new.ensures.stepped)
-    (set_path c.args.path.now c.args.name.now c.args.kind c.args.bytes.now) c.tell.ensures
-
-pub returns-then-branch-clause-told : goal.returns-then-branch-clause-told
-returns-then-branch-clause-told c = λ yes. record {
-  mid = c.put_new.new.self;
-  stepped = if_done _ _ _ c.if-branch.true c.in_ok-put_new.ensures.stepped;
-  told = told_as c.put_new.new.self c.tell.new.self c.args.path.now 2 c.wide_len-wide.result (length c.args.bytes.now)
-      (2 * length c.args.name.now) (length c.args.bytes.now) c.wide_len-wide.ensures refl c.tell.ensures;
-}
+    (new_long c.args.self.now c.args.path.now c.args.name.now c.wide_len-wide.result c.wide_len-wide.ensures)
+    c.tell.ensures
 
 pub returns-then-branch-clause-bulk : goal.returns-then-branch-clause-bulk
 returns-then-branch-clause-bulk c = λ yes.

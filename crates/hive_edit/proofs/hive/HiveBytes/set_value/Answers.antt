@@ -8,7 +8,6 @@ use Rattle.hive_edit.specs.Told.{WritesValue}
 use Rattle.hive_edit.proofs.ResultLemmas.{some_same}
 use Rattle.hive_edit.proofs.SetLemmas.{set_full, inside_frees}
 use Rattle.hive_edit.proofs.SteppedLemmas.{stepped_edit, stepped_kept}
-use Rattle.hive_edit.proofs.ToldLemmas.{tells_after}
 use Rattle.hive_edit.proofs.hive.HiveBytes.set_value.Goals as goal
 
 pub returns-in-None-clause-in_place : goal.returns-in-None-clause-in_place
@@ -35,11 +34,11 @@ returns-else-bulk-gt-MOST_BULK-clause-made c =
     let counted : i.bulk ≡ bulk_of c.args.self.now.version c.args.self.now.tree =
     c.self.invariant.counted ∙ ap (λ (g : HiveCells). bulk_of g.version g.tree) c.self.view_is in
     stepped_edit c.args.self.now c.set_inside.new.self
-    (set_value c.args.path.now c.args.name.now c.args.kind c.args.bytes.now) c.set_inside.ensures.stepped
+    (set_value c.args.path.now c.args.name.now c.args.kind c.args.bytes.now) c.set_inside.ensures.stepped.stepped
     (omega (arith, c.set_inside.ensures.bulk, counted, c.if-bulk-gt-MOST_BULK.false))
 
 pub returns-else-bulk-gt-MOST_BULK-clause-version : goal.returns-else-bulk-gt-MOST_BULK-clause-version
-returns-else-bulk-gt-MOST_BULK-clause-version c = c.set_inside.ensures.stepped.version
+returns-else-bulk-gt-MOST_BULK-clause-version c = c.set_inside.ensures.stepped.stepped.version
 
 pub returns-else-bulk-gt-MOST_BULK-clause-cells : goal.returns-else-bulk-gt-MOST_BULK-clause-cells
 returns-else-bulk-gt-MOST_BULK-clause-cells c =
@@ -74,9 +73,3 @@ pub returns-else-bulk-gt-MOST_BULK-clause-parents : goal.returns-else-bulk-gt-MO
 returns-else-bulk-gt-MOST_BULK-clause-parents c =
     (stepped_kept c.args.self.now c.set_inside.new.self
     (set_value c.args.path.now c.args.name.now c.args.kind c.args.bytes.now) c.set_inside.ensures.stepped).parents
-
-pub returns-else-bulk-gt-MOST_BULK-clause-told : goal.returns-else-bulk-gt-MOST_BULK-clause-told
-returns-else-bulk-gt-MOST_BULK-clause-told c =
-    inl (tells_after c.args.self.now c.set_inside.new.self
-    (set_value c.args.path.now c.args.name.now c.args.kind c.args.bytes.now) c.args.path.now 0 (length c.args.bytes.now)
-    c.set_inside.ensures.told)

@@ -1,6 +1,7 @@
 use Rattle.std.proofs.Common.{refl, arith}
 use Rattle.hive_model.specs.Edit.{delete_value}
 use Rattle.hive_edit.proofs.SteppedLemmas.{step_full, stepped_edit, stepped_kept}
+use Rattle.hive_edit.proofs.ToldLemmas.{unset_told}
 use Rattle.hive_edit.proofs.hive.HiveBytes.unset.Goals as goal
 
 pub returns-then-bulk-gt-MOST_BULK-clause-made : goal.returns-then-bulk-gt-MOST_BULK-clause-made
@@ -20,9 +21,10 @@ returns-clause-made c =
 pub returns-clause-done : goal.returns-clause-done
 returns-clause-done c =
     stepped_kept c.args.self.now c.take_named.new.self (delete_value c.args.path.now c.args.name.now)
-    c.take_named.ensures.stepped
+    (unset_told c.args.self.now c.take_named.new.self c.args.path.now c.args.name.now c.take_named.ensures.stepped)
 
 pub returns-clause-parents : goal.returns-clause-parents
 returns-clause-parents c =
     (stepped_kept c.args.self.now c.take_named.new.self (delete_value c.args.path.now c.args.name.now)
-    c.take_named.ensures.stepped).parents
+    (unset_told c.args.self.now c.take_named.new.self c.args.path.now c.args.name.now
+    c.take_named.ensures.stepped)).parents

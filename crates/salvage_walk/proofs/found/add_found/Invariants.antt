@@ -5,7 +5,7 @@ use Rattle.salvage_walk.specs.Incomplete.{notes_key}
 use Rattle.salvage_walk.specs.Keys.{judged_key, key_names}
 use Rattle.salvage_walk.specs.Remembered.{Remembers}
 use Rattle.salvage_walk.specs.Walked.{state_of}
-use Rattle.salvage_walk.proofs.found.add_found_beside.Given as goal
+use Rattle.salvage_walk.proofs.found.add_found.Given as goal
 
 abbrev pub decreases-places : goal.decreases-places
 decreases-places l = length l.rest
