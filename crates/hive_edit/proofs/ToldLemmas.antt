@@ -405,7 +405,7 @@ lists_told mid new path field first second at told h = go (key_place (cells_in m
 new_lists_told : (old mid new : HiveCells) (path : List (List ℕ)) (field first second at : ℕ)
     → IsTold mid path field first second new → HasNewLists old mid at → HasNewLists old new at
 new_lists_told old mid new path field first second at told l =
-    go (lists_told mid new path field first second at told (record { node = l.node; read = l.read; lists = l.lists; }))
+    go (lists_told mid new path field first second at told (record { node = l.node; read = l.read; lists = l.lists }))
   where
     go : HasLists (cells_in new) at → HasNewLists old new at
     go h = record {
@@ -533,7 +533,7 @@ tells_after old mid new step path field first second stepped told = each
             let t = told.here x e in
             let same = from x y n t.raises (subst (λ (r : ℕ). key_place m path r ≡ Some x) stepped.root e) at_old read in
             subst (TellsBoth field first second) (sym same)
-            (record { first_told = t.first_told; second_told = t.second_told; })
+            (record { first_told = t.first_told; second_told = t.second_told })
 
 -- a node that tells so much tells less
 less_told : (h : HiveCells) (path : List (List ℕ)) (field a b first second : ℕ) → first ≤ a → second ≤ b
@@ -542,7 +542,7 @@ less_told h path field a b first second e f t = λ x n at read.
     let both = t x n at read in
     let one = both.first_told in
     let two = both.second_told in
-    record { first_told = omega (arith, e, one); second_told = omega (arith, f, two); }
+    record { first_told = omega (arith, e, one); second_told = omega (arith, f, two) }
 
 -- a step was made, and then the node of a key that it names tells no less than the lengths of the item
 step_told : (old mid new : HiveCells) (step : Step) (path : List (List ℕ)) (field a b first second : ℕ)
@@ -563,8 +563,8 @@ none_if : (o : Option ℕ) (n a : ℕ) → a ≡ n → option_map_or (λ at. 0) 
 none_if (Some at) n a e = omega arith
 none_if None n a e = omega (arith, e)
 
-no_less : (a b : ℕ) → a ≡ b → b ≤ a
-no_less a b e = omega (arith, e)
+as_long : (a b : ℕ) → a ≡ b → b ≤ a
+as_long a b e = omega (arith, e)
 
 pub value_told : (old mid new : HiveCells) (path : List (List ℕ)) (name : List ℕ) (kind : ℕ) (bytes : List ℕ) (a : ℕ)
     → IsWellFormed (cells_in old) old.root old.tree → IsStepped old (set_value path name kind bytes) mid
@@ -612,7 +612,7 @@ pub added_told : (old mid new : HiveCells) (name : List ℕ) (k : Tree) (class :
     → IsToldStep old (add_child name k) new
 added_told old mid new name k class well stepped e told =
     step_told old mid new (add_child name k) [] 0 (2 * length name) class (2 * length name) (length (head k).class)
-    well stepped (add_path name k) told (omega arith) (no_less class (length (head k).class) e) (λ t. t)
+    well stepped (add_path name k) told (omega arith) (as_long class (length (head k).class) e) (λ t. t)
 
 pub copied_told : (old mid new : HiveCells) (from to : List ℕ) (k : Tree) (class : ℕ)
     → IsWellFormed (cells_in old) old.root old.tree → IsStepped old (copy_child from to) mid
@@ -621,18 +621,18 @@ pub copied_told : (old mid new : HiveCells) (from to : List ℕ) (k : Tree) (cla
 copied_told old mid new from to k class well stepped found e told =
     step_told old mid new (copy_child from to) [] 0 (2 * length to) class (2 * length to) (class_length from old.tree)
     well stepped (copy_path from to) told (omega arith)
-    (no_less class (class_length from old.tree)
+    (as_long class (class_length from old.tree)
     (e ∙ sym (ap (λ (o : Option Tree). option_map_or (λ j. length (head j).class) o 0) found))) (λ t. t)
 
 -- ---- steps by which no key gets an item
 
 pub unset_told : (old new : HiveCells) (path : List (List ℕ)) (name : List ℕ) → IsStepped old (delete_value path name) new
     → IsToldStep old (delete_value path name) new
-unset_told old new path name s = record { stepped = s; told = tt; }
+unset_told old new path name s = record { stepped = s; told = tt }
 
 pub deleted_told : (old new : HiveCells) (path : List (List ℕ)) → IsStepped old (delete_key path) new
     → IsToldStep old (delete_key path) new
-deleted_told old new path s = record { stepped = s; told = tt; }
+deleted_told old new path s = record { stepped = s; told = tt }
 
 -- what is so where the step was made
 pub where_made : (A B L : Type 0) (P : EditStop → Type 0) (r : Result Bool EditStop) → (A → B)

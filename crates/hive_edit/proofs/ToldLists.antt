@@ -112,8 +112,7 @@ node_said : (cells : Cells) (o : ℕ) (n : KeyNode) → reading key_node_at cell
 unfolding payload_in name_of
 node_said cells o n read =
     let p = then-so (cells.payload o) key_node_at n read in
-    let there : payload_in cells o ≡ p.0 = ap (λ (r : Result (List ℕ) HiveFaultKind). of_read r (λ q. q)) p.1 in
-    (
+    let there : payload_in cells o ≡ p.0 = ap (λ (r : Result (List ℕ) HiveFaultKind). of_read r (λ q. q)) p.1 in (
       ap (λ (q : List ℕ). u16_in q 2) there ∙ sym (ap (λ (m : KeyNode). m.flags) (node_text p.0 n p.2).fields),
       ap (λ (q : List ℕ). of_read (key_node_at q) (λ m. m.name)) there
           ∙ ap (λ (r : Result KeyNode HiveFaultKind). of_read r (λ m. m.name)) p.2,
@@ -283,7 +282,7 @@ module _ (b c : Cells) (x : ℕ) (g : RaisesLengths b c x)
     packed_still : (list : ℕ) (os : List ℕ) (hs : List (List ℕ)) → IsPackedList b list os hs
         → IsPackedList c list os hs
     packed_still list os hs (inl s) =
-        inl (record { some = s.some; few = s.few; whole = list_still list os hs s.whole; })
+        inl (record { some = s.some; few = s.few; whole = list_still list os hs s.whole })
     packed_still list os hs (inr p) =
         inr (record {
           many = p.many;

@@ -8,6 +8,10 @@ use Rattle.hive_edit.proofs.EditLemmas.{the_tree}
 use Rattle.hive_edit.proofs.NewValueLemmas.{by_place, nowhere}
 use Rattle.hive_edit.proofs.hive.HiveBytes.set_in_place.Goals as goal
 
+pub returns-then-branch-clause-freed : goal.returns-then-branch-clause-freed
+returns-then-branch-clause-freed c =
+    λ yes. c.in_ok-set_there.ensures.freed (ap (λ (b : Bool). Ok b) c.if-branch.true)
+
 pub returns-clause-no_room : goal.returns-clause-no_room
 returns-clause-no_room c = λ no u e.
     let h = c.args.self.now in

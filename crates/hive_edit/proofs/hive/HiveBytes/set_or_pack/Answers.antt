@@ -56,7 +56,3 @@ returns-then-branch-clause-parents c =
 
 pub returns-clause-parents : goal.returns-clause-parents
 returns-clause-parents c = names_anew c.args.self.now c.set_anew-2.new.self c.set_anew-2.result c.set_anew-2.ensures.anew
-
-pub returns-then-branch-clause-told : goal.returns-then-branch-clause-told
-returns-then-branch-clause-told c =
-    inl (c.in_ok-set_in_place.ensures.tells (ap (λ (b : Bool). Ok b) c.if-branch.true))
