@@ -1,6 +1,6 @@
 -- A node that tells greater lengths: what is read of it, and what that leaves of the hive.
-use Rattle.std.proofs.Common.{◌≡◌, ◌≤◌, ◌<◌, ◌^◌, ℕ, zero, suc, ◌+◌, ◌*◌, Bool, true, false, cond, List, [], ◌∷◌, ◌++◌, length, Option, Some, None, Result, Ok, Err, inl, inr, ⊎_elim, refl, sym, ap, subst, ◌∙◌, arith}
-use Rattle.std.specs.Prelude.{◌⊎◌, find, nat_lt, MatchBool, MatchResult}
+use Rattle.std.proofs.Common.{◌≡◌, ◌≤◌, ◌<◌, ◌^◌, ℕ, zero, suc, ◌+◌, ◌*◌, Bool, true, false, cond, List, [], ◌∷◌, ◌++◌, length, Option, Some, None, Result, inl, inr, ⊎_elim, refl, sym, ap, subst, ◌∙◌, arith}
+use Rattle.std.specs.Prelude.{◌⊎◌, find, nat_lt}
 use Rattle.std.specs.Int.{w16, w32, w64, to_le_bytes, from_le_bytes}
 use Rattle.std.specs.Option.{IsSomeAnd, option_map, option_map_or, option_and_then}
 use Rattle.std.proofs.lemmas.Bool.{ltb-false, ltb-true, lt-ltb, eqb-true, cases_eq}
@@ -23,7 +23,6 @@ use Rattle.hive_model.specs.Stands.{IsWellFormed}
 use Rattle.hive_cells.specs.Changes.{at_cell, with_part}
 use Rattle.hive_cells.specs.Held.{held_at, patched}
 use Rattle.hive_cells.proofs.HeldLemmas.{payload_held, held_payload}
-use Rattle.reg_tree.specs.declared.stop.EditStop.{EditStop}
 use Rattle.edit_laws.specs.Done.{IsDone}
 use Rattle.edit_laws.specs.Greatest.{with_lengths, IsNoLonger, RaisesLengths, IsNamedPath}
 use Rattle.edit_laws.proofs.Made.{parent_is}
@@ -633,10 +632,3 @@ unset_told old new path name s = record { stepped = s; told = tt }
 pub deleted_told : (old new : HiveCells) (path : List (List ℕ)) → IsStepped old (delete_key path) new
     → IsToldStep old (delete_key path) new
 deleted_told old new path s = record { stepped = s; told = tt }
-
--- what is so where the step was made
-pub where_made : (A B L : Type 0) (P : EditStop → Type 0) (r : Result Bool EditStop) → (A → B)
-    → MatchResult r (λ d. MatchBool d A L) P → MatchResult r (λ d. MatchBool d B L) P
-where_made A B L P (Ok true) f m = f m
-where_made A B L P (Ok false) f m = m
-where_made A B L P (Err stop) f m = m

@@ -1,6 +1,6 @@
 //! A key made in place.
 
-ghost use Rattle.std.specs.Prelude.{◌≡◌, ◌≤◌, ◌+◌, ◌-◌, ◌*◌, length, true, Ok, IfOk, MatchBool, MatchResult};
+ghost use Rattle.std.specs.Prelude.{◌≡◌, ◌≤◌, ◌+◌, ◌-◌, length, true, Ok, IfOk, MatchBool, MatchResult};
 ghost use Rattle.std.specs.Option.{MatchOption};
 ghost use Rattle.hive_model.specs.Edit.{make_key, is_bad_name, after_step};
 ghost use Rattle.hive_model.specs.Size.{cell, list_size, name_bytes};

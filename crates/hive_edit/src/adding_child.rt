@@ -1,6 +1,6 @@
 //! A child of the root added with all below it.
 
-ghost use Rattle.std.specs.Prelude.{◌≡◌, ◌≤◌, ◌<◌, ◌^◌, ◌+◌, ◌-◌, ◌*◌, [], length, min, true, Ok, IfOk, MatchBool, MatchResult};
+ghost use Rattle.std.specs.Prelude.{◌≡◌, ◌≤◌, ◌<◌, ◌^◌, ◌+◌, ◌-◌, ◌*◌, [], min, true, Ok, IfOk, MatchBool, MatchResult};
 ghost use Rattle.std.specs.Option.{IfSome, MatchOption};
 ghost use Rattle.std.specs.Result.{IsOk};
 ghost use Rattle.hive_model.specs.Tree.{head};

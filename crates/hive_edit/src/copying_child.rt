@@ -1,6 +1,6 @@
 //! A child of the root copied with all below it: what was read of it is added under the other name, and shares its descriptor.
 
-ghost use Rattle.std.specs.Prelude.{◌≡◌, ◌≤◌, ◌*◌, [], ◌∷◌, length, true, find, Some, Ok, IfOk, MatchBool, MatchResult};
+ghost use Rattle.std.specs.Prelude.{◌≡◌, ◌≤◌, [], ◌∷◌, true, find, Some, Ok, IfOk, MatchBool, MatchResult};
 ghost use Rattle.hive_model.specs.Tree.{children, head, is_named};
 ghost use Rattle.hive_model.specs.Valid.{HoldsKeys, levels};
 ghost use Rattle.hive_model.specs.Size.{size};

@@ -1,4 +1,4 @@
-use Rattle.std.proofs.Common.{Bool, length, Ok, ap, arith}
+use Rattle.std.proofs.Common.{Bool, Ok, ap, arith}
 use Rattle.hive_model.specs.Edit.{set_value}
 use Rattle.hive_edit.specs.Hive.{HiveCells}
 use Rattle.hive_edit.proofs.SteppedLemmas.{step_full, stepped_edit, stepped_kept, lacks_strained, if_done, if_undone}
