@@ -37,6 +37,7 @@ use Rattle.hive_edit.specs.Children.{IsFreeName, RefusesName, IsNewChild, MayGra
 use Rattle.hive_edit.specs.Hive.{HiveCells, cells_in, hive_of, IsHive}
 use Rattle.hive_edit.specs.Stepped.{IsStepped, LacksStepRoom}
 use Rattle.hive_edit.specs.Listed.{HasNewLists}
+use Rattle.hive_edit.specs.NewRun.{HasNewRun}
 use Rattle.hive_edit.specs.Standing.{tree_of}
 use Rattle.hive_edit.proofs.EditLemmas.{the_tree}
 use Rattle.hive_edit.proofs.JudgeLemmas.{key_present, key_absent, counted_children}
@@ -191,6 +192,8 @@ add_stepped old new name k well f holds low a =
           (λ i. comers (sharing_renamed (head t).security name k i) (a.same i) o) (g.secure o s));
       lists = λ at i. ⊎_elim (λ e. subst (HasNewLists old new) e g.lists) (λ (z : ⊥). absurd z) i;
       freed = λ o given. absurd given;
+      runs = λ r i. ⊎_elim (λ e. subst (λ (z : List ℕ × Tree). HasNewRun old z.0 z.1 new) e g.run)
+          (λ (z : ⊥). absurd z) i;
       long = g.long;
       room = subst (λ (w : Tree). bins_size new.bins ≤ bins_size old.bins
           + room_of (needed_sizes old.version t (add_child name k) w)) (sym tree)

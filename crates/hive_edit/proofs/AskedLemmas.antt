@@ -193,6 +193,7 @@ already_stepped bins root version bulk h parent name is view m =
       lists = λ at i. absurd (subst (λ (v : Bool). In (cond v [] (of_key (cells_in h) h.root parent (λ x. x ∷ []))) at)
           m.present i);
       freed = λ o given. absurd given;
+      runs = λ r among. absurd among;
       long = omega arith;
       room = omega arith;
     }

@@ -41,6 +41,7 @@ use Rattle.hive_edit.proofs.JudgeLemmas.{counted_children}
 use Rattle.hive_edit.proofs.KeyLemmas.{node_read}
 use Rattle.hive_edit.proofs.ParentLemmas.{Keeps, kept_well}
 use Rattle.hive_edit.proofs.StandingLemmas.{tree_is}
+use Rattle.hive_edit.proofs.ChildRuns.{run_made}
 use Rattle.hive_edit.proofs.GraftRuns.{graft_run, run_there}
 use Rattle.hive_edit.proofs.GraftLemmas.{changes, stands_new, kept_secure}
 use Rattle.hive_edit.proofs.GraftedLemmas.{Ready, linkable, front, back, lists_still, placed, siblings_count, grafts}
@@ -259,6 +260,7 @@ graft_made old new root version bulk count own after h above shared k at is view
         stands = stands;
         place = place;
         secure = kept_secure b m l c root t n k at sz sp a.linked.list shared fr bk g;
+        run = run_made version old new root t n above shared k at r.ready r.holds a;
         lists = graft_lists version old new root above shared k at r a ch;
         long = omega (arith, noted, counted, put_least, lists_least);
         room = total (bins_size old) (bins_size a.mid) (bins_size a.linked.listed) (bins_size a.linked.noted)

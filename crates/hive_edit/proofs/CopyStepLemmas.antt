@@ -32,6 +32,7 @@ use Rattle.hive_edit.specs.Hive.{HiveCells, cells_in, hive_of, IsHive}
 use Rattle.hive_edit.specs.Standing.{tree_of}
 use Rattle.hive_edit.specs.Stepped.{IsStepped, LacksStepRoom}
 use Rattle.hive_edit.specs.Listed.{HasNewLists}
+use Rattle.hive_edit.specs.NewRun.{HasNewRun}
 use Rattle.hive_edit.proofs.EditLemmas.{the_tree}
 use Rattle.hive_edit.proofs.KeyLemmas.{node_read}
 use Rattle.hive_edit.proofs.ParentLemmas.{node_stands, security_at_node, security_there}
@@ -199,6 +200,11 @@ copy_stepped old new from to k well found f holds low a =
           (λ i. comers (count i) (a.same i) o) (g.secure o s));
       lists = λ at i. ⊎_elim (λ e. subst (HasNewLists old new) e g.lists) (λ (z : ⊥). absurd z) i;
       freed = λ o given. absurd given;
+      runs = λ r i.
+          let one : In (((head k).security, w) ∷ []) r =
+          subst (λ (o : Option Tree). In (option_map_or (λ j. ((head j).security, renamed to j) ∷ []) o []) r) found i in
+          ⊎_elim (λ e. subst (λ (z : List ℕ × Tree). HasNewRun old z.0 z.1 new) e
+          (subst (λ (s : List ℕ). HasNewRun old s w new) (security_renamed to k) g.run)) (λ (z : ⊥). absurd z) one;
       long = g.long;
       room = subst (λ (x : Tree). bins_size new.bins ≤ bins_size old.bins
           + room_of (needed_sizes old.version t (copy_child from to) x)) (sym tree)

@@ -354,6 +354,7 @@ pair_gone old new root version bulk bulk_then h path p is view place taken bytes
         freed = λ o given. taken.removed.dropped.freed o (plain_use (tree_uses (levels_left path) b p.at) o
             (subst (λ (l : List ℕ). In l o)
             (λ i. option_map_or (λ (q : KeyPair). plain_cells (tree_uses (levels_left path) b q.at)) (place i) []) given));
+        runs = λ r among. absurd among;
         long = d.long;
         room = subst (λ (v : Tree). bins_size new ≤ bins_size old
             + room_of (needed_sizes version t (delete_key path) v)) (sym tree) d.room;

@@ -164,7 +164,7 @@ module _ (b m l c : Cells) (root : ℕ) (t : Tree) (n : KeyNode) (k : Tree) (y s
   outside : (o : ℕ) (q : List ℕ) → b.payload o ≡ done q → (z : ℕ) → y ≤ z → z < y + size → z ≡ o → ⊥
   outside o q e z low high same = g.fresh z q low high (ap b.payload same ∙ e)
 
-  in_run : (o : ℕ) (q : List ℕ) → y ≤ o → o < y + size → m.payload o ≡ done q → c.payload o ≡ done q
+  pub in_run : (o : ℕ) (q : List ℕ) → y ≤ o → o < y + size → m.payload o ≡ done q → c.payload o ≡ done q
   in_run o q low high e =
       stays o q e (λ i. let h = list_held b root t [] root t n o g.parent (g.gone_is o i) in g.fresh o h.0 low high h.1)
       (outside root node_there.0 node_there.1 o low high)

@@ -62,6 +62,7 @@ inside_set old new root version bulk h path name kind bytes v is view e short sm
     (λ o given. inside_frees (hive_of old root version) path name v place (hive_of new root version) v there o
     (contains_from (data_places b v) o
     (subst (λ (l : List ℕ). In l o) (replaced_there b path name root v there) given)))
+    (λ run j. absurd j)
     in
     record {
       made = made;

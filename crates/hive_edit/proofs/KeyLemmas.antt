@@ -303,7 +303,7 @@ is_made old new root version bulk h parent name place above stamp node is view r
     ⊎_elim (λ same. subst (HasNewLists (hive_of old root version) (hive_of new root version)) same
     (key_lists version old new root t r.path place.at r.there r.node above name r.parent_is r.says r.may r.few a))
     (λ (z : ⊥). absurd z) one)
-    (λ o given. absurd given)
+    (λ o given. absurd given) (λ run i. absurd i)
 
 -- ---- nothing is made
 

@@ -50,6 +50,7 @@ pub mod SteppedLemmas
 pub mod GraftRuns
 pub mod GraftLemmas
 pub mod GraftedLemmas
+pub mod ChildRuns
 pub mod ChildLemmas
 pub mod AddStepLemmas
 pub mod GraftLinks

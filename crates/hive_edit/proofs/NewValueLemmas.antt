@@ -385,6 +385,7 @@ new_set old new root version bulk after h path name x kind bytes is view isnew f
     (set_counts_none t path name kind bytes))
     (λ key among. absurd among)
     (λ o given. put.freed o (subst (λ (l : List ℕ). In l o) (replaced_list b path name root x n.place none) given))
+    (λ run i. absurd i)
 
 -- where a new bin for the run is not to be had
 pub new_lacks : (bins : List Bin) (root : ℕ) (version : HiveVersion) (bulk : ℕ) (h : HiveCells) (path : List (List ℕ))

@@ -36,6 +36,7 @@ use Rattle.hive_edit.proofs.StandingLemmas.{tree_is}
 use Rattle.hive_edit.specs.Secured.{changes_of}
 use Rattle.hive_edit.specs.Listed.{HasNewLists, relisted_keys}
 use Rattle.hive_edit.specs.GivenUp.{given_up}
+use Rattle.hive_edit.specs.NewRun.{HasNewRun, run_trees}
 use Rattle.hive_cells.specs.Held.{held_at}
 use Rattle.edit_laws.specs.Owned.{In}
 use Rattle.hive_model.specs.Forms.{◌>>=◌}
@@ -65,8 +66,10 @@ pub stepped : (old new : List Bin) (root : ℕ) (version : HiveVersion) (bulk bu
     → ((at : ℕ) → In (relisted_keys (look_up version old) root (tree_of (look_up version old) root) step) at
     → HasNewLists (hive_of old root version) (hive_of new root version) at)
     → ((o : ℕ) → In (given_up (look_up version old) root step) o → held_at new o ≡ None)
+    → ((r : List ℕ × Tree) → In (run_trees (tree_of (look_up version old) root) step) r
+    → HasNewRun (hive_of old root version) r.0 r.1 (hive_of new root version))
     → IsStepMade h new root version bulk_then step
-stepped old new root version bulk bulk_then h u step is view ok made bytes counted long room secure lists freed =
+stepped old new root version bulk bulk_then h u step is view ok made bytes counted long room secure lists freed runs =
     let b = look_up version old in
     let c = look_up version new in
     let t = tree_of b root in
@@ -82,6 +85,7 @@ stepped old new root version bulk bulk_then h u step is view ok made bytes count
         secure = secure;
         lists = lists;
         freed = freed;
+        runs = runs;
         long = long;
         room = subst (λ (w : Tree). IsWithinRoom version old new root step w) (sym tree) room;
       });

@@ -147,6 +147,7 @@ there_set old new root version bulk after h path name kind bytes v is view e few
     (λ o given. g.freed o (contains_from (data_places b v) o
     (subst (λ (l : List ℕ). In l o) (replaced_there b path name root v
     (subst (λ (z : HiveCells). place_in (cells_in z) path name z.root ≡ some v) (sym view) e)) given)))
+    (λ run j. absurd j)
   where
     by_length : (q : Bool) → nat_lt 4 (length bytes) ≡ q
         → bins_size new ≤ bins_size old + cond q (new_bin_size (data_size version bytes)) 0

@@ -27,7 +27,7 @@ use Rattle.edit_laws.specs.Done.{IsDone}
 use Rattle.edit_laws.specs.Greatest.{with_lengths, IsNoLonger, RaisesLengths, IsNamedPath}
 use Rattle.edit_laws.proofs.Made.{parent_is}
 use Rattle.edit_laws.proofs.Out.{IsPlaced, placed_at}
-use Rattle.edit_laws.specs.Owned.{node, Reaches}
+use Rattle.edit_laws.specs.Owned.{In, node, Reaches}
 use Rattle.edit_laws.proofs.Back.{place_is}
 use Rattle.edit_laws.proofs.Wellformed.{sound_hive}
 use Rattle.edit_laws.proofs.Raised.{raised_well, owned_still, raised_done}
@@ -36,18 +36,20 @@ use Rattle.edit_laws.proofs.Patches.{IsPatchOf, IsNodeText, node_text, node_patc
 use Rattle.hive_edit.specs.Hive.{HiveCells, cells_in, hive_of, IsHive}
 use Rattle.hive_edit.specs.Listed.{HasNewLists}
 use Rattle.hive_edit.specs.Given.{place_in}
+use Rattle.hive_edit.specs.NewRun.{HasNewRun, run_trees}
 use Rattle.hive_edit.specs.Places.{IsKeyAt, value_place}
 use Rattle.hive_edit.specs.Secured.{changes_of}
 use Rattle.hive_edit.specs.Standing.{tree_of}
 use Rattle.hive_edit.specs.Stepped.{IsStepped}
 use Rattle.hive_edit.specs.Tells.{length_told, class_length, new_name_length, TellsBoth, TellsAt, TellsItem, IsToldStep}
 use Rattle.hive_edit.specs.Told.{length_place, raised, IsRaisedTo, AreRaisedTo, IsToldAt, IsTold}
+use Rattle.hive_edit.proofs.ChildRuns.{run_kept}
 use Rattle.hive_edit.proofs.EditLemmas.{the_tree}
 use Rattle.hive_edit.proofs.HiveLemmas.{hive_opened}
 use Rattle.hive_edit.proofs.NodeLemmas.{node_here}
 use Rattle.hive_edit.proofs.NodeMade.{security_text_is}
 use Rattle.hive_edit.proofs.StandingLemmas.{tree_is}
-use Rattle.hive_edit.proofs.ToldLists.{held_alike, HasLists, lists_still}
+use Rattle.hive_edit.proofs.ToldLists.{held_alike, HasLists, lists_still, children_still}
 use Rattle.hive_edit.proofs.ResultLemmas.{done, some, some_same, ok_same}
 use Rattle.hive_read.proofs.FormFacts.{then-so}
 
@@ -414,9 +416,14 @@ new_lists_told old mid new path field first second at told l =
       freed = λ o i. told.free o (l.freed o i);
     }
 
+-- a step names the key at this path, or one right below it, and that is the root where a child is put below it
+pub record IsToldPath (step : Step) (path : List (List ℕ)) : Type 0 where
+  pub names : IsNamedPath step path
+  pub top : (t : Tree) (r : List ℕ × Tree) → In (run_trees t step) r → path ≡ []
+
 -- a step that was made is made also where a node that it names tells greater lengths
 pub stepped_told : (old mid new : HiveCells) (step : Step) (path : List (List ℕ)) (field first second : ℕ)
-    → IsWellFormed (cells_in old) old.root old.tree → IsStepped old step mid → IsNamedPath step path
+    → IsWellFormed (cells_in old) old.root old.tree → IsStepped old step mid → IsToldPath step path
     → IsTold mid path field first second new → IsStepped old step new
 stepped_told old mid new step path field first second well s names told = record {
   version = told.version ∙ s.version;
@@ -425,12 +432,13 @@ stepped_told old mid new step path field first second well s names told = record
   done = subst (λ (u : Tree). IsDone (cells_in old) (cells_in new) old.root old.tree u step) (sym told.tree)
       (by_place (λ (c : Cells). IsDone (cells_in old) c old.root old.tree mid.tree step) s.done
       (λ x at g. raised_done (cells_in old) (cells_in mid) (cells_in new) old.root old.tree mid.tree step path x well s.tree
-      s.done at names g));
+      s.done at names.names g));
   secure = by_place (λ (c : Cells). KeepsSecurity old.root (changes_of (cells_in old) old.root old.tree step)
       (cells_in old) c) s.secure
       (λ x at g o i. kept (changes_of (cells_in old) old.root old.tree step o) o x (s.secure o i) g);
   lists = λ at among. new_lists_told old mid new path field first second at told (s.lists at among);
   freed = λ o given. told.free o (s.freed o given);
+  runs = λ r among. runs r (at_root (names.top old.tree r among)) (s.runs r among);
   long = (let l = told.long in let m = s.long in omega (arith, l, m));
   room = (let l = told.long in
       let r = subst (λ (u : Tree). bins_size mid.bins ≤ bins_size old.bins
@@ -447,6 +455,19 @@ stepped_told old mid new step path field first second well s names told = record
             let same : cells_in new ≡ cells_in mid = λ i. look_up (told.version i) (told.none e i) in subst P (sym same) p
         go (Some x) e =
             f x (subst (λ (r : ℕ). key_place (cells_in mid) path r ≡ Some x) s.root e) (told.here x e).raises
+
+    at_root : path ≡ [] → IsToldAt mid new old.root field first second
+    at_root top = subst (λ (x : ℕ). IsToldAt mid new x field first second) s.root
+        ((subst (λ (p : List (List ℕ)). IsTold mid p field first second new) top told).here mid.root refl)
+
+    runs : (r : List ℕ × Tree) → IsToldAt mid new old.root field first second → HasNewRun old r.0 r.1 mid
+        → HasNewRun old r.0 r.1 new
+    runs r there run = run_kept old mid new r.0 r.1 well others
+        (children_still (cells_in mid) (cells_in new) old.root there.raises
+        (λ o differs. held_alike mid.bins new.bins o (others o differs))) run
+      where
+        others : (o : ℕ) → (o ≡ old.root → ⊥) → held_at new.bins o ≡ held_at mid.bins o
+        others o differs = there.written.two.others o differs ∙ there.written.one.others o differs
 
     kept : (changes : List Bool) (o x : ℕ) → IsKeptSecurity (cells_in old) (cells_in mid) changes o
         → RaisesLengths (cells_in mid) (cells_in new) x → IsKeptSecurity (cells_in old) (cells_in new) changes o
@@ -466,18 +487,29 @@ stepped_told old mid new step path field first second well s names told = record
 -- ---- which paths a step names
 
 pub set_path : (path : List (List ℕ)) (name : List ℕ) (kind : ℕ) (bytes : List ℕ)
-    → IsNamedPath (set_value path name kind bytes) path
-set_path path name kind bytes = record { key = path; named = inl refl; is = inl refl }
+    → IsToldPath (set_value path name kind bytes) path
+set_path path name kind bytes = record {
+  names = record { key = path; named = inl refl; is = inl refl };
+  top = λ t r i. absurd i;
+}
 
-pub make_path : (parent : List (List ℕ)) (name : List ℕ) → IsNamedPath (make_key parent name) parent
-make_path parent name =
-    record { key = parent ++ name ∷ []; named = inl refl; is = inr (sym (parent_is parent name)) }
+pub make_path : (parent : List (List ℕ)) (name : List ℕ) → IsToldPath (make_key parent name) parent
+make_path parent name = record {
+  names = record { key = parent ++ name ∷ []; named = inl refl; is = inr (sym (parent_is parent name)) };
+  top = λ t r i. absurd i;
+}
 
-pub add_path : (name : List ℕ) (k : Tree) → IsNamedPath (add_child name k) []
-add_path name k = record { key = name ∷ []; named = inl refl; is = inr refl }
+pub add_path : (name : List ℕ) (k : Tree) → IsToldPath (add_child name k) []
+add_path name k = record {
+  names = record { key = name ∷ []; named = inl refl; is = inr refl };
+  top = λ t r i. refl;
+}
 
-pub copy_path : (from to : List ℕ) → IsNamedPath (copy_child from to) []
-copy_path from to = record { key = to ∷ []; named = inr (inl refl); is = inr refl }
+pub copy_path : (from to : List ℕ) → IsToldPath (copy_child from to) []
+copy_path from to = record {
+  names = record { key = to ∷ []; named = inr (inl refl); is = inr refl };
+  top = λ t r i. refl;
+}
 
 pub class_short : (k : Tree) → HoldsKeys k → length (head k).class < 65536
 class_short (tree_key h ts) holds = let c = holds.0.class in omega (arith, c)
@@ -545,7 +577,7 @@ less_told h path field a b first second e f t = λ x n at read.
 
 -- a step was made, and then the node of a key that it names tells no less than the lengths of the item
 step_told : (old mid new : HiveCells) (step : Step) (path : List (List ℕ)) (field a b first second : ℕ)
-    → IsWellFormed (cells_in old) old.root old.tree → IsStepped old step mid → IsNamedPath step path
+    → IsWellFormed (cells_in old) old.root old.tree → IsStepped old step mid → IsToldPath step path
     → IsTold mid path field a b new → first ≤ a → second ≤ b
     → (TellsAt new path field first second → TellsItem old step new) → IsToldStep old step new
 step_told old mid new step path field a b first second well stepped names told e f item = record {

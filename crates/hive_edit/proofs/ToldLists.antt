@@ -237,6 +237,10 @@ module _ (b c : Cells) (x : ℕ) (g : RaisesLengths b c x)
         by_cells count list = ap (λ (l : List ℕ). cond (count == 0) [] l)
             (listed_alike (entries_at c list) (entries_at b list) (entries_alike list))
 
+    -- the node itself names the same children
+    pub children_still : child_places c x ≡ child_places b x
+    children_still = places_still x g.old g.read (node_still x g.old g.read)
+
     hint_still : (o : ℕ) → hint_in c o ≡ hint_in b o
     unfolding payload_in
     hint_still o = ⊎_elim

@@ -608,6 +608,7 @@ is_unset old new root version bulk after h path name x v is view k e taken bytes
     (λ key among. absurd among)
     (λ o given. dropped_free b new x v taken.front taken.back taken.places taken.freed taken.unlisted o
     (subst (λ (l : List ℕ). In l o) (dropped_there b path name root x v n.key n.value) given))
+    (λ run j. absurd j)
 
 -- its cells are free
 pub frees_value : (old new : List Bin) (root : ℕ) (version : HiveVersion) (h : HiveCells) (path : List (List ℕ))

@@ -19,6 +19,7 @@ use Rattle.hive_edit.specs.declared.making.Above.{Above}
 use Rattle.hive_edit.specs.Grafted.{SharesAt, sharing}
 use Rattle.hive_edit.specs.Hive.{HiveCells, cells_in}
 use Rattle.hive_edit.specs.Listed.{HasNewLists}
+use Rattle.hive_edit.specs.NewRun.{HasNewRun}
 use Rattle.hive_edit.specs.Secured.{comers}
 
 -- ---- what is judged
@@ -60,8 +61,8 @@ abbrev pub security_listed : ℕ → List ℕ
 security_listed at = if at == nowhere then [] else at ∷ []
 
 -- The key is the root's child: it is in cells that were none, and the security at an offset, if there is one, counts it and each key
--- below it that shares the descriptor. The root has new lists. The bins data are longer by at most a bin for its run and one for each
--- list.
+-- below it that shares the descriptor. Its cells are one run, and held as they were written. The root has new lists. The bins data are
+-- longer by at most a bin for its run and one for each list.
 pub record IsGraftedIn (old : HiveCells) (security : ℕ) (shared : List ℕ) (k : Tree) (new : HiveCells) : Type 0 where
   pub version : new.version ≡ old.version
   pub root : new.root ≡ old.root
@@ -74,6 +75,7 @@ pub record IsGraftedIn (old : HiveCells) (security : ℕ) (shared : List ℕ) (k
   pub place : HasPlace (cells_in old) (head k).name front back
   pub secure : (o : ℕ) → IsSecurityCell (cells_in old) old.root o
       → IsKeptSecurity (cells_in old) (cells_in new) (comers (sharing shared k) (security_listed security) o) o
+  pub run : HasNewRun old shared k new
   pub lists : HasNewLists old new old.root
   pub long : bins_size old.bins ≤ bins_size new.bins
   pub room : bins_size new.bins ≤ bins_size old.bins + (new_bin_size (size old.version shared k) + room_of (list_sizes (length (children old.tree) + 1)))

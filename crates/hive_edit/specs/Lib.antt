@@ -8,6 +8,7 @@ pub mod Given
 pub mod Freed
 pub mod Gone
 pub mod Grafted
+pub mod NewRun
 pub mod Children
 pub mod Copying
 pub mod Making
