@@ -18,7 +18,7 @@ use Rattle.hive_cells.proofs.HeldLemmas.{payload_held, held_payload}
 use Rattle.edit_laws.specs.Owned.{Role, node, security, lists, In, node_name, HasRole, Reaches, Owns}
 use Rattle.edit_laws.specs.Uses.{tree_uses}
 use Rattle.edit_laws.specs.Written.{with_part, three_numbers}
-use Rattle.edit_laws.specs.Relists.{IsSecurityCell, ChangesChildren}
+use Rattle.edit_laws.specs.Relists.{SaysTheRest, IsSecurityCell, ChangesChildren}
 use Rattle.edit_laws.specs.Lists.{RemovesChild}
 use Rattle.edit_laws.proofs.Ins.{in_cases, in_left, in_right}
 use Rattle.edit_laws.proofs.Held.{are_held}
@@ -123,21 +123,25 @@ some_listed c n os l some =
 -- ---- the lists of a node
 
 -- lists that are as they are written, of children whose nodes are those of the cells that the hints are of
-listed_anew : (version : HiveVersion) (old hinted new : List Bin) (root x list : ℕ) (n : KeyNode) (os : List ℕ)
-    → reading key_node_at (look_up version new) x ≡ done n → n.child_list ≡ list
+listed_anew : (version : HiveVersion) (old hinted new : List Bin) (root x list : ℕ) (was n : KeyNode) (os : List ℕ)
+    → reading key_node_at (look_up version old) x ≡ done was → reading key_node_at (look_up version new) x ≡ done n
+    → SaysTheRest was n → n.child_list ≡ list
     → ListsChildren (look_up version new) n os
     → (0 < length os → IsPackedList (look_up version new) list os (hints_in (look_up version hinted) os))
     → ((o : ℕ) → In os o → (look_up version new).payload o ≡ (look_up version hinted).payload o)
     → ((o : ℕ) → In (list_cells_at (look_up version old) x) o → held_at new o ≡ None)
     → HasNewLists (hive_of old root version) (hive_of new root version) x
-listed_anew version old hinted new root x list n os read at listed packed same freed =
+listed_anew version old hinted new root x list was n os read_old read rest at listed packed same freed =
     let c = look_up version new in
     let places : child_places c x ≡ os = places_listed c x n os read listed in
     let hints : hints_in c os ≡ hints_in (look_up version hinted) os =
     hints_same (look_up version hinted) c os refl same in
     record {
+      was = was;
       node = n;
+      read_old = read_old;
       read = read;
+      rest = rest;
       lists = λ some. subst (λ (z : ℕ). IsPackedList c z (child_places c x) (hints_in c (child_places c x))) (sym at)
           (subst (λ (l : List ℕ). IsPackedList c list l (hints_in c l)) (sym places)
           (subst (λ (hs : List (List ℕ)). IsPackedList c list os hs) (sym hints)
@@ -171,7 +175,8 @@ pub inserted_lists : (version : HiveVersion) (old mid listed new : List Bin) (ro
     → ChangesChildren (look_up version old) (look_up version new) root x left front [] (y ∷ []) back counted
     → HasNewLists (hive_of old root version) (hive_of new root version) x
 inserted_lists version old mid listed new root t p x k n y list sp left gone front back counted g ch =
-    listed_anew version old mid new root x list ch.new (front ++ y ∷ back) ch.read_new list_is ch.listed_new
+    listed_anew version old mid new root x list ch.old ch.new (front ++ y ∷ back) ch.read ch.read_new ch.same list_is
+    ch.listed_new
     (λ some. relisted_packed version gone (front ++ y ∷ back) (look_up version mid) mid listed new list g.lists some
     (λ o q e none. g.others o (λ z. no_some (held_at mid o) here.0 none (ap (held_at mid) z ∙ held_x))
     (λ used z. let s = secure_held used in no_some (held_at mid o) s.0 none (ap (held_at mid) z ∙ s.1)) ∙ e))
@@ -266,7 +271,7 @@ pub removed_lists : (version : HiveVersion) (old new : List Bin) (root : ℕ) (t
     → HasNewLists (hive_of old root version) (hive_of new root version) x
 removed_lists version old new root t p x k n above y left uses front back counted q h r g places left_is without gone
     used no_list =
-    listed_anew version old old new root x r.list ch.new os ch.read_new list_is
+    listed_anew version old old new root x r.list ch.old ch.new os ch.read ch.read_new ch.same list_is
     (subst (λ (l : List ℕ). ListsChildren c ch.new l) (sym left_is) ch.listed_new)
     (packed r.lists)
     (λ o i. stays o (subst (λ (l : List ℕ). In l o) left_is i))

@@ -387,31 +387,35 @@ no_node p s n e f = let a = eqb-true (u16_in p 0) 0x6b73 (security_text_is p s e
     absurd (omega (arith, a, b))
 
 -- the lists of a key are still in packed form
-lists_told : (mid new : HiveCells) (path : List (List ℕ)) (field first second at : ℕ)
-    → IsTold mid path field first second new → HasLists (cells_in mid) at → HasLists (cells_in new) at
-lists_told mid new path field first second at told h = go (key_place (cells_in mid) path mid.root) refl
+lists_told : (mid new : HiveCells) (path : List (List ℕ)) (field first second at : ℕ) (n : KeyNode)
+    → IsTold mid path field first second new → HasLists (cells_in mid) at n → HasLists (cells_in new) at n
+lists_told mid new path field first second at n told h = go (key_place (cells_in mid) path mid.root) refl
   where
-    at_node : (x : ℕ) → IsToldAt mid new x field first second → HasLists (cells_in new) at
+    at_node : (x : ℕ) → IsToldAt mid new x field first second → HasLists (cells_in new) at n
     at_node x there = lists_still (cells_in mid) (cells_in new) x there.raises
         (λ o differs. held_alike mid.bins new.bins o
-        (there.written.two.others o differs ∙ there.written.one.others o differs)) at h
+        (there.written.two.others o differs ∙ there.written.one.others o differs)) at n h
 
-    go : (o : Option ℕ) → key_place (cells_in mid) path mid.root ≡ o → HasLists (cells_in new) at
+    go : (o : Option ℕ) → key_place (cells_in mid) path mid.root ≡ o → HasLists (cells_in new) at n
     go None e =
         let same : cells_in new ≡ cells_in mid = λ i. look_up (told.version i) (told.none e i) in
-        subst (λ (c : Cells). HasLists c at) (sym same) h
+        subst (λ (c : Cells). HasLists c at n) (sym same) h
     go (Some x) e = at_node x (told.here x e)
 
 -- new lists are new lists still
 new_lists_told : (old mid new : HiveCells) (path : List (List ℕ)) (field first second at : ℕ)
     → IsTold mid path field first second new → HasNewLists old mid at → HasNewLists old new at
 new_lists_told old mid new path field first second at told l =
-    go (lists_told mid new path field first second at told (record { node = l.node; read = l.read; lists = l.lists }))
+    go (lists_told mid new path field first second at l.was told
+    (record { node = l.node; read = l.read; rest = l.rest; lists = l.lists }))
   where
-    go : HasLists (cells_in new) at → HasNewLists old new at
+    go : HasLists (cells_in new) at l.was → HasNewLists old new at
     go h = record {
+      was = l.was;
       node = h.node;
+      read_old = l.read_old;
       read = h.read;
+      rest = h.rest;
       lists = h.lists;
       freed = λ o i. told.free o (l.freed o i);
     }

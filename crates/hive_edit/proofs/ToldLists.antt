@@ -18,7 +18,8 @@ use Rattle.hive_model.specs.InPlace.{BeginsWith, PartsAt, IsPackedList}
 use Rattle.hive_cells.specs.Held.{held_at}
 use Rattle.hive_cells.proofs.HeldLemmas.{payload_held, held_payload}
 use Rattle.hive_read.proofs.FormFacts.{then-so}
-use Rattle.edit_laws.specs.Greatest.{RaisesLengths}
+use Rattle.edit_laws.specs.Greatest.{with_lengths, RaisesLengths}
+use Rattle.edit_laws.specs.Relists.{SaysTheRest}
 use Rattle.edit_laws.proofs.Out.{of_node_is}
 use Rattle.edit_laws.proofs.Patches.{node_text}
 use Rattle.key_index.specs.Lists.{payload_in, name_of, stored_hint, node_hint, hint_in, hints_in}
@@ -120,10 +121,45 @@ node_said cells o n read =
 
 -- ---- the cells
 
--- the lists of the node at an offset are in packed form
-pub record HasLists (c : Cells) (at : ℕ) : Type 0 where
+-- a node with other lengths says the rest as before
+lengths_rest : (n m : KeyNode) → SaysTheRest n (with_lengths n m)
+lengths_rest n m = record {
+  name = refl;
+  flags = refl;
+  stamp = refl;
+  parent = refl;
+  volatile_count = refl;
+  volatile_list = refl;
+  value_count = refl;
+  value_list = refl;
+  security = refl;
+  class = refl;
+  class_length = refl;
+}
+
+same_rest : (n : KeyNode) → SaysTheRest n n
+same_rest n = lengths_rest n n
+
+rest_on : (n m k : KeyNode) → SaysTheRest n m → SaysTheRest m k → SaysTheRest n k
+rest_on n m k r s = record {
+  name = s.name ∙ r.name;
+  flags = s.flags ∙ r.flags;
+  stamp = s.stamp ∙ r.stamp;
+  parent = s.parent ∙ r.parent;
+  volatile_count = s.volatile_count ∙ r.volatile_count;
+  volatile_list = s.volatile_list ∙ r.volatile_list;
+  value_count = s.value_count ∙ r.value_count;
+  value_list = s.value_list ∙ r.value_list;
+  security = s.security ∙ r.security;
+  class = s.class ∙ r.class;
+  class_length = s.class_length ∙ r.class_length;
+}
+
+-- the lists of the node at an offset are in packed form, and the node says the rest as this one
+pub record HasLists (c : Cells) (at : ℕ) (n : KeyNode) : Type 0 where
   pub node : KeyNode
   pub read : reading key_node_at c at ≡ done node
+  pub rest : SaysTheRest n node
   pub lists : 0 < node.child_count
       → IsPackedList c node.child_list (child_places c at) (hints_in c (child_places c at))
 
@@ -134,10 +170,11 @@ packed_as c k l os ps hs is e f g w =
     (subst (λ (z : List ℕ). IsPackedList c k z is) (sym f)
     (subst (λ (z : List (List ℕ)). IsPackedList c k os z) (sym g) w))
 
--- the node at an offset names the same list as before
+-- the node at an offset names the same list as before, and says the rest as before
 pub record IsNodeStill (c : Cells) (at : ℕ) (n : KeyNode) : Type 0 where
   pub node : KeyNode
   pub read : reading key_node_at c at ≡ done node
+  pub rest : SaysTheRest n node
   pub count : node.child_count ≡ n.child_count
   pub list : node.child_list ≡ n.child_list
 
@@ -186,6 +223,7 @@ module _ (b c : Cells) (x : ℕ) (g : RaisesLengths b c x)
     still_here n same = record {
       node = g.new;
       read = g.read_new;
+      rest = subst (SaysTheRest n) (sym (g.same ∙ ap (λ (m : KeyNode). with_lengths m g.new) same)) (lengths_rest n g.new);
       count = ap (λ (m : KeyNode). m.child_count) g.same ∙ ap (λ (m : KeyNode). m.child_count) same;
       list = ap (λ (m : KeyNode). m.child_list) g.same ∙ ap (λ (m : KeyNode). m.child_list) same;
     }
@@ -195,6 +233,7 @@ module _ (b c : Cells) (x : ℕ) (g : RaisesLengths b c x)
     still_there at n p held read e = record {
       node = n;
       read = ap (λ (r : Result (List ℕ) HiveFaultKind). r >>= key_node_at) (g.others at p held e) ∙ read;
+      rest = same_rest n;
       count = refl;
       list = refl;
     }
@@ -296,11 +335,12 @@ module _ (b c : Cells) (x : ℕ) (g : RaisesLengths b c x)
           parts = parts_still p.lists os hs p.parts;
         })
 
-    lists_by : (at : ℕ) (h : HasLists b at) → (s : IsNodeStill c at h.node) → child_places c at ≡ child_places b at
-        → HasLists c at
-    lists_by at h s places = record {
+    lists_by : (at : ℕ) (n : KeyNode) (h : HasLists b at n) → (s : IsNodeStill c at h.node)
+        → child_places c at ≡ child_places b at → HasLists c at n
+    lists_by at n h s places = record {
       node = s.node;
       read = s.read;
+      rest = rest_on n h.node s.node h.rest s.rest;
       lists = λ some. packed_as c h.node.child_list s.node.child_list (child_places b at) (child_places c at)
           (hints_in b (child_places b at)) (hints_in c (child_places c at)) s.list places
           (ap (λ (os : List ℕ). hints_in c os) places ∙ hints_still (child_places b at))
@@ -308,8 +348,8 @@ module _ (b c : Cells) (x : ℕ) (g : RaisesLengths b c x)
           (h.lists (subst (λ (k : ℕ). 0 < k) s.count some)));
     }
 
-    pub lists_still : (at : ℕ) → HasLists b at → HasLists c at
-    lists_still at h = by_node (node_still at h.node h.read)
+    pub lists_still : (at : ℕ) (n : KeyNode) → HasLists b at n → HasLists c at n
+    lists_still at n h = by_node (node_still at h.node h.read)
       where
-        by_node : IsNodeStill c at h.node → HasLists c at
-        by_node s = lists_by at h s (places_still at h.node h.read s)
+        by_node : IsNodeStill c at h.node → HasLists c at n
+        by_node s = lists_by at n h s (places_still at h.node h.read s)

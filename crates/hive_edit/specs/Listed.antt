@@ -10,6 +10,7 @@ use Rattle.hive_model.specs.Footprint.{has_key, of_key, child_places, list_cells
 use Rattle.hive_model.specs.InPlace.{IsPackedList}
 use Rattle.hive_cells.specs.Held.{held_at}
 use Rattle.edit_laws.specs.Owned.{In}
+use Rattle.edit_laws.specs.Relists.{SaysTheRest}
 use Rattle.key_index.specs.Lists.{hints_in}
 use Rattle.hive_edit.specs.Hive.{HiveCells, cells_in}
 use Rattle.hive_edit.specs.Deleting.{pair_place}
@@ -23,11 +24,15 @@ relisted_keys cells root t (delete_key path) = option_map_or (λ p. p.above ∷ 
 relisted_keys cells root t (copy_child from to) = root ∷ []
 relisted_keys cells root t (add_child name k) = root ∷ []
 
--- the lists of the key at an offset are written anew: they are as a list of its children in order is written, with the hints of their
--- names, and the cells of the old ones are free
+-- The lists of the key at an offset are rewritten: they are as a list of its children in order is written, with the hints of their
+-- names, and the cells of the old ones are free. Of all but its children, and the greatest lengths, its node says the same as before: of its
+-- volatile children, its values, its security and its class, too.
 pub record HasNewLists (old new : HiveCells) (at : ℕ) : Type 0 where
+  pub was : KeyNode
   pub node : KeyNode
+  pub read_old : reading key_node_at (cells_in old) at ≡ Ok was
   pub read : reading key_node_at (cells_in new) at ≡ Ok node
+  pub rest : SaysTheRest was node
   pub lists : 0 < node.child_count
       → IsPackedList (cells_in new) node.child_list (child_places (cells_in new) at) (hints_in (cells_in new) (child_places (cells_in new) at))
   pub freed : (o : ℕ) → In (list_cells_at (cells_in old) at) o → held_at new.bins o ≡ None
