@@ -25,9 +25,10 @@ impl Hive {
         ensures refused { OnErr result (self.new ≡ self.old) }
         ensures base { self.new.base ≡ self.old.base }
         ensures bins { self.new.bins ≡ self.old.bins }
-        // The cells are edited in place, or repacked where the strain of the steps is over the greatest size of bins data.
-        ensures cells { OnOk result (IsEditedInPlace self.old.cells (map step_of steps) self.new.cells
-            ⊎ IsPackedForRoom self.old.cells (map step_of steps) self.new.cells) }
+        // Steps that give the tree that is there may leave the session as it is. Else the cells are edited in place, or repacked where the
+        // strain of the steps is over the greatest size of bins data.
+        ensures cells { OnOk result ((self.new ≡ self.old)
+            ⊎ (IsEditedInPlace self.old.cells (map step_of steps) self.new.cells ⊎ IsPackedForRoom self.old.cells (map step_of steps) self.new.cells)) }
         // Keys that named the nodes above them as their parents do so still.
         ensures parents { OnOk result (KeepsParents self.old.cells self.new.cells) }
         // It is changed where it was before, or where the tree is another.

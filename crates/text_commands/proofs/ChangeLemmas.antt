@@ -67,7 +67,7 @@ pub record Edits (h k : Session) (steps : List Step) : Type 0 where
   pub unchanged : h.changed ≡ false
   pub changed : k.changed ≡ true ↔ (h.changed ≡ true) ⊎ (k.tree ≡ h.tree → ⊥)
   pub read : AreCellsOf h.base h.bins (loaded_state h) h.cells
-  pub cells : IsEditedInPlace h.cells steps k.cells ⊎ IsPackedForRoom h.cells steps k.cells
+  pub cells : (k ≡ h) ⊎ (IsEditedInPlace h.cells steps k.cells ⊎ IsPackedForRoom h.cells steps k.cells)
 
 -- what is so of a base block and bins data is so of the same ones
 carried_over : (P : Base → List ℕ → Type 0) (b c : Base) (l m : List ℕ) → b ≡ c → l ≡ m → P c m → P b l
@@ -99,7 +99,9 @@ settled_commit image h k steps number old new loads recovered e settles = record
     version = settles.version;
     tree = settles.tree;
   };
-  cells = e.cells;
+  cells = ⊎_elim
+      (λ same. absurd (false≢true (sym e.unchanged ∙ sym (ap (λ (s : Session). s.changed) same) ∙ settles.changed)))
+      (λ edit. edit) e.cells;
 }
 
 -- where nothing was committed, nothing is said of a commit
