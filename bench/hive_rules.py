@@ -175,6 +175,7 @@ class Bins:
         falls = sum(one[0] >= other[0] for one, other in zip(order, order[1:]))
         if falls:
             self.find("order of children", path, falls)
+        if falls and len(order) == len(places):
             self.right.update((place, offset) for (place, _), (_, offset) in zip(places, sorted(order)))
         # Later versions of Windows have flags in the upper half of the first field.
         self.field("greatest length of a child's name", path, node + 52, max((2 * len(one[0]) for one in told.values() if one), default=0), 2, True)
@@ -225,15 +226,13 @@ def faults(block, kind):
     """What is wrong in a base block of this file type."""
     if len(block) < 512:
         return ["no base block"]
-    made = hives.base_block(struct.unpack_from("<I", block, 40)[0], kind=kind)[:508]
-    summed = 0
+    size, summed = struct.unpack_from("<I", block, 40)[0], 0
     for word, in struct.iter_unpack("<I", block[:508]):
         summed ^= word
-    size, minor = struct.unpack_from("<I", block, 40)[0], struct.unpack_from("<I", block, 24)[0]
     right = {
         "signature of the base block": block[:4] == b"regf",
         "checksum": struct.unpack_from("<I", block, 508)[0] == {0: 1, hives.NONE: hives.NONE - 1}.get(summed, summed),
-        "version, type or format": minor in (3, 5) and block[20:24] + block[28:36] == made[20:24] + made[28:36],
+        "version, type or format": struct.unpack_from("<IIII", block, 20) in ((1, 3, kind, 1), (1, 5, kind, 1)),
         "size of the bins": size % 4096 == 0 and 4096 <= size <= 16 << 20,
     }
     return [name for name, is_so in right.items() if not is_so]

@@ -34,8 +34,9 @@ EDITS = {
     "keys made": 'make A\\K\nflush\nmake "A\\A longer name than any"\nmake CurrentControlSet\\Services\\S024000a\n',
     "deletions": "delete A V\nflush\nremove CurrentControlSet\\Services\\S001000\nremove A\n",
 }
-IMPORTED = ["[HKEY_LOCAL_MACHINE\\SYSTEM\\A]", '"V"=dword:00000007', '"\u0416\u20ac"="text"', '"Long"=hex:' + ",".join(["07"] * 40_000), '"V1"=-', "",
-            "[HKEY_LOCAL_MACHINE\\SYSTEM\\A\\\u0416\u20ac]", '@="text"', "", "[-HKEY_LOCAL_MACHINE\\SYSTEM\\ControlSet001\\Services\\S001000]", ""]
+IMPORTED = ["[HKEY_LOCAL_MACHINE\\SYSTEM\\A]", '"V"=dword:00000007', '"\u0416\u20ac"="text"', '"Long"=hex:' + ",".join(["07"] * 40_000), "",
+            "[HKEY_LOCAL_MACHINE\\SYSTEM\\A\\\u0416\u20ac]", '@="text"', "", "[HKEY_LOCAL_MACHINE\\SYSTEM\\ControlSet001\\Services\\S000999]",
+            '"Start"=-', "", "[-HKEY_LOCAL_MACHINE\\SYSTEM\\ControlSet001\\Services\\S001000]", ""]
 
 
 class Watched(Bins):
@@ -73,7 +74,6 @@ def try_check():
                 sys.exit(f"the check does not find that byte {at} is changed")
             found, count = found.union(*told), count + 1
     print(f"the check: {count} bytes changed, findings of {len(found)} kinds")
-    return found
 
 
 def option(words, name):
