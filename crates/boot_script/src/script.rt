@@ -1,7 +1,8 @@
 //! The events of a script.
 
-ghost use Rattle.std.specs.Prelude.{◌≡◌, ◌==◌, ◌≤◌, length, IfOk, IfErr};
+ghost use Rattle.std.specs.Prelude.{◌≡◌, ◌==◌, ◌<◌, ◌≤◌, length, Err, IfOk, IfErr};
 ghost use Rattle.std.specs.Str.Lines.{lines};
+ghost use Rattle.boot_script.specs.declared.stop.ScriptFaultKind.TheVariants.{TooLong};
 ghost use Rattle.boot_script.specs.declared.stop.ScriptStop.TheVariants as stops;
 ghost use Rattle.boot_script.specs.Words.{Gives};
 ghost use Rattle.boot_script.specs.Script.{trimmed_event, line_event, starts, events_from, script_of, IsBounded, GivesScript, TakesLine, RefusesLine};
@@ -55,6 +56,7 @@ fn fault(kind: ScriptFaultKind, line: u32) -> ScriptStop
 #[tactic(auto, unfolding(crate::specs::Script::script_of))]
 pub fn read_script(alloc: Global, text: &[u8]) -> Result<Script, ScriptStop>
     ensures exact { GivesScript result (script_of text.now) }
+    ensures long { 65536 < length text.now → result ≡ Err (stops.Fault (record { kind = TooLong; line = 0 })) }
     ensures bounds { IfOk result IsBounded }
 {
     if MAX_LEN < text.len() {

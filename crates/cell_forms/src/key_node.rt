@@ -1,6 +1,7 @@
 //! Key nodes.
 
-ghost use Rattle.std.specs.Prelude.{◌≡◌, ◌<◌, ◌≤◌, ℕ, true, length, slice_index, IfOk};
+ghost use Rattle.std.specs.Prelude.{◌≡◌, ◌<◌, ◌≤◌, ℕ, true, length, slice_index, IfOk, IfErr};
+ghost use Rattle.nt_bytes.specs.declared.fault.ReadStop.TheVariants.{Memory};
 ghost use Rattle.hive_model.specs.Forms.{Gives};
 ghost use Rattle.hive_model.specs.KeyNode.{is_narrow_key, key_node_in, key_node_at, key_node_text};
 ghost use Rattle.cell_forms.specs.Views.{key_node_of, name_of, node_seen};
@@ -68,6 +69,7 @@ pub struct NkSlice<'a> {
 fn see_name(payload: &[u8], at: u32) -> Result<StoredName<'_>, ReadStop>
     ensures read { Gives (λ n. key_node_in payload.now (name_of n)) at result (key_node_at payload.now) }
     ensures long { IfOk result (λ _. 76 ≤ length payload.now) }
+    ensures no_memory { IfErr result (λ stop. stop ≡ Memory → ⊥) }
 {
     if payload.len() < 2 {
         return Err(fault(HiveFaultKind::FormShort, at));
@@ -91,7 +93,8 @@ fn see_name(payload: &[u8], at: u32) -> Result<StoredName<'_>, ReadStop>
 /// `FormSign` where it does not begin with `nk`, `FormLength` where a wide name has half a unit,
 /// `FormName` where the name is over 255 units or has a backslash; each at `at`.
 pub fn see_nk(payload: &[u8], at: u32) -> Result<NkSlice<'_>, ReadStop>
-    ensures { Gives node_seen at result (key_node_at payload.now) }
+    ensures exact { Gives node_seen at result (key_node_at payload.now) }
+    ensures no_memory { IfErr result (λ stop. stop ≡ Memory → ⊥) }
 {
     let name = see_name(payload, at)?;
     Ok(fields(payload, name))

@@ -1,6 +1,7 @@
 //! Key values.
 
-ghost use Rattle.std.specs.Prelude.{◌≡◌, ◌<◌, ◌≤◌, ℕ, true, length, slice_index, IfOk};
+ghost use Rattle.std.specs.Prelude.{◌≡◌, ◌<◌, ◌≤◌, ℕ, true, length, slice_index, IfOk, IfErr};
+ghost use Rattle.nt_bytes.specs.declared.fault.ReadStop.TheVariants.{Memory};
 ghost use Rattle.hive_model.specs.Forms.{Gives};
 ghost use Rattle.hive_model.specs.KeyValue.{is_narrow_value, key_value_at, key_value_text};
 ghost use Rattle.hive_model.specs.KeyValue.{data_inside as data_inside_of};
@@ -46,7 +47,8 @@ pub struct VkSlice<'a> {
 /// or a wide name has half a unit, `FormName` where the name is over 16,383 units; each at `at`.
 #[tactic(auto, unfolding(hive_model::specs::KeyValue::key_value_at))]
 pub fn see_vk(payload: &[u8], at: u32) -> Result<VkSlice<'_>, ReadStop>
-    ensures { Gives value_seen at result (key_value_at payload.now) }
+    ensures exact { Gives value_seen at result (key_value_at payload.now) }
+    ensures no_memory { IfErr result (λ stop. stop ≡ Memory → ⊥) }
 {
     if payload.len() < 2 {
         return Err(fault(HiveFaultKind::FormShort, at));

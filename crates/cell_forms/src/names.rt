@@ -1,7 +1,7 @@
 //! Names as cells store them: one byte a unit, or UTF-16.
 
-ghost use Rattle.std.specs.Prelude.{◌≡◌, ◌<◌, ◌≤◌, ◌*◌, ◌++◌, ℕ, true, length, slice_index, OnOk};
-ghost use Rattle.nt_bytes.specs.declared.fault.ReadStop.TheVariants.{Fault};
+ghost use Rattle.std.specs.Prelude.{◌≡◌, ◌<◌, ◌≤◌, ◌*◌, ◌++◌, ℕ, true, length, slice_index, IfErr, OnOk};
+ghost use Rattle.nt_bytes.specs.declared.fault.ReadStop.TheVariants.{Fault, Memory};
 ghost use Rattle.hive_model.specs.Forms.{Gives};
 ghost use Rattle.cell_forms.specs.Views.{name_of};
 ghost use Rattle.hive_model.specs.StoredNames.{wide_text, name_text, key_name_at, value_name_at};
@@ -26,7 +26,8 @@ pub(crate) fn see_key_name(
     bytes: &[u8],
     at: u32,
 ) -> Result<StoredName<'_>, ReadStop>
-    ensures { Gives name_of at result (key_name_at is_narrow bytes.now) }
+    ensures exact { Gives name_of at result (key_name_at is_narrow bytes.now) }
+    ensures no_memory { IfErr result (λ stop. stop ≡ Memory → ⊥) }
 {
     if !is_narrow && bytes.len() % 2 == 1 {
         return Err(fault(HiveFaultKind::FormLength, at));
@@ -46,7 +47,8 @@ pub(crate) fn see_value_name(
     bytes: &[u8],
     at: u32,
 ) -> Result<StoredName<'_>, ReadStop>
-    ensures { Gives name_of at result (value_name_at is_narrow bytes.now) }
+    ensures exact { Gives name_of at result (value_name_at is_narrow bytes.now) }
+    ensures no_memory { IfErr result (λ stop. stop ≡ Memory → ⊥) }
 {
     if !is_narrow && bytes.len() % 2 == 1 {
         return Err(fault(HiveFaultKind::FormLength, at));

@@ -1,7 +1,8 @@
 -- How is a refusal said, and how does a call end that has an answer to give? This project's own.
-use Rattle.std.specs.Prelude.{◌≡◌, ◌⊎◌, ◌++◌, ℕ, List, Option, Some, None, codes}
+use Rattle.std.specs.Prelude.{◌≡◌, ◌⊎◌, ◌++◌, ℕ, Bool, true, false, List, Option, Some, None, codes}
 use Rattle.std.specs.Fmt.{decimal}
-use Rattle.nt_edge.specs.Host.{SaysFront}
+use Rattle.nt_bytes.specs.Counts.{Rises}
+use Rattle.nt_edge.specs.Host.{HostState, SaysFront}
 use Rattle.nt_edge.specs.declared.host.HostStop.{HostStop}
 use Rattle.nt_edge.specs.declared.host.HostStop.TheVariants.{Read, Write, Memory as NoMemory}
 use Rattle.command_parts.specs.declared.status.Status.{Status}
@@ -39,11 +40,25 @@ refusal_status (BadHive fault) = statuses.HiveFault
 abbrev pub refusal : Refusal → Answer
 refusal r = record { status = refusal_status r; text = refusal_text r }
 
+-- its line is constant: it has no number and no name, so it takes no memory of the program's own
+abbrev pub needs_no_memory : Refusal → Bool
+needs_no_memory Usage = true
+needs_no_memory (NoFile name) = false
+needs_no_memory (ScriptFault fault) = false
+needs_no_memory NoSweep = true
+needs_no_memory IniTooLong = true
+needs_no_memory IniTooManyEntries = true
+needs_no_memory (BadHive fault) = false
+
 -- ---- how a call ends
 
 -- this status, or that of a stop while something was printed
 abbrev pub IsToldAs : Status → Status → Type 0
 IsToldAs told status = (status ≡ told) ⊎ ((status ≡ statuses.WriteFault) ⊎ (status ≡ statuses.Memory))
+
+-- there was no memory only where the host refused a call for lack of it
+abbrev pub LacksAsHost : Status → HostState → HostState → Type 0
+LacksAsHost status old new = status ≡ statuses.Memory → Rises old.lacks new.lacks
 
 -- where the environment stopped, nothing was printed at a read fault, and else a prefix of the text
 abbrev pub StopsBy : Option HostStop → List ℕ → List ℕ → List ℕ → Type 0

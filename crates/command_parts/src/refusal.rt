@@ -1,9 +1,10 @@
 //! Why a command is not begun, and how that is printed.
 
-ghost use Rattle.std.specs.Prelude.{◌≡◌, ◌++◌, None, IfOk, codes};
+ghost use Rattle.std.specs.Prelude.{◌≡◌, ◌++◌, true, None, IfOk, IsOk, codes};
+ghost use Rattle.std.specs.Cow.{cow_slice_items};
 ghost use Rattle.std.specs.Fmt.{decimal};
 ghost use Rattle.nt_edge.specs.Host.{AsksNone, KeepsFiles};
-ghost use Rattle.command_parts.specs.Refusals.{IsToldAs, Ends, refusal, refusal_text, refusal_status};
+ghost use Rattle.command_parts.specs.Refusals.{IsToldAs, LacksAsHost, Ends, needs_no_memory, refusal, refusal_text, refusal_status};
 ghost use Rattle.command_parts.specs.Leaves.{Leaves, stop_in, stopped_as};
 
 use crate::kinds::{hive_kind, script_kind};
@@ -12,6 +13,7 @@ use boot_script::ScriptFault;
 use nt_bytes::{Bytes, HiveFault};
 use nt_edge::{Host, HostStop};
 use std::alloc::{AllocError, Global};
+use std::borrow::CowSlice;
 
 /// The first obstacle of a command.
 #[derive(Debug, Drop)]
@@ -71,20 +73,27 @@ fn hive_fault_line(alloc: Global, kind: &str, at: u32) -> Result<Vec<u8>, AllocE
     Ok(format!(in alloc; "hive fault {kind} at {at}\n")?.into_bytes())
 }
 
-/// The line of a refusal.
-fn refusal_line(alloc: Global, refusal: &Refusal) -> Result<Vec<u8>, AllocError>
-    ensures { IfOk result (λ l. l.items ≡ refusal_text refusal.now) }
+/// The line of a refusal; one that is constant, as it stands in the program.
+fn refusal_line(alloc: Global, refusal: &Refusal) -> Result<CowSlice<'static, u8>, AllocError>
+    ensures line { IfOk result (λ l. cow_slice_items l ≡ refusal_text refusal.now) }
+    ensures constant { needs_no_memory refusal.now ≡ true → IsOk result }
 {
     match refusal {
-        Refusal::Usage => Vec::from_slice(alloc, b"bad usage\n"),
-        Refusal::NoFile(name) => no_file_line(alloc, name.as_slice()),
+        Refusal::Usage => Ok(CowSlice::Borrowed(b"bad usage\n")),
+        Refusal::NoFile(name) => Ok(CowSlice::Owned(no_file_line(alloc, name.as_slice())?)),
         Refusal::ScriptFault(fault) => {
-            script_fault_line(alloc, fault.line, script_kind(fault.kind))
+            let line = script_fault_line(alloc, fault.line, script_kind(fault.kind))?;
+            Ok(CowSlice::Owned(line))
         }
-        Refusal::NoSweep => Vec::from_slice(alloc, b"script fault 0 sweep\n"),
-        Refusal::IniTooLong => Vec::from_slice(alloc, b"boot.ini fault too-long\n"),
-        Refusal::IniTooManyEntries => Vec::from_slice(alloc, b"boot.ini fault too-many-entries\n"),
-        Refusal::HiveFault(fault) => hive_fault_line(alloc, hive_kind(fault.kind), fault.at),
+        Refusal::NoSweep => Ok(CowSlice::Borrowed(b"script fault 0 sweep\n")),
+        Refusal::IniTooLong => Ok(CowSlice::Borrowed(b"boot.ini fault too-long\n")),
+        Refusal::IniTooManyEntries => {
+            Ok(CowSlice::Borrowed(b"boot.ini fault too-many-entries\n"))
+        }
+        Refusal::HiveFault(fault) => {
+            let line = hive_fault_line(alloc, hive_kind(fault.kind), fault.at)?;
+            Ok(CowSlice::Owned(line))
+        }
     }
 }
 
@@ -108,6 +117,7 @@ pub fn tell<H: Host>(host: &mut H, text: &[u8], status: Status) -> Status
     ensures files { KeepsFiles (H.state host.old) (H.state host.new) }
     ensures unasked { AsksNone (H.state host.old) (H.state host.new) }
     ensures kept { IsToldAs status result }
+    ensures own { LacksAsHost result (H.state host.old) (H.state host.new) }
 {
     match host.say(text) {
         Ok(()) => status,
@@ -121,6 +131,7 @@ pub fn refuse<H: Host>(alloc: Global, host: &mut H, why: &Refusal) -> Status
     ensures files { KeepsFiles (H.state host.old) (H.state host.new) }
     ensures unasked { AsksNone (H.state host.old) (H.state host.new) }
     ensures kept { IsToldAs (refusal_status why.now) result }
+    ensures own { needs_no_memory why.now ≡ true → LacksAsHost result (H.state host.old) (H.state host.new) }
 {
     match refusal_line(alloc, why) {
         Ok(line) => tell(host, line.as_slice(), refusal_status(why)),

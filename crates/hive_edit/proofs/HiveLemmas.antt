@@ -132,6 +132,16 @@ no_tree = None
 abbrev a_tree : Tree → Option Tree
 a_tree t = Some t
 
+-- the tree has a key where the cells have a place of one
+pub found_there : (bins heap : List Bin) (root : ℕ) (version : HiveVersion) (bulk : ℕ) (h : HiveCells)
+    (path : List (List ℕ)) (at : ℕ) → IsHive bins root version bulk
+    → heap ≡ bins → hive_of bins root version ≡ h → somewhere at ≡ key_place (look_up version heap) path root
+    → find_key path h.tree ≡ None → ⊥
+found_there bins heap root version bulk h path at is e view p none =
+    let there = key_there (look_up version heap) path root h.tree at
+    (stands_there bins heap root version bulk h is e view) (sym p) in
+    let both : no_tree ≡ a_tree there.there = sym none ∙ there.found in cc
+
 pub subtree_there : (bins heap : List Bin) (root : ℕ) (version : HiveVersion) (bulk : ℕ) (h : HiveCells)
     (path : List (List ℕ)) (at : ℕ) (k : Tree) → IsHive bins root version bulk
     → heap ≡ bins → hive_of bins root version ≡ h → somewhere at ≡ key_place (look_up version heap) path root

@@ -8,7 +8,7 @@ ghost use Rattle.hive_model.specs.Log.{byte_of, dirty};
 use crate::sectors::sector_of;
 
 /// Turns on the bits of those sectors of the new data that differ from the old or lie past their end, and
-/// turns off those of the others. Bits after the new data stay.
+/// turns off those of the others.
 pub fn mark_dirty(old: &[u8], new: &[u8], into: &mut [u8; 4096])
     requires { is_bins_size (length new.now) ≡ true }
     ensures { (i : ℕ) → i < length new.now / 512 → bit into.new i ≡ dirty old.now new.now i }

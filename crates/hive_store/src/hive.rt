@@ -1,6 +1,6 @@
 //! A hive in memory.
 
-ghost use Rattle.std.specs.Prelude.{◌≡◌, false, Some, is_some, IfOk};
+ghost use Rattle.std.specs.Prelude.{◌≡◌, false, [], Some, None, is_some, Ok, IfOk};
 ghost use Rattle.hive_model.specs.Base.{version_of};
 ghost use Rattle.hive_model.specs.Tree.{Tree, find_key};
 ghost use Rattle.hive_store.specs.Found.{found_dword, found_names, FitsBelow};
@@ -91,17 +91,20 @@ impl Hive {
         self.cells.has(path)
     }
 
-    /// The key that a path leads to, with all below it, in memory of its own.
+    /// The key that a path leads to, with all below it, in memory of its own. That there is none needs no memory.
     pub fn subtree(&self, alloc: Global, path: &Names) -> Result<Option<Key>, AllocError>
+        ensures none { find_key path.now self.now.tree ≡ None → result ≡ Ok None }
         ensures found { IfOk result (λ key. key ≡ find_key path.now self.now.tree) }
         ensures fits { (t : Tree) → find_key path.now self.now.tree ≡ Some t → FitsBelow path.now t }
     {
         self.cells.subtree(alloc, path)
     }
 
-    /// The names of the children of the key that a path leads to, in order. None where there is no such key.
+    /// The names of the children of the key that a path leads to, in order. None where there is no such key, which
+    /// needs no memory.
     pub fn names_below(&self, alloc: Global, path: &Names) -> Result<Names, AllocError>
-        ensures { IfOk result (λ names. names ≡ found_names path.now self.now.tree) }
+        ensures none { find_key path.now self.now.tree ≡ None → result ≡ Ok [] }
+        ensures names { IfOk result (λ names. names ≡ found_names path.now self.now.tree) }
     {
         self.cells.names_below(alloc, path)
     }

@@ -1,9 +1,9 @@
 -- The first of a list that passes, looked for from a place on; and that what was found is it.
 use Rattle.std.proofs.Common.{◌≡◌, ℕ, zero, suc, ◌+◌, ◌<◌, Bool, true, false, cond, List, [], ◌∷◌, length, drop, get_or, Option, Some, None, refl, sym, ap, subst, ◌∙◌, arith}
-use Rattle.std.specs.Prelude.{find, slice_index_or}
-use Rattle.std.specs.Option.{IfSome, option_or, is_some}
+use Rattle.std.specs.Prelude.{find, slice_get, slice_index, slice_index_or}
+use Rattle.std.specs.Option.{IfSome, option_or, option_map_or, is_some}
 use Rattle.std.specs.declared.cmp.Ordering.{Ordering}
-use Rattle.std.specs.Ordering.{is_eq}
+use Rattle.std.specs.Ordering.{is_eq, is_gt}
 use Rattle.std.specs.List.{All, Contains, flat_map}
 use Rattle.std.proofs.lemmas.List.{drop_more}
 use Rattle.std.proofs.lemmas.List.Folds.{find-append}
@@ -11,7 +11,7 @@ use Rattle.std.proofs.lemmas.List.Elements.{Contains-append_left, Contains-appen
 use Rattle.nt_bytes.specs.Folding.{folds_same, folded_order}
 use Rattle.hive_model.specs.Bins.{Cells}
 use Rattle.hive_model.specs.Footprint.{is_node_named}
-use Rattle.key_index.specs.Lists.{IsNode, NamesDiffer, name_in, Finds}
+use Rattle.key_index.specs.Lists.{IsNode, NamesDiffer, name_in, Finds, is_behind}
 use Rattle.key_index.proofs.Names.{named_is, both_fold, order_tells}
 
 -- ---- one by one
@@ -27,6 +27,19 @@ pub find_on : (test : ℕ → Bool) (xs : List ℕ) (i : ℕ) → i < length xs 
 find_on test xs i lt so_far fails =
     sym (ap (find test) (drop_more xs i 0 lt)
     ∙ ap (λ (b : Bool). cond b (Some (get_or xs i 0)) (find test (drop (i + 1) xs))) fails) ∙ so_far
+
+-- ---- the first of a list
+
+pub behind_none : (test : ℕ → Bool) (xs : List ℕ) → length xs ≡ 0 → true ≡ option_map_or test (slice_get xs 0) true
+behind_none test [] none = refl
+behind_none test (x ∷ xs) none = absurd (omega (arith, none))
+
+pub behind_first : (cells : Cells) (name offsets : List ℕ) (at : ℕ) (order : Ordering) (behind : Bool)
+    → 0 < length offsets → at ≡ slice_index offsets 0 → order ≡ folded_order (name_in cells at) name
+    → behind ≡ is_gt order → behind ≡ option_map_or (is_behind cells name) (slice_get offsets 0) true
+behind_first cells name [] at order behind some at_is order_is behind_is = absurd (omega (arith, some))
+behind_first cells name (x ∷ xs) at order behind some at_is order_is behind_is =
+    behind_is ∙ ap is_gt order_is ∙ ap (is_behind cells name) at_is
 
 -- ---- list by list
 

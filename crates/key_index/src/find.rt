@@ -1,14 +1,14 @@
 //! The child that has a name.
 
-ghost use Rattle.std.specs.Prelude.{◌≡◌, ◌<◌, ◌≤◌, ◌==◌, true, length, find};
+ghost use Rattle.std.specs.Prelude.{◌≡◌, ◌<◌, ◌≤◌, ◌==◌, true, length, slice_get, find};
 ghost use Rattle.std.specs.Result.{IsOk};
-ghost use Rattle.std.specs.Option.{IfSome};
+ghost use Rattle.std.specs.Option.{IfSome, option_map_or};
 ghost use Rattle.std.specs.Ordering.{is_eq};
 ghost use Rattle.std.specs.List.{All};
 ghost use Rattle.hive_model.specs.Bins.{look_up};
 ghost use Rattle.hive_model.specs.Lists.{list_at};
 ghost use Rattle.hive_model.specs.Footprint.{is_node_named};
-ghost use Rattle.key_index.specs.Lists.{AreLists, Finds, IsNode, ListsSiblings, NamesDiffer, children_at, offsets_of, offsets_in_lists};
+ghost use Rattle.key_index.specs.Lists.{AreLists, Finds, IsNode, ListsSiblings, NamesDiffer, children_at, offsets_of, offsets_in_lists, is_behind};
 ghost use Rattle.hive_cells.specs.Sources.{cells_of};
 
 use crate::entries::{entry, entry_count, is_list_of_lists};
@@ -41,9 +41,11 @@ fn search_list(cells: &Source, list: &[u8], name: &[u16]) -> Option<u32>
 }
 
 /// Whether the first child of a list has a greater name; of a list without children it is taken to have.
+#[tactic(auto, using(crate::proofs::Finding::behind_none, crate::proofs::Finding::behind_first))]
 fn begins_behind(cells: &Source, list: &[u8], name: &[u16]) -> bool
     requires read { IsOk (list_at list.now) }
     requires nodes { All (IsNode (cells_of cells.now)) (offsets_of list.now) }
+    ensures { result ≡ option_map_or (is_behind (cells_of cells.now) name.now) (slice_get (offsets_of list.now) 0) true }
 {
     if entry_count(list) == 0 {
         return true;

@@ -1,6 +1,5 @@
 -- What the hosts in memory hold, and where they fail. (This project's own.)
 use Rattle.std.specs.Prelude.{◌≡◌, ◌==◌, ◌&&◌, ◌↔◌, ◌-◌, true, option_map, Result, IsErrOf}
-use Rattle.std.proofs.Common.{lit≤}
 use Rattle.std.specs.BTreeMap.{get_by_text}
 use Rattle.nt_edge.specs.Host.{HostState, Files, IsWithinEnds}
 use Rattle.nt_edge.specs.declared.host.HostStop.{HostStop}
@@ -23,6 +22,7 @@ host_of h = record {
   gets = h.gets;
   reads = h.reads;
   writes = h.writes;
+  lacks = h.lacks;
 }
 
 -- the `get` failed exactly where it was the one that was to fail, and counts as one that was made
@@ -37,15 +37,15 @@ pub record FailsWrite {A : Type 0} (result : Result A HostStop) (old new : MemHo
   pub counted : new.fail_write ≡ old.fail_write - 1
   pub other : new.fail_read ≡ old.fail_read
 
--- neither count of a host in memory is past its end
-abbrev pub ends_law : (h : MemHost) → IsWithinEnds h.reads h.writes
+-- no count of a host in memory is past its end
+abbrev pub ends_law : (h : MemHost) → IsWithinEnds h.reads h.writes h.lacks
 ends_law h = h.ends
 
 -- the files of a host without failures
 abbrev pub quiet_files_of : QuietHost → Files
 quiet_files_of h = λ q. option_map (λ v. v.items) (get_by_text h.files q)
 
--- a host without failures reports all, and has counts of zero
+-- a host without failures reports all, and has counts of faults of zero
 abbrev pub quiet_host_of : QuietHost → HostState
 quiet_host_of h = record {
   tells = true;
@@ -56,8 +56,9 @@ quiet_host_of h = record {
   gets = h.gets;
   reads = 0;
   writes = 0;
+  lacks = h.lacks;
 }
 
--- a host without failures has counts of zero
-pub quiet_law : (h : QuietHost) → IsWithinEnds 0 0
-quiet_law h = record { reads_end = lit≤ tt; writes_end = lit≤ tt }
+-- no count of a host without failures is past its end
+abbrev pub quiet_law : (h : QuietHost) → IsWithinEnds 0 0 h.lacks
+quiet_law h = h.ends

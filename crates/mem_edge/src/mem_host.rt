@@ -19,10 +19,11 @@ pub struct MemHost {
     pub(crate) gets: u64,
     pub(crate) reads: u64,
     pub(crate) writes: u64,
+    pub(crate) lacks: u64,
     // how many calls are still to come until the one that fails, that one among them; 0: none is to fail
     pub(crate) fail_read: u64,
     pub(crate) fail_write: u64,
-    ghost ends: { IsWithinEnds reads writes },
+    ghost ends: { IsWithinEnds reads writes lacks },
 }
 
 impl MemHost {
@@ -38,6 +39,7 @@ impl MemHost {
         ensures gets { result.gets ≡ 0 }
         ensures reads { result.reads ≡ 0 }
         ensures writes { result.writes ≡ 0 }
+        ensures lacks { result.lacks ≡ 0 }
         ensures no_read { result.fail_read ≡ 0 }
         ensures no_write { result.fail_write ≡ 0 }
     {
@@ -49,6 +51,7 @@ impl MemHost {
             gets: 0,
             reads: 0,
             writes: 0,
+            lacks: 0,
             fail_read: 0,
             fail_write: 0,
         }
@@ -63,6 +66,7 @@ impl MemHost {
         ensures gets { self.new.gets ≡ self.old.gets }
         ensures reads { self.new.reads ≡ self.old.reads }
         ensures writes { self.new.writes ≡ self.old.writes }
+        ensures lacks { self.new.lacks ≡ self.old.lacks }
         ensures fail_read { self.new.fail_read ≡ self.old.fail_read }
         ensures fail_write { self.new.fail_write ≡ self.old.fail_write }
     {
@@ -83,6 +87,7 @@ impl MemHost {
         ensures gets { self.new.gets ≡ self.old.gets }
         ensures reads { self.new.reads ≡ self.old.reads }
         ensures writes { self.new.writes ≡ self.old.writes }
+        ensures lacks { self.new.lacks ≡ self.old.lacks }
     {
         self.fail_read = n;
     }
@@ -99,6 +104,7 @@ impl MemHost {
         ensures gets { self.new.gets ≡ self.old.gets }
         ensures reads { self.new.reads ≡ self.old.reads }
         ensures writes { self.new.writes ≡ self.old.writes }
+        ensures lacks { self.new.lacks ≡ self.old.lacks }
     {
         self.fail_write = n;
     }
@@ -140,6 +146,13 @@ impl MemHost {
     {
         self.writes
     }
+
+    /// How many calls of `get`, `put` and `say` were refused for lack of memory so far.
+    pub fn lacks(&self) -> u64
+        ensures { result ≡ self.now.lacks }
+    {
+        self.lacks
+    }
 }
 
 /// Counts a call, and shows whether it is the one that fails.
@@ -156,7 +169,7 @@ fn is_due(left: &mut u64) -> bool
 
 impl Host for MemHost {
     ghost use Rattle.std.specs.Prelude.{◌≡◌, ◌++◌, true, IfOk, OnOk, OnErr, IsErrOf};
-    ghost use Rattle.nt_edge.specs.Host.{Puts, KeepsOthers, KeepsHost, KeepsFiles, IsUnsaid, Asks, AsksNone, SaysFront, SaysError, CountsFault};
+    ghost use Rattle.nt_edge.specs.Host.{Puts, KeepsOthers, KeepsHost, KeepsFiles, IsUnsaid, Asks, AsksNone, SaysFront, SaysError, CountsFault, CountsLack};
     ghost use Rattle.nt_edge.specs.declared.host.HostStop.TheVariants.{Read, Write};
     ghost use Rattle.mem_edge.specs.Hosts.{host_of, FailsRead, FailsWrite, ends_law};
 
@@ -169,6 +182,7 @@ impl Host for MemHost {
         ensures unsaid { IsUnsaid (host_of self.old) (host_of self.new) }
         ensures asks { Asks (host_of self.old) (host_of self.new) }
         ensures counts { CountsFault result (host_of self.old) (host_of self.new) }
+        ensures lacks { CountsLack result (host_of self.old) (host_of self.new) }
         ensures never_write { IsErrOf result Write → ⊥ }
         ensures fails { FailsRead result self.old self.new }
     {
@@ -181,7 +195,10 @@ impl Host for MemHost {
             None => Ok(None),
             Some(bytes) => match Bytes::from_slice(self.alloc, bytes) {
                 Ok(bytes) => Ok(Some(bytes)),
-                Err(_) => Err(HostStop::Memory),
+                Err(_) => {
+                    self.lacks = self.lacks.saturating_add(1);
+                    Err(HostStop::Memory)
+                }
             },
         }
     }
@@ -195,6 +212,7 @@ impl Host for MemHost {
         ensures unsaid { IsUnsaid (host_of self.old) (host_of self.new) }
         ensures unasked { AsksNone (host_of self.old) (host_of self.new) }
         ensures counts { CountsFault result (host_of self.old) (host_of self.new) }
+        ensures lacks { CountsLack result (host_of self.old) (host_of self.new) }
         ensures never_read { IsErrOf result Read → ⊥ }
         ensures fails { FailsWrite result self.old self.new }
     {
@@ -204,7 +222,10 @@ impl Host for MemHost {
         }
         match self.add(name, bytes) {
             Ok(()) => Ok(()),
-            Err(_) => Err(HostStop::Memory),
+            Err(_) => {
+                self.lacks = self.lacks.saturating_add(1);
+                Err(HostStop::Memory)
+            }
         }
     }
 
@@ -217,6 +238,7 @@ impl Host for MemHost {
         ensures files { KeepsFiles (host_of self.old) (host_of self.new) }
         ensures unasked { AsksNone (host_of self.old) (host_of self.new) }
         ensures counts { CountsFault result (host_of self.old) (host_of self.new) }
+        ensures lacks { CountsLack result (host_of self.old) (host_of self.new) }
         ensures never_read { IsErrOf result Read → ⊥ }
         ensures fails { FailsWrite result self.old self.new }
     {
@@ -226,7 +248,10 @@ impl Host for MemHost {
         }
         match self.said.extend_from_slice(bytes) {
             Ok(()) => Ok(()),
-            Err(_) => Err(HostStop::Memory),
+            Err(_) => {
+                self.lacks = self.lacks.saturating_add(1);
+                Err(HostStop::Memory)
+            }
         }
     }
 

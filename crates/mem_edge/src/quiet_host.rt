@@ -1,8 +1,7 @@
 //! A host in memory that never fails but for lack of memory.
 
 ghost use Rattle.std.specs.Prelude.{◌≡◌, ℕ, List, [], None, option_map, OnOk, OnErr};
-ghost use Rattle.nt_edge.specs.Host.{Puts};
-ghost use Rattle.mem_edge.specs.Hosts.{quiet_files_of, quiet_host_of, quiet_law};
+ghost use Rattle.nt_edge.specs.Host.{IsWithinEnds, Puts};
 
 use nt_bytes::Bytes;
 use nt_edge::{Host, HostStop};
@@ -17,9 +16,13 @@ pub struct QuietHost {
     pub(crate) said: Vec<u8>,
     pub(crate) errors: Vec<u8>,
     pub(crate) gets: u64,
+    pub(crate) lacks: u64,
+    ghost ends: { IsWithinEnds 0 0 lacks },
 }
 
 impl QuietHost {
+    ghost use Rattle.mem_edge.specs.Hosts.{quiet_files_of};
+
     /// A host with no file, to which nothing was printed. Takes no memory.
     pub fn new(alloc: Global) -> QuietHost
         ensures files { (q : List ℕ) → quiet_files_of result q ≡ None }
@@ -32,6 +35,7 @@ impl QuietHost {
             said: Vec::new(alloc),
             errors: Vec::new(alloc),
             gets: 0,
+            lacks: 0,
         }
     }
 
@@ -42,6 +46,7 @@ impl QuietHost {
         ensures said { self.new.said ≡ self.old.said }
         ensures errors { self.new.errors ≡ self.old.errors }
         ensures gets { self.new.gets ≡ self.old.gets }
+        ensures lacks { self.new.lacks ≡ self.old.lacks }
     {
         let name = String::from_str(self.alloc, name)?;
         let bytes = Vec::from_slice(self.alloc, bytes)?;
@@ -75,6 +80,8 @@ impl QuietHost {
 }
 
 impl Host for QuietHost {
+    ghost use Rattle.mem_edge.specs.Hosts.{quiet_host_of, quiet_law};
+
     ghost state = { quiet_host_of };
 
     fn get(&mut self, name: &str) -> Result<Option<Bytes>, HostStop> {
@@ -83,7 +90,10 @@ impl Host for QuietHost {
             None => Ok(None),
             Some(bytes) => match Bytes::from_slice(self.alloc, bytes) {
                 Ok(bytes) => Ok(Some(bytes)),
-                Err(_) => Err(HostStop::Memory),
+                Err(_) => {
+                    self.lacks = self.lacks.saturating_add(1);
+                    Err(HostStop::Memory)
+                }
             },
         }
     }
@@ -91,14 +101,20 @@ impl Host for QuietHost {
     fn put(&mut self, name: &str, bytes: &[u8]) -> Result<(), HostStop> {
         match self.add(name, bytes) {
             Ok(()) => Ok(()),
-            Err(_) => Err(HostStop::Memory),
+            Err(_) => {
+                self.lacks = self.lacks.saturating_add(1);
+                Err(HostStop::Memory)
+            }
         }
     }
 
     fn say(&mut self, bytes: &[u8]) -> Result<(), HostStop> {
         match self.said.extend_from_slice(bytes) {
             Ok(()) => Ok(()),
-            Err(_) => Err(HostStop::Memory),
+            Err(_) => {
+                self.lacks = self.lacks.saturating_add(1);
+                Err(HostStop::Memory)
+            }
         }
     }
 

@@ -1,6 +1,6 @@
 -- What a host is at a moment: its files, and what was printed to it; and what its calls leave. (This project's own.)
 use Rattle.std.specs.Prelude.{◌≡◌, ◌⊎◌, ◌≤◌, ◌+◌, ◌++◌, min, ℕ, Bool, true, List, Option, Some, if◌then◌else◌}
-use Rattle.std.specs.Prelude.{bytes_eq, Result, Ok, Err}
+use Rattle.std.specs.Prelude.{bytes_eq, Result, Ok, Err, IsErrOf}
 use Rattle.nt_edge.specs.declared.host.HostStop.{HostStop}
 use Rattle.nt_edge.specs.declared.host.HostStop.TheVariants.{Read, Write, Memory}
 use Rattle.nt_bytes.specs.Counts.{Rises}
@@ -11,7 +11,8 @@ Files = List ℕ → Option (List ℕ)
 
 -- A host at a moment: whether it reports its files and what was printed to it; whether it refuses no call from now on
 -- but for lack of memory; the files; what was printed so far; what was printed on standard error so far; how often a file was
--- asked for; how many faults there were in reading, and in writing a file or saying something.
+-- asked for; how many faults there were in reading, and in writing a file or saying something; how many calls it refused for lack
+-- of memory.
 pub record HostState : Type 0 where
   pub tells : Bool
   pub quiet : Bool
@@ -21,6 +22,7 @@ pub record HostState : Type 0 where
   pub gets : ℕ
   pub reads : ℕ
   pub writes : ℕ
+  pub lacks : ℕ
 
 -- the file of that name has these bytes, and every other is as it was
 abbrev pub Puts : Files → Files → List ℕ → List ℕ → Type 0
@@ -92,7 +94,13 @@ abbrev pub CountsFault : {A : Type 0} → Result A HostStop → HostState → Ho
 CountsFault (Ok answer) old new = KeepsCounts old new
 CountsFault (Err stop) old new = Counts old new stop
 
--- neither count of faults is past its end
-pub record IsWithinEnds (reads writes : ℕ) : Type 0 where
+-- a refusal for lack of memory was counted, and no other answer was counted as one
+pub record CountsLack {A : Type 0} (result : Result A HostStop) (old new : HostState) : Type 0 where
+  pub memory : IsErrOf result Memory → Rises old.lacks new.lacks
+  pub no_lack : (IsErrOf result Memory → ⊥) → new.lacks ≡ old.lacks
+
+-- neither count of faults is past its end, nor is that of the refusals for lack of memory
+pub record IsWithinEnds (reads writes lacks : ℕ) : Type 0 where
   pub reads_end : reads ≤ 18446744073709551615
   pub writes_end : writes ≤ 18446744073709551615
+  pub lacks_end : lacks ≤ 18446744073709551615

@@ -1,7 +1,7 @@
 //! A host of files, to which a report is printed.
 
 ghost use Rattle.std.specs.Prelude.{◌≡◌, ◌++◌, true, IfOk, OnOk, OnErr, IsErrOf};
-ghost use Rattle.nt_edge.specs.Host.{HostState, Puts, KeepsOthers, KeepsHost, KeepsFiles, IsUnsaid, Asks, AsksNone, SaysFront, SaysError, CountsFault, IsWithinEnds};
+ghost use Rattle.nt_edge.specs.Host.{HostState, Puts, KeepsOthers, KeepsHost, KeepsFiles, IsUnsaid, Asks, AsksNone, SaysFront, SaysError, CountsFault, CountsLack, IsWithinEnds};
 ghost use Rattle.nt_edge.specs.declared.host.HostStop.TheVariants.{Read, Write};
 
 use nt_bytes::Bytes;
@@ -13,12 +13,12 @@ pub enum HostStop {
     Read,
     /// A file could not be written, or something not be said. The host's count of write faults rose.
     Write,
-    /// There was no memory.
+    /// There was no memory. The host's count of such refusals rose.
     Memory,
 }
 
-/// Files by name, and a place where bytes are printed. A count of faults rises with its own fault and stays with every
-/// other answer; it ends at 18,446,744,073,709,551,615 and stays there.
+/// Files by name, and a place where bytes are printed. A count of faults, or of refusals for lack of memory, rises with its own
+/// answer and stays with every other; it ends at 18,446,744,073,709,551,615 and stays there.
 pub trait Host {
     /// What the host is at a moment. No call changes whether it reports its files and what was printed to it, and one
     /// that is quiet stays quiet; only `say_error` says anything on standard error.
@@ -32,6 +32,7 @@ pub trait Host {
         ensures unsaid { IsUnsaid (state self.old) (state self.new) }
         ensures asks { Asks (state self.old) (state self.new) }
         ensures counts { CountsFault result (state self.old) (state self.new) }
+        ensures lacks { CountsLack result (state self.old) (state self.new) }
         ensures never_write { IsErrOf result Write → ⊥ };
 
     /// Gives the file these bytes. A refusal says nothing of this one file and leaves the others.
@@ -44,6 +45,7 @@ pub trait Host {
         ensures unsaid { IsUnsaid (state self.old) (state self.new) }
         ensures unasked { AsksNone (state self.old) (state self.new) }
         ensures counts { CountsFault result (state self.old) (state self.new) }
+        ensures lacks { CountsLack result (state self.old) (state self.new) }
         ensures never_read { IsErrOf result Read → ⊥ };
 
     /// Appends the bytes to what was printed. After a refusal a prefix of them was printed.
@@ -56,6 +58,7 @@ pub trait Host {
         ensures files { KeepsFiles (state self.old) (state self.new) }
         ensures unasked { AsksNone (state self.old) (state self.new) }
         ensures counts { CountsFault result (state self.old) (state self.new) }
+        ensures lacks { CountsLack result (state self.old) (state self.new) }
         ensures never_read { IsErrOf result Read → ⊥ };
 
     /// Says a text on standard error, where that can be done. It leaves what was printed, the files and all counts as they were.
@@ -63,6 +66,6 @@ pub trait Host {
         ensures said { (state self.old).tells ≡ true → SaysError (state self.old) (state self.new) bytes.now }
         ensures same { state self.new ≡ record (state self.old) { errors = (state self.new).errors } };
 
-    /// Neither count is ever past its end.
-    ghost bounded: { (host : Self) → IsWithinEnds (state host).reads (state host).writes };
+    /// None of these counts is ever past its end.
+    ghost bounded: { (host : Self) → IsWithinEnds (state host).reads (state host).writes (state host).lacks };
 }

@@ -1,10 +1,11 @@
 //! A text as edits.
 
-ghost use Rattle.std.specs.Prelude.{◌≡◌, map, IfOk, IfErr};
+ghost use Rattle.std.specs.Prelude.{◌≡◌, map, None, Err, IfOk, IfErr};
 ghost use Rattle.std.specs.List.{All};
 ghost use Rattle.std.specs.Str.Lines.{lines};
 ghost use Rattle.reg_tree.specs.Fitting.{Fits};
 ghost use Rattle.reg_tree.specs.Makes.{step_of};
+ghost use Rattle.reg_text.specs.declared.stop.RegFaultKind.TheVariants.{Mark};
 ghost use Rattle.reg_text.specs.declared.stop.RegStop.TheVariants as stops;
 ghost use Rattle.reg_text.specs.Gives.{at_line, Finds, FailsBy, GivesSteps};
 ghost use Rattle.reg_text.specs.Reading.{number_of, line_said, lines_said, first_state, body_of, lines_behind, units_said, behind_mark, reg_steps_of};
@@ -102,7 +103,8 @@ fn behind_mark(text: &[u8]) -> Option<&[u8]>
 
 #[tactic(auto, unfolding(crate::specs::Reading::reg_steps_of))]
 fn read_text(alloc: Global, text: &[u8]) -> Result<Steps, RegStop>
-    ensures { GivesSteps result (reg_steps_of text.now) }
+    ensures exact { GivesSteps result (reg_steps_of text.now) }
+    ensures mark { behind_mark text.now ≡ None → result ≡ Err (stops.Fault (record { kind = Mark; line = 0 })) }
 {
     match behind_mark(text) {
         Some(bytes) => {
@@ -116,6 +118,7 @@ fn read_text(alloc: Global, text: &[u8]) -> Result<Steps, RegStop>
 /// The edits that the text stands for, or its first faulty line. None of them brings a key along.
 pub fn read_reg(alloc: Global, text: &[u8]) -> Result<Steps, RegStop>
     ensures exact { GivesSteps result (reg_steps_of text.now) }
+    ensures mark { behind_mark text.now ≡ None → result ≡ Err (stops.Fault (record { kind = Mark; line = 0 })) }
     ensures fits { IfOk result (λ steps. All Fits (map step_of steps)) }
 {
     read_text(alloc, text)

@@ -1,7 +1,8 @@
 //! A key as a text.
 
-ghost use Rattle.std.specs.Prelude.{◌≡◌, [], ◌∷◌, ◌++◌, ◌/◌, ◌%◌, codes, OnOk, IfOk};
+ghost use Rattle.std.specs.Prelude.{◌≡◌, [], ◌∷◌, ◌++◌, ◌/◌, ◌%◌, codes, Err, OnOk, IfOk};
 ghost use Rattle.std.specs.List.{flat_map};
+ghost use Rattle.reg_text.specs.declared.stop.RegFault.{RegFault as Fault};
 ghost use Rattle.reg_text.specs.declared.stop.RegStop.TheVariants as stops;
 ghost use Rattle.reg_text.specs.Writing.{place_of, text_of, unit_bytes, mark, reg_text_of};
 ghost use Rattle.reg_text.specs.Gives.{GivesText};
@@ -117,6 +118,7 @@ fn marked(alloc: Global, units: &[u16]) -> Result<Bytes, AllocError>
 #[tactic(auto, unfolding(crate::specs::Writing::reg_text_of))]
 pub fn reg_text(alloc: Global, key: &Key, path: &Names) -> Result<Bytes, RegStop>
     ensures exact { GivesText result (reg_text_of path.now key.now) }
+    ensures broken { (f : Fault) → reg_text_of path.now key.now ≡ Err f → result ≡ Err (stops.Fault f) }
 {
     if has_broken_part(path.as_slice()) || has_broken_name(key) {
         return Err(RegStop::Fault(RegFault {

@@ -22,6 +22,10 @@ abbrev pub Answers : {T : Type 0} → Result T ControlStop → Option ControlSto
 Answers (Ok value) why = why ≡ None
 Answers (Err stop) why = StopsBy why stop
 
+-- a reason that is known without memory is given, whether there is memory or not
+abbrev pub KnowsRefusal : {T : Type 0} → Result T ControlStop → Option ControlStop → Type 0
+KnowsRefusal result reason = (why : ControlStop) → reason ≡ Some why → result ≡ Err why
+
 -- ---- start
 
 -- it is disabled, or started already
@@ -53,6 +57,10 @@ start_refusal_at c n = option_or (entry_refusal (labels_of c.running) n) (needs_
 abbrev pub start_refusal : ControlState → List ℕ → Option ControlStop
 start_refusal c name = option_map_or (start_refusal_at c) (named c.table name) (Some NoService)
 
+-- the reasons that are found before memory is asked for
+abbrev pub known_refusal : ControlState → List ℕ → Option ControlStop
+known_refusal c name = option_map_or (entry_refusal (labels_of c.running)) (named c.table name) (Some NoService)
+
 -- those that a start starts: what the entry of this name needs
 abbrev pub new_of : ControlState → List ℕ → List Need
 new_of c name = option_map_or (λ n. started_by c n.name) (named c.table name) []
@@ -63,9 +71,13 @@ after_start c name = record c { running = c.running ++ new_of c name }
 
 -- ---- stop
 
+-- none of this name is started
+abbrev pub idle_refusal : List Label → List ℕ → Option ControlStop
+idle_refusal started name = if has_name started name then None else Some NotStarted
+
 -- there is no entry of this name, or it is not started
 abbrev pub off_refusal : ControlState → List ℕ → Option ControlStop
-off_refusal c name = option_map_or (λ n. if has_name (labels_of c.running) name then None else Some NotStarted) (named c.table name) (Some NoService)
+off_refusal c name = option_map_or (λ n. idle_refusal (labels_of c.running) name) (named c.table name) (Some NoService)
 
 -- another one leans on it
 abbrev pub stop_refusal : ControlState → List ℕ → Option ControlStop

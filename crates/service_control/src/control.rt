@@ -6,7 +6,7 @@ ghost use Rattle.hive_model.specs.Valid.{HoldsKeys};
 ghost use Rattle.start_model.specs.Ready.{has_name};
 ghost use Rattle.dependencies.specs.Work.{names_of};
 ghost use Rattle.service_control.specs.State.{labels_of, named};
-ghost use Rattle.service_control.specs.Calls.{Answers, start_refusal, start_refusal_at, needs_refusal, turns_refusal_at, started_by, new_of, after_start, off_refusal, stop_refusal, after_stop, after_stop_all, stopped_by};
+ghost use Rattle.service_control.specs.Calls.{Answers, KnowsRefusal, known_refusal, entry_refusal, start_refusal, start_refusal_at, needs_refusal, turns_refusal_at, started_by, new_of, after_start, off_refusal, stop_refusal, after_stop, after_stop_all, stopped_by};
 ghost use Rattle.service_control.specs.First.{control_of};
 
 use crate::first::{first_running, table_of};
@@ -87,6 +87,7 @@ impl Control {
     /// A refusal leaves everything as it was.
     pub fn start(&mut self, alloc: Global, name: &[u16]) -> Result<Names, ControlStop>
         ensures answer { Answers result (start_refusal self.old name.now) }
+        ensures known { KnowsRefusal result (known_refusal self.old name.now) }
         ensures names { IfOk result (λ n. n ≡ names_of (new_of self.old name.now)) }
         ensures state { OnOk result (self.new ≡ after_start self.old name.now) }
         ensures kept { OnErr result (self.new ≡ self.old) }
@@ -102,10 +103,11 @@ impl Control {
     /// Stops the service of this name, on which no other one may lean. A refusal leaves everything as it was.
     pub fn stop(&mut self, alloc: Global, name: &[u16]) -> Result<(), ControlStop>
         ensures answer { Answers result (stop_refusal self.old name.now) }
+        ensures known { KnowsRefusal result (off_refusal self.old name.now) }
         ensures state { OnOk result (self.new ≡ after_stop self.old name.now) }
         ensures kept { OnErr result (self.new ≡ self.old) }
     {
-        self.may_stop(alloc, name)?;
+        self.may_stop(name)?;
         let flags = leaning(alloc, self.running.as_slice(), name)?;
         let leaning = chosen(alloc, self.running.as_slice(), flags.as_slice())?;
         not_in_use(alloc, leaning.as_slice(), name)?;
@@ -118,11 +120,12 @@ impl Control {
     /// started first. A refusal leaves everything as it was.
     pub fn stop_all(&mut self, alloc: Global, name: &[u16]) -> Result<Names, ControlStop>
         ensures answer { Answers result (off_refusal self.old name.now) }
+        ensures known { KnowsRefusal result (off_refusal self.old name.now) }
         ensures names { IfOk result (λ n. n ≡ stopped_by self.old name.now) }
         ensures state { OnOk result (self.new ≡ after_stop_all self.old name.now) }
         ensures kept { OnErr result (self.new ≡ self.old) }
     {
-        self.may_stop(alloc, name)?;
+        self.may_stop(name)?;
         let flags = leaning(alloc, self.running.as_slice(), name)?;
         let leaning = chosen(alloc, self.running.as_slice(), flags.as_slice())?;
         let answer = names_back(alloc, leaning.as_slice())?;
@@ -135,6 +138,7 @@ impl Control {
     /// Those that a start of this name starts.
     fn to_start(&self, alloc: Global, name: &[u16]) -> Result<Needs, ControlStop>
         ensures answer { Answers result (start_refusal self.now name.now) }
+        ensures known { KnowsRefusal result (known_refusal self.now name.now) }
         ensures new { IfOk result (λ n. n ≡ new_of self.now name.now) }
     {
         match self.entry(name) {
@@ -145,6 +149,7 @@ impl Control {
 
     fn to_start_entry(&self, alloc: Global, need: &Need) -> Result<Needs, ControlStop>
         ensures answer { Answers result (start_refusal_at self.now need.now) }
+        ensures known { KnowsRefusal result (entry_refusal (labels_of self.now.running) need.now) }
         ensures new { IfOk result (λ n. n ≡ started_by self.now need.now.name) }
     {
         match may_start(need, &self.started) {
@@ -177,13 +182,14 @@ impl Control {
     }
 
     /// Whether there is a service of this name, and it is started.
-    fn may_stop(&self, alloc: Global, name: &[u16]) -> Result<(), ControlStop>
+    fn may_stop(&self, name: &[u16]) -> Result<(), ControlStop>
         ensures answer { Answers result (off_refusal self.now name.now) }
+        ensures known { KnowsRefusal result (off_refusal self.now name.now) }
         ensures on { OnOk result (has_name (labels_of self.now.running) name.now ≡ true) }
     {
         match self.entry(name) {
             None => Err(ControlStop::NoService),
-            Some(_) => is_on(alloc, name, &self.started),
+            Some(need) => is_on(need, &self.started),
         }
     }
 

@@ -1,6 +1,6 @@
 //! Why a call is refused, one question after another.
 
-ghost use Rattle.std.specs.Prelude.{◌≡◌, ◌<◌, true, not, option_map, position, Some, None, IfOk, OnOk, if◌then◌else◌};
+ghost use Rattle.std.specs.Prelude.{◌≡◌, ◌<◌, true, not, option_map, position, IfOk, OnOk};
 ghost use Rattle.std.specs.Option.{option_copied};
 ghost use Rattle.nt_bytes.specs.Folding.{folds_same};
 ghost use Rattle.start_model.specs.Ready.{has_name};
@@ -8,19 +8,20 @@ ghost use Rattle.service_control.specs.declared.stop.ControlStop.TheVariants as 
 ghost use Rattle.service_control.specs.Turns.{starts_of};
 ghost use Rattle.service_control.specs.Needed.{disabled_in};
 ghost use Rattle.service_control.specs.Leaning.{first_other};
-ghost use Rattle.service_control.specs.Calls.{Answers, entry_refusal, members_refusal, turns_refusal};
+ghost use Rattle.service_control.specs.Calls.{Answers, KnowsRefusal, entry_refusal, members_refusal, turns_refusal, idle_refusal};
 
-use crate::needed::{disabled, has_started, is_started, missing};
+use crate::needed::{disabled, is_started, missing};
 use crate::stop::ControlStop;
 use crate::turns::starts;
 use dependencies::{Need, Needs, Started};
 use name_places::NamePlaces;
-use nt_bytes::{Units, same_folded};
+use nt_bytes::same_folded;
 use std::alloc::Global;
 
 /// An entry that is to be started is not disabled, and not started yet.
 pub(crate) fn may_start(need: &Need, started: &Started) -> Result<(), ControlStop>
-    ensures { Answers result (entry_refusal started.now need.now) }
+    ensures answer { Answers result (entry_refusal started.now need.now) }
+    ensures known { KnowsRefusal result (entry_refusal started.now need.now) }
 {
     if need.start == 4 {
         return Err(ControlStop::Disabled);
@@ -71,13 +72,13 @@ pub(crate) fn all_start(
     }
 }
 
-/// An entry of this name is started.
-pub(crate) fn is_on(alloc: Global, name: &[u16], started: &Started) -> Result<(), ControlStop>
-    ensures answer { Answers result (if has_name started.now name.now then None else Some stops.NotStarted) }
-    ensures on { OnOk result (has_name started.now name.now ≡ true) }
+/// An entry of the name of this one is started.
+pub(crate) fn is_on(need: &Need, started: &Started) -> Result<(), ControlStop>
+    ensures answer { Answers result (idle_refusal started.now need.now.name) }
+    ensures known { KnowsRefusal result (idle_refusal started.now need.now.name) }
+    ensures on { OnOk result (has_name started.now need.now.name ≡ true) }
 {
-    let name = Units::from_slice(alloc, name)?;
-    if has_started(&name, started) {
+    if is_started(need, started) {
         Ok(())
     } else {
         Err(ControlStop::NotStarted)

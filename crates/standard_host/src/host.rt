@@ -3,7 +3,7 @@
 ghost use Rattle.std.specs.Prelude.{◌≡◌, true, OnOk, IsErrOf};
 ghost use Rattle.nt_bytes.specs.Counts.{Rises};
 ghost use Rattle.nt_edge.specs.Host.{IsWithinEnds};
-ghost use Rattle.nt_edge.specs.declared.host.HostStop.TheVariants.{Write};
+ghost use Rattle.nt_edge.specs.declared.host.HostStop.TheVariants.{Write, Memory};
 
 use crate::files::{FileFault, Files};
 use crate::system_files::SystemFiles;
@@ -19,7 +19,8 @@ pub struct StandardHost<'a, F> {
     gets: u64,
     reads: u64,
     writes: u64,
-    ghost ends: { IsWithinEnds reads writes },
+    lacks: u64,
+    ghost ends: { IsWithinEnds reads writes lacks },
 }
 
 impl<'a, F: Files + Drop> StandardHost<'a, F> {
@@ -29,6 +30,7 @@ impl<'a, F: Files + Drop> StandardHost<'a, F> {
         ensures gets { result.gets ≡ 0 }
         ensures reads { result.reads ≡ 0 }
         ensures writes { result.writes ≡ 0 }
+        ensures lacks { result.lacks ≡ 0 }
     {
         StandardHost {
             rt,
@@ -36,6 +38,7 @@ impl<'a, F: Files + Drop> StandardHost<'a, F> {
             gets: 0,
             reads: 0,
             writes: 0,
+            lacks: 0,
         }
     }
 
@@ -46,11 +49,15 @@ impl<'a, F: Files + Drop> StandardHost<'a, F> {
         ensures errors { F.errors self.new.files ≡ F.errors self.old.files }
         ensures gets { self.new.gets ≡ self.old.gets }
         ensures fault { IsErrOf result Write → Rises self.old.writes self.new.writes }
+        ensures lack { IsErrOf result Memory → Rises self.old.lacks self.new.lacks }
     {
-        let (_reads, _writes) = (self.reads, self.writes);
+        let (_reads, _writes, _lacks) = (self.reads, self.writes, self.lacks);
         match self.files.finish(self.rt) {
             Ok(()) => Ok(()),
-            Err(FileFault::Memory) => Err(HostStop::Memory),
+            Err(FileFault::Memory) => {
+                self.lacks = self.lacks.saturating_add(1);
+                Err(HostStop::Memory)
+            }
             Err(FileFault::Failed) => {
                 self.writes = self.writes.saturating_add(1);
                 Err(HostStop::Write)
@@ -63,7 +70,7 @@ impl<'a, F: Files + Drop> StandardHost<'a, F> {
         ensures unsaid { F.tells ≡ true → F.said self.new.files ≡ F.said self.old.files }
         ensures errors { F.errors self.new.files ≡ F.errors self.old.files }
     {
-        let (_reads, _writes) = (self.reads, self.writes);
+        let (_reads, _writes, _lacks) = (self.reads, self.writes, self.lacks);
         self.files.abandon(self.rt);
     }
 }
@@ -77,11 +84,15 @@ impl StandardHost<'_, SystemFiles> {
     /// Puts these bytes in the place of the hive that needs its log, to stand there before any other file has its name.
     pub fn put_between(&mut self, bytes: &[u8]) -> Result<(), HostStop>
         ensures fault { IsErrOf result Write → Rises self.old.writes self.new.writes }
+        ensures lack { IsErrOf result Memory → Rises self.old.lacks self.new.lacks }
     {
-        let (_reads, _writes) = (self.reads, self.writes);
+        let (_reads, _writes, _lacks) = (self.reads, self.writes, self.lacks);
         match self.files.put_between(self.rt, bytes) {
             Ok(()) => Ok(()),
-            Err(FileFault::Memory) => Err(HostStop::Memory),
+            Err(FileFault::Memory) => {
+                self.lacks = self.lacks.saturating_add(1);
+                Err(HostStop::Memory)
+            }
             Err(FileFault::Failed) => {
                 self.writes = self.writes.saturating_add(1);
                 Err(HostStop::Write)
@@ -102,16 +113,20 @@ impl<F: Files + Drop> Host for StandardHost<'_, F> {
       gets = h.gets;
       reads = h.reads;
       writes = h.writes;
+      lacks = h.lacks;
     } };
 
     ghost bounded = { λ h. h.ends };
 
     fn get(&mut self, name: &str) -> Result<Option<Bytes>, HostStop> {
-        let (_reads, _writes) = (self.reads, self.writes);
+        let (_reads, _writes, _lacks) = (self.reads, self.writes, self.lacks);
         self.gets = self.gets.saturating_add(1);
         match self.files.get(self.rt, name) {
             Ok(found) => Ok(found),
-            Err(FileFault::Memory) => Err(HostStop::Memory),
+            Err(FileFault::Memory) => {
+                self.lacks = self.lacks.saturating_add(1);
+                Err(HostStop::Memory)
+            }
             Err(FileFault::Failed) => {
                 self.reads = self.reads.saturating_add(1);
                 Err(HostStop::Read)
@@ -120,10 +135,13 @@ impl<F: Files + Drop> Host for StandardHost<'_, F> {
     }
 
     fn put(&mut self, name: &str, bytes: &[u8]) -> Result<(), HostStop> {
-        let (_reads, _writes) = (self.reads, self.writes);
+        let (_reads, _writes, _lacks) = (self.reads, self.writes, self.lacks);
         match self.files.put(self.rt, name, bytes) {
             Ok(()) => Ok(()),
-            Err(FileFault::Memory) => Err(HostStop::Memory),
+            Err(FileFault::Memory) => {
+                self.lacks = self.lacks.saturating_add(1);
+                Err(HostStop::Memory)
+            }
             Err(FileFault::Failed) => {
                 self.writes = self.writes.saturating_add(1);
                 Err(HostStop::Write)
@@ -132,10 +150,13 @@ impl<F: Files + Drop> Host for StandardHost<'_, F> {
     }
 
     fn say(&mut self, bytes: &[u8]) -> Result<(), HostStop> {
-        let (_reads, _writes) = (self.reads, self.writes);
+        let (_reads, _writes, _lacks) = (self.reads, self.writes, self.lacks);
         match self.files.say(self.rt, bytes) {
             Ok(()) => Ok(()),
-            Err(FileFault::Memory) => Err(HostStop::Memory),
+            Err(FileFault::Memory) => {
+                self.lacks = self.lacks.saturating_add(1);
+                Err(HostStop::Memory)
+            }
             Err(FileFault::Failed) => {
                 self.writes = self.writes.saturating_add(1);
                 Err(HostStop::Write)

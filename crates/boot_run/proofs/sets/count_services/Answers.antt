@@ -10,5 +10,5 @@ returns c =
     let path : c.push.new.self ≡ set_name c.args.number ∷ codes "Services" ∷ [] =
     c.in_ok-push.ensures.ok ∙ (λ i. c.in_ok-path.ensures i ++ c.in_ok-from_slice.ensures i ∷ []) in
     c.len.ensures ∙ ap length
-    (c.in_ok-names.ensures ∙ ap (λ (p : List (List ℕ)). found_names p c.args.hive.now.tree) path)
+    (c.in_ok-names.ensures.names ∙ ap (λ (p : List (List ℕ)). found_names p c.args.hive.now.tree) path)
     ∙ service_names c.args.hive.now.tree c.args.number

@@ -1,5 +1,5 @@
 use Rattle.hive_model.specs.Bins.{look_up}
-use Rattle.hive_edit.proofs.HiveLemmas.{root_there, subtree_there, subtree_nowhere, subtree_fits, no_fault_there}
+use Rattle.hive_edit.proofs.HiveLemmas.{root_there, found_there, subtree_there, subtree_nowhere, subtree_fits, no_fault_there}
 use Rattle.hive_edit.proofs.hive.HiveBytes.subtree.Goals as goal
 
 pub key_at-requires : goal.key_at-requires
@@ -13,6 +13,12 @@ unreachable-requires c =
     c.in-Some.at c.in-Err-Fault.field-0-0 c.in-Some.ensures.stands
     (rw c.in-Err-Fault.field-0-is at c.in-Err-Fault.ensures.exact)
 
+pub returns-in-Ok-clause-none : goal.returns-in-Ok-clause-none
+returns-in-Ok-clause-none c = λ none.
+    let i = c.self.inside in
+    absurd (found_there i.cells c.cells.result.now i.root i.version i.bulk c.args.self.now c.args.path.now c.in-Some.at
+    c.self.invariant c.cells.ensures c.self.view_is c.in-Some.ensures.place none)
+
 pub returns-in-Ok-clause-found : goal.returns-in-Ok-clause-found
 returns-in-Ok-clause-found c =
     let i = c.self.inside in
@@ -24,6 +30,12 @@ pub returns-in-Ok-clause-fits : goal.returns-in-Ok-clause-fits
 returns-in-Ok-clause-fits c = λ t found.
     let i = c.self.inside in
     subtree_fits i.cells i.root i.version i.bulk c.args.self.now c.args.path.now t c.self.invariant c.self.view_is found
+
+pub returns-in-Err-Memory-clause-none : goal.returns-in-Err-Memory-clause-none
+returns-in-Err-Memory-clause-none c = λ none.
+    let i = c.self.inside in
+    absurd (found_there i.cells c.cells.result.now i.root i.version i.bulk c.args.self.now c.args.path.now c.in-Some.at
+    c.self.invariant c.cells.ensures c.self.view_is c.in-Some.ensures.place none)
 
 pub returns-in-Err-Memory-clause-fits : goal.returns-in-Err-Memory-clause-fits
 returns-in-Err-Memory-clause-fits c = λ t found.
