@@ -1,10 +1,10 @@
 -- What do steps in order, made one by one, make of a hive's cells, whatever the bulk of the tree? (This project's own.)
-use Rattle.std.specs.Prelude.{◌≡◌, ◌≤◌, ◌<◌, ℕ, List, [], ◌∷◌, length, Ok}
+use Rattle.std.specs.Prelude.{◌≡◌, ◌≤◌, ◌<◌, ◌*◌, ◌/◌, ◌==◌, ℕ, nat_lt, Bool, if◌then◌else◌, List, [], ◌∷◌, length, Ok}
 use Rattle.std.specs.Option.{option_map_or}
 use Rattle.hive_model.specs.Bins.{bins_size}
 use Rattle.hive_model.specs.Tree.{Tree, head, children, find_key}
-use Rattle.hive_model.specs.Edit.{Step, edited}
-use Rattle.hive_model.specs.Footprint.{needed_sizes, room_of, strain_of}
+use Rattle.hive_model.specs.Edit.{Step, set_value, delete_value, make_key, delete_key, copy_child, add_child, edited}
+use Rattle.hive_model.specs.Footprint.{needed_sizes, parent_of, room_of, strain_of}
 use Rattle.hive_edit.specs.Hive.{HiveCells}
 use Rattle.hive_edit.specs.Tells.{IsToldStep}
 
@@ -29,3 +29,24 @@ values_in path t = option_map_or (λ k. length (head k).values) (find_key path t
 -- how many children the key at a path has
 abbrev pub children_in : List (List ℕ) → Tree → ℕ
 children_in path t = option_map_or (λ k. length (children k)) (find_key path t) 0
+
+-- the size of a list, and at least a page of bins data
+abbrev pub page_at_least : ℕ → ℕ
+page_at_least size = if nat_lt size 4096 then 4096 else size
+
+-- the room that the list of that many values needs at the least
+abbrev pub least_value_room : ℕ → ℕ
+least_value_room n = if n == 0 then 0 else page_at_least (4 * n)
+
+-- the room that the lists of that many children need at the least: a page for each full list
+abbrev pub least_list_room : ℕ → ℕ
+least_list_room n = if n == 0 then 0 else page_at_least (n / 500 * 4096)
+
+-- the room that a step which gave this tree took at the least, by whether nothing had to be made: of the list that it wrote again
+abbrev pub least_step_room : Step → Bool → Tree → ℕ
+least_step_room (set_value path name kind bytes) still t = least_value_room (values_in path t)
+least_step_room (delete_value path name) still t = least_value_room (values_in path t)
+least_step_room (make_key parent name) still t = if still then 0 else least_list_room (children_in parent t)
+least_step_room (delete_key path) still t = least_list_room (children_in (parent_of path) t)
+least_step_room (copy_child from to) still t = 0
+least_step_room (add_child name k) still t = 0

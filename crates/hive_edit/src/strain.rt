@@ -1,6 +1,6 @@
 //! How much of the strain a step takes at the least, once it is made.
 
-ghost use Rattle.std.specs.Prelude.{◌≡◌, ◌≤◌, Ok};
+ghost use Rattle.std.specs.Prelude.{◌≡◌, ◌≤◌, ◌==◌, if◌then◌else◌, Ok};
 ghost use Rattle.hive_model.specs.Footprint.{list_sizes_in, parent_of, room_of, value_list_sizes_in};
 ghost use Rattle.hive_model.specs.KeyNode.{KeyNode, key_node_at};
 ghost use Rattle.hive_model.specs.Size.{bulk_of};
@@ -9,7 +9,7 @@ ghost use Rattle.reg_tree.specs.Makes.{step_of};
 ghost use Rattle.hive_cells.specs.Sources.{cells_of};
 ghost use Rattle.hive_edit.specs.Places.{IsKeyAt};
 ghost use Rattle.hive_edit.specs.Stepped.{IsStepped};
-ghost use Rattle.hive_edit.specs.Steps.{IsLeastRoom, children_in, values_in};
+ghost use Rattle.hive_edit.specs.Steps.{IsLeastRoom, children_in, least_list_room, least_step_room, least_value_room, values_in};
 ghost use Rattle.hive_edit.specs.Hive.{HiveCells};
 
 use crate::adding::above_at;
@@ -63,7 +63,8 @@ impl HiveBytes {
 
     /// The room that the value list of the key at a path needs at the least: a page, and what it has.
     fn value_room(&self, path: &Names) -> u64
-        ensures { result ≤ room_of (value_list_sizes_in path.now self.now.tree) }
+        ensures exact { result ≡ least_value_room (values_in path.now self.now.tree) }
+        ensures within { result ≤ room_of (value_list_sizes_in path.now self.now.tree) }
     {
         let count = self.value_count(path);
         if count == 0 {
@@ -75,7 +76,8 @@ impl HiveBytes {
 
     /// The room that the lists of the key along these names need at the least: a page, and one for each full list.
     fn list_room(&self, path: &[Units]) -> u64
-        ensures { result ≤ room_of (list_sizes_in path.now self.now.tree) }
+        ensures exact { result ≡ least_list_room (children_in path.now self.now.tree) }
+        ensures within { result ≤ room_of (list_sizes_in path.now self.now.tree) }
     {
         let count = self.child_count(path);
         if count == 0 {
@@ -87,7 +89,8 @@ impl HiveBytes {
 
     /// The room that the lists of the key above a path need at the least.
     fn list_room_above(&self, path: &Names) -> u64
-        ensures { result ≤ room_of (list_sizes_in (parent_of path.now) self.now.tree) }
+        ensures exact { result ≡ least_list_room (children_in (parent_of path.now) self.now.tree) }
+        ensures within { result ≤ room_of (list_sizes_in (parent_of path.now) self.now.tree) }
     {
         let names = path.as_slice();
         let above = names.len().saturating_sub(1);
@@ -98,7 +101,8 @@ impl HiveBytes {
     /// was there.
     fn made_room(&self, parent: &Names, before: u64) -> u64
         ensures none { before ≡ bulk_of self.now.version self.now.tree → result ≡ 0 }
-        ensures some { result ≤ room_of (list_sizes_in parent.now self.now.tree) }
+        ensures exact { result ≡ if before == bulk_of self.now.version self.now.tree then 0 else least_list_room (children_in parent.now self.now.tree) }
+        ensures within { result ≤ room_of (list_sizes_in parent.now self.now.tree) }
     {
         if self.bulk() == before {
             return 0;
@@ -108,7 +112,8 @@ impl HiveBytes {
 
     /// The room that a step took which was made, at the least: of the list that it wrote again. The bulk before it is given.
     pub(crate) fn least_room(&self, step: &TreeStep, before: u64) -> u64
-        ensures { (old : HiveCells) → IsStepped old (step_of step.now) self.now → before ≡ bulk_of old.version old.tree
+        ensures exact { result ≡ least_step_room (step_of step.now) (before == bulk_of self.now.version self.now.tree) self.now.tree }
+        ensures least { (old : HiveCells) → IsStepped old (step_of step.now) self.now → before ≡ bulk_of old.version old.tree
             → IsLeastRoom old (step_of step.now) self.now result }
     {
         match step {

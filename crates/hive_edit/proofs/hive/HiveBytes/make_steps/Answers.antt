@@ -62,7 +62,7 @@ returns-then-room-gt-MOST_BINS c =
           (all_taken h c.loop-step.self c.make_step.new.self (map step_of (take k xs)) (map step_of (drop (suc k) xs))
           (step_of item) c.loop-step.room c.least_room-more.result c.saturating_add-room.result
           c.loop-step.invariant.0 c.loop-step.invariant.1 made.stepped
-          (c.least_room-more.ensures c.loop-step.self made.stepped c.bulk-before.ensures)
+          (c.least_room-more.ensures.least c.loop-step.self made.stepped c.bulk-before.ensures)
           c.saturating_add-room.ensures c.if-room-gt-MOST_BINS.true);
     }
 
@@ -86,5 +86,5 @@ loop-step-preserved c =
           (step_grown h c.loop-step.self c.make_step.new.self (map step_of (take k xs)) (step_of item)
           c.loop-step.room c.least_room-more.result c.saturating_add-room.result
           c.loop-step.invariant.0 c.loop-step.invariant.1 made.stepped
-          (c.least_room-more.ensures c.loop-step.self made.stepped c.bulk-before.ensures) c.saturating_add-room.ensures),
+          (c.least_room-more.ensures.least c.loop-step.self made.stepped c.bulk-before.ensures) c.saturating_add-room.ensures),
     )
