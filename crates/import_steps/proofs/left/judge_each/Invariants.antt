@@ -2,7 +2,7 @@ use Rattle.std.proofs.Common.{◌+◌, ◌≤◌, length, map}
 use Rattle.std.specs.Vec.Iter.{into_iter_items}
 use Rattle.reg_tree.specs.Makes.{step_of}
 use Rattle.import_steps.proofs.LeftLemmas.{Going}
-use Rattle.import_steps.proofs.left.judge_all.Given as goal
+use Rattle.import_steps.proofs.left.judge_each.Given as goal
 
 abbrev pub invariant-steps : goal.invariant-steps
 invariant-steps l = record {
