@@ -93,9 +93,9 @@ next_is s tree closed after new root closed_is settled written at =
     }) (sym tree)
 
 -- the old data are those to which the cells were settled, by the pages that were kept
-pub old_is : {pages : List (List ℕ)} {new base : List ℕ} {bins : List Bin} → new ≡ spelled 0 bins
+pub old_is : (pages : List (List ℕ)) (bins : List Bin) {new base : List ℕ} → new ≡ spelled 0 bins
     → before pages (spelled 0 bins) ≡ base → before pages new ≡ base
-old_is {pages = pages} written kept = ap (before pages) written ∙ kept
+old_is pages bins written kept = ap (before pages) written ∙ kept
 
 -- what is said of the data and the root that were written is said of those that were given
 pub as_written : (P : List ℕ → List ℕ → ℕ → Type 0) {old bins written new : List ℕ} {root at : ℕ} → old ≡ bins

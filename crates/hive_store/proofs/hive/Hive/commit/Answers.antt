@@ -24,7 +24,7 @@ commit_kept-requires-clause-sized g c =
 pub commit_kept-requires-clause-carries : goal.commit_kept-requires-clause-carries
 commit_kept-requires-clause-carries g c = λ tells.
     subst (λ (old : List ℕ). Carries (g.D.Disk.state c.args.disk.now).held c.self.inside.base old)
-    (sym (old_is c.bytes-new.ensures.exact c.pages.ensures.base))
+    (sym (old_is _ _ c.bytes-new.ensures.exact c.pages.ensures.base))
     (subst (λ (v : Session). Carries (g.D.Disk.state c.args.disk.now).held v.base v.bins) (sym c.self.view_is) (c.requires.carries tells))
 
 pub invariant_of-hive : goal.invariant_of-hive
@@ -56,7 +56,7 @@ returns-clause-made g c =
     let after = g.D.Disk.calls c.commit_kept.new.disk in
     subst (λ (v : Session). Makes before after (change_calls v.base v.bins (next_bins v) (next_root v))) c.self.view_is
     (as_written (λ old new root. Makes before after (change_calls s.base old new root))
-    (old_is c.bytes-new.ensures.exact c.pages.ensures.base) c.bytes-new.ensures.exact c.root.ensures.root c.in_ok-closed.ensures.made)
+    (old_is _ _ c.bytes-new.ensures.exact c.pages.ensures.base) c.bytes-new.ensures.exact c.root.ensures.root c.in_ok-closed.ensures.made)
 
 pub returns-in_err-closed-clause-made : goal.returns-in_err-closed-clause-made
 returns-in_err-closed-clause-made g c =
@@ -69,7 +69,7 @@ returns-in_err-closed-clause-made g c =
     (subst (λ (v : Session). MakesFront before after (change_calls v.base v.bins (next_bins v) (next_root v)))
     c.self.view_is
     (as_written (λ old new root. MakesFront before after (change_calls s.base old new root))
-    (old_is c.bytes-new.ensures.exact c.pages.ensures.base) c.bytes-new.ensures.exact c.root.ensures.root c.in_err-closed.ensures.made))
+    (old_is _ _ c.bytes-new.ensures.exact c.pages.ensures.base) c.bytes-new.ensures.exact c.root.ensures.root c.in_err-closed.ensures.made))
 
 pub returns-clause-carries : goal.returns-clause-carries
 returns-clause-carries g c = λ tells.
@@ -78,7 +78,7 @@ returns-clause-carries g c = λ tells.
     let held = (g.D.Disk.state c.commit_kept.new.disk).held in
     subst (λ (v : Session). Carries held (next_base v) (next_bins v)) c.self.view_is
     (as_written (λ old new root. Carries held (closed_of s.base new root) new)
-    (old_is c.bytes-new.ensures.exact c.pages.ensures.base) c.bytes-new.ensures.exact c.root.ensures.root (c.in_ok-closed.ensures.carries tells))
+    (old_is _ _ c.bytes-new.ensures.exact c.pages.ensures.base) c.bytes-new.ensures.exact c.root.ensures.root (c.in_ok-closed.ensures.carries tells))
 
 pub returns-clause-logged : goal.returns-clause-logged
 returns-clause-logged g c = λ tells.
@@ -87,7 +87,7 @@ returns-clause-logged g c = λ tells.
     let held = (g.D.Disk.state c.commit_kept.new.disk).held in
     subst (λ (v : Session). HasLog held (session_log v)) c.self.view_is
     (as_written (λ old new root. HasLog held (log_of (dirty old new) new (closed_of s.base new root)))
-    (old_is c.bytes-new.ensures.exact c.pages.ensures.base) c.bytes-new.ensures.exact c.root.ensures.root
+    (old_is _ _ c.bytes-new.ensures.exact c.pages.ensures.base) c.bytes-new.ensures.exact c.root.ensures.root
     (c.in_ok-closed.ensures.logged tells))
 
 pub returns-clause-loads : goal.returns-clause-loads
@@ -100,7 +100,7 @@ returns-clause-loads g c = λ tells.
     subst (λ (v : Session). Loads held (committed_state v) false) c.self.view_is
     (commit_loads s ready held
     (as_written (λ old new root. Carries held (closed_of s.base new root) new)
-    (old_is c.bytes-new.ensures.exact c.pages.ensures.base) c.bytes-new.ensures.exact c.root.ensures.root (c.in_ok-closed.ensures.carries tells)))
+    (old_is _ _ c.bytes-new.ensures.exact c.pages.ensures.base) c.bytes-new.ensures.exact c.root.ensures.root (c.in_ok-closed.ensures.carries tells)))
 
 pub returns-clause-crash : goal.returns-clause-crash
 returns-clause-crash g c = λ tells.
@@ -116,7 +116,7 @@ returns-clause-crash g c = λ tells.
     → EachCrash state (LoadsAsEither before (committed_state v))) c.self.view_is
     (commit_crash s ready c.self.invariant.carried.sized start state carries
     (as_written (λ old new root. EachCrash state (IsBeforeOrAfter s.base old (closed_of s.base new root) new))
-    (old_is c.bytes-new.ensures.exact c.pages.ensures.base) c.bytes-new.ensures.exact c.root.ensures.root
+    (old_is _ _ c.bytes-new.ensures.exact c.pages.ensures.base) c.bytes-new.ensures.exact c.root.ensures.root
     (c.commit_kept.ensures.crash tells)))
 
 pub returns-in_err-closed-clause-crash : goal.returns-in_err-closed-clause-crash
@@ -133,7 +133,7 @@ returns-in_err-closed-clause-crash g c = λ tells.
     → EachCrash state (LoadsAsEither before (committed_state v))) c.self.view_is
     (commit_crash s ready c.self.invariant.carried.sized start state carries
     (as_written (λ old new root. EachCrash state (IsBeforeOrAfter s.base old (closed_of s.base new root) new))
-    (old_is c.bytes-new.ensures.exact c.pages.ensures.base) c.bytes-new.ensures.exact c.root.ensures.root
+    (old_is _ _ c.bytes-new.ensures.exact c.pages.ensures.base) c.bytes-new.ensures.exact c.root.ensures.root
     (c.commit_kept.ensures.crash tells)))
 
 pub returns-in_err-closed-clause-goes : goal.returns-in_err-closed-clause-goes
