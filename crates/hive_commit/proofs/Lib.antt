@@ -12,4 +12,3 @@ pub mod LogSectors
 pub mod Staged
 pub mod StagedCuts
 pub mod Blank
-pub mod KeptMarks

@@ -5,3 +5,4 @@ pub mod LoadingCalls
 pub mod SizedLemmas
 pub mod KeepLemmas
 pub mod LastLemmas
+pub mod RoomLemmas

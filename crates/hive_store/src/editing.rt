@@ -38,6 +38,7 @@ impl Hive {
         if !self.changed && keeps(alloc, &self.cells, &steps)? {
             return Ok(());
         }
+        self.kept.hold(&self.cells)?;
         self.cells.apply(alloc, steps)?;
         self.changed = true;
         Ok(())
