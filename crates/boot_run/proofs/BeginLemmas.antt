@@ -3,7 +3,6 @@ use Rattle.std.proofs.Common.{◌≡◌, ◌<◌, ◌^◌, ◌+◌, ℕ, Bool, t
 use Rattle.std.specs.Prelude.{Result, Ok, Err, IfSome, ◌==◌, not}
 use Rattle.std.specs.Option.{is_some, unwrap_or}
 use Rattle.std.proofs.lemmas.Bool.{ne_eqb, true≢false}
-use Rattle.hive_model.specs.Image.{Image}
 use Rattle.hive_model.specs.Tree.{Tree}
 use Rattle.start_model.specs.Fits.{MayLoad}
 use Rattle.hive_model.specs.Edit.{Refusal, edited, Step}
@@ -20,10 +19,10 @@ use Rattle.start_model.specs.Order.{plan_of}
 use Rattle.start_model.specs.Sets.{SelectNumbers, SetPlan, SetStop, SetChange, NoPlan, select_numbers_of, usable_numbers_of, taken_number, is_usable, set_of, begin_plan_of, stepped, planned, changed_by, begin_of}
 use Rattle.start_model.specs.Machine.{MachineState, with_start, begun_with}
 use Rattle.start_model.specs.Possible.{Possible, Woken, Outcome, Finished, PowerCut, DeviceFault, woken_at}
-use Rattle.start_model.specs.Act.{RunState, Act, Held, done, say, ask, mark, wake, end_with, start_over}
-use Rattle.start_model.specs.Commit.{commit, opened_state}
+use Rattle.start_model.specs.Act.{RunState, Act, Held, done, say, ask, mark, wake, end_with}
+use Rattle.start_model.specs.Commit.{commit}
 use Rattle.start_model.specs.Starter.{no_set}
-use Rattle.start_model.specs.Boot.{Choice, EntryTaken, NoEntry, OtherLoader, NoSystem, woken_state, loaded, woken, chosen, begin_start, begin_by, begin_with, begun_state, take_set, set_line}
+use Rattle.start_model.specs.Boot.{Choice, EntryTaken, NoEntry, OtherLoader, NoSystem, loaded, woken, chosen, begin_start, begin_by, begin_with, begun_state, take_set, set_line}
 use Rattle.start_model.specs.Run.{play}
 use Rattle.start_model.proofs.HeldLemmas.{services_few}
 use Rattle.run_laws.proofs.CountLemmas.{plan_few}
@@ -33,11 +32,10 @@ use Rattle.start_laws.proofs.BeginLemmas.{begin_case, begins}
 use Rattle.start_laws.proofs.UsableLemmas.{usable_is, usable_parts, usable_from}
 use Rattle.run_parts.specs.Parts.{Stays}
 use Rattle.boot_run.specs.declared.runner.Runner.{Runner}
-use Rattle.hive_model.specs.Base.{Base, version_of}
-use Rattle.hive_model.specs.Carries.{Carries}
 use Rattle.boot_run.specs.Acts as acts
-use Rattle.boot_run.specs.Agrees.{IsUp, IsStored, IsLive, IsRunningBy, IsOnSet, Counts, LeavesUp, LoadsUp, LoadLeft, CommitLeft, TurnLeft}
+use Rattle.boot_run.specs.Agrees.{IsLive, IsRunningBy, IsOnSet, Counts, LeavesUp, LoadsUp, TurnLeft}
 use Rattle.boot_run.specs.Begins.{begin_planned, IsTaken, IsUpOrDown}
+use Rattle.boot_run.proofs.PlayLemmas.{Rests}
 
 -- ---- nothing more happens
 
@@ -48,9 +46,6 @@ pub stays_take : (on_good : Bool) → Stays (take_set on_good)
 stays_take on_good m c none may =
     next-may c (take_set on_good)
     (λ h n up. begin_by-keeps (may_load c) on_good h n (begin_of n.version n.live on_good) up) m none may
-
-pub none_open : (m : RunState) (s : Session) (d : DiskState) → IsLive m s d → m.disk.other ≡ None
-none_open m s d live = ap (λ (p : Possible). p.other) live.settled
 
 -- ---- the set that is taken
 
@@ -181,27 +176,6 @@ pub taken_none : (version : HiveVersion) (on_good : Bool) (plan : SetPlan) (t : 
     → begin_plan_of (select_numbers_of t) (usable_numbers_of t) on_good ≡ Ok plan → IsTaken t plan.chosen
 taken_none version on_good plan t none is = taken_by version t t on_good plan is (ap (stepped version t) none)
 
--- the session with another tree
-pub apply_stored : (m : RunState) (s t : Session) (d : DiskState) → IsLive m s d → t.base ≡ s.base → IsStored m t d
-apply_stored m s t d live base = record {
-  sequence = live.sequence ∙ ap (λ (b : Base). b.first) (sym base);
-  version = live.version ∙ ap (λ (b : Base). version_of b.minor) (sym base);
-  settled = live.settled;
-  loads = live.loads;
-}
-
-pub apply_up : (s t : Session) (d : DiskState) → IsUp s d → t.base ≡ s.base → t.bins ≡ s.bins → IsUp t d
-apply_up s t d up base bins =
-    let P : Base → Type 0 = λ b. Carries d.held b s.bins in
-    let Q : List ℕ → Type 0 = λ b. Carries d.held t.base b in
-    record {
-      on = up.on;
-      still = up.still;
-      carries = subst Q (sym bins) (subst P (sym base) up.carries);
-      loads = up.loads;
-      marked = up.marked;
-    }
-
 -- ---- which set is taken
 
 by_made : (on_good : Bool) (m : RunState) (plan : SetPlan) (r : Result Tree Refusal)
@@ -259,34 +233,19 @@ chosen_disk on_good m NoEntry = refl
 chosen_disk on_good m (OtherLoader number path) = refl
 chosen_disk on_good m (NoSystem number path) = refl
 
-pub load_over : (m : RunState) (next : RunState → Act) (r : Runner) (d : DiskState) (rest : Act)
-    → LoadLeft m next r d None rest → TurnLeft r d None rest
-load_over m next r d rest h =
-    record {
-      after = start_over false (woken_state m h.0);
-      is = h.1.0;
-      agrees = record { counts = h.1.1.0; by = h.1.1.1 };
-    }
-
--- after a commit that was stopped
-pub commit_over : (m : RunState) (tree : Tree) (next : RunState → Act) (r : Runner) (d : DiskState) (rest : Act)
-    → CommitLeft m tree next r d None rest → TurnLeft r d None rest
-commit_over m tree next r d rest h =
-    record { after = start_over false (opened_state m tree); is = h.0; agrees = record { counts = h.1.0; by = h.1.1 } }
-
 pub load_off : (r r' : Runner) (d : DiskState) (o : Option Session) → r.machine.start ≡ None → LoadsUp r r' d o
     → r'.machine.start ≡ None
 load_off r r' d None off h = h.1
 load_off r r' d (Some t) off h = ap (λ (k : MachineState). k.start) h.1.1.machine ∙ off
 
 -- whatever a plan's steps led to
-pub planned_stays : (on_good : Bool) (m : RunState) (plan : SetPlan) (c : Image) (r : Result Tree Refusal)
-    → m.disk.other ≡ None → MayLoad m.disk c → MayLoad (play (begin_planned on_good m plan r) [] []).disk c
-planned_stays on_good m plan c (Ok t) none may =
+pub planned_stays : (on_good : Bool) (m : RunState) (plan : SetPlan) (r : Result Tree Refusal)
+    → Rests m (begin_planned on_good m plan r)
+planned_stays on_good m plan (Ok t) c none may =
     let change : SetChange = record
     { chosen = plan.chosen; numbers = plan.numbers; has_steps = not (length plan.steps == 0); tree = t } in
     next-may c (begin_with on_good change) (λ h n up. begin_with-keeps (may_load c) on_good change h n up) m none may
-planned_stays on_good m plan c (Err why) none may = may
+planned_stays on_good m plan (Err why) c none may = may
 
 -- whether there are steps, by those of the code
 pub steps_none : (made : List TreeStep) (steps : List Step) → map step_of made ≡ steps → (length made == 0) ≡ true

@@ -12,17 +12,18 @@ use Rattle.start_model.specs.Lines.{VerdictLine, Verdict}
 use Rattle.start_model.specs.Machine.{Start, MachineState, ending_of, ending_with, is_good, ended}
 use Rattle.start_model.specs.Fits.{outcomes_in, MayLoad}
 use Rattle.start_model.specs.Act.{Act, RunState, done, say, start_over, end_with}
-use Rattle.start_model.specs.Commit.{committed_state, opened_state, commit}
+use Rattle.start_model.specs.Commit.{commit}
 use Rattle.start_model.specs.EventActs.{flush_act, off_act}
-use Rattle.start_model.specs.Run.{play}
 use Rattle.boot_machine.specs.Steps.{is_there, falls_back}
-use Rattle.printed_parts.specs.Parts.{Told, Tells, Goes, PlaysOr, TellsOr}
-use Rattle.printed_parts.proofs.GoesLemmas.{idle, goes-nothing, goes-line}
+use Rattle.printed_parts.specs.Parts.{TellsOr}
+use Rattle.printed_parts.proofs.GoesLemmas.{idle}
 use Rattle.boot_run.specs.declared.runner.Runner.{Runner}
-use Rattle.boot_run.specs.Agrees.{IsUp, IsLive, IsSound, IsRunningBy, Counts, CommitLeft, TurnLeft, OffLeft, IsEnding}
+use Rattle.boot_run.specs.declared.stop.RunStop.{RunStop}
+use Rattle.boot_run.specs.Agrees.{IsUp, IsSound, IsRunningBy, Counts, CommitLeft, TurnLeft, OffLeft, IsEnding}
+use Rattle.boot_run.specs.Views.{Moment, RunsTo}
 use Rattle.boot_run.proofs.DiskLemmas.{idle-off, left-off}
 use Rattle.boot_run.proofs.CommitLemmas.{loads_down}
-use Rattle.boot_run.proofs.PlayLemmas.{plays-as, plays-line, live_left, here_turn}
+use Rattle.boot_run.proofs.PlayLemmas.{plays-said, here_turn, turn_left}
 
 -- a start runs where a session is sound
 pub runs_there : (o : Option Start) (tree : Tree) → IsRunningBy o tree → is_there o ≡ true
@@ -33,10 +34,8 @@ runs_there (Some s) tree h = refl
 
 pub commit_turn : (m : RunState) (tree : Tree) (r : Runner) (d : DiskState) (o : Option Session) (rest : Act)
     → CommitLeft m tree done r d o rest → TurnLeft r d o rest
-commit_turn m tree r d None rest h =
-    record { after = start_over false (opened_state m tree); is = h.0; agrees = record { counts = h.1.0; by = h.1.1 } }
-commit_turn m tree r d (Some s) rest h =
-    record { after = committed_state m tree; is = h.0; agrees = record { counts = h.1.0; by = h.1.1 } }
+commit_turn m tree r d None rest h = turn_left None h
+commit_turn m tree r d (Some s) rest h = turn_left (Some s) h
 
 pub flush_changed : (m : RunState) (tree : Tree) → m.live ≡ tree → m.changed ≡ true
     → commit book.FlushCommit tree m done ≡ flush_act m
@@ -48,18 +47,6 @@ flush_changed m tree same changed =
 pub flush_same : (m : RunState) → m.changed ≡ false → say book.FlushNothingLine (done m) ≡ flush_act m
 flush_same m changed = ap
     (λ (b : Bool). cond b (commit book.FlushCommit m.live m done) (say book.FlushNothingLine (done m))) (sym changed)
-
-pub flush_none : (m : RunState) (r : Runner) (s : Session) (d : DiskState) (x y : Told) → m.changed ≡ false → Counts m r
-    → IsLive m s d → Tells x y (book.FlushNothingLine ∷ [])
-    → (rest : Act) × (Goes (play (flush_act m)) (play rest) x y d d × TurnLeft r d (Some s) rest)
-flush_none m r s d x y changed counts live said =
-    let P : Act → Type 0 = λ a. Goes (play a) (play (done m)) x y d d in (
-      done m,
-      (
-        subst P (flush_same m changed) (goes-line book.FlushNothingLine (done m) x y d d (idle d) refl said),
-        here_turn m r d (Some s) counts live,
-      ),
-    )
 
 -- ---- the end of a start
 
@@ -76,83 +63,53 @@ ending_tells_by true None = refl
 ending_tells_by true (Some true) = refl
 ending_tells_by true (Some false) = refl
 
-pub ending : (o : Option Start) (word : Verdict) → is_there o ≡ true → Some word ≡ option_map ending_of o
-    → IsEnding word
-ending None word there is = absurd cc
-ending (Some s) word there is =
+pub ending : (o : Option Start) (word : Verdict) → Some word ≡ option_map ending_of o → IsEnding word
+ending None word is = absurd cc
+ending (Some s) word is =
     let e : word ≡ ending_of s = cc in
     let P : Verdict → Type 0 = λ w. IsEnding w in
     subst P (sym e) (record { falls = ending_falls_by (is_good s) s.saved; none = ending_tells_by (is_good s) s.saved })
 
-pub off_changed : (m : RunState) (tree : Tree) (o : Option Start) (word : Verdict) → is_there o ≡ true
-    → Some word ≡ option_map ending_of o → m.live ≡ tree → m.changed ≡ true
+-- the verdict of the runner's machine
+pub word_at : {m : RunState} {r : Runner} {word : Verdict} → Counts m r
+    → Some word ≡ option_map ending_of r.machine.start → Some word ≡ option_map ending_of m.machine.start
+word_at counts is = is ∙ ap (λ (k : MachineState). option_map ending_of k.start) (sym counts.machine)
+
+pub off_changed : (m : RunState) (tree : Tree) (o : Option Start) (word : Verdict) → Some word ≡ option_map ending_of o
+    → m.live ≡ tree → m.changed ≡ true
     → commit book.OffCommit tree m (end_with word false) ≡ option_map_or (λ s. off_act s m) o (done m)
-off_changed m tree None word there is same changed = absurd cc
-off_changed m tree (Some s) word there is same changed =
+off_changed m tree None word is same changed = absurd cc
+off_changed m tree (Some s) word is same changed =
     let e : word ≡ ending_of s = cc in
     ap (λ (t : Tree). commit book.OffCommit t m (end_with word false)) (sym same)
     ∙ ap (λ (w : Verdict). commit book.OffCommit m.live m (end_with w false)) e
     ∙ ap (λ (b : Bool). cond b (commit book.OffCommit m.live m (end_with (ending_of s) false))
     (end_with (ending_of s) false m)) (sym changed)
 
-pub off_same : (m : RunState) (o : Option Start) (word : Verdict) → is_there o ≡ true
-    → Some word ≡ option_map ending_of o → m.changed ≡ false
-    → end_with word false m ≡ option_map_or (λ s. off_act s m) o (done m)
-off_same m None word there is changed = absurd cc
-off_same m (Some s) word there is changed =
+pub off_same : (m : RunState) (o : Option Start) (word : Verdict) → Some word ≡ option_map ending_of o
+    → m.changed ≡ false → end_with word false m ≡ option_map_or (λ s. off_act s m) o (done m)
+off_same m None word is changed = absurd cc
+off_same m (Some s) word is changed =
     let e : word ≡ ending_of s = cc in
     ap (λ (w : Verdict). end_with w false m) e
     ∙ ap (λ (b : Bool). cond b (commit book.OffCommit m.live m (end_with (ending_of s) false))
     (end_with (ending_of s) false m)) (sym changed)
 
 -- a start that ends by itself
-pub end_plays : {E : Type 0}
-    → (result : Result (Unit {0}) E) (word : Verdict) (m : RunState) (r r' : Runner) (x y : Told) (d e : DiskState)
-    → IsEnding word → Counts m r
-    → r'.machine ≡ ended (falls_back word) r.machine → r'.starts ≡ r.starts → e ≡ turned_off d
-    → EachCrash d (MayLoad m.disk) → TellsOr (VerdictLine word) x y result
-    → PlaysOr (end_with word false m) x y d e result (OffLeft r' e)
-end_plays result word m r r' x y d e ends counts machine starts off left said =
-    let kept : EachCrash e (MayLoad m.disk) = left-off d e (MayLoad m.disk) off left in
+pub end_plays : {result : Result (Unit {0}) RunStop} {m : RunState} {x y : Moment} {r : Runner} → (word : Verdict)
+    (r' : Runner) → IsEnding word → Counts m r → EachCrash x.disk (MayLoad m.disk)
+    → r'.machine ≡ ended (falls_back word) r.machine → r'.starts ≡ r.starts → y.disk ≡ turned_off x.disk
+    → TellsOr (VerdictLine word) x.told y.told result → RunsTo (end_with word false m) x y result (OffLeft r' y.disk)
+end_plays {m = m} {x = x} {y = y} {r = r} word r' ends counts left machine starts off said =
+    let kept : EachCrash y.disk (MayLoad m.disk) = left-off x.disk y.disk (MayLoad m.disk) off left in
     let over : Counts (start_over false m) r' = record {
       machine = ap (λ (k : MachineState). ended false k) counts.machine
           ∙ ap (λ (b : Bool). ended b r.machine) (sym ends.falls) ∙ sym machine;
       starts = counts.starts ∙ sym starts;
     } in
-    plays-line result (OffLeft r' e) (VerdictLine word) (done (start_over false m)) x y d e
-    (idle-off d d e (idle d) off) ends.none said kept
-    (λ v. here_turn (start_over false m) r' e None over kept)
+    plays-said (idle-off x.disk x.disk y.disk (idle x.disk) off) ends.none said kept (λ v. here_turn over kept)
 
--- after the commit of a start that ends
-pub end_done : {E : Type 0}
-    → (result : Result (Unit {0}) E) (word : Verdict) (m : RunState) (tree : Tree) (s : Session) (r r' : Runner)
-    (x y : Told) (d e : DiskState) (rest : Act)
-    → IsEnding word → IsUp s d → CommitLeft m tree (end_with word false) r d (Some s) rest
-    → r'.machine ≡ ended (falls_back word) r.machine → r'.starts ≡ r.starts → e ≡ turned_off d
-    → TellsOr (VerdictLine word) x y result
-    → PlaysOr rest x y d e result (OffLeft r' e)
-end_done result word m tree s r r' x y d e rest ends up h machine starts off said =
-    plays-as result (OffLeft r' e) (OffLeft r' e) (end_with word false (committed_state m tree)) rest x y d e (sym h.0)
-    (λ v a k. k)
-    (end_plays result word (committed_state m tree) r r' x y d e ends h.1.0 machine starts off
-    (live_left (committed_state m tree) s d up h.1.1) said)
-
-pub end_stopped : (word : Verdict) (m : RunState) (tree : Tree) (r : Runner) (x : Told) (d : DiskState) (rest : Act)
-    → CommitLeft m tree (end_with word false) r d None rest
-    → (a : Act) × (Goes (play rest) (play a) x x d d × OffLeft r d tt a)
-end_stopped word m tree r x d rest h = (
-  rest,
-  (
-    goes-nothing (play rest) x d d (idle d),
-    record {
-      after = start_over false (opened_state m tree);
-      is = h.0;
-      agrees = record { counts = h.1.0; by = h.1.1 };
-    },
-  ),
-)
-
--- a start that ends by itself leaves the disk down
+-- and it leaves the disk down
 pub end_sound : {T E : Type 0} → (result : Result T E) (s : Session) (r' : Runner) (d e : DiskState) → IsUp s d
     → e ≡ turned_off d → r'.machine.start ≡ None → OnOk result (IsSound r' e None)
 end_sound (Ok v) s r' d e up off none = (loads_down d e up.still up.loads off, none)

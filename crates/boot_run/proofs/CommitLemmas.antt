@@ -1,5 +1,7 @@
 -- What a commit of the session amounts to in the book's run.
-use Rattle.std.proofs.Common.{◌≡◌, ◌+◌, ◌%◌, inl, inr, ℕ, Bool, true, false, List, [], ◌∷◌, length, Some, refl, sym, ap, subst, ◌∙◌}
+use Rattle.std.proofs.Common.{◌≡◌, ◌+◌, ◌%◌, inl, inr, ℕ, Bool, true, false, List, [], ◌∷◌, length, Some, None, refl, sym, ap, subst, ◌∙◌}
+use Rattle.std.specs.Prelude.{Result, Ok}
+use Rattle.std.specs.Result.{is_err}
 use Rattle.hive_model.specs.Base.{Base, version_of, is_bins_size}
 use Rattle.hive_model.specs.Image.{Image}
 use Rattle.hive_model.specs.State.{HiveState}
@@ -27,14 +29,17 @@ use Rattle.start_model.specs.Commit.{committed_state, opened_state, committed, c
 use Rattle.start_model.specs.Run.{play}
 use Rattle.run_parts.specs.Parts.{Stays, since_wake, tally_now}
 use Rattle.printed_parts.specs.Logged.{IsLogged}
-use Rattle.printed_parts.specs.Parts.{Told, Tells, Goes, Breaks}
-use Rattle.run_parts.proofs.CountLemmas.{Alone, alone-by}
+use Rattle.printed_parts.specs.Parts.{Told, Tells}
+use Rattle.run_parts.proofs.CountLemmas.{alone-by}
 use Rattle.printed_parts.proofs.LoggedLemmas.{LogsWhere}
 use Rattle.printed_parts.proofs.GoesLemmas.{goes-then, goes-told, goes-held}
-use Rattle.printed_parts.proofs.BreakLemmas.{breaks-silent, breaks-told}
-use Rattle.boot_run.specs.Agrees.{IsDown, LoadsAny, IsStored, IsLive, Counts}
+use Rattle.printed_parts.proofs.BreakLemmas.{or-breaks, breaks-silent, breaks-told}
+use Rattle.boot_run.specs.Agrees.{IsDown, LoadsAny, IsStored, IsLive, Counts, CommitLeft}
+use Rattle.boot_run.specs.Views.{RunsTo}
+use Rattle.boot_run.specs.declared.stop.RunStop.{RunStop}
 use Rattle.boot_run.specs.declared.runner.Runner.{Runner}
 use Rattle.boot_run.proofs.DiskLemmas.{still_leaves, settled_loads, open_loads, alone-off, counted-off, left-off}
+use Rattle.boot_run.proofs.PlayLemmas.{seen}
 
 -- the state that the session commits is the book's
 pub next_is : (m : RunState) (s : Session) (d : DiskState) → IsStored m s d
@@ -49,11 +54,24 @@ pub record Committed (s : Session) (d e : DiskState) : Type 0 where
   pub history : e.history ≡ d.history
   pub counts : CountsGrow d e
 
--- what the session's commit says once it is done: of the disk from before it, and of the disk after it
-pub record Logged (s : Session) (d e : DiskState) : Type 0 where
+-- what the session's commit says once it is done: what it left as the session and its number, and what the disk has
+pub record IsDone (s : Session) (d e : DiskState) (after : Session) (number : ℕ) : Type 0 where
+  pub left : Committed s d e
+  pub after_is : after ≡ store.committed s
+  pub raised : number ≡ next_number s.base.first
+  pub none : e.flight ≡ []
+  pub loads : Loads e.held (store.committed_state s) false
   pub opened : Carries d.held s.base s.bins
   pub closed : Carries e.held (store.next_base s) (next_bins s)
   pub log : HasLog e.held (store.session_log s)
+  pub quiet : tally_now e ≡ tally_now d
+
+-- it was stopped so, and then the disk was turned off
+pub record IsStopped (s : Session) (d e f : DiskState) (u : Outcome) : Type 0 where
+  pub left : Committed s d e
+  pub cause : HasCause u (since_wake d) (tally_now e)
+  pub counted : CountedIn u (tally_now d) (tally_now e)
+  pub off : f ≡ turned_off e
 
 -- the base block and the bins data that an image carries hold what it loads as
 carried_holds : (image : Image) (base : Base) (bins : List ℕ) (state : HiveState) → Carries image base bins
@@ -64,37 +82,48 @@ carried_holds image base bins state is loads =
     ap is_bins_size (sym is.size) ∙ (base_in_checked image base is.block).size_is in
     held_by image state false (clean base bins) loads (carried image base bins size is)
 
-module _ (m : RunState) (next : RunState → Act) (what : CommitWord) (s : Session) (d e : DiskState)
-    (live : IsStored m s d) (c : Committed s d e) where
-  pub commit_open : EachCrash e (MayLoad (open_between m.disk.settled (next_state m s.tree)))
-  commit_open image crash =
+-- the runner counts the state in which a start is over
+pub counts_over : (m n : RunState) (r r' : Runner) → Counts m r → n.machine ≡ m.machine → n.starts ≡ m.starts
+    → r'.machine ≡ ended false r.machine → r'.starts ≡ r.starts → Counts (start_over false n) r'
+counts_over m n r r' counts machine starts over kept =
+    record {
+      machine = ap (ended false) (machine ∙ counts.machine) ∙ sym over;
+      starts = starts ∙ counts.starts ∙ sym kept;
+    }
+
+module _ (m : RunState) (next : RunState → Act) (what : CommitWord) {s : Session} {d e : DiskState}
+    (live : IsStored m s d) where
+  commit_open : Committed s d e → EachCrash e (MayLoad (open_between m.disk.settled (next_state m s.tree)))
+  commit_open c image crash =
       let P : HiveState → Type 0 = λ t. LoadsAsEither m.disk.settled t image in
       open_loads m.disk.settled (next_state m s.tree) image
       (subst P (next_is m s d live) (c.crash m.disk.settled false live.loads image crash))
 
-  pub commit_alone : Alone d e
-  commit_alone = alone-by d e c.history c.counts
-
   -- no memory: nothing was printed
-  pub commit_memory : tally_now e ≡ tally_now d → (x : Told) → Breaks (commit what s.tree m next) x x.said d e
-  commit_memory none x =
-      breaks-silent (commit what s.tree m next) x d e (record { alone = commit_alone; same = none }) commit_open
+  pub commit_memory : {a : Told} {T : Type 0} {r : Result T RunStop} {Left : T → Act → Type 0} → is_err r ≡ true
+      → Committed s d e → tally_now e ≡ tally_now d
+      → RunsTo (commit what s.tree m next) (seen a d) (seen a e) r Left
+  commit_memory {a = a} {r = r} {Left = Left} h c none =
+      let whole : Act = commit what s.tree m next in
+      record {
+        is = or-breaks Left r h whole a a d e
+            (breaks-silent whole a d e (record { alone = alone-by d e c.history c.counts; same = none }) (commit_open c));
+      }
 
   -- the commit is done
-  module _ (after : Session) (number : ℕ) (is : after ≡ store.committed s) (raised : number ≡ next_number s.base.first)
-      (none : e.flight ≡ []) (loads : Loads e.held (store.committed_state s) false) (logged : Logged s d e) where
+  module _ {after : Session} {number : ℕ} (c : IsDone s d e after number) where
     commit_number : number ≡ (next_state m s.tree).sequence
-    commit_number = raised ∙ ap (λ (t : HiveState). t.sequence) (next_is m s d live)
+    commit_number = c.raised ∙ ap (λ (t : HiveState). t.sequence) (next_is m s d live)
 
     commit_loads : Loads e.held (next_state m s.tree) false
-    commit_loads = let P : HiveState → Type 0 = λ t. Loads e.held t false in subst P (next_is m s d live) loads
+    commit_loads = let P : HiveState → Type 0 = λ t. Loads e.held t false in subst P (next_is m s d live) c.loads
 
-    pub commit_live : IsLive (committed_state m s.tree) after e
+    commit_live : IsLive (committed_state m s.tree) after e
     commit_live = record {
-      live = sym (ap (λ (t : Session). t.tree) is);
-      changed = sym (ap (λ (t : Session). t.changed) is);
-      sequence = sym commit_number ∙ raised ∙ sym (ap (λ (t : Session). t.base.first) is);
-      version = live.version ∙ sym (ap (λ (t : Session). version_of t.base.minor) is);
+      live = sym (ap (λ (t : Session). t.tree) c.after_is);
+      changed = sym (ap (λ (t : Session). t.changed) c.after_is);
+      sequence = sym commit_number ∙ c.raised ∙ sym (ap (λ (t : Session). t.base.first) c.after_is);
+      version = live.version ∙ sym (ap (λ (t : Session). version_of t.base.minor) c.after_is);
       settled = refl;
       loads = commit_loads;
     }
@@ -105,10 +134,10 @@ module _ (m : RunState) (next : RunState → Act) (what : CommitWord) (s : Sessi
       old = s.bins;
       closed = store.next_base s;
       new = next_bins s;
-      was = carried_holds d.held s.base s.bins m.disk.settled logged.opened live.loads;
-      is = carried_holds e.held (store.next_base s) (next_bins s) (next_state m s.tree) logged.closed commit_loads;
-      carries = logged.closed;
-      log = logged.log;
+      was = carried_holds d.held s.base s.bins m.disk.settled c.opened live.loads;
+      is = carried_holds e.held (store.next_base s) (next_bins s) (next_state m s.tree) c.closed commit_loads;
+      carries = c.closed;
+      log = c.log;
     }
 
     commit_logs : LogsWhere (open_between m.disk.settled (next_state m s.tree)) Finished e
@@ -118,39 +147,43 @@ module _ (m : RunState) (next : RunState → Act) (what : CommitWord) (s : Sessi
         let second : next_state m s.tree ≡ after = cc in
         let P : HiveState → Type 0 = λ t. IsLogged e.held t (next_state m s.tree) in
         let Q : HiveState → Type 0 = λ t. IsLogged e.held before t in
-        still_leaves e (λ (image : Image). IsLogged image before after) none (subst Q second (subst P first commit_logged))
+        still_leaves e (λ (image : Image). IsLogged image before after) c.none
+        (subst Q second (subst P first commit_logged))
 
-    pub commit_goes : tally_now e ≡ tally_now d → (x y : Told) → Tells x y (CommitLine what number ∷ [])
-        → Goes (play (commit what s.tree m next)) (play (next (committed_state m s.tree))) x y d e
-    commit_goes quiet x y said =
+    pub commit_plays : {a b : Told} (r : Runner) → Tells a b (CommitLine what number ∷ [])
+        → Counts (committed_state m s.tree) r
+        → RunsTo (commit what s.tree m next) (seen a d) (seen b e) (Ok (Some after)) (CommitLeft m s.tree next r e)
+    commit_plays {a = a} {b = b} now said counts =
         let r : Act = mark (Held s.tree) (next (committed_state m s.tree)) in
-        let P : ℕ → Type 0 = λ n. Tells x y (CommitLine what n ∷ []) in
-        goes-then (play (commit what s.tree m next)) (play r) (play (next (committed_state m s.tree))) x y y d e e
+        let P : ℕ → Type 0 = λ n. Tells a b (CommitLine what n ∷ []) in
+        let goes = goes-then (play (commit what s.tree m next)) (play r) (play (next (committed_state m s.tree))) a b b d e e
         (goes-told (open_between m.disk.settled (next_state m s.tree)) (committed what s.tree m next)
-        (CommitLine what (next_state m s.tree).sequence) Finished r x y d e
-        commit_alone tt quiet commit_logs refl refl (subst P commit_number said))
-        (goes-held s.tree (next (committed_state m s.tree)) y e)
+        (CommitLine what (next_state m s.tree).sequence) Finished r a b d e
+        (alone-by d e c.left.history c.left.counts) tt c.quiet commit_logs refl refl (subst P commit_number said))
+        (goes-held s.tree (next (committed_state m s.tree)) b e) in
+        record { is = (next (committed_state m s.tree), (goes, (refl, (counts, commit_live)))) }
 
-    pub commit_breaks : tally_now e ≡ tally_now d → Stays next → (x : Told) (y : List ℕ)
-        → SaysFront x.said y (printed x.form (CommitLine what number))
-        → Breaks (commit what s.tree m next) x y d e
-    commit_breaks quiet stays x y f =
-        let r : Act = mark (Held s.tree) (next (committed_state m s.tree)) in
-        let P : ℕ → Type 0 = λ n. SaysFront x.said y (printed x.form (CommitLine what n)) in
-        breaks-told (open_between m.disk.settled (next_state m s.tree)) (committed what s.tree m next)
-        (CommitLine what (next_state m s.tree).sequence) Finished r x y d e
-        commit_alone tt quiet commit_logs refl refl (subst P commit_number f) commit_open
-        (λ image crash. stays (committed_state m s.tree) image refl
-        (still_leaves e (MayLoad (settled_at (next_state m s.tree))) none
-        (settled_loads e.held (next_state m s.tree) commit_loads) image crash))
+    pub commit_breaks : {a b : Told} {T : Type 0} {r : Result T RunStop} {Left : T → Act → Type 0} → is_err r ≡ true
+        → Stays next → SaysFront a.said b.said (printed a.form (CommitLine what number))
+        → RunsTo (commit what s.tree m next) (seen a d) (seen b e) r Left
+    commit_breaks {a = a} {b = b} {r = r} {Left = Left} h stays f =
+        let rest : Act = mark (Held s.tree) (next (committed_state m s.tree)) in
+        let P : ℕ → Type 0 = λ n. SaysFront a.said b.said (printed a.form (CommitLine what n)) in
+        record {
+          is = or-breaks Left r h (commit what s.tree m next) a b d e
+              (breaks-told (open_between m.disk.settled (next_state m s.tree)) (committed what s.tree m next)
+              (CommitLine what (next_state m s.tree).sequence) Finished rest a b.said d e
+              (alone-by d e c.left.history c.left.counts) tt c.quiet commit_logs refl refl (subst P commit_number f)
+              (commit_open c.left) (λ image crash. stays (committed_state m s.tree) image refl
+              (still_leaves e (MayLoad (settled_at (next_state m s.tree))) c.none
+              (settled_loads e.held (next_state m s.tree) commit_loads) image crash)));
+        }
 
   -- a stop, and its verdict: the start is over
-  module _ (verdict : Verdict) (u : Outcome) (told : outcomes_in (VerdictLine verdict ∷ []) ≡ u ∷ [])
-      (is : committed what s.tree m next u ≡ end_with verdict false (opened_state m s.tree)) (f : DiskState)
-      (off : f ≡ turned_off e)
-      (cause : HasCause u (since_wake d) (tally_now e)) where
+  module _ {f : DiskState} {u : Outcome} (verdict : Verdict) (told : outcomes_in (VerdictLine verdict ∷ []) ≡ u ∷ [])
+      (is : committed what s.tree m next u ≡ end_with verdict false (opened_state m s.tree)) (c : IsStopped s d e f u) where
     stop_cause : HasCause u (since_wake d) (tally_now f)
-    stop_cause = let P : DiskState → Type 0 = λ t. HasCause u (since_wake d) (tally_now t) in subst P (sym off) cause
+    stop_cause = let P : DiskState → Type 0 = λ t. HasCause u (since_wake d) (tally_now t) in subst P (sym c.off) c.cause
 
     -- it left no commit that is done
     stop_logs : LogsWhere (open_between m.disk.settled (next_state m s.tree)) u f
@@ -160,32 +193,33 @@ module _ (m : RunState) (next : RunState → Act) (what : CommitWord) (s : Sessi
         sym (ap (committed what s.tree m next) finished) ∙ is in
         absurd cc
 
-    pub stop_open : EachCrash f (MayLoad (open_between m.disk.settled (next_state m s.tree)))
-    stop_open = left-off e f (MayLoad (open_between m.disk.settled (next_state m s.tree))) off commit_open
+    stop_open : EachCrash f (MayLoad (open_between m.disk.settled (next_state m s.tree)))
+    stop_open = left-off e f (MayLoad (open_between m.disk.settled (next_state m s.tree))) c.off (commit_open c.left)
 
-    pub stop_goes : CountedIn u (tally_now d) (tally_now e) → (x y : Told) → Tells x y (VerdictLine verdict ∷ [])
-        → Goes (play (commit what s.tree m next)) (play (done (start_over false (opened_state m s.tree)))) x y d f
-    stop_goes counted x y said =
-        goes-told (open_between m.disk.settled (next_state m s.tree)) (committed what s.tree m next)
-        (VerdictLine verdict) u
-        (done (start_over false (opened_state m s.tree))) x y d f (alone-off d e f commit_alone off)
-        stop_cause (counted-off u d e f counted off) stop_logs told is said
+    pub stop_plays : {a b : Told} {r : Runner} (r' : Runner) → Tells a b (VerdictLine verdict ∷ []) → Counts m r
+        → r'.machine ≡ ended false r.machine → r'.starts ≡ r.starts
+        → RunsTo (commit what s.tree m next) (seen a d) (seen b f) (Ok None) (CommitLeft m s.tree next r' f)
+    stop_plays {a = a} {b = b} {r = r} r' said counts machine starts =
+        let over : RunState = start_over false (opened_state m s.tree) in
+        let goes = goes-told (open_between m.disk.settled (next_state m s.tree)) (committed what s.tree m next)
+        (VerdictLine verdict) u (done over) a b d f (alone-off d e f (alone-by d e c.left.history c.left.counts) c.off)
+        stop_cause (counted-off u d e f c.counted c.off) stop_logs told is said in
+        record {
+          is = (
+            done over,
+            (goes, (refl, (counts_over m (opened_state m s.tree) r r' counts refl refl machine starts, stop_open))),
+          );
+        }
 
-    pub stop_breaks : CountedIn u (tally_now d) (tally_now e) → (x : Told) (y : List ℕ) → SaysFront x.said y (printed x.form (VerdictLine verdict))
-        → Breaks (commit what s.tree m next) x y d f
-    stop_breaks counted x y front =
-        breaks-told (open_between m.disk.settled (next_state m s.tree)) (committed what s.tree m next)
-        (VerdictLine verdict) u
-        (done (start_over false (opened_state m s.tree))) x y d f (alone-off d e f commit_alone off)
-        stop_cause (counted-off u d e f counted off) stop_logs told is front stop_open stop_open
-
--- the runner counts the state in which a start is over
-pub counts_over : (m n : RunState) (r r' : Runner) → Counts m r → n.machine ≡ m.machine → n.starts ≡ m.starts
-    → r'.machine ≡ ended false r.machine → r'.starts ≡ r.starts → Counts (start_over false n) r'
-counts_over m n r r' counts machine starts over kept =
-    record {
-      machine = ap (ended false) (machine ∙ counts.machine) ∙ sym over;
-      starts = starts ∙ counts.starts ∙ sym kept;
+    pub stop_breaks : {a b : Told} {T : Type 0} {r : Result T RunStop} {Left : T → Act → Type 0} → is_err r ≡ true
+        → SaysFront a.said b.said (printed a.form (VerdictLine verdict))
+        → RunsTo (commit what s.tree m next) (seen a d) (seen b f) r Left
+    stop_breaks {a = a} {b = b} {r = r} {Left = Left} h front = record {
+      is = or-breaks Left r h (commit what s.tree m next) a b d f
+          (breaks-told (open_between m.disk.settled (next_state m s.tree)) (committed what s.tree m next)
+          (VerdictLine verdict) u (done (start_over false (opened_state m s.tree))) a b.said d f
+          (alone-off d e f (alone-by d e c.left.history c.left.counts) c.off)
+          stop_cause (counted-off u d e f c.counted c.off) stop_logs told is front stop_open stop_open);
     }
 
 -- ---- that the disk loads, whatever it wakes up with
@@ -194,8 +228,8 @@ either_any : (before after : HiveState) (c : Image) → LoadsAsEither before aft
 either_any before after c (inl l) = (record { state = before; dirty = l.0 }, l.1)
 either_any before after c (inr l) = (record { state = after; dirty = l.0 }, l.1)
 
-pub commit_down : (s : Session) (d e f : DiskState) → LoadsAny d.held → Committed s d e → f ≡ turned_off e → IsDown f
-commit_down s d e f loads c off =
+pub commit_down : {s : Session} {d e f : DiskState} → LoadsAny d.held → Committed s d e → f ≡ turned_off e → IsDown f
+commit_down {s = s} loads c off =
     let P : DiskState → Type 0 = λ t. IsDown t in
     subst P (sym off) (record {
       off = refl;

@@ -1,5 +1,5 @@
 -- What a cut and an order amount to.
-use Rattle.std.proofs.Common.{◌≡◌, ◌⊎◌, ◌≤◌, ◌+◌, inl, inr, ⊎_elim, ℕ, false, List, [], ◌∷◌, ◌++◌, None, refl, sym, ap, subst, ◌∙◌, append-nil, arith}
+use Rattle.std.proofs.Common.{◌≡◌, ◌≤◌, inl, inr, ⊎_elim, ℕ, false, List, [], ◌∷◌, ◌++◌, None, refl, sym, ap, subst, ◌∙◌, append-nil, arith}
 use Rattle.std.proofs.Math.Nat.{eq-or-lt_of_le}
 use Rattle.std.specs.Prelude.{Result, Ok, Err, OnOk}
 use Rattle.hive_model.specs.Image.{Arming}
@@ -20,13 +20,15 @@ use Rattle.start_model.specs.EventActs.{cut_act, arm_act}
 use Rattle.start_model.specs.Run.{play}
 use Rattle.run_parts.specs.Counted.{with_cut}
 use Rattle.run_parts.specs.Parts.{Grew, IsMarked, NoLess, since_wake, tally_now, cuts_behind}
-use Rattle.printed_parts.specs.Parts.{Told, Tells, Goes, GoesBut, Breaks, PlaysOr, TellsOr}
+use Rattle.printed_parts.specs.Parts.{Told, Tells, Goes, GoesBut, Breaks, TellsOr}
 use Rattle.run_parts.proofs.CountLemmas.{still, no_less-same, no_less-bounded, rises-since}
 use Rattle.printed_parts.proofs.LoggedLemmas.{not_empty, logged-none, logged-stop}
 use Rattle.printed_parts.proofs.GoesLemmas.{tells-nothing}
 use Rattle.printed_parts.proofs.BreakLemmas.{breaks-silent, breaks-front}
 use Rattle.boot_run.specs.declared.runner.Runner.{Runner}
 use Rattle.boot_run.specs.Agrees.{LoadsAny, IsDown, IsUp, IsLive, IsSound, Counts, OffLeft}
+use Rattle.boot_run.specs.Views.{Moment, RunsTo}
+use Rattle.boot_run.specs.declared.stop.RunStop.{RunStop}
 use Rattle.boot_run.proofs.DiskLemmas.{still_leaves}
 use Rattle.boot_run.proofs.PlayLemmas.{live_left, here_turn}
 
@@ -98,29 +100,32 @@ module _ (d f : DiskState) (bounded : IsBounded d) (marked : IsMarked d) (is : f
     adds_up = cut_once;
   }
 
-  told_plays : {E : Type 0} → (result : Result (Unit {0}) E) (m : RunState) (r' : Runner) (x y : Told)
-      → Counts (start_over false m) r' → EachCrash f (MayLoad m.disk) → TellsOr (VerdictLine book.Cut) x y result
-      → PlaysOr (cut_act m) x y d f result (OffLeft r' f)
-  told_plays (Ok v) m r' x y counts left said =
-      (done (start_over false m), (cut_goes m x y said, here_turn (start_over false m) r' f None counts left))
-  told_plays (Err e) m r' x y counts left said =
-      let act : Outcome → Act = λ outcome. end_with book.Cut false m in
-      breaks-front (cut_act m) (ask m.disk act) (done (start_over false m)) (VerdictLine book.Cut) [] PowerCut x y.said d f
-      (λ z told. cut_goes m x z told) (cut_untold m act x) refl said left left
+cut_told : {x y : Moment} (result : Result (Unit {0}) RunStop) (m : RunState) (Left : Act → Type 0)
+    → IsBounded x.disk → IsMarked x.disk → y.disk ≡ turned_off (cut_off x.disk) → EachCrash y.disk (MayLoad m.disk)
+    → Left (done (start_over false m)) → TellsOr (VerdictLine book.Cut) x.told y.told result
+    → RunsTo (cut_act m) x y result (λ u. Left)
+cut_told {x = x} {y = y} (Ok v) m Left bounded marked is left over said =
+    record { is = (done (start_over false m), (cut_goes x.disk y.disk bounded marked is m x.told y.told said, over)) }
+cut_told {x = x} {y = y} (Err stop) m Left bounded marked is left over said =
+    let act : Outcome → Act = λ outcome. end_with book.Cut false m in
+    record {
+      is = breaks-front (cut_act m) (ask m.disk act) (done (start_over false m)) (VerdictLine book.Cut) [] PowerCut x.told
+          y.told.said x.disk y.disk (λ z told. cut_goes x.disk y.disk bounded marked is m x.told z told)
+          (cut_untold x.disk y.disk bounded marked is m act x.told) refl said left left;
+    }
 
-pub cut_plays : {E : Type 0}
-    → (result : Result (Unit {0}) E) (m : RunState) (s : Session) (r r' : Runner) (x y : Told) (d e f : DiskState)
-    → IsBounded d → IsUp s d → IsLive m s d → Counts m r
-    → e ≡ cut_off d → f ≡ turned_off e → r'.machine ≡ ended false r.machine → r'.starts ≡ r.starts
-    → TellsOr (VerdictLine book.Cut) x y result
-    → PlaysOr (cut_act m) x y d f result (OffLeft r' f)
-cut_plays result m s r r' x y d e f bounded up live counts is off machine starts said =
-    let all : f ≡ turned_off (cut_off d) = off ∙ ap turned_off is in
+pub cut_plays : {result : Result (Unit {0}) RunStop} {m : RunState} {s : Session} {r : Runner} {x y : Moment}
+    {e : DiskState} → (r' : Runner) → IsBounded x.disk → IsUp s x.disk → IsLive m s x.disk → Counts m r
+    → e ≡ cut_off x.disk → y.disk ≡ turned_off e → r'.machine ≡ ended false r.machine → r'.starts ≡ r.starts
+    → TellsOr (VerdictLine book.Cut) x.told y.told result
+    → RunsTo (cut_act m) x y result (OffLeft r' y.disk)
+cut_plays {result = result} {m = m} {x = x} {y = y} r' bounded up live counts is off machine starts said =
+    let all : y.disk ≡ turned_off (cut_off x.disk) = off ∙ ap turned_off is in
     let Q : DiskState → Type 0 = λ t. EachCrash t (MayLoad m.disk) in
-    let left : EachCrash f (MayLoad m.disk) = subst Q (sym all) (live_left m s d up live) in
+    let left : EachCrash y.disk (MayLoad m.disk) = subst Q (sym all) (live_left up live) in
     let over : Counts (start_over false m) r' =
     record { machine = ap (ended false) counts.machine ∙ sym machine; starts = counts.starts ∙ sym starts } in
-    told_plays d f bounded up.marked all result m r' x y over left said
+    cut_told result m (OffLeft r' y.disk tt) bounded up.marked all left (here_turn over left) said
 
 -- the disk is down after a cut, whether the verdict is reported or not
 pub cut_sound : {E : Type 0} → (result : Result (Unit {0}) E) (s : Session) (r' : Runner) (d e f : DiskState)

@@ -2,7 +2,6 @@
 use Rattle.std.proofs.Common.{◌≡◌, Bool, true, false, cond, [], Option, Some, None, refl, sym, ap, subst, ◌∙◌}
 use Rattle.std.specs.Prelude.{Result, Ok, Err, option_map, option_and_then}
 use Rattle.std.specs.Option.{option_map_or}
-use Rattle.hive_model.specs.Image.{Image}
 use Rattle.hive_model.specs.Tree.{Tree}
 use Rattle.nt_edge.specs.Disk.{DiskState}
 use Rattle.hive_store.specs.Session.{Session}
@@ -17,11 +16,10 @@ use Rattle.start_model.specs.EventActs.{logon_act}
 use Rattle.start_model.specs.Run.{play}
 use Rattle.boot_machine.specs.Steps.{on_start}
 use Rattle.run_parts.specs.Parts.{Stays}
-use Rattle.printed_parts.specs.Parts.{Told, Goes}
-use Rattle.printed_parts.proofs.GoesLemmas.{idle, goes-nothing}
 use Rattle.boot_run.specs.declared.runner.Runner.{Runner}
-use Rattle.boot_run.specs.Agrees.{IsLive, IsSound, IsRunningBy, Counts, OnLeft, TurnLeft}
+use Rattle.boot_run.specs.Agrees.{IsSound, IsRunningBy, Counts, OnLeft, TurnLeft}
 use Rattle.boot_run.specs.Saves.{HandedOut, noting}
+use Rattle.boot_run.proofs.PlayLemmas.{Rests, started}
 use Rattle.boot_run.proofs.SaveLemmas.{saved_may}
 
 -- ---- nothing is due
@@ -30,19 +28,6 @@ pub not_due : (o : Option Start) (m : RunState) (next : RunState → Act) → op
     → next m ≡ save_where_due o m next
 not_due None m next is = refl
 not_due (Some s) m next is = ap (λ (b : Bool). cond b (save s s.clone m next) (next m)) (sym is)
-
--- the run goes on at once
-pub goes_on : (act : Act) (m : RunState) (next : RunState → Act) (r : Runner) (h : Session) (x : Told) (d : DiskState)
-    → next m ≡ act → Counts m r → IsLive m h d
-    → (rest : Act) × (Goes (play act) (play rest) x x d d × OnLeft next r d (Some h) rest)
-goes_on act m next r h x d is counts live =
-    let P : Act → Type 0 = λ a. Goes (play a) (play (next m)) x x d d in (
-      next m,
-      (
-        subst P is (goes-nothing (play (next m)) x d d (idle d)),
-        (m, (refl, record { counts = counts; by = live })),
-      ),
-    )
 
 -- ---- the clone is handed out
 
@@ -120,14 +105,13 @@ start_by change r r' d h keeps machine sound =
     (sound.0, subst P (sym machine) (keeps r.machine.start sound.1))
 
 -- whatever is due, nothing of it is printed yet
-pub due_may : (o : Option Start) (m : RunState) (next : RunState → Act) (c : Image) → m.disk.other ≡ None → Stays next
-    → MayLoad m.disk c → MayLoad (play (save_where_due o m next) [] []).disk c
-due_may None m next c none stays h = stays m c none h
-due_may (Some s) m next c none stays h = by_due (save_due s) s.clone
+pub due_may : (o : Option Start) (m : RunState) (next : RunState → Act) → Stays next → Rests m (save_where_due o m next)
+due_may None m next stays c none h = stays m c none h
+due_may (Some s) m next stays c none h = by_due (save_due s) s.clone
   where
     by_due : (b : Bool) (clone : Option Tree) → MayLoad (play (cond b (save s clone m next) (next m)) [] []).disk c
     by_due true None = stays m c none h
-    by_due true (Some clone) = saved_may s clone m next c (save_of m.version m.live clone) none stays h
+    by_due true (Some clone) = saved_may s clone m next (save_of m.version m.live clone) stays c none h
     by_due false clone = stays m c none h
 
 -- ---- the logon
@@ -143,16 +127,16 @@ abbrev pub logged_state : RunState → RunState
 logged_state m = with_machine (on_start logged m.machine) m
 
 -- the logon's line, and a save where it is due then
-pub logon_is : (o : Option Start) (tree : Tree) (m : RunState) → m.machine.start ≡ o → IsRunningBy o tree
+pub logon_is : {m : RunState} {r : Runner} (tree : Tree) → Counts m r → IsRunningBy r.machine.start tree
     → say LogonLine (save_where_due (logged_state m).machine.start (logged_state m) done)
     ≡ option_map_or (λ s. logon_act s m) m.machine.start (done m)
-logon_is None tree m at h = absurd h
-logon_is (Some s) tree m at h =
+logon_is {m = m} tree counts on =
     let P : Option Start → Type 0 =
     λ o. say LogonLine (save_where_due (option_map logged o)
     (with_machine (record m.machine { start = option_map logged o }) m) done)
     ≡ option_map_or (λ t. logon_act t m) o (done m) in
-    subst P (sym at) refl
+    let s = started tree counts on in
+    subst P (sym s.1) refl
 
 pub done_left : (r : Runner) (d : DiskState) (o : Option Session) (rest : Act) → OnLeft done r d o rest
     → TurnLeft r d o rest

@@ -6,7 +6,6 @@ use Rattle.std.specs.Bool.{Decides}
 use Rattle.std.specs.List.{All}
 use Rattle.hive_model.specs.Base.{Base, version_of}
 use Rattle.hive_model.specs.Edit.{Step, Refusal, edited}
-use Rattle.hive_model.specs.Image.{Image}
 use Rattle.hive_model.specs.Tree.{Tree, same_tree}
 use Rattle.nt_bytes.specs.declared.version.HiveVersion.{HiveVersion}
 use Rattle.nt_edge.specs.Disk.{DiskState}
@@ -15,26 +14,24 @@ use Rattle.reg_tree.specs.Fitting.{Fits}
 use Rattle.reg_tree.specs.Makes.{Makes, refusal_of}
 use Rattle.reg_tree.specs.declared.stop.EditStop.{EditStop}
 use Rattle.start_model.specs.Events.{Edit, Edits, is_protected, step_of}
-use Rattle.start_model.specs.Lines.{EditOkLine, RefusedLine}
 use Rattle.start_model.specs.Machine.{Start, MachineState}
-use Rattle.start_model.specs.Fits.{MayLoad}
 use Rattle.start_model.specs.Sets.{numbers_in, SelectNumbers}
-use Rattle.start_model.specs.Act.{Act, RunState, done}
-use Rattle.start_model.specs.EventActs.{event_word_of, reason_of, edit_done}
-use Rattle.start_model.specs.Run.{play}
+use Rattle.start_model.specs.Act.{RunState}
+use Rattle.start_model.specs.EventActs.{edit_done}
 use Rattle.start_laws.proofs.StepLemmas.{select_key}
 use Rattle.start_laws.proofs.UsableLemmas.{usable_parts, usable_from}
 use Rattle.good_laws.proofs.EditLemmas.{KeepsSets, edited_keeps}
 use Rattle.run_laws.proofs.SameLemmas.{same-Decides}
-use Rattle.printed_parts.specs.Parts.{Told, PlaysOr}
+use Rattle.printed_parts.specs.Parts.{Told, Breaks}
 use Rattle.run_parts.proofs.CountLemmas.{still}
 use Rattle.printed_parts.proofs.GoesLemmas.{idle}
 use Rattle.printed_parts.proofs.BreakLemmas.{breaks-silent}
-use Rattle.printed_parts.specs.Parts.{Breaks}
 use Rattle.boot_run.specs.declared.runner.Runner.{Runner}
 use Rattle.boot_run.specs.Agrees.{IsUp, IsLive, IsSound, IsOnSet, IsRunningBy, RunsOnBy, Counts, TurnLeft}
 use Rattle.boot_run.specs.Edits.{refusal_line, edit_line, TellsLine}
-use Rattle.boot_run.proofs.PlayLemmas.{live_left, plays-as, plays-line, here_turn}
+use Rattle.boot_run.specs.Views.{RunsTo}
+use Rattle.boot_run.specs.declared.stop.RunStop.{RunStop}
+use Rattle.boot_run.proofs.PlayLemmas.{Rests, seen, rests_left, live_left, plays-as, plays-said, here_turn}
 use Rattle.boot_run.proofs.SaveLemmas.{up_by}
 
 -- ---- the set that the start took
@@ -66,23 +63,29 @@ edit_keeps version t u (Some s) number e on free made h =
     let P : ℕ → Type 0 = λ n. edited version t (step_of n e ∷ []) ≡ Ok u in
     edit_keeps_by t u s (edited_keeps version s.number e t u low.most free (subst P (sym on) made)) h
 
-pub edit_sound : (r : Result (Unit {0}) EditStop) (h k : Session) (a b : Runner) (d : DiskState) (step : Step)
-    (number : ℕ) (e : Edit) → b.machine ≡ a.machine
-    → k.base ≡ h.base → k.bins ≡ h.bins → Makes h.tree k.tree r (edited (version_of h.base.minor) h.tree (step ∷ []))
-    → OnErr r (k ≡ h)
-    → IsSound a d (Some h) → RunsOnBy a.machine.start number → step ≡ step_of number e → is_protected e ≡ false
-    → IsSound b d (Some k)
-edit_sound (Ok v) h k a b d step number e machine base bins made same sound on is free =
-    let P : Step → Type 0 = λ s. edited (version_of h.base.minor) h.tree (s ∷ []) ≡ Ok k.tree in
+-- what the edit left of the session h, and its line of the runner a
+pub record IsEdited (h k : Session) (step : Step) (r : Result (Unit {0}) EditStop) (a b : Runner) : Type 0 where
+  pub base : k.base ≡ h.base
+  pub bins : k.bins ≡ h.bins
+  pub made : Makes h.tree k.tree r (edited (version_of h.base.minor) h.tree (step ∷ []))
+  pub refused : OnErr r (k ≡ h)
+  pub changed : OnOk r (k.changed ≡ true ↔ (h.changed ≡ true) ⊎ (k.tree ≡ h.tree → ⊥))
+  pub machine : b.machine ≡ a.machine
+  pub starts : b.starts ≡ a.starts
+
+pub edit_sound : {h k : Session} {a b : Runner} (r : Result (Unit {0}) EditStop) (d : DiskState) (number : ℕ) (e : Edit)
+    → IsEdited h k (step_of number e) r a b → IsSound a d (Some h) → RunsOnBy a.machine.start number
+    → is_protected e ≡ false → IsSound b d (Some k)
+edit_sound {h = h} {k = k} {a = a} (Ok v) d number e c sound on free =
     let Q : MachineState → Type 0 = λ m. IsRunningBy m.start k.tree in (
-      up_by h k d base bins sound.0,
-      subst Q (sym machine) (edit_keeps (version_of h.base.minor) h.tree k.tree a.machine.start number e on free
-          (subst P is made) sound.1),
+      up_by h k d c.base c.bins sound.0,
+      subst Q (sym c.machine) (edit_keeps (version_of h.base.minor) h.tree k.tree a.machine.start number e on free c.made
+          sound.1),
     )
-edit_sound (Err stop) h k a b d step number e machine base bins made same sound on is free =
+edit_sound {h = h} {b = b} (Err stop) d number e c sound on free =
     let P : Session → Type 0 = λ s. IsUp s d × IsRunningBy b.machine.start s.tree in
     let Q : MachineState → Type 0 = λ m. IsRunningBy m.start h.tree in
-    subst P (sym same) (sound.0, subst Q (sym machine) sound.1)
+    subst P (sym c.refused) (sound.0, subst Q (sym c.machine) sound.1)
 
 -- ---- whether the tree is changed
 
@@ -111,60 +114,44 @@ edit_live m h k d live base changed = record {
 -- ---- what is printed
 
 -- whatever comes of the edit, nothing of it is printed yet
-pub edit_may : (e : Edit) (m : RunState) (c : Image) (r : Result Tree Refusal) → MayLoad m.disk c
-    → MayLoad (play (edit_done (Edits e) m r) [] []).disk c
-edit_may e m c (Ok tree) h = h
-edit_may e m c (Err why) h = h
+pub edit_may : (e : Edit) (m : RunState) (r : Result Tree Refusal) → Rests m (edit_done (Edits e) m r)
+edit_may e m (Ok tree) c none h = h
+edit_may e m (Err why) c none h = h
 
-refused_by : {E : Type 0}
-    → (said : Result (Unit {0}) E) (o : Option Refusal) (edit : Result Tree Refusal) (h k : Session) (m : RunState)
-    (e : Edit) (a b : Runner) (x y : Told) (d : DiskState)
-    → IfSome o (λ why. edit ≡ Err why) → k ≡ h → b.machine ≡ a.machine → b.starts ≡ a.starts → IsUp h d → Counts m a
-    → IsLive m h d
-    → TellsLine (refusal_line (Edits e) o) x y said
-    → PlaysOr (edit_done (Edits e) m edit) x y d d said (λ u rest. TurnLeft b d (Some k) rest)
-refused_by (Ok v) None edit h k m e a b x y d is same machine starts up counts live told = absurd told
-refused_by (Err v) None edit h k m e a b x y d is same machine starts up counts live told =
-    let P : List ℕ → Type 0 = λ s. Breaks (edit_done (Edits e) m edit) x s d d in
-    subst P (sym told) (breaks-silent (edit_done (Edits e) m edit) x d d (still d)
-    (λ c crash. edit_may e m c edit (live_left m h d up live c crash)))
-refused_by said (Some why) edit h k m e a b x y d is same machine starts up counts live told =
-    let Left : Unit {0} → Act → Type 0 = λ u rest. TurnLeft b d (Some k) rest in
+-- a refusal is printed, but for lack of memory
+refused_by : {a b : Told} {h k : Session} {m : RunState} {r : Runner} {d : DiskState} (said : Result (Unit {0}) RunStop)
+    (o : Option Refusal) (edit : Result Tree Refusal) (e : Edit) → IfSome o (λ why. edit ≡ Err why) → k ≡ h
+    → Counts m r → IsUp h d → IsLive m h d → TellsLine (refusal_line (Edits e) o) a b said
+    → RunsTo (edit_done (Edits e) m edit) (seen a d) (seen b d) said (λ u rest. TurnLeft r d (Some k) rest)
+refused_by (Ok v) None edit e is same counts up live told = absurd told
+refused_by {a = a} {m = m} {d = d} (Err v) None edit e is same counts up live told =
+    let P : List ℕ → Type 0 = λ s. Breaks (edit_done (Edits e) m edit) a s d d in
+    record {
+      is = subst P (sym told) (breaks-silent (edit_done (Edits e) m edit) a d d (still d)
+          (rests_left (edit_done (Edits e) m edit) (edit_may e m edit) up live));
+    }
+refused_by {m = m} {d = d} said (Some why) edit e is same counts up live told =
     let P : Session → Type 0 = λ s. IsLive m s d in
-    plays-as said Left Left (edit_done (Edits e) m (Err why)) (edit_done (Edits e) m edit) x y d d
-    (ap (edit_done (Edits e) m) (sym is)) (λ v rest l. l)
-    (plays-line said Left (RefusedLine (event_word_of (Edits e)) (reason_of why)) (done m) x y d d (idle d) refl told
-    (live_left m h d up live)
-    (λ v. here_turn m b d (Some k)
-    (record { machine = counts.machine ∙ sym machine; starts = counts.starts ∙ sym starts })
-    (subst P (sym same) live)))
+    plays-as (ap (edit_done (Edits e) m) (sym is))
+    (plays-said (idle d) refl told (live_left up live) (λ v. here_turn counts (subst P (sym same) live)))
 
-pub edit_plays : {E : Type 0}
-    → (said : Result (Unit {0}) E) (r : Result (Unit {0}) EditStop) (h k : Session) (m : RunState) (e : Edit)
-    (step : Step) (a b : Runner) (x y : Told) (d : DiskState)
-    → k.base ≡ h.base → Makes h.tree k.tree r (edited (version_of h.base.minor) h.tree (step ∷ [])) → OnErr r (k ≡ h)
-    → OnOk r (k.changed ≡ true ↔ (h.changed ≡ true) ⊎ (k.tree ≡ h.tree → ⊥)) → b.machine ≡ a.machine
-    → b.starts ≡ a.starts → IsUp h d → Counts m a → IsLive m h d
-    → TellsLine (edit_line (Edits e) r) x y said
-    → PlaysOr (edit_done (Edits e) m (edited m.version m.live (step ∷ []))) x y d d said
-    (λ u rest. TurnLeft b d (Some k) rest)
-edit_plays said (Ok v) h k m e step a b x y d base made same changed machine starts up counts live told =
-    let Left : Unit {0} → Act → Type 0 = λ u rest. TurnLeft b d (Some k) rest in
-    let n : RunState = record m { live = k.tree; changed = m.changed || not (same_tree m.live k.tree) } in
+pub edit_plays : {a b : Told} {h k : Session} {m : RunState} {r r' : Runner} {d : DiskState}
+    (said : Result (Unit {0}) RunStop) (made : Result (Unit {0}) EditStop) (e : Edit) (step : Step)
+    → IsEdited h k step made r r' → IsUp h d → Counts m r → IsLive m h d
+    → TellsLine (edit_line (Edits e) made) a b said
+    → RunsTo (edit_done (Edits e) m (edited m.version m.live (step ∷ []))) (seen a d) (seen b d) said
+    (λ u rest. TurnLeft r' d (Some k) rest)
+edit_plays {h = h} {k = k} {m = m} {d = d} said (Ok v) e step c up counts live told =
     let edit : edited m.version m.live (step ∷ []) ≡ Ok k.tree =
     ap (λ (v : HiveVersion). edited v m.live (step ∷ [])) live.version
-    ∙ ap (λ (t : Tree). edited (version_of h.base.minor) t (step ∷ [])) live.live ∙ made in
-    plays-as said Left Left (edit_done (Edits e) m (Ok k.tree))
-    (edit_done (Edits e) m (edited m.version m.live (step ∷ []))) x y d d (ap (edit_done (Edits e) m) (sym edit))
-    (λ v rest l. l)
-    (plays-line said Left EditOkLine (done n) x y d d (idle d) refl told (live_left m h d up live)
-    (λ v. here_turn n b d (Some k)
-    (record { machine = counts.machine ∙ sym machine; starts = counts.starts ∙ sym starts })
-    (edit_live m h k d live base changed)))
-edit_plays said (Err stop) h k m e step a b x y d base made same changed machine starts up counts live told =
+    ∙ ap (λ (t : Tree). edited (version_of h.base.minor) t (step ∷ [])) live.live ∙ c.made in
+    plays-as (ap (edit_done (Edits e) m) (sym edit)) (plays-said (idle d) refl told (live_left up live) (λ v.
+    here_turn (record { machine = counts.machine ∙ sym c.machine; starts = counts.starts ∙ sym c.starts })
+    (edit_live m h k d live c.base c.changed)))
+edit_plays {h = h} {m = m} said (Err stop) e step c up counts live told =
     let Q : Result Tree Refusal → Type 0 = λ edit. IfSome (refusal_of stop) (λ why. edit ≡ Err why) in
     let edit : edited (version_of h.base.minor) h.tree (step ∷ []) ≡ edited m.version m.live (step ∷ []) =
     ap (λ (t : Tree). edited (version_of h.base.minor) t (step ∷ [])) (sym live.live)
     ∙ ap (λ (v : HiveVersion). edited v m.live (step ∷ [])) (sym live.version) in
-    refused_by said (refusal_of stop) (edited m.version m.live (step ∷ [])) h k m e a b x y d (subst Q edit made.0)
-    same machine starts up counts live told
+    refused_by said (refusal_of stop) (edited m.version m.live (step ∷ [])) e (subst Q edit c.made.0) c.refused
+    (record { machine = counts.machine ∙ sym c.machine; starts = counts.starts ∙ sym c.starts }) up live told

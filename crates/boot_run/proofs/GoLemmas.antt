@@ -1,5 +1,5 @@
 -- What steps of the starter amount to, in sequence.
-use Rattle.std.proofs.Common.{◌≡◌, ℕ, suc, ◌-◌, ◌≤◌, Bool, false, ◌+◌, List, length, Option, Some, None, refl, sym, ap, subst, ◌∙◌, arith}
+use Rattle.std.proofs.Common.{◌≡◌, ℕ, suc, ◌≤◌, Bool, false, ◌+◌, length, Option, Some, None, sym, ap, subst, ◌∙◌, arith}
 use Rattle.std.specs.Prelude.{Result, Ok, Err, IfOk, option_map}
 use Rattle.std.specs.Option.{unwrap_or}
 use Rattle.hive_model.specs.Tree.{Tree}
@@ -10,13 +10,9 @@ use Rattle.start_model.specs.Machine.{Start, MachineState}
 use Rattle.start_model.specs.Sets.{set_of}
 use Rattle.start_model.specs.Act.{Act, RunState}
 use Rattle.start_model.specs.Starter.{no_set, live_set, stepping, go_steps, enough_steps}
-use Rattle.start_model.specs.Run.{play}
-use Rattle.printed_parts.specs.Parts.{Told, Goes, Breaks}
-use Rattle.printed_parts.proofs.GoesLemmas.{idle, goes-nothing, goes-then}
-use Rattle.printed_parts.proofs.BreakLemmas.{breaks-then}
 use Rattle.boot_run.specs.declared.runner.Runner.{Runner}
 use Rattle.boot_run.specs.Agrees.{IsLive, IsRunningBy, Counts, TurnLeft, OnLeft}
-use Rattle.boot_run.specs.Starts.{is_under_way, StepsTo}
+use Rattle.boot_run.specs.Starts.{is_under_way}
 use Rattle.boot_run.proofs.StepLemmas.{go_none, go_zero, go_next}
 
 -- ---- enough
@@ -42,79 +38,38 @@ if_ok_map P Q (Err e) f h = h
 
 -- ---- steps
 
-pub steps_init : (most : ℕ) (m : RunState) (x : Told) (d : DiskState) (r : Runner) (o : Option Session) (hive : Session)
-    → o ≡ Some hive → Counts m r → IsLive m hive d → StepsTo most m most x x d d r o
-steps_init most m x d r o hive is counts live =
-    let P : Option Session → Type 0 = λ q. StepsTo most m most x x d d r q in
-    subst P (sym is) (
-      go_steps most m,
-      (goes-nothing (play (go_steps most m)) x d d (idle d), (m, (refl, record { counts = counts; by = live }))),
-    )
-
 -- no step is left
-pub steps_done : (most left : ℕ) (m : RunState) (x y : Told) (d e : DiskState) (r : Runner) (o : Option Session)
-    → left ≡ 0 → StepsTo most m left x y d e r o
-    → (rest : Act) × (Goes (play (go_steps most m)) (play rest) x y d e × TurnLeft r e o rest)
-steps_done most left m x y d e r None is h = h
-steps_done most left m x y d e r (Some hive) is h =
-    let p = h.1.1 in (
-      h.0,
-      (
-        h.1.0,
-        record { after = p.0; is = p.1.0 ∙ ap (λ (n : ℕ). go_steps n p.0) is ∙ go_zero p.0; agrees = p.1.1 },
-      ),
-    )
+pub none_left : {rest : Act} {left : ℕ} (r : Runner) (d : DiskState) (o : Option Session) → left ≡ 0
+    → OnLeft (go_steps left) r d o rest → TurnLeft r d o rest
+none_left r d None is h = h
+none_left r d (Some hive) is h =
+    record { after = h.0; is = h.1.0 ∙ ap (λ (n : ℕ). go_steps n h.0) is ∙ go_zero h.0; agrees = h.1.1 }
 
 -- no start is under way
-pub steps_over : (most left : ℕ) (m : RunState) (x y : Told) (d e : DiskState) (r : Runner) (o : Option Session)
-    → is_under_way r.machine.start ≡ false → StepsTo most m left x y d e r o
-    → (rest : Act) × (Goes (play (go_steps most m)) (play rest) x y d e × TurnLeft r e o rest)
-steps_over most left m x y d e r None is h = h
-steps_over most left m x y d e r (Some hive) is h =
-    let p = h.1.1 in
-    let over : is_under_way p.0.machine.start ≡ false =
-    ap (λ (k : MachineState). is_under_way k.start) p.1.1.counts.machine ∙ is in
-    (h.0, (h.1.0, record { after = p.0; is = p.1.0 ∙ go_none left p.0 over; agrees = p.1.1 }))
+pub none_goes : {rest : Act} (left : ℕ) (r : Runner) (d : DiskState) (o : Option Session)
+    → is_under_way r.machine.start ≡ false → OnLeft (go_steps left) r d o rest → TurnLeft r d o rest
+none_goes left r d None is h = h
+none_goes left r d (Some hive) is h =
+    let over : is_under_way h.0.machine.start ≡ false =
+    ap (λ (k : MachineState). is_under_way k.start) h.1.1.counts.machine ∙ is in
+    record { after = h.0; is = h.1.0 ∙ go_none left h.0 over; agrees = h.1.1 }
 
 -- the state from which the next step goes on
-pub record AtStep (most : ℕ) (m : RunState) (more : ℕ) (x y : Told) (d e : DiskState) (r : Runner)
-    (hive : Session) : Type 0 where
+pub record AtStep (more : ℕ) (r : Runner) (d : DiskState) (hive : Session) (rest : Act) : Type 0 where
   pub state : RunState
   pub counts : Counts state r
-  pub live : IsLive state hive e
-  pub goes : Goes (play (go_steps most m)) (play (stepping state.machine.start state (go_steps more))) x y d e
+  pub live : IsLive state hive d
+  pub is : stepping state.machine.start state (go_steps more) ≡ rest
 
-pub at_step : (most left more : ℕ) (m : RunState) (x y : Told) (d e : DiskState) (r : Runner) (o : Option Session)
-    (hive : Session) → o ≡ Some hive → left ≡ suc more → StepsTo most m left x y d e r o
-    → AtStep most m more x y d e r hive
-at_step most left more m x y d e r None hive some is h = absurd cc
-at_step most left more m x y d e r (Some there) hive some is h =
-    let p = h.1.1 in
+pub at_step : {rest : Act} {left : ℕ} (more : ℕ) (r : Runner) (d : DiskState) (o : Option Session) (hive : Session)
+    → o ≡ Some hive → left ≡ suc more → OnLeft (go_steps left) r d o rest → AtStep more r d hive rest
+at_step more r d None hive some is h = absurd cc
+at_step more r d (Some there) hive some is h =
     let same : there ≡ hive = cc in
-    let P : Session → Type 0 = λ s. IsLive p.0 s e in
-    let Q : Act → Type 0 = λ a. Goes (play (go_steps most m)) (play a) x y d e in
+    let P : Session → Type 0 = λ s. IsLive h.0 s d in
     record {
-      state = p.0;
-      counts = p.1.1.counts;
-      live = subst P same p.1.1.by;
-      goes = subst Q (p.1.0 ∙ ap (λ (n : ℕ). go_steps n p.0) is ∙ go_next more p.0) h.1.0;
+      state = h.0;
+      counts = h.1.1.counts;
+      live = subst P same h.1.1.by;
+      is = sym (h.1.0 ∙ ap (λ (n : ℕ). go_steps n h.0) is ∙ go_next more h.0);
     }
-
-pub steps_then : (most more : ℕ) (m : RunState) (x y z : Told) (d e f : DiskState) (r r' : Runner) (hive : Session)
-    (after : Option Session) → (q : AtStep most m more x y d e r hive)
-    → (rest : Act) × (Goes (play (stepping q.state.machine.start q.state (go_steps more))) (play rest) y z e f
-    × OnLeft (go_steps more) r' f after rest) → StepsTo most m more x z d f r' after
-steps_then most more m x y z d e f r r' hive after q p = (
-  p.0,
-  (
-    goes-then (play (go_steps most m)) (play (stepping q.state.machine.start q.state (go_steps more))) (play p.0)
-        x y z d e f q.goes p.1.0,
-    p.1.1,
-  ),
-)
-
-pub steps_break : (most more : ℕ) (m : RunState) (x y : Told) (z : List ℕ) (d e f : DiskState) (r : Runner)
-    (hive : Session) → (q : AtStep most m more x y d e r hive)
-    → Breaks (stepping q.state.machine.start q.state (go_steps more)) y z e f → Breaks (go_steps most m) x z d f
-steps_break most more m x y z d e f r hive q b =
-    breaks-then (go_steps most m) (stepping q.state.machine.start q.state (go_steps more)) x y z d e f q.goes b

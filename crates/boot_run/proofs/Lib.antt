@@ -7,7 +7,6 @@ pub mod PlayLemmas
 pub mod CloseLemmas
 pub mod CutLemmas
 pub mod RunLemmas
-pub mod LineLemmas
 pub mod BeginLemmas
 pub mod SaveLemmas
 pub mod DueLemmas

@@ -1,5 +1,7 @@
 -- What a load amounts to in the book's run.
-use Rattle.std.proofs.Common.{◌≡◌, inl, ℕ, Bool, false, List, [], ◌∷◌, Some, None, refl, sym, ap, subst, ◌∙◌, append-nil}
+use Rattle.std.proofs.Common.{◌≡◌, inl, ℕ, Bool, true, false, [], ◌∷◌, Some, None, refl, sym, ap, subst, ◌∙◌, append-nil}
+use Rattle.std.specs.Prelude.{Result, Ok}
+use Rattle.std.specs.Result.{is_err}
 use Rattle.nt_bytes.specs.declared.fault.HiveFault.{HiveFault}
 use Rattle.hive_model.specs.Bins.{spelled}
 use Rattle.hive_model.specs.Image.{Image}
@@ -18,20 +20,26 @@ use Rattle.start_model.specs.Fits.{outcomes_in, MayLoad, IsPossible}
 use Rattle.start_model.specs.Causes.{HasCause}
 use Rattle.line_objects.specs.Objects.{printed}
 use Rattle.run_parts.specs.Counted.{CountedIn}
+use Rattle.start_model.specs.Machine.{ended}
 use Rattle.start_model.specs.Possible.{Possible, Woken, Outcome, Finished, settled_at, woken_at}
 use Rattle.start_model.specs.Act.{Act, done, ask, wake, Woke, RunState, start_over, end_with}
 use Rattle.start_model.specs.Boot.{woken_state, loaded_state}
 use Rattle.start_model.specs.Run.{play}
 use Rattle.run_parts.specs.Parts.{Stays, since_wake, tally_now}
-use Rattle.printed_parts.specs.Parts.{Told, Tells, Goes, GoesBut, Breaks}
-use Rattle.run_parts.proofs.CountLemmas.{Alone, alone-by, none_fell-same}
+use Rattle.printed_parts.specs.Parts.{Told, Tells, GoesBut}
+use Rattle.run_parts.proofs.CountLemmas.{alone-by, none_fell-same}
 use Rattle.printed_parts.proofs.LoggedLemmas.{LogsWhere}
 use Rattle.printed_parts.proofs.GoesLemmas.{tells-nothing, goes-but, goes-begun, goes-held}
-use Rattle.printed_parts.proofs.BreakLemmas.{breaks-silent, breaks-after, breaks-told}
+use Rattle.printed_parts.proofs.BreakLemmas.{or-breaks, breaks-silent, breaks-after, breaks-told}
 use Rattle.boot_run.specs.Acts as acts
 use Rattle.boot_run.specs.Acts.{loaded, load}
-use Rattle.boot_run.specs.Agrees.{IsDown, LoadsAny, IsLive}
+use Rattle.boot_run.specs.Agrees.{IsDown, LoadsAny, IsLive, Counts, LoadLeft}
+use Rattle.boot_run.specs.Views.{RunsTo}
+use Rattle.boot_run.specs.declared.runner.Runner.{Runner}
+use Rattle.boot_run.specs.declared.stop.RunStop.{RunStop}
+use Rattle.boot_run.proofs.CommitLemmas.{counts_over}
 use Rattle.boot_run.proofs.DiskLemmas.{still_leaves, settled_loads, alone-off, counted-off, left-off}
+use Rattle.boot_run.proofs.PlayLemmas.{seen}
 
 -- an image that loads has no fault
 pub no_fault : (image : Image) (state : HiveState) (dirty : Bool) (fault : HiveFault) → Loads image state dirty
@@ -72,13 +80,31 @@ pub record Loaded (i : Image) (d d1 e : DiskState) : Type 0 where
   pub history : e.history ≡ d1.history
   pub counts : CountsGrow d1 e
 
-module _ (m : RunState) (next : RunState → Act) (i : Image) (d d1 e : DiskState) (may : MayLoad m.disk i)
-    (c : Loaded i d d1 e) where
-  pub load_alone : Alone d1 e
-  load_alone = alone-by d1 e c.history c.counts
+-- what it says once it is done: the session, and whether its log was taken
+pub record IsDone (i : Image) (d d1 e : DiskState) (s : Session) (dirty : Bool) : Type 0 where
+  pub left : Loaded i d d1 e
+  pub exact : Loads i (store.loaded_state s) dirty
+  pub unchanged : s.changed ≡ false
+  pub none : e.flight ≡ []
+  pub loads : Loads e.held (store.loaded_state s) false
+  pub quiet : tally_now e ≡ tally_now d1
 
-  pub load_may : EachCrash e (MayLoad (woken_at may.woken))
-  load_may image crash =
+-- it was stopped so, and then the disk was turned off
+pub record IsStopped (i : Image) (d d1 e f : DiskState) (u : Outcome) : Type 0 where
+  pub left : Loaded i d d1 e
+  pub cause : HasCause u (since_wake d1) (tally_now e)
+  pub counted : CountedIn u (tally_now d1) (tally_now e)
+  pub off : f ≡ turned_off e
+
+-- a load is no commit
+load_logs : (w : Woken) (u : Outcome) (f : DiskState) → LogsWhere (woken_at w) u f
+load_logs w u f = λ before after is opened.
+    let e : Some after ≡ None = sym (ap (λ (p : Possible). p.other) opened) in
+    absurd cc
+
+module _ (m : RunState) (next : RunState → Act) {i : Image} {d d1 e : DiskState} (may : MayLoad m.disk i) where
+  load_may : Loaded i d d1 e → EachCrash e (MayLoad (woken_at may.woken))
+  load_may c image crash =
       let l = c.crash may.woken.state may.woken.dirty may.loads image crash in
       record {
         woken = record { state = may.woken.state; dirty = l.0 };
@@ -86,40 +112,37 @@ module _ (m : RunState) (next : RunState → Act) (i : Image) (d d1 e : DiskStat
         possible = record { state = inl refl; dirty = tt };
       }
 
-  pub load_begins : (x : Told)
+  load_begins : (x : Told) → Loaded i d d1 e
       → GoesBut [] (play (load m next)) (play (ask (woken_at may.woken) (loaded m next may.woken))) x x d d1
-  load_begins x =
+  load_begins x c =
       goes-but [] (play (load m next)) (play (acts.woken m next may.woken))
       (play (ask (woken_at may.woken) (loaded m next may.woken))) x x x d d1 d1
       (goes-wake m.disk (acts.woken m next) may.woken i x d d1 c.woke may.loads may.possible)
       (goes-held may.woken.state.tree (ask (woken_at may.woken) (loaded m next may.woken)) x d1).part
 
-  -- a load is no commit
-  load_logs : (u : Outcome) (f : DiskState) → LogsWhere (woken_at may.woken) u f
-  load_logs u f = λ before after is opened.
-      let e : Some after ≡ None = sym (ap (λ (p : Possible). p.other) opened) in
-      absurd cc
-
-  pub load_memory : tally_now e ≡ tally_now d1 → (x : Told) → Breaks (load m next) x x.said d e
-  load_memory none x =
-      breaks-after (load m next) (ask (woken_at may.woken) (loaded m next may.woken)) x x x.said d d1 e (load_begins x)
-      (breaks-silent (ask (woken_at may.woken) (loaded m next may.woken)) x d1 e
-      (record { alone = load_alone; same = none }) load_may)
+  -- no memory: nothing was printed
+  pub load_memory : {a : Told} {T : Type 0} {r : Result T RunStop} {Left : T → Act → Type 0} → is_err r ≡ true
+      → Loaded i d d1 e → tally_now e ≡ tally_now d1 → RunsTo (load m next) (seen a d) (seen a e) r Left
+  load_memory {a = a} {r = r} {Left = Left} h c none =
+      let opened : Act = ask (woken_at may.woken) (loaded m next may.woken) in
+      record {
+        is = or-breaks Left r h (load m next) a a d e
+            (breaks-after (load m next) opened a a a.said d d1 e (load_begins a c)
+            (breaks-silent opened a d1 e (record { alone = alone-by d1 e c.history c.counts; same = none }) (load_may c)));
+      }
 
   -- the load is done
-  module _ (s : Session) (dirty : Bool) (exact : Loads i (store.loaded_state s) dirty) (unchanged : s.changed ≡ false)
-      (none : e.flight ≡ [])
-      (loads : Loads e.held (store.loaded_state s) false) where
+  module _ {s : Session} {dirty : Bool} (c : IsDone i d d1 e s dirty) where
     same : (may.woken.state ≡ store.loaded_state s) × (may.woken.dirty ≡ dirty)
-    same = one-load one_list i may.woken.state (store.loaded_state s) may.woken.dirty dirty may.loads exact
+    same = one-load one_list i may.woken.state (store.loaded_state s) may.woken.dirty dirty may.loads c.exact
 
     load_loads : Loads e.held may.woken.state false
-    load_loads = let P : HiveState → Type 0 = λ t. Loads e.held t false in subst P (sym same.0) loads
+    load_loads = let P : HiveState → Type 0 = λ t. Loads e.held t false in subst P (sym same.0) c.loads
 
-    pub load_live : IsLive (loaded_state m may.woken) s e
+    load_live : IsLive (loaded_state m may.woken) s e
     load_live = record {
       live = ap (λ (t : HiveState). t.tree) same.0;
-      changed = sym unchanged;
+      changed = sym c.unchanged;
       sequence = ap (λ (t : HiveState). t.sequence) same.0;
       version = ap (λ (t : HiveState). t.version) same.0;
       settled = refl;
@@ -132,59 +155,88 @@ module _ (m : RunState) (next : RunState → Act) (i : Image) (d d1 e : DiskStat
         ap (λ (n : ℕ). LoadLine n dirty) (is ∙ sym (ap (λ (t : HiveState). t.sequence) same.0))
         ∙ ap (λ (b : Bool). LoadLine may.woken.state.sequence b) (sym same.1)
 
-    pub load_goes : tally_now e ≡ tally_now d1 → (number : ℕ) → number ≡ s.base.first → (x y : Told) → Tells x y (LoadLine number dirty ∷ [])
-        → Goes (play (load m next)) (play (next (loaded_state m may.woken))) x y d e
-    load_goes quiet number is x y said =
-        let P : Line → Type 0 = λ l. Tells x y (l ∷ []) in
-        goes-begun (play (load m next)) (woken_at may.woken) (loaded m next may.woken)
-        (LoadLine may.woken.state.sequence may.woken.dirty) Finished (next (loaded_state m may.woken)) x x y d d1 e
-        (load_begins x) load_alone tt quiet (load_logs Finished e) refl refl (subst P (load_line number is) said)
+    pub load_plays : {a b : Told} {number : ℕ} (r : Runner) → number ≡ s.base.first
+        → Tells a b (LoadLine number dirty ∷ []) → Counts (loaded_state m may.woken) r
+        → RunsTo (load m next) (seen a d) (seen b e) (Ok (Some s)) (LoadLeft m next r e)
+    load_plays {a = a} {b = b} {number = number} r is said counts =
+        let P : Line → Type 0 = λ l. Tells a b (l ∷ []) in
+        let goes = goes-begun (play (load m next)) (woken_at may.woken) (loaded m next may.woken)
+        (LoadLine may.woken.state.sequence may.woken.dirty) Finished (next (loaded_state m may.woken)) a a b d d1 e
+        (load_begins a c.left) (alone-by d1 e c.left.history c.left.counts) tt c.quiet (load_logs may.woken Finished e) refl refl
+        (subst P (load_line number is) said) in
+        record { is = (next (loaded_state m may.woken), (goes, (may.woken, (refl, (counts, load_live))))) }
 
-    pub load_breaks : tally_now e ≡ tally_now d1 → Stays next → (number : ℕ) → number ≡ s.base.first → (x : Told) (y : List ℕ)
-        → SaysFront x.said y (printed x.form (LoadLine number dirty))
-        → Breaks (load m next) x y d e
-    load_breaks quiet stays number is x y f =
-        let P : Line → Type 0 = λ l. SaysFront x.said y (printed x.form l) in
-        breaks-after (load m next) (ask (woken_at may.woken) (loaded m next may.woken)) x x y d d1 e (load_begins x)
-        (breaks-told (woken_at may.woken) (loaded m next may.woken) (LoadLine may.woken.state.sequence may.woken.dirty)
-        Finished (next (loaded_state m may.woken)) x y d1 e
-        load_alone tt quiet (load_logs Finished e) refl refl (subst P (load_line number is) f) load_may
-        (λ image crash. stays (loaded_state m may.woken) image refl
-        (still_leaves e (MayLoad (settled_at may.woken.state)) none (settled_loads e.held may.woken.state load_loads)
-        image crash)))
+    pub load_breaks : {a b : Told} {T : Type 0} {r : Result T RunStop} {Left : T → Act → Type 0} {number : ℕ}
+        → is_err r ≡ true → Stays next → number ≡ s.base.first
+        → SaysFront a.said b.said (printed a.form (LoadLine number dirty))
+        → RunsTo (load m next) (seen a d) (seen b e) r Left
+    load_breaks {a = a} {b = b} {r = r} {Left = Left} {number = number} h stays is f =
+        let P : Line → Type 0 = λ l. SaysFront a.said b.said (printed a.form l) in
+        record {
+          is = or-breaks Left r h (load m next) a b d e
+              (breaks-after (load m next) (ask (woken_at may.woken) (loaded m next may.woken)) a a b.said d d1 e
+              (load_begins a c.left)
+              (breaks-told (woken_at may.woken) (loaded m next may.woken)
+              (LoadLine may.woken.state.sequence may.woken.dirty) Finished (next (loaded_state m may.woken)) a b.said d1 e
+              (alone-by d1 e c.left.history c.left.counts) tt c.quiet (load_logs may.woken Finished e) refl refl
+              (subst P (load_line number is) f) (load_may c.left)
+              (λ image crash. stays (loaded_state m may.woken) image refl
+              (still_leaves e (MayLoad (settled_at may.woken.state)) c.none
+              (settled_loads e.held may.woken.state load_loads) image crash))));
+        }
 
   -- a stop, and its verdict
-  module _ (verdict : Verdict) (u : Outcome) (told : outcomes_in (VerdictLine verdict ∷ []) ≡ u ∷ [])
-      (is : loaded m next may.woken u ≡ end_with verdict false (woken_state m may.woken)) (f : DiskState)
-      (off : f ≡ turned_off e)
-      (cause : HasCause u (since_wake d1) (tally_now e)) where
+  module _ {f : DiskState} {u : Outcome} (verdict : Verdict) (told : outcomes_in (VerdictLine verdict ∷ []) ≡ u ∷ [])
+      (is : loaded m next may.woken u ≡ end_with verdict false (woken_state m may.woken))
+      (c : IsStopped i d d1 e f u) where
     stopped_cause : HasCause u (since_wake d1) (tally_now f)
     stopped_cause = let P : DiskState → Type 0 = λ t. HasCause u (since_wake d1) (tally_now t) in
-        subst P (sym off) cause
+        subst P (sym c.off) c.cause
 
-    pub stopped_may : EachCrash f (MayLoad (woken_at may.woken))
-    stopped_may = left-off e f (MayLoad (woken_at may.woken)) off load_may
+    stopped_may : EachCrash f (MayLoad (woken_at may.woken))
+    stopped_may = left-off e f (MayLoad (woken_at may.woken)) c.off (load_may c.left)
 
-    pub stopped_goes : CountedIn u (tally_now d1) (tally_now e) → (x y : Told) → Tells x y (VerdictLine verdict ∷ [])
-        → Goes (play (load m next)) (play (done (start_over false (woken_state m may.woken)))) x y d f
-    stopped_goes counted x y said =
-        goes-begun (play (load m next)) (woken_at may.woken) (loaded m next may.woken) (VerdictLine verdict) u
-        (done (start_over false (woken_state m may.woken))) x x y d d1 f (load_begins x)
-        (alone-off d1 e f load_alone off) stopped_cause (counted-off u d1 e f counted off) (load_logs u f) told is said
+    pub stopped_plays : {a b : Told} {r : Runner} (r' : Runner) → Tells a b (VerdictLine verdict ∷ []) → Counts m r
+        → r'.machine ≡ ended false r.machine → r'.starts ≡ r.starts
+        → RunsTo (load m next) (seen a d) (seen b f) (Ok None) (LoadLeft m next r' f)
+    stopped_plays {a = a} {b = b} {r = r} r' said counts machine starts =
+        let over : RunState = start_over false (woken_state m may.woken) in
+        let goes = goes-begun (play (load m next)) (woken_at may.woken) (loaded m next may.woken) (VerdictLine verdict) u
+        (done over) a a b d d1 f (load_begins a c.left)
+        (alone-off d1 e f (alone-by d1 e c.left.history c.left.counts) c.off) stopped_cause
+        (counted-off u d1 e f c.counted c.off) (load_logs may.woken u f) told is said in
+        record {
+          is = (
+            done over,
+            (
+              goes,
+              (
+                may.woken,
+                (refl, (counts_over m (woken_state m may.woken) r r' counts refl refl machine starts, stopped_may)),
+              ),
+            ),
+          );
+        }
 
-    pub stopped_breaks : CountedIn u (tally_now d1) (tally_now e) → (x : Told) (y : List ℕ) → SaysFront x.said y (printed x.form (VerdictLine verdict))
-        → Breaks (load m next) x y d f
-    stopped_breaks counted x y front =
-        breaks-after (load m next) (ask (woken_at may.woken) (loaded m next may.woken)) x x y d d1 f (load_begins x)
-        (breaks-told (woken_at may.woken) (loaded m next may.woken) (VerdictLine verdict) u
-        (done (start_over false (woken_state m may.woken))) x y d1 f
-        (alone-off d1 e f load_alone off) stopped_cause (counted-off u d1 e f counted off) (load_logs u f) told is front stopped_may
-        stopped_may)
+    pub stopped_breaks : {a b : Told} {T : Type 0} {r : Result T RunStop} {Left : T → Act → Type 0} → is_err r ≡ true
+        → SaysFront a.said b.said (printed a.form (VerdictLine verdict))
+        → RunsTo (load m next) (seen a d) (seen b f) r Left
+    stopped_breaks {a = a} {b = b} {r = r} {Left = Left} h front = record {
+      is = or-breaks Left r h (load m next) a b d f
+          (breaks-after (load m next) (ask (woken_at may.woken) (loaded m next may.woken)) a a b.said d d1 f
+          (load_begins a c.left)
+          (breaks-told (woken_at may.woken) (loaded m next may.woken) (VerdictLine verdict) u
+          (done (start_over false (woken_state m may.woken))) a b.said d1 f
+          (alone-off d1 e f (alone-by d1 e c.left.history c.left.counts) c.off) stopped_cause
+          (counted-off u d1 e f c.counted c.off) (load_logs may.woken u f) told is front stopped_may stopped_may));
+    }
 
 -- the disk is down after a load that was stopped
-pub load_down : (i : Image) (d d1 e f : DiskState) → Loaded i d d1 e → LoadsAny i → f ≡ turned_off e → IsDown f
-load_down i d d1 e f c any off =
+pub load_down : {i : Image} {d d1 e f : DiskState} → Loaded i d d1 e → LoadsAny i → f ≡ turned_off e → IsDown f
+load_down c any off =
     let P : DiskState → Type 0 = λ t. IsDown t in
-    let each : EachCrash e LoadsAny = λ image crash.
-    let l = c.crash any.0.state any.0.dirty any.1 image crash in (record { state = any.0.state; dirty = l.0 }, l.1) in
-    subst P (sym off) (record { off = refl; loads = each })
+    subst P (sym off) (record {
+      off = refl;
+      loads = λ image crash. let l = c.crash any.0.state any.0.dirty any.1 image crash in
+          (record { state = any.0.state; dirty = l.0 }, l.1);
+    })

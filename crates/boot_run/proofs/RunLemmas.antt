@@ -1,5 +1,5 @@
 -- The events of a run in order.
-use Rattle.std.proofs.Common.{◌≡◌, ◌≤◌, ◌<◌, ◌-◌, length, map, take, drop, get_or, arith, ℕ, true, false, List, [], ◌∷◌, ◌++◌, Option, Some, None, inl, refl, sym, ap, subst, ◌∙◌, append-nil, append_assoc}
+use Rattle.std.proofs.Common.{◌≡◌, ◌≤◌, ◌<◌, ◌-◌, length, map, take, drop, get_or, arith, ℕ, false, List, [], ◌∷◌, ◌++◌, Option, Some, None, inl, refl, sym, ap, subst, ◌∙◌, append-nil, append_assoc}
 use Rattle.std.specs.Prelude.{Result, Ok, Err, option_map, IfSome}
 use Rattle.reg_tree.proofs.Outcomes.{uncons}
 use Rattle.nt_bytes.specs.Front.{IsFront}
@@ -28,7 +28,7 @@ use Rattle.run_laws.proofs.PartLemmas.{with_rest, then-behind, play-more}
 use Rattle.run_laws.proofs.StillLemmas.{run-may, event-closed}
 use Rattle.line_text.specs.declared.form.ReportForm.{ReportForm}
 use Rattle.line_objects.specs.Objects.{printed_lines}
-use Rattle.printed_parts.specs.Parts.{Told, Goes, GoesBut, Breaks, RunBreaks, PlaysOr, TellsOr}
+use Rattle.printed_parts.specs.Parts.{Told, Goes, GoesBut, Breaks, RunBreaks, PlaysOr}
 use Rattle.printed_parts.specs.Reports.{Reports, ReportsFront}
 use Rattle.printed_parts.proofs.LoggedLemmas.{not_empty}
 use Rattle.printed_parts.proofs.GoesLemmas.{idle, goes-nothing, goes-then, goes-but, printed-append}
@@ -43,8 +43,6 @@ use Rattle.nt_edge.specs.Host.{HostState}
 use Rattle.hive_model.specs.Load.{Loads}
 use Rattle.boot_run.specs.declared.runner.Runner.{Runner}
 use Rattle.boot_run.proofs.DiskLemmas.{goes_but-off, goes-off, left-off}
-use Rattle.boot_run.proofs.PlayLemmas.{plays-as, plays-then, plays-line}
-use Rattle.boot_run.proofs.CloseLemmas.{ending}
 
 abbrev Left : Type 0
 Left = RunState × List Woken × List Outcome
@@ -299,52 +297,15 @@ agrees_closed m r d (Some s) sound agrees =
 
 -- ---- the end
 
-verdict_on : (o : Option Start) (word : lines.Verdict) (rest : Act) → is_there o ≡ true
-    → Some word ≡ option_map ending_of o
+pub verdict_on : (o : Option Start) (word : lines.Verdict) (rest : Act) → Some word ≡ option_map ending_of o
     → acts.say (lines.VerdictLine word) rest ≡ verdict_first o rest
-verdict_on None word rest there is = absurd cc
-verdict_on (Some s) word rest there is = let e : word ≡ ending_of s = cc in
+verdict_on None word rest is = absurd cc
+verdict_on (Some s) word rest is = let e : word ≡ ending_of s = cc in
     ap (λ (w : lines.Verdict). acts.say (lines.VerdictLine w) rest) e
 
-verdict_off : (o : Option Start) (rest : Act) → is_there o ≡ false → rest ≡ verdict_first o rest
+pub verdict_off : (o : Option Start) (rest : Act) → is_there o ≡ false → rest ≡ verdict_first o rest
 verdict_off None rest gone = refl
 verdict_off (Some s) rest gone = absurd cc
-
-pub last_verdict : {E : Type 0}
-    → (result : Result (Unit {0}) E) (m : RunState) (r : Runner) (word : lines.Verdict) (rest : Act) (x y : Told)
-    (d : DiskState) → Counts m r → is_there r.machine.start ≡ true
-    → Some word ≡ option_map ending_of r.machine.start → EachCrash d (MayLoad (play rest [] []).disk)
-    → TellsOr (lines.VerdictLine word) x y result
-    → PlaysOr (verdict_first m.machine.start rest) x y d d result (λ u a. a ≡ rest)
-last_verdict result m r word rest x y d counts on is left said =
-    let there : is_there m.machine.start ≡ true = ap (λ (k : MachineState). is_there k.start) counts.machine ∙ on in
-    let same : Some word ≡ option_map ending_of m.machine.start =
-    is ∙ ap (λ (k : MachineState). option_map ending_of k.start) (sym counts.machine) in
-    let End : Unit {0} → Act → Type 0 = λ u a. a ≡ rest in
-    plays-as result End End (acts.say (lines.VerdictLine word) rest) (verdict_first m.machine.start rest) x y d d
-    (verdict_on m.machine.start word rest there same) (λ v a h. h)
-    (plays-line result End (lines.VerdictLine word) rest x y d d (idle d)
-    (ending m.machine.start word there same).none said left (λ v. refl))
-
-pub no_verdict : (m : RunState) (r : Runner) (rest : Act) (x : Told) (d : DiskState) → Counts m r
-    → is_there r.machine.start ≡ false
-    → (a : Act) × (Goes (play (verdict_first m.machine.start rest)) (play a) x x d d × (a ≡ rest))
-no_verdict m r rest x d counts off =
-    let gone : is_there m.machine.start ≡ false = ap (λ (k : MachineState). is_there k.start) counts.machine ∙ off in
-    let P : Act → Type 0 = λ b. Goes (play b) (play rest) x x d d in
-    (rest, (subst P (verdict_off m.machine.start rest gone) (goes-nothing (play rest) x d d (idle d)), refl))
-
--- the last line, after the verdict
-pub closes : {E : Type 0} → (result : Result (Unit {0}) E) (m : RunState) (x y z : Told) (d : DiskState)
-    → EachCrash d (MayLoad m.disk)
-    → ((a : Act) × (Goes (play (closing_act m)) (play a) x y d d × (a ≡ acts.say lines.EndLine (acts.done m))))
-    → TellsOr lines.EndLine y z result
-    → PlaysOr (closing_act m) x z d d result (λ u a. a ≡ acts.done m)
-closes result m x y z d left p said =
-    let End : Unit {0} → Act → Type 0 = λ u a. a ≡ acts.done m in
-    let P : Act → Type 0 = λ a. Goes (play (closing_act m)) (play a) x y d d in
-    plays-then result End (closing_act m) (acts.say lines.EndLine (acts.done m)) x y z d d d (subst P p.1.1 p.1.0)
-    (plays-line result End lines.EndLine (acts.done m) y z d d (idle d) refl said left (λ v. refl))
 
 -- ---- the report
 

@@ -6,20 +6,16 @@ use Rattle.nt_bytes.specs.declared.version.HiveVersion.{HiveVersion}
 use Rattle.hive_model.specs.Base.{Base, version_of}
 use Rattle.hive_model.specs.Carries.{Carries}
 use Rattle.hive_model.specs.Edit.{Refusal, edited}
-use Rattle.hive_model.specs.Image.{Image}
 use Rattle.hive_model.specs.Tree.{Tree}
 use Rattle.nt_edge.specs.Disk.{DiskState}
-use Rattle.nt_edge.specs.Crash.{EachCrash}
-use Rattle.nt_edge.specs.Host.{SaysFront}
 use Rattle.hive_store.specs.Session.{Session}
 use Rattle.start_model.specs.Lines.{Line, SaveCommit}
 use Rattle.start_model.specs.Machine.{Start, MachineState}
-use Rattle.start_model.specs.Fits.{outcomes_in, MayLoad}
+use Rattle.start_model.specs.Fits.{outcomes_in}
 use Rattle.start_model.specs.Sets.{SelectNumbers, SetPlan, SetChange, ChangeStop, NoPlan, Full, set_of, select_numbers_of, usable_numbers_of, stepped, changed_by, planned, save_of}
-use Rattle.start_model.specs.Act.{Act, RunState, Saved, say, mark, next_state, start_over}
-use Rattle.start_model.specs.Commit.{commit, select_line, save_refused, saved_by, committed_state, opened_state, noted_saved}
+use Rattle.start_model.specs.Act.{Act, RunState, say, next_state}
+use Rattle.start_model.specs.Commit.{commit, save_refused, saved_by, noted_saved}
 use Rattle.start_model.specs.EventActs.{reason_of}
-use Rattle.start_model.specs.Run.{play}
 use Rattle.boot_report.specs.Report.{refused_of}
 use Rattle.boot_report.specs.declared.words.RefusedWord.{RefusedWord as Word}
 use Rattle.reg_tree.specs.Makes.{IsRefused, refusal_of}
@@ -29,24 +25,22 @@ use Rattle.start_laws.proofs.SaveLemmas.{save_case, saves}
 use Rattle.start_laws.proofs.UsableLemmas.{usable_parts, usable_from}
 use Rattle.run_laws.proofs.StillLemmas.{opens}
 use Rattle.boot_machine.specs.Steps.{on_start}
-use Rattle.line_objects.specs.Objects.{printed}
 use Rattle.run_parts.specs.Parts.{Stays}
-use Rattle.printed_parts.specs.Parts.{Told, Tells, Goes, PlaysOr, TellsOr}
-use Rattle.run_parts.proofs.CountLemmas.{still}
-use Rattle.printed_parts.proofs.GoesLemmas.{idle, goes-nothing, goes-line, goes-saved}
-use Rattle.printed_parts.proofs.BreakLemmas.{breaks-line}
+use Rattle.printed_parts.specs.Parts.{Told, TellsOr}
+use Rattle.printed_parts.proofs.GoesLemmas.{goes-saved}
 use Rattle.boot_run.specs.declared.runner.Runner.{Runner}
-use Rattle.boot_run.specs.Agrees.{IsUp, IsLive, IsStored, IsSound, IsOnSet, IsRunningBy, Counts, LeavesUp, CommitLeft, OnLeft}
+use Rattle.boot_run.specs.Agrees.{IsUp, IsLive, IsStored, IsSound, IsOnSet, IsRunningBy, Counts, LeavesUp, OnLeft}
 use Rattle.boot_run.specs.Saves.{HandedOut, IsSavePlan, noting}
-use Rattle.boot_run.proofs.PlayLemmas.{live_left, plays-as, plays-then}
-use Rattle.boot_run.proofs.BeginLemmas.{none_open}
+use Rattle.boot_run.specs.Views.{Moment, RunsTo}
+use Rattle.boot_run.specs.declared.stop.RunStop.{RunStop}
+use Rattle.boot_run.proofs.PlayLemmas.{Rests, seen, plays-as, plays-then, plays-line, plays-here, rests-front, on_left}
 
 -- ---- the save is noted
 
 -- another machine
-pub live_machine : (machine : MachineState) (m : RunState) (s : Session) (d : DiskState) → IsLive m s d
+pub live_machine : {m : RunState} {s : Session} {d : DiskState} (machine : MachineState) → IsLive m s d
     → IsLive (record m { machine = machine }) s d
-live_machine machine m s d l =
+live_machine machine l =
     record {
       live = l.live;
       changed = l.changed;
@@ -56,100 +50,34 @@ live_machine machine m s d l =
       loads = l.loads;
     }
 
--- what may be left of the disk after the note
-pub noted_may : (ok : Bool) (s : Start) (m : RunState) (next : RunState → Act) (h : Session) (d : DiskState) → IsUp h d
-    → IsLive m h d → Stays next
-    → EachCrash d (MayLoad (play (next (noted_saved ok s m)) [] []).disk)
-noted_may ok s m next h d up live stays =
-    λ image crash. stays (noted_saved ok s m) image (none_open m h d live) (live_left m h d up live image crash)
-
 -- the runner counts the note
-pub noted_left : (ok : Bool) (s : Start) (m : RunState) (next : RunState → Act) (h : Session) (r r' : Runner)
-    (d : DiskState) → HandedOut m s → Counts m r → IsLive m h d
+pub noted_left : {m : RunState} {h : Session} {r : Runner} {d : DiskState} (ok : Bool) (s : Start)
+    (next : RunState → Act) (r' : Runner) → HandedOut m s → Counts m r → IsLive m h d
     → r'.machine ≡ on_start (λ t. record t { saved = Some ok }) r.machine → r'.starts ≡ r.starts
     → OnLeft next r' d (Some h) (next (noted_saved ok s m))
-noted_left ok s m next h r r' d out counts live machine starts =
+noted_left {m = m} ok s next r' out counts live machine starts =
     let note : Start → Start = λ t. record t { saved = Some ok } in
     let here : (noted_saved ok s m).machine ≡ r'.machine =
     ap (λ (o : Option Start). record m.machine { start = option_map note o }) (sym out)
-    ∙ ap (on_start note) counts.machine ∙ sym machine in (
-      noted_saved ok s m,
-      (
-        refl,
-        record {
-          counts = record { machine = here; starts = counts.starts ∙ sym starts };
-          by = live_machine (noted_saved ok s m).machine m h d live;
-        },
-      ),
-    )
-
--- a start that was stopped is over
-pub stopped_left : (m : RunState) (tree : Tree) (next more : RunState → Act) (r : Runner) (x : Told) (d : DiskState)
-    (rest : Act) → CommitLeft m tree more r d None rest
-    → (a : Act) × (Goes (play rest) (play a) x x d d × OnLeft next r d None a)
-stopped_left m tree next more r x d rest h = (
-  rest,
-  (
-    goes-nothing (play rest) x d d (idle d),
-    record {
-      after = start_over false (opened_state m tree);
-      is = h.0;
-      agrees = record { counts = h.1.0; by = h.1.1 };
-    },
-  ),
-)
+    ∙ ap (on_start note) counts.machine ∙ sym machine in
+    on_left next (record { machine = here; starts = counts.starts ∙ sym starts })
+    (live_machine (noted_saved ok s m).machine live)
 
 pub noting_stays : (numbers : SelectNumbers) (s : Start) (next : RunState → Act) → Stays next
     → Stays (noting numbers s next)
 noting_stays numbers s next stays m c none h = stays (noted_saved true s m) c none h
 
 -- a line is printed, and the save is noted
-pub noted_plays : {E : Type 0}
-    → (result : Result (Unit {0}) E) (line told : Line) (ok : Bool) (s : Start) (m : RunState) (next : RunState → Act)
-    (h : Session) (r r' : Runner) (x y : Told) (d : DiskState)
-    → told ≡ line → outcomes_in (line ∷ []) ≡ [] → HandedOut m s → Counts m r → IsUp h d → IsLive m h d → Stays next
-    → TellsOr told x y result → OnOk result (r'.machine ≡ on_start (λ t. record t { saved = Some ok }) r.machine)
+pub noted_plays : {a b : Told} {m : RunState} {h : Session} {r : Runner} {d : DiskState}
+    (result : Result (Unit {0}) RunStop) (line : Line) (ok : Bool) (s : Start) (next : RunState → Act) (r' : Runner)
+    → outcomes_in (line ∷ []) ≡ [] → HandedOut m s → Counts m r → IsUp h d → IsLive m h d → Stays next
+    → TellsOr line a b result → OnOk result (r'.machine ≡ on_start (λ t. record t { saved = Some ok }) r.machine)
     → r'.starts ≡ r.starts
-    → PlaysOr (say line (next (noted_saved ok s m))) x y d d result (λ u a. OnLeft next r' d (Some h) a)
-noted_plays (Ok v) line told ok s m next h r r' x y d is none out counts up live stays said machine starts =
-    let P : Line → Type 0 = λ l. Tells x y (l ∷ []) in (
-      next (noted_saved ok s m),
-      (
-        goes-line line (next (noted_saved ok s m)) x y d d (idle d) none (subst P is said),
-        noted_left ok s m next h r r' d out counts live machine starts,
-      ),
-    )
-noted_plays (Err e) line told ok s m next h r r' x y d is none out counts up live stays said machine starts =
-    let P : Line → Type 0 = λ l. SaysFront x.said y.said (printed x.form l) in
-    breaks-line line (next (noted_saved ok s m)) x y.said d d (idle d) none (subst P is said)
-    (noted_may ok s m next h d up live stays)
-
--- after the commit of a save
-pub noting_plays : {E : Type 0}
-    → (result : Result (Unit {0}) E) (o : Option Session) (there : Session) (numbers : SelectNumbers) (told : Line)
-    (s : Start) (m : RunState) (tree : Tree) (next : RunState → Act)
-    (r r' : Runner) (x y : Told) (d : DiskState) (rest : Act) → o ≡ Some there → told ≡ select_line numbers
-    → HandedOut m s → IsSound r d o
-    → CommitLeft m tree (noting numbers s next) r d o rest → Stays next
-    → TellsOr told x y result → OnOk result (r'.machine ≡ on_start (λ t. record t { saved = Some true }) r.machine)
-    → r'.starts ≡ r.starts
-    → PlaysOr rest x y d d result (λ u a. OnLeft next r' d o a)
-noting_plays result None there numbers told s m tree next r r' x y d rest some is out sound h stays said machine
-    starts = absurd cc
-noting_plays result (Some here)
-    there numbers told s m tree next r r' x y d rest some is out sound h stays said machine starts =
-    let Left : Unit {0} → Act → Type 0 = λ u a. OnLeft next r' d (Some here) a in
-    plays-as result Left Left (noting numbers s next (committed_state m tree)) rest x y d d (sym h.0) (λ v a k. k)
-    (noted_plays result (select_line numbers) told true s (committed_state m tree)
-    next here r r' x y d is refl out h.1.0 sound.0 h.1.1 stays said machine starts)
-
-pub stopping_plays : (o : Option Session) (numbers : SelectNumbers) (s : Start) (m : RunState) (tree : Tree)
-    (next : RunState → Act) (r : Runner) (x : Told) (d : DiskState) (rest : Act)
-    → o ≡ None → CommitLeft m tree (noting numbers s next) r d o rest
-    → (a : Act) × (Goes (play rest) (play a) x x d d × OnLeft next r d o a)
-stopping_plays None numbers s m tree next r x d rest none h =
-    stopped_left m tree next (noting numbers s next) r x d rest h
-stopping_plays (Some there) numbers s m tree next r x d rest none h = absurd cc
+    → RunsTo (say line (next (noted_saved ok s m))) (seen a d) (seen b d) result (λ u rest. OnLeft next r' d (Some h) rest)
+noted_plays (Ok v) line ok s next r' none out counts up live stays said machine starts =
+    plays-line none said (plays-here refl (noted_left ok s next r' out counts live machine starts))
+noted_plays {m = m} (Err e) line ok s next r' none out counts up live stays said machine starts =
+    rests-front refl none said (stays (noted_saved ok s m)) up live
 
 abbrev with_saved : Bool → Start → Start
 with_saved ok t = record t { saved = Some ok }
@@ -248,48 +176,40 @@ stored_by m h k d base l = record {
 }
 
 -- the save of the live tree, by that of the session's
-module _ (m : RunState) (h : Session) (d : DiskState) (live : IsLive m h d) (clone : Tree) (plan : SetPlan)
+module _ {m : RunState} {h : Session} {d : DiskState} (live : IsLive m h d) (clone : Tree) (plan : SetPlan)
     (is : IsSavePlan h.tree clone plan) where
   save_at : save_of m.version m.live clone ≡ save_of (version_of h.base.minor) h.tree clone
   save_at = ap (λ (v : HiveVersion). save_of v m.live clone) live.version
       ∙ ap (λ (t : Tree). save_of (version_of h.base.minor) t clone) live.live
 
   -- the plan is made, and its tree committed
-  pub save_made : {T E : Type 0}
-      → (result : Result T E) (Left : T → Act → Type 0) (s : Start) (next : RunState → Act) (u : Tree) (x y : Told)
-      (e : DiskState)
-      → edited (version_of h.base.minor) h.tree plan.steps ≡ Ok u
-      → PlaysOr (commit SaveCommit u m (noting plan.numbers s next)) x y d e result Left
-      → PlaysOr (saved_by s clone m next (save_of m.version m.live clone)) x y d e result Left
-  save_made result Left s next u x y e made p =
-      let act : Act = commit SaveCommit u m (noting plan.numbers s next) in
+  pub save_made : {T : Type 0} {x y : Moment} {r : Result T RunStop} {Left : T → Act → Type 0} (s : Start)
+      (next : RunState → Act) (u : Tree) → edited (version_of h.base.minor) h.tree plan.steps ≡ Ok u
+      → RunsTo (commit SaveCommit u m (noting plan.numbers s next)) x y r Left
+      → RunsTo (saved_by s clone m next (save_of m.version m.live clone)) x y r Left
+  save_made {x = x} s next u made p =
       let there : save_of m.version m.live clone ≡ Ok (change_to plan u) =
       save_at ∙ planned_is (version_of h.base.minor) h.tree clone u plan is made in
-      plays-as result Left Left (mark (Saved clone) act) (saved_by s clone m next (save_of m.version m.live clone))
-      x y d e (ap (saved_by s clone m next) (sym there)) (λ v a k. k)
-      (plays-then result Left (mark (Saved clone) act) act x x y d d e (goes-saved clone act x d) p)
+      plays-as (ap (saved_by s clone m next) (sym there))
+      (plays-then (goes-saved clone (commit SaveCommit u m (noting plan.numbers s next)) x.told x.disk) p)
 
   -- the plan's tree is too large
-  pub save_full : {T E : Type 0}
-      → (result : Result T E) (Left : T → Act → Type 0) (s : Start) (next : RunState → Act) (why : Refusal) (x y : Told)
-      (e : DiskState)
-      → edited (version_of h.base.minor) h.tree plan.steps ≡ Err why
-      → PlaysOr (save_refused true s m next) x y d e result Left
-      → PlaysOr (saved_by s clone m next (save_of m.version m.live clone)) x y d e result Left
-  save_full result Left s next why x y e made p =
+  pub save_full : {T : Type 0} {x y : Moment} {r : Result T RunStop} {Left : T → Act → Type 0} (s : Start)
+      (next : RunState → Act) (why : Refusal) → edited (version_of h.base.minor) h.tree plan.steps ≡ Err why
+      → RunsTo (save_refused true s m next) x y r Left
+      → RunsTo (saved_by s clone m next (save_of m.version m.live clone)) x y r Left
+  save_full s next why made p =
       let there : save_of m.version m.live clone ≡ Err Full =
       save_at ∙ planned_full (version_of h.base.minor) h.tree clone why plan is made in
-      plays-as result Left Left (save_refused true s m next) (saved_by s clone m next (save_of m.version m.live clone))
-      x y d e (ap (saved_by s clone m next) (sym there)) (λ v a k. k) p
+      plays-as (ap (saved_by s clone m next) (sym there)) p
 
 -- whatever the save is, nothing of it is printed yet
-pub saved_may : (s : Start) (clone : Tree) (m : RunState) (next : RunState → Act) (c : Image)
-    (r : Result SetChange ChangeStop) → m.disk.other ≡ None → Stays next → MayLoad m.disk c
-    → MayLoad (play (saved_by s clone m next r) [] []).disk c
-saved_may s clone m next c (Ok change) none stays h =
+pub saved_may : (s : Start) (clone : Tree) (m : RunState) (next : RunState → Act) (r : Result SetChange ChangeStop)
+    → Stays next → Rests m (saved_by s clone m next r)
+saved_may s clone m next (Ok change) stays c none h =
     opens m.disk.settled (next_state m change.tree) m.disk c refl none h
-saved_may s clone m next c (Err (NoPlan stop)) none stays h = stays (noted_saved false s m) c none h
-saved_may s clone m next c (Err Full) none stays h = stays (noted_saved false s m) c none h
+saved_may s clone m next (Err (NoPlan stop)) stays c none h = stays (noted_saved false s m) c none h
+saved_may s clone m next (Err Full) stays c none h = stays (noted_saved false s m) c none h
 
 -- a refusal of the tree, by its word
 pub refused_why : (stop : EditStop) (edit : Result Tree Refusal) (word : Option Word) (there : Word)

@@ -21,7 +21,7 @@ use Rattle.start_model.specs.Machine.{Start, MachineState, Tried, next_in, attem
 use Rattle.start_model.specs.Fits.{outcomes_in, MayLoad}
 use Rattle.start_model.specs.Sets.{set_of}
 use Rattle.start_model.specs.Possible.{Possible, Woken, Outcome}
-use Rattle.start_model.specs.Act.{Act, RunState, with_machine, done, say, say_all, start_over, end_with}
+use Rattle.start_model.specs.Act.{Act, RunState, with_machine, say, say_all, start_over, end_with}
 use Rattle.start_model.specs.Commit.{save_where_due}
 use Rattle.start_model.specs.Starter.{phase_line, phase_passed, phase_step, no_set, live_set, judged}
 use Rattle.start_model.specs.Run.{behind, play}
@@ -30,20 +30,19 @@ use Rattle.start_laws.proofs.UsableLemmas.{usable_parts}
 use Rattle.boot_machine.specs.Steps.{falls_back, is_last_phase, is_in_last_phase, on_start}
 use Rattle.line_objects.specs.Objects.{printed}
 use Rattle.run_parts.specs.Parts.{Stays}
-use Rattle.printed_parts.specs.Parts.{Told, Tells, Goes, Breaks, PlaysOr, TellsOr}
+use Rattle.printed_parts.specs.Parts.{Told, Tells, Goes, TellsOr}
 use Rattle.run_parts.proofs.CountLemmas.{alone}
 use Rattle.printed_parts.proofs.LoggedLemmas.{logged-none}
 use Rattle.printed_parts.proofs.GoesLemmas.{idle, outcomes_in-append, tells-nothing, tells-then}
-use Rattle.printed_parts.proofs.BreakLemmas.{breaks-line, breaks-then}
 use Rattle.boot_run.specs.declared.stop.RunStop.{RunStop}
 use Rattle.boot_run.specs.declared.runner.Runner.{Runner}
 use Rattle.boot_run.specs.Agrees.{IsOnSet, IsRunningBy, Counts, TurnLeft}
 use Rattle.boot_run.specs.Begins.{IsTaken}
 use Rattle.boot_run.specs.Kept.{current_set}
 use Rattle.boot_run.specs.Starts.{EndsBy, NextPhase, phase_lines, phase_gone, stop_lines}
-use Rattle.boot_run.specs.Views.{SaysPart, SaysAll}
+use Rattle.boot_run.specs.Views.{Moment, RunsTo, SaysPart, SaysAll}
 use Rattle.boot_run.proofs.DiskLemmas.{idle-off, left-off}
-use Rattle.boot_run.proofs.PlayLemmas.{plays-as, plays-line, here_turn}
+use Rattle.boot_run.proofs.PlayLemmas.{Rests, seen, plays-as, plays-then, plays-said, plays-front, here_turn}
 use Rattle.boot_run.proofs.SetLemmas.{current_is}
 use Rattle.run_laws.proofs.GoLemmas.{slice_get-within}
 use Rattle.start_model.proofs.HeldLemmas.{services_few}
@@ -74,31 +73,25 @@ judged_ends Stop word m next e =
     let P : Verdict → Type 0 = λ w. Ends w Stop m next in
     subst P (sym is) (record { act = refl; none = refl })
 
-pub judged_plays : {E : Type 0}
-    → (result : Result (Unit {0}) E) (word : Word) (j : Judgement) (m : RunState) (next : RunState → Act)
-    (r r' : Runner) (x y : Told) (d e : DiskState)
-    → EndsBy (Some word) j → Counts m r → r'.machine ≡ ended (falls_back (verdict_of word)) r.machine
-    → r'.starts ≡ r.starts → e ≡ turned_off d → EachCrash d (MayLoad m.disk)
-    → TellsOr (VerdictLine (verdict_of word)) x y result
-    → PlaysOr (judged j m next) x y d e result (λ u rest. TurnLeft r' e None rest)
-judged_plays result word j m next r r' x y d e ends counts machine starts off left said =
+pub judged_plays : {result : Result (Unit {0}) RunStop} {m : RunState} {x y : Moment} {r : Runner} (word : Word)
+    (j : Judgement) (next : RunState → Act) (r' : Runner) → EndsBy (Some word) j → Counts m r
+    → EachCrash x.disk (MayLoad m.disk) → r'.machine ≡ ended (falls_back (verdict_of word)) r.machine
+    → r'.starts ≡ r.starts → y.disk ≡ turned_off x.disk → TellsOr (VerdictLine (verdict_of word)) x.told y.told result
+    → RunsTo (judged j m next) x y result (λ u rest. TurnLeft r' y.disk None rest)
+judged_plays {m = m} {x = x} {y = y} word j next r' ends counts left machine starts off said =
     let falls : Bool = falls_back (verdict_of word) in
     let q = judged_ends j word m next ends in
-    let Left : Unit {0} → Act → Type 0 = λ u rest. TurnLeft r' e None rest in
-    let kept : EachCrash e (MayLoad m.disk) = left-off d e (MayLoad m.disk) off left in
+    let kept : EachCrash y.disk (MayLoad m.disk) = left-off x.disk y.disk (MayLoad m.disk) off left in
     let over : Counts (start_over falls m) r' =
     record { machine = ap (ended falls) counts.machine ∙ sym machine; starts = counts.starts ∙ sym starts } in
-    plays-as result Left Left (end_with (verdict_of word) falls m) (judged j m next) x y d e q.act (λ v a k. k)
-    (plays-line result Left (VerdictLine (verdict_of word)) (done (start_over falls m)) x y d e
-    (idle-off d d e (idle d) off) q.none said kept
-    (λ v. here_turn (start_over falls m) r' e None over kept))
+    plays-as q.act
+    (plays-said (idle-off x.disk x.disk y.disk (idle x.disk) off) q.none said kept (λ v. here_turn over kept))
 
-pub judged_may : (j : Judgement) (m : RunState) (next : RunState → Act) (c : Image) → m.disk.other ≡ None → Stays next
-    → MayLoad m.disk c → MayLoad (play (judged j m next) [] []).disk c
-judged_may Ignore m next c none stays h = stays m c none h
-judged_may Log m next c none stays h = stays m c none h
-judged_may FallBack m next c none stays h = h
-judged_may Stop m next c none stays h = h
+pub judged_may : (j : Judgement) (m : RunState) (next : RunState → Act) → Stays next → Rests m (judged j m next)
+judged_may Ignore m next stays c none h = stays m c none h
+judged_may Log m next stays c none h = stays m c none h
+judged_may FallBack m next stays c none h = h
+judged_may Stop m next stays c none h = h
 
 -- ---- an attempt keeps what a start stands on
 
@@ -234,7 +227,7 @@ play_all : (ls : List Line) (act : Act) (w : List Woken) (o : List Outcome)
 play_all [] act w o = refl
 play_all (l ∷ ls) act w o = ap (behind (l ∷ []) []) (play_all ls act w o)
 
-pub goes_all : (ls : List Line) (act : Act) (x y : Told) (d : DiskState) → AreQuiet ls → Tells x y ls
+goes_all : (ls : List Line) (act : Act) (x y : Told) (d : DiskState) → AreQuiet ls → Tells x y ls
     → Goes (play (say_all ls act)) (play act) x y d d
 goes_all ls act x y d quiet told = record {
   part = record {
@@ -253,6 +246,13 @@ goes_all ls act x y d quiet told = record {
   logged = logged-none (play (say_all ls act)) [] (outcomes_in ls) d (quiet_none ls quiet);
 }
 
+-- they were reported, and the rest was played
+pub plays-all : {T : Type 0} {ls : List Line} {act : Act} {t : Told} {x z : Moment} {r : Result T RunStop}
+    {Left : T → Act → Type 0} → AreQuiet ls → Tells x.told t ls → RunsTo act (seen t x.disk) z r Left
+    → RunsTo (say_all ls act) x z r Left
+plays-all {ls = ls} {act = act} {t = t} {x = x} quiet told p =
+    plays-then (goes_all ls act x.told t x.disk quiet told) p
+
 all_disk : (ls : List Line) (act : Act) → (play (say_all ls act) [] []).disk ≡ (play act [] []).disk
 all_disk [] act = refl
 all_disk (l ∷ ls) act = all_disk ls act
@@ -261,20 +261,18 @@ say_all-append : (a b : List Line) (act : Act) → say_all (a ++ b) act ≡ say_
 say_all-append [] b act = refl
 say_all-append (l ∷ a) b act = ap (say l) (say_all-append a b act)
 
--- some were reported, and of the next one a front
-pub breaks_all : (ls : List Line) (act : Act) (x : Told) (y : List ℕ) (d : DiskState) → AreQuiet ls → SaysPart ls x y
-    → EachCrash d (MayLoad (play act [] []).disk) → Breaks (say_all ls act) x y d d
-breaks_all ls act x y d quiet p left =
+-- some were reported, and of the next one a front: the call was refused
+pub front-all : {T : Type 0} {t : Told} {x : Moment} {r : Result T RunStop} {Left : T → Act → Type 0} (ls : List Line)
+    (act : Act) → is_err r ≡ true → AreQuiet ls → SaysPart ls x.told t.said → EachCrash x.disk (MayLoad (play act [] []).disk)
+    → RunsTo (say_all ls act) x (seen t x.disk) r Left
+front-all {t = t} {x = x} ls act h quiet p left =
     let P : List Line → Type 0 = λ ks. AreQuiet ks in
     let q = quiet_parts p.first (p.line ∷ p.rest) (subst P p.parts quiet) in
     let more : Act = say_all p.rest act in
-    let is : say_all p.first (say p.line more) ≡ say_all ls act =
-    sym (say_all-append p.first (p.line ∷ p.rest) act) ∙ ap (λ (ks : List Line). say_all ks act) (sym p.parts) in
-    let Q : Act → Type 0 = λ a. Breaks a x y d d in
-    let L : Possible → Type 0 = λ o. EachCrash d (MayLoad o) in
-    subst Q is (breaks-then (say_all p.first (say p.line more)) (say p.line more) x p.mid y d d d
-    (goes_all p.first (say p.line more) x p.mid d q.0 p.told)
-    (breaks-line p.line more p.mid y d d (idle d) q.1.0 p.front (subst L (sym (all_disk p.rest act)) left)))
+    let L : Possible → Type 0 = λ o. EachCrash x.disk (MayLoad o) in
+    plays-as (sym (say_all-append p.first (p.line ∷ p.rest) act) ∙ ap (λ (ks : List Line). say_all ks act) (sym p.parts))
+    (plays-then (goes_all p.first (say p.line more) x.told p.mid x.disk q.0 p.told)
+    (plays-front {l = p.line} {rest = more} {t = t} {x = seen p.mid x.disk} h q.1.0 p.front (subst L (sym (all_disk p.rest act)) left)))
 
 -- ---- what is printed, one part after another
 
@@ -406,14 +404,6 @@ names_quiet (n ∷ names) = (refl, names_quiet names)
 pub stop_quiet : (unmet missing : List (List ℕ)) → AreQuiet (stop_lines unmet missing)
 stop_quiet [] missing = names_quiet missing
 stop_quiet (n ∷ unmet) missing = (refl, stop_quiet unmet missing)
-
--- ---- a verdict that is there, or none
-
-pub ends_none : (v : Option Word) (j : Judgement) → v ≡ None → EndsBy v j → EndsBy None j
-ends_none v j is h = let P : Option Word → Type 0 = λ o. EndsBy o j in subst P is h
-
-pub ends_some : (v : Option Word) (word : Word) (j : Judgement) → v ≡ Some word → EndsBy v j → EndsBy (Some word) j
-ends_some v word j is h = let P : Option Word → Type 0 = λ o. EndsBy o j in subst P is h
 
 -- nothing of a change of phase is printed yet
 pub all_may : (s : Start) (m : RunState) (next : RunState → Act) (c : Image)

@@ -3,15 +3,12 @@ use Rattle.std.proofs.Common.{◌≡◌, ℕ, zero, suc, ◌<◌, Bool, true, fa
 use Rattle.std.proofs.lemmas.Bool.{false≢true}
 use Rattle.std.specs.Prelude.{slice_get, option_map, option_and_then}
 use Rattle.std.specs.Option.{unwrap_or}
-use Rattle.hive_model.specs.Image.{Image}
 use Rattle.hive_model.specs.Tree.{Tree}
 use Rattle.start_model.specs.Entries.{Entry, need_of}
 use Rattle.start_model.specs.Machine.{Start, MachineState, Tried, next_in, attempt_at, attempt_in, attempt_of, after_phase, is_done, with_start}
-use Rattle.start_model.specs.Fits.{MayLoad}
 use Rattle.start_model.specs.Sets.{set_of}
 use Rattle.start_model.specs.Act.{Act, RunState, done, with_machine}
 use Rattle.start_model.specs.Starter.{no_set, live_set, good_is_usable, starter_step, stepping, go_steps, go_act, enough_steps}
-use Rattle.start_model.specs.Run.{play}
 use Rattle.start_laws.proofs.NextLemmas.{next_is}
 use Rattle.run_laws.proofs.StillLemmas.{may_load, next-may}
 use Rattle.run_laws.proofs.KeptLemmas.{go_steps-keeps, up_rests}
@@ -20,6 +17,7 @@ use Rattle.run_parts.specs.Parts.{Stays}
 use Rattle.boot_run.specs.declared.runner.Runner.{Runner}
 use Rattle.boot_run.specs.Agrees.{Counts}
 use Rattle.boot_run.specs.Starts.{is_under_way, NextPhase}
+use Rattle.boot_run.proofs.PlayLemmas.{Rests}
 use Rattle.boot_run.proofs.DueLemmas.{due_may}
 use Rattle.boot_run.proofs.StartLemmas.{judged_may, all_may}
 
@@ -119,19 +117,17 @@ go_stays n m c none h = next-may c (go_steps n)
     (λ k x u. go_steps-keeps (may_load c) n k x (up_rests (may_load c) k x x.machine.start u)) m none h
 
 -- the same of all steps
-pub go_may : (steps : Option ℕ) (m : RunState) (c : Image) → m.disk.other ≡ None → MayLoad m.disk c
-    → MayLoad (play (go_act steps m) [] []).disk c
+pub go_may : (steps : Option ℕ) (m : RunState) → Rests m (go_act steps m)
 go_may None m c none h = go_stays (enough_steps m.machine.start m) m c none h
 go_may (Some n) m c none h = go_stays n m c none h
 
 -- whatever the step is, nothing of it is printed yet
-pub step_may : (s : Start) (m : RunState) (next : RunState → Act) (c : Image) (o : Option (MachineState × Tried))
-    → m.disk.other ≡ None → Stays next → MayLoad m.disk c
-    → MayLoad (play (starter_step s m next o) [] []).disk c
-step_may s m next c None none stays h =
+pub step_may : (s : Start) (m : RunState) (next : RunState → Act) (o : Option (MachineState × Tried)) → Stays next
+    → Rests m (starter_step s m next o)
+step_may s m next None stays c none h =
     let after : Start = after_phase (live_set m s.number) s in
-    all_may s m next c (due_may (Some after) (with_machine (with_start after m.machine) m) next c none stays h) h
-step_may s m next c (Some one) none stays h = judged_may one.1.judgement (with_machine one.0 m) next c none stays h
+    all_may s m next c (due_may (Some after) (with_machine (with_start after m.machine) m) next stays c none h) h
+step_may s m next (Some one) stays c none h = judged_may one.1.judgement (with_machine one.0 m) next stays c none h
 
 -- ---- a change of phase
 

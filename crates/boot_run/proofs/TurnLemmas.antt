@@ -1,9 +1,7 @@
 -- What one event amounts to.
 use Rattle.std.proofs.Common.{◌≡◌, ◌≤◌, ℕ, Bool, true, false, cond, List, [], ◌∷◌, Option, Some, None, refl, sym, ap, subst, ◌∙◌}
-use Rattle.std.specs.Prelude.{Result, IfSome}
-use Rattle.std.specs.Option.{option_map_or}
+use Rattle.std.specs.Prelude.{IfSome}
 use Rattle.hive_model.specs.Edit.{edited}
-use Rattle.hive_model.specs.Image.{Keep}
 use Rattle.hive_model.specs.Tree.{Tree}
 use Rattle.nt_edge.specs.Crash.{EachCrash}
 use Rattle.nt_edge.specs.Disk.{DiskState}
@@ -16,12 +14,10 @@ use Rattle.start_model.specs.Lines.{RefusedWord, RefusedLine, ProtectedReason}
 use Rattle.start_model.specs.Machine.{Start, MachineState, refusal_in, refusal_of}
 use Rattle.start_model.specs.Fits.{MayLoad}
 use Rattle.start_model.specs.Act.{Act, RunState, done, say}
-use Rattle.start_model.specs.Starter.{go_act}
 use Rattle.start_model.specs.Boot.{Choice}
-use Rattle.start_model.specs.EventActs.{edit_done, flush_act, logon_act, off_act, cut_act, idle_act, accepted_act, act_unless, event_step_of, event_word_of}
+use Rattle.start_model.specs.EventActs.{edit_done, idle_act, accepted_act, act_unless, event_step_of, event_word_of}
 use Rattle.start_model.specs.Run.{play}
 use Rattle.start_laws.proofs.UsableLemmas.{usable_parts}
-use Rattle.boot_machine.specs.Steps.{is_there}
 use Rattle.boot_machine.specs.Views.{event_in}
 use Rattle.boot_script.specs.declared.event.Event as script
 use Rattle.boot_script.specs.declared.event.Event.TheVariants as code
@@ -30,26 +26,13 @@ use Rattle.nt_bytes.specs.declared.names.Names.{Names}
 use Rattle.nt_bytes.specs.declared.units.Units.{Units}
 use Rattle.nt_edge.specs.declared.disk.DiskCall as calls
 use Rattle.nt_edge.specs.declared.disk.Keep as keeps
-use Rattle.printed_parts.specs.Parts.{Told, Goes, Breaks, PlaysOr, TellsOr}
+use Rattle.printed_parts.specs.Parts.{Told, Goes, Breaks}
 use Rattle.run_parts.proofs.CountLemmas.{still}
 use Rattle.printed_parts.proofs.GoesLemmas.{idle, goes-nothing}
 use Rattle.printed_parts.proofs.BreakLemmas.{breaks-silent}
 use Rattle.boot_run.specs.declared.runner.Runner.{Runner}
 use Rattle.boot_run.specs.Agrees.{IsUp, IsDown, IsLive, IsSound, IsRunningBy, RunsOnBy, Counts, Agrees, AgreesBy, TurnLeft}
 use Rattle.boot_run.specs.Begins.{aside_machine, aside_disk, aside_act, IsStepOf, IsEdit}
-use Rattle.boot_run.proofs.PlayLemmas.{plays-line, agrees_left, here_turn}
-use Rattle.boot_run.proofs.CloseLemmas.{runs_there}
-
--- ---- the same act by another name
-
-pub goes_as : (a b : Act) (x y : Told) (d e : DiskState) (Left : Act → Type 0) → a ≡ b
-    → ((rest : Act) × (Goes (play a) (play rest) x y d e × Left rest))
-    → (rest : Act) × (Goes (play b) (play rest) x y d e × Left rest)
-goes_as a b x y d e Left is p = let P : Act → Type 0 = λ t. Goes (play t) (play p.0) x y d e in
-    (p.0, (subst P is p.1.0, p.1.1))
-
-pub breaks_as : (a b : Act) (x : Told) (y : List ℕ) (d e : DiskState) → a ≡ b → Breaks a x y d e → Breaks b x y d e
-breaks_as a b x y d e is p = let P : Act → Type 0 = λ t. Breaks t x y d e in subst P is p
 
 -- ---- events that leave the session alone
 
@@ -223,7 +206,7 @@ other_does_nothing (code.ArmFault call n) f v a b = absurd (b call n refl)
 
 -- ---- edits
 
-pub edit_of : (ev : Event) → IsEdit ev → (e : Edit) × (ev ≡ Edits e)
+edit_of : (ev : Event) → IsEdit ev → (e : Edit) × (ev ≡ Edits e)
 edit_of (BootNow entry good) h = absurd h
 edit_of (Go steps) h = absurd h
 edit_of (Fail name count) h = absurd h
@@ -235,79 +218,52 @@ edit_of Off h = absurd h
 edit_of (CutNow keep) h = absurd h
 edit_of (Arm arming) h = absurd h
 
--- the running start's number, which is that of a set
-pub running_number : (o : Option Start) (tree : Tree) → IsRunningBy o tree → (n : ℕ) × RunsOnBy o n
-running_number None tree h = absurd h
-running_number (Some s) tree h = (s.number, refl)
+-- an edit, and the number of the set that the running start took
+pub record EditsOn (o : Option Start) (ev : Event) : Type 0 where
+  pub edit : Edit
+  pub number : ℕ
+  pub is : ev ≡ Edits edit
+  pub on : RunsOnBy o number
+
+pub edits_on : (o : Option Start) (tree : Tree) (ev : Event) → IsEdit ev → IsRunningBy o tree → EditsOn o ev
+edits_on None tree ev h on = absurd on
+edits_on (Some s) tree ev h on =
+    let one = edit_of ev h in record { edit = one.0; number = s.number; is = one.1; on = refl }
 
 pub running_most : (o : Option Start) (tree : Tree) → IsRunningBy o tree → IfSome o (λ (s : Start). s.number ≤ 999)
 running_most None tree h = absurd h
 running_most (Some s) tree h = (usable_parts tree s.number h.there).most
 
-pub edit_free : (o : Option Start) (tree : Tree) (ev : Event) (e : Edit) → IsRunningBy o tree → ev ≡ Edits e
-    → refusal_in o ev ≡ None → is_protected e ≡ false
-edit_free None tree ev e h is ok = absurd h
-edit_free (Some s) tree ev e h is ok =
-    let P : Event → Type 0 = λ v. refusal_in (Some s) v ≡ None in by_word (is_protected e) (subst P is ok)
+pub edit_free : (o : Option Start) (tree : Tree) {ev : Event} (k : EditsOn o ev) → IsRunningBy o tree
+    → refusal_in o ev ≡ None → is_protected k.edit ≡ false
+edit_free None tree k h ok = absurd h
+edit_free (Some s) tree k h ok =
+    let P : Event → Type 0 = λ v. refusal_in (Some s) v ≡ None in by_word (is_protected k.edit) (subst P k.is ok)
   where
     by_word : (b : Bool) → cond b (Some ProtectedReason) None ≡ None → b ≡ false
     by_word true h = absurd cc
     by_word false h = refl
 
-pub edit_step : (o : Option Start) (n : ℕ) (ev : Event) (e : Edit) (step : TreeStep) → RunsOnBy o n → ev ≡ Edits e
-    → IfSome o (λ (s : Start). IsStepOf s.number ev step)
-    → made.step_of step ≡ book.step_of n e
-edit_step None n ev e step h is made_by = absurd h
-edit_step (Some s) n ev e step h is made_by =
+pub edit_step : (o : Option Start) {ev : Event} (k : EditsOn o ev) (step : TreeStep)
+    → IfSome o (λ (s : Start). IsStepOf s.number ev step) → made.step_of step ≡ book.step_of k.number k.edit
+edit_step None k step made_by = absurd k.on
+edit_step (Some s) k step made_by =
     let P : Event → Type 0 = λ v. IsStepOf s.number v step in
-    let here : made.step_of step ≡ book.step_of s.number e = subst P is made_by in
-    here ∙ ap (λ (k : ℕ). book.step_of k e) h
+    let here : made.step_of step ≡ book.step_of s.number k.edit = subst P k.is made_by in
+    here ∙ ap (λ (n : ℕ). book.step_of n k.edit) k.on
 
-pub edit_act : (choice : Option ℕ → Choice) (o : Option Start) (n : ℕ) (ev : Event) (e : Edit) (m : RunState)
-    → RunsOnBy o n → ev ≡ Edits e
-    → edit_done (Edits e) m (edited m.version m.live (book.step_of n e ∷ [])) ≡ accepted_act choice o ev m
-edit_act choice None n ev e m h is = absurd h
-edit_act choice (Some s) n ev e m h is =
-    ap (λ (k : ℕ). edit_done (Edits e) m (edited m.version m.live (book.step_of k e ∷ []))) (sym h)
-    ∙ ap (λ (v : Event). accepted_act choice (Some s) v m) (sym is)
+-- what the edit does from a state on
+abbrev pub edit_at : (o : Option Start) {ev : Event} → EditsOn o ev → RunState → Act
+edit_at o k m = edit_done (Edits k.edit) m (edited m.version m.live (book.step_of k.number k.edit ∷ []))
+
+pub edit_act : (choice : Option ℕ → Choice) (o : Option Start) {ev : Event} (k : EditsOn o ev) (m : RunState)
+    → edit_at o k m ≡ accepted_act choice o ev m
+edit_act choice None k m = absurd k.on
+edit_act choice (Some s) k m =
+    ap (λ (n : ℕ). edit_done (Edits k.edit) m (edited m.version m.live (book.step_of n k.edit ∷ []))) (sym k.on)
+    ∙ ap (λ (v : Event). accepted_act choice (Some s) v m) (sym k.is)
 
 -- ---- an event that was accepted
-
-pub act_by : (choice : Option ℕ → Choice) (o : Option Start) (a : Act) (ev one : Event) (m : RunState) → ev ≡ one
-    → a ≡ accepted_act choice o one m → a ≡ accepted_act choice o ev m
-act_by choice o a ev one m is h = h ∙ ap (λ (v : Event). accepted_act choice o v m) (sym is)
-
-pub counted : (m : RunState) (r : Runner) → Counts m r → m.machine.start ≡ r.machine.start
-counted m r counts = ap (λ (k : MachineState). k.start) counts.machine
-
-pub there_by : (m : RunState) (r : Runner) (tree : Tree) → Counts m r → IsRunningBy r.machine.start tree
-    → is_there m.machine.start ≡ true
-there_by m r tree counts h = ap is_there (counted m r counts) ∙ runs_there r.machine.start tree h
-
-pub go_accepted : (choice : Option ℕ → Choice) (o : Option Start) (steps : Option ℕ) (m : RunState) → is_there o ≡ true
-    → go_act steps m ≡ accepted_act choice o (Go steps) m
-go_accepted choice None steps m h = absurd cc
-go_accepted choice (Some s) steps m h = refl
-
-pub flush_accepted : (choice : Option ℕ → Choice) (o : Option Start) (m : RunState) → is_there o ≡ true
-    → flush_act m ≡ accepted_act choice o Flush m
-flush_accepted choice None m h = absurd cc
-flush_accepted choice (Some s) m h = refl
-
-pub logon_accepted : (choice : Option ℕ → Choice) (o : Option Start) (m : RunState) → is_there o ≡ true
-    → option_map_or (λ s. logon_act s m) o (done m) ≡ accepted_act choice o Logon m
-logon_accepted choice None m h = absurd cc
-logon_accepted choice (Some s) m h = refl
-
-pub off_accepted : (choice : Option ℕ → Choice) (o : Option Start) (m : RunState) → is_there o ≡ true
-    → option_map_or (λ s. off_act s m) o (done m) ≡ accepted_act choice o Off m
-off_accepted choice None m h = absurd cc
-off_accepted choice (Some s) m h = refl
-
-pub cut_accepted : (choice : Option ℕ → Choice) (o : Option Start) (keep : Keep) (m : RunState) → is_there o ≡ true
-    → cut_act m ≡ accepted_act choice o (CutNow keep) m
-cut_accepted choice None keep m h = absurd cc
-cut_accepted choice (Some s) keep m h = refl
 
 -- whatever is accepted while no start runs and is no boot leaves the session alone
 pub other_idles : (choice : Option ℕ → Choice) (ev : script.Event) (m : RunState)
@@ -341,28 +297,22 @@ pub record IsBeside (ev : script.Event) : Type 0 where
   pub remove : (path : Names) → ev ≡ code.Remove path → ⊥
 
 -- whatever else is accepted while a start runs leaves the session alone
-other_runs_by : (choice : Option ℕ → Choice) (s : Start) (ev : script.Event) (m : RunState) → IsBeside ev
+pub other_runs : (choice : Option ℕ → Choice) (s : Start) (ev : script.Event) (m : RunState) → IsBeside ev
     → aside_act (event_in ev) m ≡ accepted_act choice (Some s) (event_in ev) m
-other_runs_by choice s (code.Boot entry good) m h = refl
-other_runs_by choice s (code.Go steps) m h = absurd (h.go steps refl)
-other_runs_by choice s (code.Fail name count) m h = refl
-other_runs_by choice s (code.Vital name) m h = refl
-other_runs_by choice s (code.Set path name kind bytes) m h = absurd (h.set path name kind bytes refl)
-other_runs_by choice s (code.Delete path name) m h = absurd (h.delete path name refl)
-other_runs_by choice s (code.Make path) m h = absurd (h.make path refl)
-other_runs_by choice s (code.Remove path) m h = absurd (h.remove path refl)
-other_runs_by choice s code.Flush m h = absurd (h.flush refl)
-other_runs_by choice s code.Logon m h = absurd (h.logon refl)
-other_runs_by choice s code.Off m h = absurd (h.off refl)
-other_runs_by choice s (code.CutNow keep) m h = absurd (h.cut keep refl)
-other_runs_by choice s (code.ArmCut call n keep) m h = refl
-other_runs_by choice s (code.ArmFault call n) m h = refl
-
-pub other_runs : (choice : Option ℕ → Choice) (o : Option Start) (ev : script.Event) (m : RunState) → is_there o ≡ true
-    → IsBeside ev
-    → aside_act (event_in ev) m ≡ accepted_act choice o (event_in ev) m
-other_runs choice None ev m there h = absurd cc
-other_runs choice (Some s) ev m there h = other_runs_by choice s ev m h
+other_runs choice s (code.Boot entry good) m h = refl
+other_runs choice s (code.Go steps) m h = absurd (h.go steps refl)
+other_runs choice s (code.Fail name count) m h = refl
+other_runs choice s (code.Vital name) m h = refl
+other_runs choice s (code.Set path name kind bytes) m h = absurd (h.set path name kind bytes refl)
+other_runs choice s (code.Delete path name) m h = absurd (h.delete path name refl)
+other_runs choice s (code.Make path) m h = absurd (h.make path refl)
+other_runs choice s (code.Remove path) m h = absurd (h.remove path refl)
+other_runs choice s code.Flush m h = absurd (h.flush refl)
+other_runs choice s code.Logon m h = absurd (h.logon refl)
+other_runs choice s code.Off m h = absurd (h.off refl)
+other_runs choice s (code.CutNow keep) m h = absurd (h.cut keep refl)
+other_runs choice s (code.ArmCut call n keep) m h = refl
+other_runs choice s (code.ArmFault call n) m h = refl
 
 -- ---- an event
 
@@ -379,17 +329,3 @@ pub event_refused : (choice : Option ℕ → Choice) (ev : Event) (why : Refused
 unfolding event_step_of
 event_refused choice ev why m r counts is =
     ap (act_unless choice ev m) (sym (ap (λ (k : MachineState). refusal_of k ev) counts.machine ∙ is))
-
--- the refusal is printed, and all is as it was
-pub refused_plays : {E : Type 0}
-    → (result : Result (Unit {0}) E) (ev : Event) (why : RefusedWord) (m : RunState) (r r' : Runner) (x y : Told)
-    (d : DiskState) (hive : Option Session)
-    → r'.machine ≡ r.machine → r'.starts ≡ r.starts → IsSound r d hive → Agrees m r d hive
-    → TellsOr (RefusedLine (event_word_of ev) why) x y result
-    → PlaysOr (say (RefusedLine (event_word_of ev) why) (done m)) x y d d result (λ u rest. TurnLeft r' d hive rest)
-refused_plays result ev why m r r' x y d hive machine starts sound agrees said =
-    plays-line result (λ u rest. TurnLeft r' d hive rest) (RefusedLine (event_word_of ev) why) (done m) x y d d
-    (idle d) refl said (agrees_left m r d hive sound agrees.by)
-    (λ v. here_turn m r' d hive
-    (record { machine = agrees.counts.machine ∙ sym machine; starts = agrees.counts.starts ∙ sym starts })
-    agrees.by)

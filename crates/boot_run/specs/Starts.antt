@@ -8,14 +8,8 @@ use Rattle.start_model.specs.Lines as lines
 use Rattle.start_model.specs.Lines.{Line, UnmetLine, VitalLine}
 use Rattle.start_model.specs.Machine.{Start, MachineState, Tried, attempt_of, phase_after, after_phase, unmet_in, is_done, with_start}
 use Rattle.start_model.specs.Sets.{set_of}
-use Rattle.nt_edge.specs.Disk.{DiskState}
-use Rattle.hive_store.specs.Session.{Session}
 use Rattle.start_model.specs.Act.{RunState, Act, say_all}
-use Rattle.start_model.specs.Starter.{phase_line, phase_begun, go_steps}
-use Rattle.start_model.specs.Run.{play}
-use Rattle.printed_parts.specs.Parts.{Told, Goes}
-use Rattle.boot_run.specs.declared.runner.Runner.{Runner}
-use Rattle.boot_run.specs.Agrees.{OnLeft}
+use Rattle.start_model.specs.Starter.{phase_line, phase_begun}
 
 -- a start runs whose phases are not over
 abbrev pub is_under_way : Option Start → Bool
@@ -55,7 +49,3 @@ pub record NextPhase (tree : Tree) (old new : MachineState) : Type 0 where
   pub is : old.start ≡ Some start
   pub there : set_of tree start.number ≡ Some set
   pub machine : new ≡ with_start (after_phase set start) old
-
--- Of that many steps from a state on these are left, for a start that goes on; or the start is over.
-abbrev pub StepsTo : ℕ → RunState → ℕ → Told → Told → DiskState → DiskState → Runner → Option Session → Type 0
-StepsTo most m left x y d e r o = (rest : Act) × (Goes (play (go_steps most m)) (play rest) x y d e × OnLeft (go_steps left) r e o rest)

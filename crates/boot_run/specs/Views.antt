@@ -28,13 +28,17 @@ pub record Moment : Type 0 where
   pub told : Told
   pub disk : DiskState
 
+-- the moment of this host, whose report is counted so, and this disk
+abbrev pub moment_by : HostState → Summary → DiskState → Moment
+moment_by host summary disk = record { told = told_by host summary; disk = disk }
+
 -- the moment of this host, runner and disk
 abbrev pub moment : HostState → Runner → DiskState → Moment
-moment host runner disk = record { told = told_in host runner; disk = disk }
+moment host runner disk = moment_by host runner.summary disk
 
 -- from the one moment to the other the act was played up to a rest, of which more is known; or it was given up
-abbrev pub RunsTo : {T : Type 0} → Act → Moment → Moment → Result T RunStop → (T → Act → Type 0) → Type 0
-RunsTo act old new result Left = PlaysOr act old.told new.told old.disk new.disk result Left
+pub record RunsTo {T : Type 0} (act : Act) (old new : Moment) (result : Result T RunStop) (Left : T → Act → Type 0) : Type 0 where
+  pub is : PlaysOr act old.told new.told old.disk new.disk result Left
 
 -- of these lines some were reported, and of the next one a front was printed
 pub record SaysPart (lines : List Line) (old : Told) (said : List ℕ) : Type 0 where

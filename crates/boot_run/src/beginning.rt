@@ -15,12 +15,11 @@ ghost use Rattle.start_model.specs.Act.{RunState, Act};
 ghost use Rattle.start_model.specs.Starter.{no_set};
 ghost use Rattle.start_model.specs.Commit as commit_book;
 ghost use Rattle.start_model.specs.Boot as boot_book;
-ghost use Rattle.printed_parts.specs.Parts.{PlaysOr};
 ghost use Rattle.boot_run.specs.Agrees.{IsUp, IsLive, IsStored, IsSound, Counts, CommitLeft, TurnLeft};
 ghost use Rattle.boot_run.specs.Hosts.{LeavesHost};
 ghost use Rattle.boot_run.specs.Begins.{Planned, begin_planned, SetLeft, IsTaken, IsUpOrDown};
 ghost use Rattle.boot_run.specs.Kept.{current_set, AreRead};
-ghost use Rattle.boot_run.specs.Views.{moment, told_by, told_in, RunsTo};
+ghost use Rattle.boot_run.specs.Views.{moment, moment_by, RunsTo};
 
 use crate::committing::commit;
 use crate::ending::end_start;
@@ -74,8 +73,8 @@ fn begin_start<H: Host>(
     requires taken { IsTaken hive.tree number }
     ensures sound { (d : DiskState) → IsUp hive d → IfOk result (IsSound runner.new d) }
     ensures plays { (m : RunState) (d : DiskState) → (H.state host.old).tells ≡ true → IsUp hive d → Counts m runner.old → IsLive m hive d
-        → PlaysOr (boot_book.begin_start number on_good numbers m) (told_in (H.state host.old) runner.old) (told_in (H.state host.new) runner.new)
-        d d result (TurnLeft runner.new d) }
+        → RunsTo (boot_book.begin_start number on_good numbers m) (moment (H.state host.old) runner.old d) (moment (H.state host.new) runner.new d)
+        result (TurnLeft runner.new d) }
     ensures host { LeavesHost result (H.state host.old) (H.state host.new) }
 {
     let Ok(lists) = begin_on(alloc, number, on_good, &hive, &mut runner.machine) else {
@@ -106,8 +105,8 @@ fn begin_behind<H: Host>(
     ensures sound { (d : DiskState) → IsUpOrDown d left → IfOk result (IsSound runner.new d) }
     ensures plays { (m : RunState) (tree : Tree) (d : DiskState) (rest : Act) → (H.state host.old).tells ≡ true → IsUpOrDown d left
         → CommitLeft m tree (boot_book.begin_start number on_good numbers) runner.old d left rest
-        → PlaysOr rest (told_in (H.state host.old) runner.old) (told_in (H.state host.new) runner.new)
-        d d result (TurnLeft runner.new d) }
+        → RunsTo rest (moment (H.state host.old) runner.old d) (moment (H.state host.new) runner.new d)
+        result (TurnLeft runner.new d) }
     ensures host { LeavesHost result (H.state host.old) (H.state host.new) }
 {
     match left {
@@ -241,7 +240,7 @@ fn say_set<H: Host>(
     host: &mut H,
 ) -> Result<Result<SetPlan, Verdict>, RunStop>
     ensures plays { (m : RunState) (d : DiskState) → (H.state host.old).tells ≡ true → IsUp hive.now d → IsLive m hive.now d
-        → PlaysOr (boot_book.take_set on_good m) (told_by (H.state host.old) summary.old) (told_by (H.state host.new) summary.new) d d
+        → RunsTo (boot_book.take_set on_good m) (moment_by (H.state host.old) summary.old d) (moment_by (H.state host.new) summary.new d)
         result (SetLeft (λ n plan. begin_planned on_good n plan (stepped n.version n.live plan.steps)) m) }
     ensures plan { IfOk result (λ found. IfOk found (λ plan.
         begin_plan_of (select_numbers_of hive.now.tree) (usable_numbers_of hive.now.tree) on_good ≡ Ok plan)) }

@@ -10,11 +10,10 @@ ghost use Rattle.start_model.specs.Events.{Edit, Edits, is_protected};
 ghost use Rattle.start_model.specs.Events as book;
 ghost use Rattle.start_model.specs.Act.{RunState};
 ghost use Rattle.start_model.specs.EventActs.{edit_done};
-ghost use Rattle.printed_parts.specs.Parts.{PlaysOr};
 ghost use Rattle.boot_run.specs.Agrees.{IsLive, IsSound, Counts, TurnLeft, RunsOn};
 ghost use Rattle.boot_run.specs.Edits.{edit_line, TellsLine};
 ghost use Rattle.boot_run.specs.Hosts.{LeavesHost};
-ghost use Rattle.boot_run.specs.Views.{told_in};
+ghost use Rattle.boot_run.specs.Views.{told_in, moment, RunsTo};
 
 use crate::live::Live;
 use crate::runner::Runner;
@@ -79,8 +78,8 @@ pub(crate) fn edit<H: Host>(
         → step_of step ≡ book.step_of number e → is_protected e ≡ false → IfOk result (λ h. IsSound runner.new d (Some h)) }
     ensures plays { (d : DiskState) (m : RunState) (e : Edit) (number : ℕ) → (H.state host.old).tells ≡ true → Counts m runner.old
         → IsSound runner.old d (Some hive) → IsLive m hive d → event_in event.now ≡ Edits e → step_of step ≡ book.step_of number e
-        → PlaysOr (edit_done (Edits e) m (edited m.version m.live (book.step_of number e ∷ []))) (told_in (H.state host.old) runner.old)
-        (told_in (H.state host.new) runner.new) d d result (λ h. TurnLeft runner.new d (Some h)) }
+        → RunsTo (edit_done (Edits e) m (edited m.version m.live (book.step_of number e ∷ []))) (moment (H.state host.old) runner.old d)
+        (moment (H.state host.new) runner.new d) result (λ h. TurnLeft runner.new d (Some h)) }
     ensures host { LeavesHost result (H.state host.old) (H.state host.new) }
 {
     let mut hive = hive;

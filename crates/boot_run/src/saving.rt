@@ -17,7 +17,7 @@ ghost use Rattle.start_model.specs.Commit.{saved_by};
 ghost use Rattle.start_model.specs.EventActs.{logon_act};
 ghost use Rattle.start_model.specs.Commit as book;
 ghost use Rattle.run_parts.specs.Parts.{Stays};
-ghost use Rattle.printed_parts.specs.Parts.{TellsOr, PlaysOr};
+ghost use Rattle.printed_parts.specs.Parts.{TellsOr};
 ghost use Rattle.boot_run.specs.Agrees.{IsStored, IsLive, IsSound, Counts, CommitLeft, OnLeft, TurnLeft};
 ghost use Rattle.boot_run.specs.Hosts.{LeavesHost};
 ghost use Rattle.boot_run.specs.Saves.{HandedOut, IsSavePlan, PlansOr, noting};
@@ -67,7 +67,8 @@ fn note_behind<H: Host>(
     ensures sound { (d : DiskState) → IsSound runner.old d left.now → OnOk result (IsSound runner.new d left.now) }
     ensures plays { (m : RunState) (s : Start) (tree : Tree) (next : RunState → Act) (d : DiskState) (rest : Act) → (H.state host.old).tells ≡ true
         → HandedOut m s → IsSound runner.old d left.now → CommitLeft m tree (noting numbers s next) runner.old d left.now rest → Stays next
-        → PlaysOr rest (told_in (H.state host.old) runner.old) (told_in (H.state host.new) runner.new) d d result (λ u a. OnLeft next runner.new d left.now a) }
+        → RunsTo rest (moment (H.state host.old) runner.old d) (moment (H.state host.new) runner.new d)
+        result (λ u a. OnLeft next runner.new d left.now a) }
     ensures host { LeavesHost result (H.state host.old) (H.state host.new) }
 {
     match left {
@@ -109,7 +110,7 @@ fn refuse<H: Host>(
     ensures sound { (d : DiskState) → IsSound runner.old d (Some hive) → IfOk result (IsSound runner.new d) }
     ensures plays { (m : RunState) (s : Start) (next : RunState → Act) (d : DiskState) → (H.state host.old).tells ≡ true → HandedOut m s → Counts m runner.old
         → IsSound runner.old d (Some hive) → IsLive m hive d → Stays next
-        → PlaysOr (book.save_refused full s m next) (told_in (H.state host.old) runner.old) (told_in (H.state host.new) runner.new) d d
+        → RunsTo (book.save_refused full s m next) (moment (H.state host.old) runner.old d) (moment (H.state host.new) runner.new d)
         result (OnLeft next runner.new d) }
     ensures host { LeavesHost result (H.state host.old) (H.state host.new) }
 {

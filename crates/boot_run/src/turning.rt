@@ -102,9 +102,9 @@ fn beside<B: Bench>(
     requires sound { IsSound runner.old (B.state bench.old) hive }
     requires counts { HasCounts event.now }
     ensures sound { IfOk result (IsSound runner.new (B.state bench.new)) }
-    ensures plays { (m : RunState) (told : Told) → Agrees m runner.old (B.state bench.old) hive
-        → PlaysOr (aside_act (event_in event.now) m) told told (B.state bench.old) (B.state bench.new) result (TurnLeft runner.new (B.state bench.new)) }
-    ensures summary { runner.new.summary ≡ runner.old.summary }
+    ensures plays { (m : RunState) (h : HostState) → Agrees m runner.old (B.state bench.old) hive
+        → RunsTo (aside_act (event_in event.now) m) (moment h runner.old (B.state bench.old)) (moment h runner.new (B.state bench.new))
+        result (TurnLeft runner.new (B.state bench.new)) }
     ensures host { (h : HostState) → LeavesHost result h h }
 {
     match aside(alloc, event, &mut runner.machine, bench) {

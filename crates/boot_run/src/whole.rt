@@ -12,13 +12,12 @@ ghost use Rattle.start_model.specs.Fits.{MayLoad};
 ghost use Rattle.start_model.specs.Possible.{Woken};
 ghost use Rattle.start_model.specs.Act.{RunState, Act, done};
 ghost use Rattle.start_model.specs.Run.{play, verdict_first, closing_act, run_from, run_of};
-ghost use Rattle.printed_parts.specs.Parts.{PlaysOr};
 ghost use Rattle.printed_parts.specs.Reports.{ReportsOr};
 ghost use Rattle.boot_run.specs.Agrees.{IsDown, Counts};
 ghost use Rattle.boot_run.specs.Begins.{RunsOr, untold, answered};
 ghost use Rattle.boot_run.specs.Choices.{choices};
 ghost use Rattle.boot_run.specs.Hosts.{LeavesHost};
-ghost use Rattle.boot_run.specs.Views.{told_in};
+ghost use Rattle.boot_run.specs.Views.{told_in, moment, RunsTo};
 
 use crate::runner::Runner;
 use crate::saying::say;
@@ -39,8 +38,8 @@ use std::alloc::Global;
 fn say_last<H: Host>(alloc: Global, runner: &mut Runner, host: &mut H) -> Result<(), RunStop>
     ensures plays { (m : RunState) (d : DiskState) (rest : Act) → (H.state host.old).tells ≡ true → Counts m runner.old
         → EachCrash d (MayLoad (play rest [] []).disk)
-        → PlaysOr (verdict_first m.machine.start rest) (told_in (H.state host.old) runner.old) (told_in (H.state host.new) runner.new)
-        d d result (λ u a. a ≡ rest) }
+        → RunsTo (verdict_first m.machine.start rest) (moment (H.state host.old) runner.old d) (moment (H.state host.new) runner.new d)
+        result (λ u a. a ≡ rest) }
     ensures host { LeavesHost result (H.state host.old) (H.state host.new) }
 {
     if runner.machine.is_on() {
@@ -53,7 +52,8 @@ fn say_last<H: Host>(alloc: Global, runner: &mut Runner, host: &mut H) -> Result
 /// The end of the script.
 fn close<H: Host>(alloc: Global, runner: &mut Runner, host: &mut H) -> Result<(), RunStop>
     ensures plays { (m : RunState) (d : DiskState) → (H.state host.old).tells ≡ true → Counts m runner.old → EachCrash d (MayLoad m.disk)
-        → PlaysOr (closing_act m) (told_in (H.state host.old) runner.old) (told_in (H.state host.new) runner.new) d d result (λ u a. a ≡ done m) }
+        → RunsTo (closing_act m) (moment (H.state host.old) runner.old d) (moment (H.state host.new) runner.new d)
+        result (λ u a. a ≡ done m) }
     ensures host { LeavesHost result (H.state host.old) (H.state host.new) }
 {
     say_last(alloc, runner, host)?;

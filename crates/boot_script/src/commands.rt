@@ -1,6 +1,7 @@
 //! The event that the words of a line stand for.
 
-ghost use Rattle.std.specs.Prelude.{map};
+ghost use Rattle.std.specs.Prelude.{◌≡◌, false, map, codes};
+ghost use Rattle.std.specs.Str.{bytes_eq};
 ghost use Rattle.boot_script.specs.Words.{Sees, Gives};
 ghost use Rattle.boot_script.specs.Commands.{set_of, delete_of, make_of, remove_of, alone_of, edit_of, command_of, event_of};
 
@@ -96,6 +97,33 @@ fn alone(words: &[&[u8]], event: Event) -> Result<Event, ScriptFaultKind>
     }
 }
 
+/// The event of a command that is none of the four about starts.
+#[tactic(auto, unfolding(crate::specs::Commands::command_of))]
+fn later(alloc: Global, name: &[u8], words: &[&[u8]]) -> Result<Event, LineStop>
+    requires boot { bytes_eq name.now (codes "boot") ≡ false }
+    requires go { bytes_eq name.now (codes "go") ≡ false }
+    requires fail { bytes_eq name.now (codes "fail") ≡ false }
+    requires vital { bytes_eq name.now (codes "vital") ≡ false }
+    ensures { Gives (λ e. e) result (command_of name.now (map (λ w. w.now) words.now)) }
+{
+    if name == b"flush".as_slice() {
+        return Ok(alone(words, Event::Flush)?);
+    }
+    if name == b"logon".as_slice() {
+        return Ok(alone(words, Event::Logon)?);
+    }
+    if name == b"off".as_slice() {
+        return Ok(alone(words, Event::Off)?);
+    }
+    if name == b"cut".as_slice() {
+        return Ok(cut(words)?);
+    }
+    if name == b"fault".as_slice() {
+        return Ok(fault(words)?);
+    }
+    edit(alloc, name, words)
+}
+
 /// The event of the command with these words after it.
 #[tactic(auto, unfolding(crate::specs::Commands::command_of))]
 fn command(alloc: Global, name: &[u8], words: &[&[u8]]) -> Result<Event, LineStop>
@@ -113,22 +141,7 @@ fn command(alloc: Global, name: &[u8], words: &[&[u8]]) -> Result<Event, LineSto
     if name == b"vital".as_slice() {
         return vital(alloc, words);
     }
-    if name == b"flush".as_slice() {
-        return Ok(alone(words, Event::Flush)?);
-    }
-    if name == b"logon".as_slice() {
-        return Ok(alone(words, Event::Logon)?);
-    }
-    if name == b"off".as_slice() {
-        return Ok(alone(words, Event::Off)?);
-    }
-    if name == b"cut".as_slice() {
-        return Ok(cut(words)?);
-    }
-    if name == b"fault".as_slice() {
-        return Ok(fault(words)?);
-    }
-    edit(alloc, name, words)
+    later(alloc, name, words)
 }
 
 /// The event of a line with these words; a line without words has none.

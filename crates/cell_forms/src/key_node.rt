@@ -1,6 +1,7 @@
 //! Key nodes.
 
-ghost use Rattle.std.specs.Prelude.{◌≡◌, ◌<◌, ◌≤◌, ℕ, true, length, slice_index, IfOk, IfErr};
+ghost use Rattle.std.specs.Prelude.{◌≡◌, ◌<◌, ◌≤◌, ℕ, ◌++◌, true, length, slice_index, IfOk, IfErr, OnOk};
+ghost use Rattle.std.specs.Int.{w32, to_le_bytes};
 ghost use Rattle.nt_bytes.specs.declared.fault.ReadStop.TheVariants.{Memory};
 ghost use Rattle.hive_model.specs.Forms.{Gives};
 ghost use Rattle.hive_model.specs.KeyNode.{is_narrow_key, key_node_in, key_node_at, key_node_text};
@@ -162,6 +163,37 @@ pub fn read_nk(alloc: Global, payload: &[u8], at: u32) -> Result<NkForm, ReadSto
     Ok(seen.owned(alloc)?)
 }
 
+/// Appends the parent, the counts of children and of values, and where their lists are.
+fn put_lists(bytes: &mut Bytes, form: &NkForm) -> Result<(), AllocError>
+    ensures { OnOk result (bytes.new ≡ bytes.old ++ to_le_bytes w32 form.now.parent
+        ++ to_le_bytes w32 form.now.child_count ++ to_le_bytes w32 form.now.volatile_count
+        ++ to_le_bytes w32 form.now.child_list ++ to_le_bytes w32 form.now.volatile_list ++ to_le_bytes w32 form.now.value_count
+        ++ to_le_bytes w32 form.now.value_list) }
+{
+    bytes.put_u32(form.parent)?;
+    bytes.put_u32(form.child_count)?;
+    bytes.put_u32(form.volatile_count)?;
+    bytes.put_u32(form.child_list)?;
+    bytes.put_u32(form.volatile_list)?;
+    bytes.put_u32(form.value_count)?;
+    bytes.put_u32(form.value_list)
+}
+
+/// Appends the rest of the numbers before the two lengths.
+fn put_greatest(bytes: &mut Bytes, form: &NkForm) -> Result<(), AllocError>
+    ensures { OnOk result (bytes.new ≡ bytes.old ++ to_le_bytes w32 form.now.security ++ to_le_bytes w32 form.now.class
+        ++ to_le_bytes w32 form.now.greatest_child_name ++ to_le_bytes w32 form.now.greatest_child_class
+        ++ to_le_bytes w32 form.now.greatest_value_name ++ to_le_bytes w32 form.now.greatest_value_size ++ to_le_bytes w32 0) }
+{
+    bytes.put_u32(form.security)?;
+    bytes.put_u32(form.class)?;
+    bytes.put_u32(form.greatest_child_name)?;
+    bytes.put_u32(form.greatest_child_class)?;
+    bytes.put_u32(form.greatest_value_name)?;
+    bytes.put_u32(form.greatest_value_size)?;
+    bytes.put_u32(0)
+}
+
 /// The payload that a key node is spelled as. The two fields without a name are zero.
 #[tactic(auto, unfolding(hive_model::specs::KeyNode::key_node_text))]
 pub fn nk_bytes(alloc: Global, form: &NkForm) -> Result<Bytes, AllocError>
@@ -177,20 +209,8 @@ pub fn nk_bytes(alloc: Global, form: &NkForm) -> Result<Bytes, AllocError>
     bytes.put_u16(form.flags)?;
     bytes.append(&form.stamp.to_le_bytes())?;
     bytes.put_u32(0)?;
-    bytes.put_u32(form.parent)?;
-    bytes.put_u32(form.child_count)?;
-    bytes.put_u32(form.volatile_count)?;
-    bytes.put_u32(form.child_list)?;
-    bytes.put_u32(form.volatile_list)?;
-    bytes.put_u32(form.value_count)?;
-    bytes.put_u32(form.value_list)?;
-    bytes.put_u32(form.security)?;
-    bytes.put_u32(form.class)?;
-    bytes.put_u32(form.greatest_child_name)?;
-    bytes.put_u32(form.greatest_child_class)?;
-    bytes.put_u32(form.greatest_value_name)?;
-    bytes.put_u32(form.greatest_value_size)?;
-    bytes.put_u32(0)?;
+    put_lists(&mut bytes, form)?;
+    put_greatest(&mut bytes, form)?;
     bytes.put_u16(name_size(is_narrow, name) as u16)?;
     bytes.put_u16(form.class_length)?;
     append_name(&mut bytes, is_narrow, name)?;

@@ -5,7 +5,7 @@ ghost use Rattle.commit_tests.specs.Traced.{traced_state};
 
 use super::*;
 use crate::files::{LOGGED, block, file, log, marked, primary};
-use hive_commit::{CommitStop, LoadStop, recover};
+use hive_commit::{CommitStop, LoadStop, Recovered, recover};
 use mem_edge::MemDisk;
 use nt_bytes::Bytes;
 use nt_edge::{Bench, DiskCall, DiskStop, HiveFile};
@@ -17,6 +17,22 @@ use std::test::Fail;
 /// sector, the block closed.
 const COMMIT: &str = "wL0 wL1 wL2 s wP0 s wP9 s wP0 s";
 
+fn letter(file: HiveFile) -> char {
+    match file {
+        HiveFile::Primary => 'P',
+        HiveFile::Log => 'L',
+    }
+}
+
+fn push_call(text: &mut String, call: &Call) -> Result<(), AllocError> {
+    match call {
+        Call::Read(at) => write!(text, "r{}{}", letter(at.file), at.sector)?,
+        Call::Write(at, _) => write!(text, "w{}{}", letter(at.file), at.sector)?,
+        Call::Sync => text.push('s')?,
+    }
+    Ok(())
+}
+
 /// The calls, a word each: `r` for a read and `w` for a write, with the file and the sector, and `s` for a
 /// sync.
 fn words(alloc: Global, calls: &[Call]) -> Result<String, AllocError> {
@@ -25,20 +41,9 @@ fn words(alloc: Global, calls: &[Call]) -> Result<String, AllocError> {
         if !text.is_empty() {
             text.push(' ')?;
         }
-        match call {
-            Call::Read(at) => write!(text, "r{}{}", letter(at.file), at.sector)?,
-            Call::Write(at, _) => write!(text, "w{}{}", letter(at.file), at.sector)?,
-            Call::Sync => text.push('s')?,
-        }
+        push_call(&mut text, call)?;
     }
     Ok(text)
-}
-
-fn letter(file: HiveFile) -> char {
-    match file {
-        HiveFile::Primary => 'P',
-        HiveFile::Log => 'L',
-    }
 }
 
 /// The bytes of the writes, in sequence.
@@ -65,17 +70,80 @@ fn traced(alloc: Global, primary: &[u8], log: &[u8]) -> Result<Traced, DiskStop>
     Ok(Traced::new(alloc, disk))
 }
 
+/// Whether the log was needed, and the bins data.
+type Taken = Result<(bool, Vec<u8>), LoadStop>;
+
+/// What a look or a recovery found, and its calls.
+#[derive(Drop)]
+struct Made {
+    found: Taken,
+    calls: Vec<Call>,
+}
+
 /// What a look and a recovery found and did.
 #[derive(Drop)]
 struct Seen {
-    /// Whether the log was needed, and the bins data, in which both agree.
-    found: Result<(bool, Vec<u8>), LoadStop>,
+    /// In which both agree.
+    found: Taken,
     /// The reads, which are the same in both.
     reads: String,
     /// The calls of the recovery after them.
     behind: String,
     /// What those wrote.
     written: Bytes,
+}
+
+fn taken(found: Result<Recovered, LoadStop>) -> Taken {
+    found.map(|found| (found.dirty, found.bins.into_vec()))
+}
+
+fn looked(rt: &impl Abort, alloc: Global, primary: &[u8], log: &[u8]) -> Result<Made, LoadStop>
+    requires primary { length primary.now ≤ 33554432 }
+    requires log { length log.now ≤ 33554432 }
+{
+    let mut disk = traced(alloc, primary, log)?;
+    let found = look_kept(alloc, &mut disk);
+    assert!(rt; disk.whole);
+    Ok(Made {
+        found: taken(found),
+        calls: disk.calls,
+    })
+}
+
+fn recovered(rt: &impl Abort, alloc: Global, primary: &[u8], log: &[u8]) -> Result<Made, LoadStop>
+    requires primary { length primary.now ≤ 33554432 }
+    requires log { length log.now ≤ 33554432 }
+{
+    let mut disk = traced(alloc, primary, log)?;
+    let found = recover_kept(alloc, &mut disk);
+    assert!(rt; disk.whole);
+    Ok(Made {
+        found: taken(found),
+        calls: disk.calls,
+    })
+}
+
+fn agree(rt: &impl Abort, first: &Taken, second: &Taken) {
+    assert_eq!(rt; *first, *second);
+}
+
+/// The calls of a recovery begin with the reads of a look.
+fn told(
+    rt: &impl Abort,
+    alloc: Global,
+    found: Taken,
+    first: &[Call],
+    second: &[Call],
+) -> Result<Seen, AllocError> {
+    assert!(rt; first.len() <= second.len());
+    let (reads, behind) = second.split_at(first.len());
+    assert_eq!(rt; reads, first);
+    Ok(Seen {
+        found,
+        reads: words(alloc, reads)?,
+        behind: words(alloc, behind)?,
+        written: written(alloc, behind)?,
+    })
 }
 
 /// Looks at a disk with these files, and recovers another one with them.
@@ -86,21 +154,12 @@ fn looked_and_recovered(
     log: &[u8],
 ) -> Result<Seen, LoadStop> {
     assert!(rt; primary.len() <= 33_554_432 && log.len() <= 33_554_432);
-    let mut first = traced(alloc, primary, log)?;
-    let mut second = traced(alloc, primary, log)?;
-    let found = look_kept(alloc, &mut first).map(|found| (found.dirty, found.bins.into_vec()));
-    let again = recover_kept(alloc, &mut second).map(|found| (found.dirty, found.bins.into_vec()));
-    assert_eq!(rt; found, again);
-    assert!(rt; first.whole && second.whole);
-    assert!(rt; first.calls.len() <= second.calls.len());
-    let (reads, behind) = second.calls.split_at(first.calls.len());
-    assert_eq!(rt; reads, first.calls.as_slice());
-    Ok(Seen {
-        found,
-        reads: words(alloc, reads)?,
-        behind: words(alloc, behind)?,
-        written: written(alloc, behind)?,
-    })
+    let first = looked(rt, alloc, primary, log)?;
+    let second = recovered(rt, alloc, primary, log)?;
+    agree(rt, &first.found, &second.found);
+    let Made { found, calls } = second;
+    let reads = first.calls.as_slice();
+    Ok(told(rt, alloc, found, reads, calls.as_slice())?)
 }
 
 /// Sectors with these marks.
@@ -215,21 +274,25 @@ fn has_written(
     Ok(())
 }
 
+fn is_taken(rt: &impl Abort, found: &Taken, dirty: bool, bins: &[u8]) {
+    match found {
+        Ok((needed, taken)) => assert_eq!(rt; (*needed, taken.as_slice()), (dirty, bins)),
+        Err(stop) => assert!(rt; false, "{stop:?}"),
+    }
+}
+
+fn has_made(rt: &impl Abort, seen: &Seen, reads: &str, behind: &str) {
+    assert_eq!(rt;
+        (seen.reads.as_str(), seen.behind.as_str()),
+        (reads, behind)
+    );
+}
+
 /// What was found are these bins data.
 fn has_found(rt: &impl Abort, seen: &Seen, row: &Row, bins: &Bytes) {
-    let (second, _, run, _, reads, behind) = row;
-    match &seen.found {
-        Ok((dirty, found)) => {
-            assert_eq!(rt;
-                (*dirty, found.as_slice()),
-                (*second == 5, bins.as_slice()),
-                "{second} {run}"
-            )
-        }
-        Err(_) => assert!(rt; false, "{second} {run}"),
-    }
-    assert_eq!(rt; seen.reads.as_str(), *reads, "{second} {run}");
-    assert_eq!(rt; seen.behind.as_str(), *behind, "{second} {run}");
+    let (second, _, _, _, reads, behind) = row;
+    is_taken(rt, &seen.found, *second == 5, bins.as_slice());
+    has_made(rt, seen, reads, behind);
 }
 
 fn in_order(rt: &impl Abort, alloc: Global, row: &Row) -> Result<(), Fail> {
@@ -241,13 +304,17 @@ fn in_order(rt: &impl Abort, alloc: Global, row: &Row) -> Result<(), Fail> {
     has_written(rt, alloc, &seen, row, size)
 }
 
+fn all_in_order(rt: &impl Abort, alloc: Global) -> Result<(), Fail> {
+    for row in IN_ORDER.iter() {
+        in_order(rt, alloc, row)?;
+    }
+    Ok(())
+}
+
 /// A sector whose bit is on is the log's, and a recovery writes it. A clean primary is not written.
 #[test]
 fn a_hive_is_read_and_recovered_in_order(rt: HostRuntime) -> Result<(), Fail> {
-    for row in IN_ORDER.iter() {
-        in_order(&rt, rt.alloc(), row)?;
-    }
-    Ok(())
+    all_in_order(&rt, rt.alloc())
 }
 
 /// The second number of the primary and how many sectors its bins data have; the numbers of the log, the front of its bits
@@ -274,10 +341,8 @@ fn faulty_files(alloc: Global, row: &Faulty) -> Result<(Bytes, Bytes), AllocErro
 
 /// The reads end with the fault, and nothing was done after them.
 fn has_stopped(rt: &impl Abort, seen: &Seen, row: &Faulty) {
-    let (_, sectors, number, _, run, reads) = row;
-    assert!(rt; seen.found.is_err(), "{sectors} {number} {run}");
-    assert_eq!(rt; seen.reads.as_str(), *reads, "{sectors} {number} {run}");
-    assert_eq!(rt; seen.behind.as_str(), "", "{sectors} {number} {run}");
+    assert!(rt; seen.found.is_err(), "{}", row.5);
+    has_made(rt, seen, row.5, "");
 }
 
 fn up_to_a_fault(rt: &impl Abort, alloc: Global, row: &Faulty) -> Result<(), Fail> {
@@ -287,24 +352,28 @@ fn up_to_a_fault(rt: &impl Abort, alloc: Global, row: &Faulty) -> Result<(), Fai
     Ok(())
 }
 
-/// Nothing is read after a sector that is absent, nor after one whose content is a fault; nothing is
-/// written.
-#[test]
-fn nothing_is_read_behind_a_fault(rt: HostRuntime) -> Result<(), Fail> {
+fn all_up_to_a_fault(rt: &impl Abort, alloc: Global) -> Result<(), Fail> {
     for row in FAULTY.iter() {
-        up_to_a_fault(&rt, rt.alloc(), row)?;
+        up_to_a_fault(rt, alloc, row)?;
     }
     Ok(())
 }
 
-/// Commits one bin over one bin, with a fault ordered. Answers the stop and the disk.
+/// Nothing is read after a sector that is absent, nor after one whose content is a fault; nothing is
+/// written.
+#[test]
+fn nothing_is_read_behind_a_fault(rt: HostRuntime) -> Result<(), Fail> {
+    all_up_to_a_fault(&rt, rt.alloc())
+}
+
+/// Commits one bin over one bin, with a fault ordered. Answers the stop and the calls.
 fn committed(
     rt: &impl Abort,
     alloc: Global,
     change: &Change,
     call: DiskCall,
     n: u32,
-) -> Result<(Option<CommitStop>, Traced), LoadStop> {
+) -> Result<(Option<CommitStop>, Vec<Call>), LoadStop> {
     assert!(rt; change.file.len() <= 33_554_432 && is_size(change.new.len()) && 1 <= n);
     let mut disk = MemDisk::new(alloc);
     start(&mut disk, change.file.as_slice())?;
@@ -319,7 +388,7 @@ fn committed(
     let new = change.new.as_slice();
     let stop = commit_kept(&mut disk, &found.base, found.bins.as_slice(), new, 32).err();
     assert!(rt; disk.whole);
-    Ok((stop, disk))
+    Ok((stop, disk.calls))
 }
 
 /// What a whole commit of this sector writes.
@@ -343,11 +412,18 @@ fn writes_all(rt: &impl Abort, alloc: Global, calls: &[Call], sector: &[u8]) -> 
 }
 
 fn whole_commit(rt: &impl Abort, alloc: Global, change: &Change) -> Result<(), Fail> {
-    let (stop, disk) = committed(rt, alloc, change, DiskCall::Sync, 5)?;
+    let (stop, calls) = committed(rt, alloc, change, DiskCall::Sync, 5)?;
     assert_eq!(rt; stop, None);
     assert!(rt; change.new.len() == 4096);
     let sector = &change.new.as_slice()[512..1024];
-    writes_all(rt, alloc, disk.calls.as_slice(), sector)
+    writes_all(rt, alloc, calls.as_slice(), sector)
+}
+
+/// The calls are the first ones of a commit.
+fn are_front(rt: &impl Abort, alloc: Global, calls: &[Call]) -> Result<(), Fail> {
+    let front = words(alloc, calls)?;
+    assert!(rt; COMMIT.starts_with(front.as_str()), "{front}");
+    Ok(())
 }
 
 /// The call that is refused, and how many calls were made with it.
@@ -369,25 +445,27 @@ fn stopped_commit(
     change: &Change,
     (call, n, count): (DiskCall, u32, usize),
 ) -> Result<(), Fail> {
-    let (stop, disk) = committed(rt, alloc, change, call, n)?;
-    assert_eq!(rt; stop, Some(CommitStop::Device), "{call:?} {n}");
-    assert_eq!(rt; disk.calls.len(), count, "{call:?} {n}");
-    let front = words(alloc, disk.calls.as_slice())?;
-    assert!(rt; COMMIT.starts_with(front.as_str()), "{call:?} {n}");
-    Ok(())
+    let (stop, calls) = committed(rt, alloc, change, call, n)?;
+    let ended = (stop, calls.len());
+    assert_eq!(rt; ended, (Some(CommitStop::Device), count), "{call:?} {n}");
+    are_front(rt, alloc, calls.as_slice())
 }
 
-fn commits(rt: &impl Abort, alloc: Global, change: &Change) -> Result<(), Fail> {
-    whole_commit(rt, alloc, change)?;
+fn stopped_commits(rt: &impl Abort, alloc: Global, change: &Change) -> Result<(), Fail> {
     for stop in STOPS.iter() {
         stopped_commit(rt, alloc, change, *stop)?;
     }
     Ok(())
 }
 
+fn commits(rt: &impl Abort, alloc: Global) -> Result<(), Fail> {
+    let change = Change::new(alloc, 1, 1)?;
+    whole_commit(rt, alloc, &change)?;
+    stopped_commits(rt, alloc, &change)
+}
+
 /// A commit reads nothing. At a stop it has made the calls up to the one that was refused.
 #[test]
 fn a_commit_writes_in_order(rt: HostRuntime) -> Result<(), Fail> {
-    let change = Change::new(rt.alloc(), 1, 1)?;
-    commits(&rt, rt.alloc(), &change)
+    commits(&rt, rt.alloc())
 }

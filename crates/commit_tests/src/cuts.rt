@@ -31,14 +31,26 @@ fn cut_at(
     play(alloc, &mut disk, change, order)
 }
 
-/// What a start finds before the change, and in and after it.
-fn found(number: u32, dirty: bool) -> Found {
-    Found {
-        number,
-        dirty,
-        bins: if number == 5 { Bins::Old } else { Bins::New },
-    }
-}
+/// What a start finds before the change.
+const OLD: Found = Found {
+    number: 5,
+    dirty: false,
+    bins: Bins::Old,
+};
+
+/// In the change.
+const OPEN: Found = Found {
+    number: 6,
+    dirty: true,
+    bins: Bins::New,
+};
+
+/// After the change.
+const NEW: Found = Found {
+    number: 6,
+    dirty: false,
+    bins: Bins::New,
+};
 
 /// A cut at this call in each way, and what remains.
 fn cut_each_way(
@@ -56,18 +68,18 @@ fn cut_each_way(
     Ok(())
 }
 
+/// A sync, and what a cut at it leaves in each way.
+const AT_SYNCS: [(u32, [Found; 4]); 4] = [
+    (1, [OLD, OLD, OLD, OLD]),
+    (2, [OLD, OPEN, OPEN, OPEN]),
+    (3, [OPEN, OPEN, OPEN, OPEN]),
+    (4, [OPEN, NEW, NEW, OPEN]),
+];
+
 /// A cut at each sync of a change from that many pages to that many.
 fn cut_each_sync(rt: &impl Abort, alloc: Global, from: u32, to: u32) -> Result<(), Fail> {
-    let old = found(5, false);
-    let open = found(6, true);
-    let new = found(6, false);
-    let rows = [
-        (1, [old, old, old, old]),
-        (2, [old, open, open, open]),
-        (3, [open, open, open, open]),
-        (4, [open, new, new, open]),
-    ];
     let change = Change::new(alloc, from, to)?;
+    let rows = AT_SYNCS;
     for (n, left) in rows.iter() {
         cut_each_way(rt, alloc, &change, (DiskCall::Sync, *n), *left)?;
     }
@@ -84,26 +96,52 @@ fn a_cut_at_a_sync_leaves_the_old_or_the_new(rt: HostRuntime) -> Result<(), Fail
     cut_each_sync(&rt, rt.alloc(), 2, 1)
 }
 
-fn cut_each_write(rt: &impl Abort, alloc: Global, change: &Change) -> Result<(), Fail> {
-    for n in 1..23 {
-        let left = if n < 13 {
-            found(5, false)
-        } else {
-            found(6, true)
-        };
+/// A cut at each of these writes.
+fn cut_writes(
+    rt: &impl Abort,
+    alloc: Global,
+    change: &Change,
+    (from, to): (u32, u32),
+    left: Found,
+) -> Result<(), Fail> {
+    for n in from..to {
         cut_each_way(rt, alloc, change, (DiskCall::Write, n), [left; 4])?;
     }
-    let ends = cut_at(rt, alloc, change, DiskCall::Write, 23, Keep::Torn)?;
-    assert_eq!(rt; ends, (Ok(6), Ok(found(6, false))));
     Ok(())
+}
+
+fn write_is_past(rt: &impl Abort, alloc: Global, change: &Change) -> Result<(), Fail> {
+    let ends = cut_at(rt, alloc, change, DiskCall::Write, 23, Keep::Torn)?;
+    assert_eq!(rt; ends, (Ok(6), Ok(NEW)));
+    Ok(())
+}
+
+fn cut_each_write(rt: &impl Abort, alloc: Global) -> Result<(), Fail> {
+    let change = Change::new(alloc, 1, 2)?;
+    cut_writes(rt, alloc, &change, (1, 13), OLD)?;
+    cut_writes(rt, alloc, &change, (13, 23), OPEN)?;
+    write_is_past(rt, alloc, &change)
 }
 
 /// Of a write that is cut nothing is left. From one page to two, nine sectors differ: the log takes the first 11
 /// writes, the base block opened the 12th, the sectors the next nine, and the base block closed the 22nd.
 #[test]
 fn a_cut_at_a_write_leaves_the_old_or_the_new(rt: HostRuntime) -> Result<(), Fail> {
-    let change = Change::new(rt.alloc(), 1, 2)?;
-    cut_each_write(&rt, rt.alloc(), &change)
+    cut_each_write(&rt, rt.alloc())
+}
+
+/// A disk whose commit was cut at this sync, with what was in flight torn.
+fn torn(rt: &impl Abort, alloc: Global, change: &Change, sync: u32) -> Result<MemDisk, LoadStop> {
+    assert!(rt; change.file.len() <= 33_554_432 && is_size(change.new.len()) && 1 <= sync);
+    let mut disk = MemDisk::new(alloc);
+    let first = Order {
+        call: DiskCall::Sync,
+        n: sync,
+        keep: Some(Keep::Torn),
+    };
+    let ends = play(alloc, &mut disk, change, first)?;
+    assert_eq!(rt; ends, (Err(CommitStop::PowerLost), Ok(OPEN)));
+    Ok(disk)
 }
 
 /// Tears what is in flight at this sync of a commit, and then cuts the recovery. Answers what the start after it
@@ -115,18 +153,20 @@ fn cut_again(
     sync: u32,
     order: Order,
 ) -> Result<(Option<LoadStop>, Found), LoadStop> {
-    assert!(rt; change.file.len() <= 33_554_432 && is_size(change.new.len()));
-    assert!(rt; 1 <= sync && 1 <= order.n);
-    let mut disk = MemDisk::new(alloc);
-    let first = Order {
-        call: DiskCall::Sync,
-        n: sync,
-        keep: Some(Keep::Torn),
-    };
-    let ends = play(alloc, &mut disk, change, first)?;
-    assert_eq!(rt; ends, (Err(CommitStop::PowerLost), Ok(found(6, true))));
+    assert!(rt; 1 <= order.n);
+    let mut disk = torn(rt, alloc, change, sync)?;
     let (stop, left) = recover_with(alloc, &mut disk, order)?;
     Ok((stop, change.found(&left)))
+}
+
+/// What a cut at a call of the recovery leaves.
+fn left_at(call: DiskCall, n: u32, keep: Keep) -> Found {
+    let closed = call == DiskCall::Sync && n == 2;
+    if closed && (keep == Keep::Everything || keep == Keep::OddOnes) {
+        NEW
+    } else {
+        OPEN
+    }
 }
 
 /// Cuts the recovery at this call, in each way.
@@ -144,15 +184,9 @@ fn cut_again_at(
             n,
             keep: Some(*keep),
         };
-        let closed = call == DiskCall::Sync && n == 2;
-        let kept = *keep == Keep::Everything || *keep == Keep::OddOnes;
         let ends = cut_again(rt, alloc, change, sync, order)?;
-        let expected = found(6, !(closed && kept));
-        assert_eq!(rt;
-            ends,
-            (Some(LoadStop::PowerLost), expected),
-            "{sync} {order:?}"
-        );
+        let expected = (Some(LoadStop::PowerLost), left_at(call, n, *keep));
+        assert_eq!(rt; ends, expected, "{sync} {order:?}");
     }
     Ok(())
 }
@@ -177,18 +211,18 @@ fn cut_again_after(rt: &impl Abort, alloc: Global, change: &Change, sync: u32) -
     cut_again_each(rt, alloc, change, sync, (DiskCall::Sync, 3))
 }
 
-fn cut_twice(rt: &impl Abort, alloc: Global, change: &Change) -> Result<(), Fail> {
-    cut_again_after(rt, alloc, change, 2)?;
-    cut_again_after(rt, alloc, change, 3)?;
-    cut_again_after(rt, alloc, change, 4)
+fn cut_twice(rt: &impl Abort, alloc: Global) -> Result<(), Fail> {
+    let change = Change::new(alloc, 1, 2)?;
+    cut_again_after(rt, alloc, &change, 2)?;
+    cut_again_after(rt, alloc, &change, 3)?;
+    cut_again_after(rt, alloc, &change, 4)
 }
 
 /// A recovery makes 19 reads, writes the nine sectors of the log, syncs, writes the base block and syncs, be that
 /// block, its sectors or the block again torn before. It is done only where the last sync's write is kept.
 #[test]
 fn a_second_cut_leaves_the_new(rt: HostRuntime) -> Result<(), Fail> {
-    let change = Change::new(rt.alloc(), 1, 2)?;
-    cut_twice(&rt, rt.alloc(), &change)
+    cut_twice(&rt, rt.alloc())
 }
 
 fn is_whole(
@@ -204,14 +238,18 @@ fn is_whole(
         keep: Some(Keep::Torn),
     };
     let ends = cut_again(rt, alloc, change, 2, order)?;
-    assert_eq!(rt; ends, (None, found(6, false)), "{call:?}");
+    assert_eq!(rt; ends, (None, NEW), "{call:?}");
     Ok(())
+}
+
+fn makes_no_other(rt: &impl Abort, alloc: Global) -> Result<(), Fail> {
+    let change = Change::new(alloc, 1, 2)?;
+    is_whole(rt, alloc, &change, DiskCall::Write, 11)?;
+    is_whole(rt, alloc, &change, DiskCall::Sync, 3)
 }
 
 /// It makes no other call: a cut that is ordered for the next write or sync does not come.
 #[test]
 fn a_recovery_makes_no_other_call(rt: HostRuntime) -> Result<(), Fail> {
-    let change = Change::new(rt.alloc(), 1, 2)?;
-    is_whole(&rt, rt.alloc(), &change, DiskCall::Write, 11)?;
-    is_whole(&rt, rt.alloc(), &change, DiskCall::Sync, 3)
+    makes_no_other(&rt, rt.alloc())
 }

@@ -22,18 +22,54 @@ fn fault_at(rt: &impl Abort, alloc: Global, call: DiskCall, n: u32) -> Result<En
     play(alloc, &mut disk, &change, order)
 }
 
-fn failed(number: u32, dirty: bool) -> Ends {
-    let bins = if number == 5 { Bins::Old } else { Bins::New };
-    let found = Found {
-        number,
-        dirty,
-        bins,
-    };
-    (Err(CommitStop::Device), Ok(found))
-}
+/// The fault came, and the start after it finds the hive from before the change.
+const OLD: Ends = (
+    Err(CommitStop::Device),
+    Ok(Found {
+        number: 5,
+        dirty: false,
+        bins: Bins::Old,
+    }),
+);
 
-fn done(found: Result<Found, LoadStop>) -> Ends {
-    (Ok(6), found)
+/// It finds a change that is not finished.
+const OPEN: Ends = (
+    Err(CommitStop::Device),
+    Ok(Found {
+        number: 6,
+        dirty: true,
+        bins: Bins::New,
+    }),
+);
+
+/// It finds the hive from after the change.
+const WHOLE: Found = Found {
+    number: 6,
+    dirty: false,
+    bins: Bins::New,
+};
+
+static ROWS: [(DiskCall, u32, Ends); 12] = [
+    (DiskCall::Read, 1, (Ok(6), Err(LoadStop::Device))),
+    (DiskCall::Write, 1, OLD),
+    (DiskCall::Write, 3, OLD),
+    (DiskCall::Write, 12, OLD),
+    (DiskCall::Write, 13, OPEN),
+    (DiskCall::Write, 22, OPEN),
+    (DiskCall::Write, 23, (Ok(6), Ok(WHOLE))),
+    (DiskCall::Sync, 1, OLD),
+    (DiskCall::Sync, 2, OPEN),
+    (DiskCall::Sync, 3, OPEN),
+    (DiskCall::Sync, 4, (Err(CommitStop::Device), Ok(WHOLE))),
+    (DiskCall::Sync, 5, (Ok(6), Ok(WHOLE))),
+];
+
+fn each_fault(rt: &impl Abort, alloc: Global) -> Result<(), Fail> {
+    for (call, n, ends) in ROWS.iter() {
+        let found = fault_at(rt, alloc, *call, *n)?;
+        assert_eq!(rt; found, *ends, "{call:?} {n}");
+    }
+    Ok(())
 }
 
 /// The log takes 11 writes: its base block, the bits, and nine sectors. The base block opened is the 12th,
@@ -41,27 +77,5 @@ fn done(found: Result<Found, LoadStop>) -> Ends {
 /// where the power is turned off without a cut they are kept. A commit reads nothing.
 #[test]
 fn a_fault_leaves_the_old_or_the_new(rt: HostRuntime) -> Result<(), Fail> {
-    let whole = Ok(Found {
-        number: 6,
-        dirty: false,
-        bins: Bins::New,
-    });
-    let rows = [
-        (DiskCall::Read, 1, done(Err(LoadStop::Device))),
-        (DiskCall::Write, 1, failed(5, false)),
-        (DiskCall::Write, 3, failed(5, false)),
-        (DiskCall::Write, 12, failed(5, false)),
-        (DiskCall::Write, 13, failed(6, true)),
-        (DiskCall::Write, 22, failed(6, true)),
-        (DiskCall::Write, 23, done(whole)),
-        (DiskCall::Sync, 1, failed(5, false)),
-        (DiskCall::Sync, 2, failed(6, true)),
-        (DiskCall::Sync, 3, failed(6, true)),
-        (DiskCall::Sync, 4, failed(6, false)),
-        (DiskCall::Sync, 5, done(whole)),
-    ];
-    for (call, n, ends) in rows {
-        assert_eq!(rt; fault_at(&rt, rt.alloc(), call, n)?, ends, "{call:?} {n}");
-    }
-    Ok(())
+    each_fault(&rt, rt.alloc())
 }

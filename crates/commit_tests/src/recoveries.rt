@@ -63,25 +63,30 @@ fn failed(
     Ok((stop, change.found(&recovered)))
 }
 
+/// The call at which the fault is ordered, the stop, and whether the hive is dirty then.
+static FAULTS: [(DiskCall, u32, Option<LoadStop>, bool); 7] = [
+    (DiskCall::Read, 1, Some(LoadStop::Device), true),
+    (DiskCall::Write, 1, Some(LoadStop::Device), true),
+    (DiskCall::Write, 10, Some(LoadStop::Device), true),
+    (DiskCall::Sync, 1, Some(LoadStop::Device), true),
+    (DiskCall::Sync, 2, Some(LoadStop::Device), false),
+    (DiskCall::Write, 11, None, false),
+    (DiskCall::Sync, 3, None, false),
+];
+
+fn each_fault(rt: &impl Abort, alloc: Global) -> Result<(), Fail> {
+    for (call, n, stop, dirty) in FAULTS.iter() {
+        let ends = failed(rt, alloc, *call, *n)?;
+        assert_eq!(rt; ends, (*stop, after(*dirty)), "{call:?} {n}");
+    }
+    Ok(())
+}
+
 /// A recovery writes the nine sectors of the log and syncs, and then the base block and syncs. A commit leaves
 /// the log as it is, and so does a recovery.
 #[test]
 fn a_fault_within_a_recovery_leaves_the_new(rt: HostRuntime) -> Result<(), Fail> {
-    let fault = Some(LoadStop::Device);
-    let rows = [
-        (DiskCall::Read, 1, fault, true),
-        (DiskCall::Write, 1, fault, true),
-        (DiskCall::Write, 10, fault, true),
-        (DiskCall::Sync, 1, fault, true),
-        (DiskCall::Sync, 2, fault, false),
-        (DiskCall::Write, 11, None, false),
-        (DiskCall::Sync, 3, None, false),
-    ];
-    for (call, n, stop, dirty) in rows {
-        let ends = failed(&rt, rt.alloc(), call, n)?;
-        assert_eq!(rt; ends, (stop, after(dirty)), "{call:?} {n}");
-    }
-    Ok(())
+    each_fault(&rt, rt.alloc())
 }
 
 /// Recovers what the disk stands for after it was turned on, and says what that is.
@@ -92,25 +97,39 @@ fn recovered<B: Bench>(alloc: Global, bench: &mut B, change: &Change) -> Result<
     Ok(change.found(&recovered))
 }
 
-/// Recovers a hive whose commit was cut at this sync, twice: the second time it is clean, and not written.
+/// How many writes and syncs were made.
+fn changes(disk: &MemDisk) -> (u64, u64) {
+    (disk.calls(DiskCall::Write), disk.calls(DiskCall::Sync))
+}
+
+/// Recovers a dirty hive twice: the second time it is clean, and not written.
+fn recover_twice(
+    rt: &impl Abort,
+    alloc: Global,
+    disk: &mut MemDisk,
+    change: &Change,
+) -> Result<(), LoadStop> {
+    let first = recovered(alloc, disk, change)?;
+    let made = changes(disk);
+    let second = recovered(alloc, disk, change)?;
+    assert_eq!(rt; (first, second), (after(true), after(false)));
+    assert_eq!(rt; changes(disk), made);
+    Ok(())
+}
+
+/// Recovers a hive whose commit was cut at this sync.
 fn cleaned(rt: &impl Abort, alloc: Global, sync: u32, keep: Keep) -> Result<(), LoadStop> {
     let change = Change::new(alloc, 1, 2)?;
     let mut disk = MemDisk::new(alloc);
     make_dirty(rt, alloc, &mut disk, &change, sync, keep)?;
-    assert_eq!(rt; recovered(alloc, &mut disk, &change)?, after(true));
-    let writes = disk.calls(DiskCall::Write);
-    let syncs = disk.calls(DiskCall::Sync);
-    assert_eq!(rt; recovered(alloc, &mut disk, &change)?, after(false));
-    let calls = (disk.calls(DiskCall::Write), disk.calls(DiskCall::Sync));
-    assert_eq!(rt; calls, (writes, syncs));
-    Ok(())
+    recover_twice(rt, alloc, &mut disk, &change)
 }
 
 /// Be it that the base block is open, or that it can't be read.
 #[test]
 fn a_recovery_leaves_the_primary_clean(rt: HostRuntime) -> Result<(), Fail> {
-    for (sync, keep) in [(3, Keep::Nothing), (2, Keep::Torn), (4, Keep::Torn)] {
-        cleaned(&rt, rt.alloc(), sync, keep)?;
-    }
+    cleaned(&rt, rt.alloc(), 3, Keep::Nothing)?;
+    cleaned(&rt, rt.alloc(), 2, Keep::Torn)?;
+    cleaned(&rt, rt.alloc(), 4, Keep::Torn)?;
     Ok(())
 }

@@ -4,7 +4,8 @@ ghost use Rattle.std.specs.Prelude.{◌≡◌, Err};
 ghost use Rattle.command_words.specs.Views.{control_seen};
 ghost use Rattle.command_parts.specs.Inputs.{AsksSoMany};
 ghost use Rattle.command_parts.specs.OnHive.{AnswersOnHive, DecidesOnHive, SeeksAnswer};
-ghost use Rattle.control_command.specs.Inputs.{AsksControl, asks_control};
+ghost use Rattle.input_search.specs.Search.{AsksFor};
+ghost use Rattle.control_command.specs.Inputs.{asks_control, control_search};
 ghost use Rattle.control_command.specs.Answer.{question_in, question_on};
 
 use crate::answering::report;
@@ -41,7 +42,7 @@ fn seek<H: Host>(
     host: &mut H,
 ) -> Result<Told, Obstacle>
     ensures seeks { SeeksAnswer (question_in form (control_seen words.entry) (H.state host.old).files) result (H.state host.old) (H.state host.new) }
-    ensures asks { AsksControl (control_seen words.entry) result (H.state host.old) (H.state host.new) }
+    ensures asks { AsksFor (control_search (control_seen words.entry)) result (H.state host.old) (H.state host.new) }
     ensures kept { result ≡ Err (Obstacle.Refused Refusal.Usage) → ⊥ }
 {
     match inputs_in(alloc, words, host) {

@@ -3,14 +3,16 @@
 ghost use Rattle.std.specs.Prelude.{◌≡◌, Err};
 ghost use Rattle.command_parts.specs.Leaves.{Looks, Reads};
 ghost use Rattle.command_words.specs.Views.{control_seen};
+ghost use Rattle.input_search.specs.Search.{AsksFor};
 ghost use Rattle.control_command.specs.Commands.{commands_of};
-ghost use Rattle.control_command.specs.Inputs.{inputs_in, commands_in, AsksControl};
+ghost use Rattle.control_command.specs.Inputs.{inputs_in, commands_in, control_search};
 
 use crate::command::Commands;
 use crate::reading::read_commands;
 use boot_script::ScriptStop;
 use command_parts::{HiveFiles, Obstacle, Refusal, file_in, hive_in, no_memory};
 use command_words::ControlWords;
+use nt_bytes::Bytes;
 use nt_edge::Host;
 use std::alloc::Global;
 
@@ -22,11 +24,11 @@ pub struct ControlInputs {
 }
 
 /// The commands of a text.
-fn commands_in(alloc: Global, text: &[u8]) -> Result<Commands, Obstacle>
+fn commands_in(alloc: Global, text: &Bytes) -> Result<Commands, Obstacle>
     ensures read { Reads (commands_in (commands_of text.now)) result }
     ensures kept { result ≡ Err (Obstacle.Refused Refusal.Usage) → ⊥ }
 {
-    match read_commands(alloc, text) {
+    match read_commands(alloc, text.as_slice()) {
         Ok(commands) => Ok(commands),
         Err(ScriptStop::Fault(fault)) => Err(Obstacle::Refused(Refusal::ScriptFault(fault))),
         Err(ScriptStop::Memory) => Err(no_memory()),
@@ -34,17 +36,18 @@ fn commands_in(alloc: Global, text: &[u8]) -> Result<Commands, Obstacle>
 }
 
 /// What options and files have for the command, or the first obstacle. Nothing is printed.
+#[tactic(auto, unfolding(input_search::specs::Search::searched))]
 pub(crate) fn inputs_in<H: Host>(
     alloc: Global,
     words: ControlWords<'_>,
     host: &mut H,
 ) -> Result<ControlInputs, Obstacle>
     ensures looks { Looks (inputs_in (control_seen words.entry) (H.state host.old).files) result (H.state host.old) (H.state host.new) }
-    ensures asks { AsksControl (control_seen words.entry) result (H.state host.old) (H.state host.new) }
+    ensures asks { AsksFor (control_search (control_seen words.entry)) result (H.state host.old) (H.state host.new) }
     ensures kept { result ≡ Err (Obstacle.Refused Refusal.Usage) → ⊥ }
 {
     let text = file_in(alloc, host, words.commands)?;
-    let commands = commands_in(alloc, text.as_slice())?;
+    let commands = commands_in(alloc, &text)?;
     let hive = hive_in(alloc, host, words.hive, words.log)?;
     Ok(ControlInputs { commands, hive })
 }

@@ -1,11 +1,11 @@
 //! The entries of a phase that still wait, and the next of them.
 
-ghost use Rattle.std.specs.Prelude.{◌≡◌, ◌<◌, ◌≤◌, ◌^◌, ◌+◌, ◌-◌, ◌∷◌, ◌++◌, [], true, length, replicate, slice_get, vec_len, vec_capacity, IfOk, IfSome, OnOk, OnErr};
+ghost use Rattle.std.specs.Prelude.{◌≡◌, ◌<◌, ◌≤◌, ◌^◌, ◌+◌, ◌-◌, ◌∷◌, ◌++◌, [], true, false, length, replicate, slice_get, vec_len, vec_capacity, IfOk, IfSome, OnOk, OnErr};
 ghost use Rattle.std.specs.List.{flat_map, items_where_true, range_with_len};
 ghost use Rattle.std.specs.Option.{option_copied, option_map, option_to_list};
 ghost use Rattle.nt_bytes.specs.Folding.{folded};
 ghost use Rattle.start_model.specs.Demand.{member};
-ghost use Rattle.dependencies.specs.Wants.{AreReadyBut};
+ghost use Rattle.dependencies.specs.Wants.{AreReadyBut, names_given, owners_from};
 ghost use Rattle.dependencies.specs.Waiting.{raised, name_count, unmet_count, next_place_in, places_in, after_trying, label_of, labels_at};
 
 use crate::meeting::{meet_group, meet_name, refresh};
@@ -68,13 +68,9 @@ impl Waiting {
         let waits = vec![in alloc; true; count]?;
         let first = copied_labels(alloc, started.labels())?;
         let done = Vec::with_capacity(alloc, count)?;
-        let (names, owners) = wanted(alloc, needs.as_slice(), Kind::Service)?;
-        let service_names = NamePlaces::new(alloc, names)?;
-        let mut services = Wants::new(alloc, owners, count)?;
-        let (names, owners) = wanted(alloc, needs.as_slice(), Kind::Group)?;
-        let group_names = NamePlaces::new(alloc, names)?;
-        let mut groups = Wants::new(alloc, owners, count)?;
         let mut ready = PlaceSet::new(alloc, count)?;
+        let (service_names, mut services) = unmet(alloc, needs.as_slice(), Kind::Service)?;
+        let (group_names, mut groups) = unmet(alloc, needs.as_slice(), Kind::Group)?;
         test_all(
             service_names.as_slice(),
             Kind::Service,
@@ -178,6 +174,17 @@ impl Waiting {
     {
         places_left(alloc, self.waits.as_slice())
     }
+}
+
+/// The names of a kind, and their wants, of which none is met.
+fn unmet(alloc: Global, needs: &[Need], kind: Kind) -> Result<(NamePlaces, Wants), AllocError>
+    ensures names { IfOk result (λ r. r.0 ≡ names_given kind needs.now) }
+    ensures wants { IfOk result (λ r. r.1 ≡ record { count = length needs.now; owners = owners_from kind 0 needs.now; met = replicate (length r.0) false }) }
+{
+    let (given, owners) = wanted(alloc, needs, kind)?;
+    let names = NamePlaces::new(alloc, given)?;
+    let wants = Wants::new(alloc, owners, needs.len())?;
+    Ok((names, wants))
 }
 
 /// Puts a place after the others, where there is room.

@@ -11,12 +11,12 @@ use Rattle.hive_model.specs.Stands.{Stands, HasApartNames, IsWellFormed}
 use Rattle.edit_laws.specs.Owned.{In, node_name, Reaches, Folds, Extends}
 use Rattle.edit_laws.proofs.Ins.{in_left, in_right}
 use Rattle.edit_laws.proofs.Pairs.{IsAmong, among}
-use Rattle.edit_laws.proofs.Out.{walk_below}
+use Rattle.edit_laws.proofs.OwnedUses.{use_owned}
 use Rattle.edit_laws.proofs.Wellformed.{both_fold, Distinct, places_are, tree_of, keys_distinct, sound_tree}
 use Rattle.edit_laws.proofs.Untouched.{root_node}
 use Rattle.edit_laws.proofs.Held.{are_held}
 use Rattle.edit_laws.specs.Uses.{Agree, Once, own_uses, tree_uses}
-use Rattle.edit_laws.proofs.Uses.{mark_to, once_from, once_to, walk_uses}
+use Rattle.edit_laws.proofs.Uses.{once_from, once_to, walk_uses}
 use Rattle.edit_laws.proofs.SameTree.{IsSameKey, own_same, places_kept, uses_over, uses_same}
 
 -- ---- lists
@@ -199,8 +199,4 @@ once_hive cells root t s n once =
 pub used_held : (cells : Cells) (root : ℕ) (t : Tree) → IsWellFormed cells root t → (v : ℕ × Bool)
     → In (hive_uses cells root) v → (q : List ℕ) × (cells.payload v.0 ≡ Ok q)
 used_held cells root t w v i =
-    let r = root_node cells root t w.stands in
-    let e = walk_uses 512 cells true [] root r.0 (sound_tree cells root t w.stands w.names) r.1 in
-    let own = walk_below 512 cells true [] root v.0 v.1
-    (mark_to (key_checks 512 cells true [] root) v (subst (λ (l : List (ℕ × Bool)). In l v) (sym e) i)) in
-    (are_held cells root t w).held own.path own.role v.0 own.owns
+    let u = use_owned 512 cells root v i in (are_held cells root t w).held u.path u.role v.0 u.owns

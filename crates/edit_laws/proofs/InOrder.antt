@@ -6,12 +6,13 @@ use Rattle.std.specs.Option.{option_map_or}
 use Rattle.hive_model.specs.Bins.{Cells}
 use Rattle.hive_model.specs.Tree.{Tree, key, trees, listed, is_named, find_key}
 use Rattle.hive_model.specs.Edit.{Step, Refusal, make_key, at_first, of_children, at_key, has_child, with_key, placed, new_key, after_steps}
-use Rattle.hive_model.specs.Footprint.{has_key, IsInFootprint}
+use Rattle.hive_model.specs.Footprint.{has_key}
+use Rattle.hive_model.specs.Owned.{IsInFootprint}
 use Rattle.hive_model.specs.Stands.{IsWellFormed}
 use Rattle.edit_laws.specs.Framed.{Edits}
 use Rattle.edit_laws.specs.Done.{IsDone, AreDone}
 use Rattle.edit_laws.specs.Parents.{NamesParents}
-use Rattle.edit_laws.proofs.Whole.{edited_outside}
+use Rattle.edit_laws.proofs.Compose.{unchanged_outside}
 use Rattle.edit_laws.proofs.Replaced.{trees_listed}
 use Rattle.hive_model.specs.Forms.{◌>>=◌}
 
@@ -44,10 +45,9 @@ parents_done root [] b c t u d n = subst (λ (cells : Cells). NamesParents cells
 parents_done root (step ∷ steps) b c t u d n = parents_done root steps d.1 c d.0 u d.4 (d.3.parents n)
 
 -- Steps that are done in order leave each allocated cell outside their footprint.
-pub left_outside : (b c : Cells) (root : ℕ) (t u : Tree) (steps : List Step) → IsWellFormed b root t
-    → AreDone root b t steps c u → (o : ℕ) (q : List ℕ) → b.payload o ≡ Ok q → (IsInFootprint b root t steps o → ⊥)
-    → c.payload o ≡ Ok q
-left_outside b c root t u steps well d = edited_outside b c root t steps well (edits_done root steps b c t u d)
+pub left_outside : (b c : Cells) (root : ℕ) (t u : Tree) (steps : List Step) → AreDone root b t steps c u → (o : ℕ)
+    (q : List ℕ) → b.payload o ≡ Ok q → (IsInFootprint b root t steps o → ⊥) → c.payload o ≡ Ok q
+left_outside b c root t u steps d = unchanged_outside b c root t steps (edits_done root steps b c t u d)
 
 -- ---- a step that changes nothing
 
@@ -84,8 +84,8 @@ at_key_itself f (name ∷ path) (key h ts) k e same =
 pub nothing_done : (b : Cells) (root : ℕ) (t u : Tree) (step : Step) → IsWellFormed b root t → t ≡ u
     → IsDone b b root t u step
 nothing_done b root t u step well same = record {
+  version = refl;
   stands = subst (IsWellFormed b root) same well;
-  leaves = record { version = refl; rest = λ o q held out. held };
   framed = record { owned = λ path role o own. inl own; rest = λ o q held out. held };
   parents = λ n. n;
 }

@@ -4,7 +4,7 @@ use Rattle.std.specs.Prelude.{◌⊎◌, Contains, find, slice_index_or, flat_ma
 use Rattle.nt_bytes.specs.declared.fault.HiveFaultKind.{HiveFaultKind}
 use Rattle.hive_model.specs.Bins.{Cells}
 use Rattle.hive_model.specs.Walk.{Check, uses, tests, reading, found, use_as, below_of}
-use Rattle.hive_model.specs.Footprint.{used_in, security_used_in}
+use Rattle.hive_model.specs.Footprint.{used_in}
 use Rattle.edit_laws.specs.Owned.{In}
 
 pub in_left : {X : Type 0} (xs ys : List X) (x : X) → In xs x → In (xs ++ ys) x
@@ -90,22 +90,6 @@ used_from (uses at b ∷ cs) o s (inr h) = inr (used_from cs o s h)
 used_from (tests at k ∷ cs) o s (inl e) = absurd (no_test at o k s e)
 used_from (tests at k ∷ cs) o s (inr h) = used_from cs o s h
 
-pub security_to : (cs : List Check) (o : ℕ) → In (security_used_in cs) o → In cs (uses o true)
-security_to [] o h = absurd h
-security_to (uses at true ∷ cs) o (inl e) = inl (ap (λ a. uses a true) e)
-security_to (uses at true ∷ cs) o (inr h) = inr (security_to cs o h)
-security_to (uses at false ∷ cs) o h = inr (security_to cs o h)
-security_to (tests at k ∷ cs) o h = inr (security_to cs o h)
-
-pub security_from : (cs : List Check) (o : ℕ) → In cs (uses o true) → In (security_used_in cs) o
-security_from [] o h = absurd h
-security_from (uses at true ∷ cs) o (inl e) = inl (same_use at o true true e).0
-security_from (uses at true ∷ cs) o (inr h) = inr (security_from cs o h)
-security_from (uses at false ∷ cs) o (inl e) = absurd (let d = (same_use at o false true e).1 in cc)
-security_from (uses at false ∷ cs) o (inr h) = security_from cs o h
-security_from (tests at k ∷ cs) o (inl e) = absurd (no_test at o k true e)
-security_from (tests at k ∷ cs) o (inr h) = security_from cs o h
-
 pub use_one : {F : Type 0} (b : Bool) (form : List ℕ → Result F HiveFaultKind) (cells : Cells) (at o : ℕ) (s : Bool)
     → In (use_as b form cells at) (uses o s) → (at ≡ o) × (b ≡ s)
 use_one b form cells at o s (inl e) = same_use at o b s e
@@ -117,7 +101,3 @@ pub in_read : {F : Type 0} (r : Result F HiveFaultKind) (below : F → List Chec
     → (x : F) × (r ≡ Ok x) × In (below x) c
 in_read (Ok x) below c h = (x, refl, h)
 in_read (Err k) below c h = absurd h
-
-pub in_read_from : {F : Type 0} (r : Result F HiveFaultKind) (below : F → List Check) (c : Check) (x : F) → r ≡ Ok x
-    → In (below x) c → In (below_of r below) c
-in_read_from {F} r below c x e h = subst (λ (q : Result F HiveFaultKind). In (below_of q below) c) (sym e) h

@@ -137,11 +137,11 @@ child_rewritten b c root t path p x left front gone put back counted hd ts come 
 -- a step that names what goes is done
 child_done : (b c : Cells) (root : ℕ) (t u v : Tree) (step : Step) (path p : List (List ℕ)) (x left : ℕ)
     (front gone put back counted : List ℕ) (hd : Head) (ts : Trees)
-    → IsAbove b c root t path p x left front gone put back counted hd ts → after_step step t ≡ Ok u → v ≡ u
+    → IsAbove b c root t path p x left front gone put back counted hd ts → v ≡ u
     → NamesAbove b root t step p gone counted
     → IsRewritten b c root t v path x (suc left) (went b x left gone) counted → IsDone b c root t u step
-child_done b c root t u v step path p x left front gone put back counted hd ts a ok result names r =
-    rewritten b c root t u step path p x (suc left) (went b x left gone) counted a.well ok a.folds a.reached a.deep
+child_done b c root t u v step path p x left front gone put back counted hd ts a result names r =
+    rewritten b c root t u step path p x (suc left) (went b x left gone) counted a.well a.folds a.reached a.deep
     (subst (λ (z : Tree). IsRewritten b c root t z path x (suc left) (went b x left gone) counted) result r)
     (record { path = p; role = node; owns = record { at = x; reached = a.reached; has = refl }; matches = names.key })
     matched names.count
@@ -247,15 +247,15 @@ a_key_made b c root t u k parent name x y left front back counted well ok absent
         named = inl refl;
         folds = inr (subst (λ (q : List (List ℕ)). Folds q w.placed.stored) (sym (parent_is parent name))
             w.placed.folds);
-        node = tt;
+        is = refl;
       });
-      list = inr (absent, w.placed.folds, inl tt);
+      list = inr (absent, w.placed.folds, inl refl);
       below = λ z i. absurd i;
       count = λ o i. record {
         path = w.placed.stored;
         role = security;
         owns = record { at = x; reached = w.placed.reached; has = count o i };
-        matches = inr (absent, w.placed.folds, inr tt);
+        matches = inr (absent, w.placed.folds, inr refl);
       };
     }
 
@@ -263,7 +263,7 @@ a_key_made b c root t u k parent name x y left front back counted well ok absent
         → IsDone b c root t u (make_key parent name)
     go (key hd ts) found new stood apart =
         child_done b c root t u (at_key parent (of_children (placed (new_key name (key hd ts)))) t)
-        (make_key parent name) parent w.placed.stored x left front [] (y ∷ []) back counted hd ts above ok
+        (make_key parent name) parent w.placed.stored x left front [] (y ∷ []) back counted hd ts above
         (changed_alike (of_children (placed (new_key name (key hd ts)))) (with_key name) parent t (key hd ts) found
         (sym (ap (λ (v : Bool). cond v (key hd ts) (of_children (placed (new_key name (key hd ts))) (key hd ts)))
         no_child))
@@ -340,11 +340,11 @@ root_gets b c root t k name y front back counted well absent good g new apart lo
 
 root_done : (b c : Cells) (root : ℕ) (t u v : Tree) (step : Step) (y : ℕ) (front back counted : List ℕ)
     → IsWellFormed b root t → ChangesChildren b c root root 511 front [] (y ∷ []) back counted
-    → after_step step t ≡ Ok u → v ≡ u → NamesAbove b root t step [] [] counted
+    → v ≡ u → NamesAbove b root t step [] [] counted
     → IsRewritten b c root t v [] root 512 (went b root 511 []) counted → IsDone b c root t u step
-root_done b c root (key hd ts) u v step y front back counted well g ok result names r =
+root_done b c root (key hd ts) u v step y front back counted well g result names r =
     child_done b c root (key hd ts) u v step [] [] root 511 front [] (y ∷ []) back counted hd ts
-    (root_above b c root y front back counted hd ts well g) ok result names r
+    (root_above b c root y front back counted hd ts well g) result names r
 
 -- A key is added under a name that no child of the root has.
 pub a_child_added : (b c : Cells) (root : ℕ) (t u k : Tree) (name : List ℕ) (y : ℕ) (front back counted : List ℕ)
@@ -353,16 +353,16 @@ pub a_child_added : (b c : Cells) (root : ℕ) (t u k : Tree) (name : List ℕ) 
     → ((o : ℕ) → In counted o → In (security_cell_at b root) o) → Stands c y (renamed name k)
     → HasPlace b name front back → IsDone b c root t u (add_child name k)
 a_child_added b c root t u k name y front back counted well ok apart g count new place =
-    root_done b c root t u (with_child name k t) (add_child name k) y front back counted well g ok tests.1
+    root_done b c root t u (with_child name k t) (add_child name k) y front back counted well g tests.1
     (record {
-      key = inl (record { key = name ∷ []; named = inl refl; folds = inr tt; node = tt });
-      list = inr (tt, inl tt);
+      key = inl (record { key = name ∷ []; named = inl refl; folds = inr tt; is = refl });
+      list = inr (tt, inl refl);
       below = λ z i. absurd i;
       count = λ o i. record {
         path = [];
         role = security;
         owns = record { at = root; reached = refl; has = count o i };
-        matches = inr (tt, inr tt);
+        matches = inr (tt, inr refl);
       };
     })
     (root_come b c root t k name y front back counted well tests.0.1.1.0 tests.0.0 g new apart
@@ -381,14 +381,14 @@ pub a_child_copied : (b c : Cells) (root : ℕ) (t u k : Tree) (from to : List �
     → ((o : ℕ) → In counted o → (q : List (List ℕ)) × Extends (from ∷ []) q × Owns b root q security o)
     → Stands c y (renamed to k) → HasPlace b to front back → IsDone b c root t u (copy_child from to)
 a_child_copied b c root t u k from to y front back counted well ok found apart low g count new place =
-    root_done b c root t u (with_child to k t) (copy_child from to) y front back counted well g ok
+    root_done b c root t u (with_child to k t) (copy_child from to) y front back counted well g
     (sym (ap (λ (o : Option Tree). option_map_or (λ z. with_child to z t) o t) found) ∙ tests.1)
     (record {
-      key = inl (record { key = to ∷ []; named = inr (inl refl); folds = inr tt; node = tt });
-      list = inr (inl (tt, tt));
+      key = inl (record { key = to ∷ []; named = inr (inl refl); folds = inr tt; is = refl });
+      list = inr (inl (tt, refl));
       below = λ z i. absurd i;
       count = λ o i. let w = count o i in
-          record { path = w.0; role = security; owns = w.2; matches = inr (inr (w.1, tt)) };
+          record { path = w.0; role = security; owns = w.2; matches = inr (inr (w.1, refl)) };
     }) (root_come b c root t k to y front back counted well tests.0.1.1.1.0 tests.0.1.0 g new apart low place)
   where
     tests : Passed ((not (has_child from t), no_key) ∷ (is_bad_name to, bad_name)
@@ -437,11 +437,11 @@ a_key_deleted b c root t u parent name x y left front back counted well ok at de
         → IsDone b c root t u (delete_key (parent ++ name ∷ []))
     go (key hd ts) found stood apart =
         child_done b c root t u (at_key parent (of_children (without_first (is_named name))) t)
-        (delete_key (parent ++ name ∷ [])) parent w.placed.stored x left front (y ∷ []) [] back counted hd ts above ok
+        (delete_key (parent ++ name ∷ [])) parent w.placed.stored x left front (y ∷ []) [] back counted hd ts above
         (sym (without_at parent name t) ∙ tests.1)
         (record {
-          key = inl (record { key = parent ++ name ∷ []; named = inl refl; folds = inr parent_folds; node = tt });
-          list = inr (inl (parent_folds, tt));
+          key = inl (record { key = parent ++ name ∷ []; named = inl refl; folds = inr parent_folds; is = refl });
+          list = inr (inl (parent_folds, refl));
           below = λ z i q r. inr (inr (extends_past parent w.placed.stored name (node_name b z) q w.placed.folds
               (named_gone z i)));
           count = λ o i. let d = deletes.count o i in

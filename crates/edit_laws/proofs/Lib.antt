@@ -1,10 +1,7 @@
 pub mod Compose
 pub mod Ins
 pub mod Out
-pub mod StepOut
 pub mod Back
-pub mod StepBack
-pub mod Whole
 pub mod Wellformed
 pub mod Apart
 pub mod Same

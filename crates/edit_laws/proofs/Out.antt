@@ -1,11 +1,10 @@
--- A step's cells are those of owned entries that it names.
-use Rattle.std.proofs.Common.{◌≡◌, ℕ, zero, suc, Bool, true, false, cond, List, [], ◌∷◌, ◌++◌, length, refl, sym, ◌∙◌, ap, subst, inl, inr, ⊎_elim, Option, Some, None, Result, Ok, Err}
+-- Where a path leads, and which uses of the walk are not as security.
+use Rattle.std.proofs.Common.{◌≡◌, ℕ, Bool, true, false, cond, List, [], ◌∷◌, ◌++◌, length, refl, ap, inl, inr, ⊎_elim, Option, Some, None, Result, Ok, Err}
 use Rattle.std.specs.Prelude.{◌-◌, find, not, ◌==◌, ◌&&◌, if◌then◌else◌, is_some, option_and_then}
 use Rattle.std.specs.List.{list_any}
-use Rattle.std.specs.Option.{option_map_or}
 use Rattle.nt_bytes.specs.Folding.{folds_same}
 use Rattle.nt_bytes.specs.declared.fault.HiveFaultKind.{HiveFaultKind}
-use Rattle.nt_bytes.specs.declared.fault.HiveFaultKind.TheVariants.{TooDeep, FormName, Count, DoubleName}
+use Rattle.nt_bytes.specs.declared.fault.HiveFaultKind.TheVariants.{FormName, DoubleName}
 use Rattle.hive_model.specs.Bins.{Cells}
 use Rattle.hive_model.specs.Size.{segment_bytes, is_big, segment_part}
 use Rattle.hive_model.specs.Forms.{◌>>=◌, bytes_in}
@@ -13,10 +12,10 @@ use Rattle.hive_model.specs.KeyNode.{KeyNode, key_node_at}
 use Rattle.hive_model.specs.KeyValue.{KeyValue, key_value_at, data_inside}
 use Rattle.hive_model.specs.BigData.{BigData}
 use Rattle.hive_model.specs.Lists.{SubkeyList, list_at, offsets_in}
-use Rattle.hive_model.specs.Walk.{Check, uses, tests, reading, node_at, leaf_at, is_list_of_lists, entries_at, below_of, use_as, failing, name_check, names_of, class_checks, security_checks, big_data_of, segments_checks, big_checks, data_checks, value_checks, values_in_turn, values_checks, leaves_checks, entries_checks, keys_in_turn, children_checks, below_node, key_checks}
-use Rattle.hive_model.specs.Footprint.{of_read, of_node, of_key, key_place, used_in, child_places, is_node_named, security_cell_at, list_cells_at}
-use Rattle.edit_laws.specs.Owned.{Role, node, class, security, value_list, value, lists, In, first_or_empty, node_name, value_name, value_places, value_list_at, class_cell_at, HasRole, Reaches, Folds, IsSecurity, IsBelow}
-use Rattle.edit_laws.proofs.Ins.{in_left, in_right, in_cases, found_in, used_from, no_test, use_one, in_read}
+use Rattle.hive_model.specs.Walk.{Check, uses, tests, reading, node_at, leaf_at, is_list_of_lists, below_of, use_as, failing, name_check, names_of, class_checks, big_data_of, segments_checks, big_checks, data_checks, value_checks, leaves_checks, entries_checks}
+use Rattle.hive_model.specs.Footprint.{of_read, of_node, key_place, child_places, is_node_named}
+use Rattle.edit_laws.specs.Owned.{In, first_or_empty, node_name, Reaches, Folds}
+use Rattle.edit_laws.proofs.Ins.{in_left, in_right, in_cases, found_in, no_test, use_one, in_read}
 
 -- ---- paths
 
@@ -54,16 +53,7 @@ placed_at cells (name ∷ path) at x e =
           reached = (y, one.0, refl, rest.reached);
         }
 
-pub of_key_to : (cells : Cells) (root : ℕ) (path : List (List ℕ)) (listing : ℕ → List ℕ) (o : ℕ)
-    → In (of_key cells root path listing) o → (x : ℕ) × IsPlaced cells root path x × In (listing x) o
-of_key_to cells root path listing o h = go (key_place cells path root) refl h
-  where
-    go : (k : Option ℕ) → key_place cells path root ≡ k → In (option_map_or listing k []) o
-        → (x : ℕ) × IsPlaced cells root path x × In (listing x) o
-    go None e h = absurd h
-    go (Some x) e h = (x, placed_at cells path root x e, h)
-
--- ---- the walk's uses are owned
+-- ---- the walk's uses
 
 pub plain_node : (root : Bool) (cells : Cells) (at : ℕ) (n : KeyNode) → reading (node_at root) cells at ≡ Ok n
     → reading key_node_at cells at ≡ Ok n
@@ -207,171 +197,3 @@ entries_plain cells at =
     go : (list : SubkeyList) (b : Bool) → IsPlain (cond b (leaves_checks cells list.offsets) [])
     go list true o h = leaves_plain cells list.offsets o h
     go list false o h = h
-
--- a value's use
-pub values_to : (cells : Cells) (names : List (List ℕ)) (offsets : List ℕ) (o : ℕ) (s : Bool)
-    → In (values_in_turn cells names offsets) (uses o s) → (v : ℕ) × In offsets v × In (value_checks cells [] v)
-    (uses o s)
-values_to cells names [] o s h = absurd h
-values_to cells names (at ∷ rest) o s h =
-    let more = names ++ names_of (λ (v : KeyValue). v.name) (reading key_value_at cells at) in
-    ⊎_elim (λ l. (at, inl refl, value_told cells names [] at o s l))
-    (λ r. let p = values_to cells more rest o s r in (p.0, inr p.1, p.2))
-    (in_cases (value_checks cells names at) (values_in_turn cells more rest) (uses o s) h)
-
--- a child's use
-pub keys_to : (checks : List (List ℕ) → ℕ → List Check) (cells : Cells) (names : List (List ℕ)) (offsets : List ℕ)
-    (c : Check) → In (keys_in_turn checks cells names offsets) c
-    → (y : ℕ) × (told : List (List ℕ)) × In offsets y × In (checks told y) c
-keys_to checks cells names [] c h = absurd h
-keys_to checks cells names (at ∷ rest) c h =
-    let more = names ++ names_of (λ (n : KeyNode). n.name) (reading (node_at false) cells at) in
-    ⊎_elim (λ l. (at, names, inl refl, l)) (λ r. let p = keys_to checks cells more rest c r in (p.0, p.1, inr p.2, p.3))
-    (in_cases (checks names at) (keys_in_turn checks cells more rest) c h)
-
--- the key's own cell in this role
-pub here : (cells : Cells) (at o : ℕ) (s : Bool) (role : Role) → HasRole cells at role o
-    → (s ≡ true → IsSecurity role) → IsBelow cells at o s
-here cells at o s role has sec =
-    record { path = []; role = role; owns = record { at = at; reached = refl; has = has }; security = sec }
-
--- not as security
-not_so : (cs : List Check) (o : ℕ) (s : Bool) (P : Type 0) → IsPlain cs → In cs (uses o s) → s ≡ true → P
-not_so cs o s P plain h e = absurd (plain o (subst (λ (b : Bool). In cs (uses o b)) e h))
-
-values_below : (cells : Cells) (n : KeyNode) (at o : ℕ) (s : Bool) → reading key_node_at cells at ≡ Ok n
-    → In (values_checks cells n) (uses o s) → IsBelow cells at o s
-unfolding values_checks value_places value_list_at
-values_below cells n at o s read h = go (n.value_count == 0) refl h
-  where
-    r : Result (List ℕ) HiveFaultKind
-    r = reading (offsets_in n.value_count) cells n.value_list
-
-    go : (b : Bool) → (n.value_count == 0) ≡ b
-        → In (cond b [] (use_as false (offsets_in n.value_count) cells n.value_list
-        ++ below_of (reading (offsets_in n.value_count) cells n.value_list) (values_in_turn cells []))) (uses o s)
-        → IsBelow cells at o s
-    go true z h = absurd h
-    go false z h = ⊎_elim
-        (λ l. let u = use_one false (offsets_in n.value_count) cells n.value_list o s l in
-        here cells at o s value_list
-        (subst (λ (xs : List ℕ). In xs o)
-        (sym (of_node_is cells at n (λ k. if k.value_count == 0 then [] else k.value_list ∷ []) read
-        ∙ ap (λ (c : Bool). cond c [] (n.value_list ∷ [])) z)) (inl u.0))
-        (λ e. absurd (let d = u.1 in cc)))
-        (λ below. let x = in_read (reading (offsets_in n.value_count) cells n.value_list) (values_in_turn cells [])
-        (uses o s) below in
-        let v = values_to cells [] x.0 o s x.2 in
-        here cells at o s (value (value_name cells v.0))
-        (record {
-          place = v.0;
-          listed = subst (λ (xs : List ℕ). In xs v.0)
-              (sym (of_node_is cells at n
-              (λ k. if k.value_count == 0 then [] else of_read
-              (reading (offsets_in k.value_count) cells k.value_list) (λ offsets. offsets)) read
-              ∙ ap (λ (c : Bool). cond c []
-              (of_read (reading (offsets_in n.value_count) cells n.value_list) (λ offsets. offsets))) z
-              ∙ ap (λ (q : Result (List ℕ) HiveFaultKind). of_read q (λ offsets. offsets)) x.1)) v.1;
-          named = refl;
-          used = used_from (value_checks cells [] v.0) o s v.2;
-        })
-        (λ e. not_so (value_checks cells [] v.0) o s ⊥ (value_plain cells [] v.0) v.2 e))
-        (in_cases (use_as false (offsets_in n.value_count) cells n.value_list)
-        (below_of (reading (offsets_in n.value_count) cells n.value_list) (values_in_turn cells [])) (uses o s) h)
-
--- what a child has, its parent has below it
-pub deeper : (cells : Cells) (at y o : ℕ) (s : Bool) → In (child_places cells at) y → IsBelow cells y o s
-    → IsBelow cells at o s
-deeper cells at y o s h b = record {
-  path = node_name cells y ∷ b.path;
-  role = b.role;
-  owns = record { at = b.owns.at; reached = (y, h, refl, b.owns.reached); has = b.owns.has };
-  security = b.security;
-}
-
-children_below : (checks : List (List ℕ) → ℕ → List Check) (cells : Cells) (n : KeyNode) (at o : ℕ) (s : Bool)
-    → ((told : List (List ℕ)) (y : ℕ) → In (checks told y) (uses o s) → IsBelow cells y o s)
-    → reading key_node_at cells at ≡ Ok n → In (children_checks checks cells n at) (uses o s) → IsBelow cells at o s
-unfolding children_checks child_places list_cells_at
-children_below checks cells n at o s each read h = go (n.child_count == 0) refl h
-  where
-    inside : List ℕ → List Check
-    inside offsets =
-        tests at (failing (not (length offsets == n.child_count)) Count) ∷ keys_in_turn checks cells [] offsets
-
-    below : (n.child_count == 0) ≡ false → (x : List ℕ) → entries_at cells n.child_list ≡ Ok x
-        → In (tests at (failing (not (length x == n.child_count)) Count) ∷ keys_in_turn checks cells [] x) (uses o s)
-        → IsBelow cells at o s
-    below z x is (inl e) = absurd (no_test at o (failing (not (length x == n.child_count)) Count) s e)
-    below z x is (inr h) =
-        let k = keys_to checks cells [] x (uses o s) h in
-        deeper cells at k.0 o s
-        (subst (λ (xs : List ℕ). In xs k.0)
-        (sym (of_node_is cells at n
-        (λ m. if m.child_count == 0 then [] else of_read (entries_at cells m.child_list) (λ offsets. offsets)) read
-        ∙ ap (λ (c : Bool). cond c [] (of_read (entries_at cells n.child_list) (λ offsets. offsets))) z
-        ∙ ap (λ (q : Result (List ℕ) HiveFaultKind). of_read q (λ offsets. offsets)) is)) k.2)
-        (each k.1 k.0 k.3)
-
-    go : (b : Bool) → (n.child_count == 0) ≡ b
-        → In (cond b [] (entries_checks cells n.child_list
-        ++ below_of (entries_at cells n.child_list)
-        (λ offsets. tests at (failing (not (length offsets == n.child_count)) Count)
-        ∷ keys_in_turn checks cells [] offsets))) (uses o s)
-        → IsBelow cells at o s
-    go true z h = absurd h
-    go false z h = ⊎_elim
-        (λ l. here cells at o s lists
-        (subst (λ (xs : List ℕ). In xs o)
-        (sym (of_node_is cells at n
-        (λ m. if m.child_count == 0 then [] else used_in (entries_checks cells m.child_list)) read
-        ∙ ap (λ (c : Bool). cond c [] (used_in (entries_checks cells n.child_list))) z))
-        (used_from (entries_checks cells n.child_list) o s l))
-        (λ e. not_so (entries_checks cells n.child_list) o s ⊥ (entries_plain cells n.child_list) l e))
-        (λ r. let x = in_read (entries_at cells n.child_list)
-        (λ offsets. tests at (failing (not (length offsets == n.child_count)) Count)
-        ∷ keys_in_turn checks cells [] offsets) (uses o s) r in below z x.0 x.1 x.2)
-        (in_cases (entries_checks cells n.child_list)
-        (below_of (entries_at cells n.child_list)
-        (λ offsets. tests at (failing (not (length offsets == n.child_count)) Count)
-        ∷ keys_in_turn checks cells [] offsets)) (uses o s) h)
-
-pub walk_below : (fuel : ℕ) (cells : Cells) (root : Bool) (names : List (List ℕ)) (at o : ℕ) (s : Bool)
-    → In (key_checks fuel cells root names at) (uses o s) → IsBelow cells at o s
-unfolding key_checks class_cell_at security_cell_at
-walk_below zero cells root names at o s (inl e) = absurd (no_test at o (Some TooDeep) s e)
-walk_below zero cells root names at o s (inr h) = absurd h
-walk_below (suc left) cells root names at o s h = ⊎_elim
-    (λ l. let u = use_one false (node_at root) cells at o s l in
-    here cells at o s node u.0 (λ e. absurd (let d = u.1 in cc)))
-    (λ r. let x = in_read (reading (node_at root) cells at) inside (uses o s) r in
-    go (λ told y u. walk_below left cells false told y o s u) x.0 (plain_node root cells at x.0 x.1) x.2)
-    (in_cases (use_as false (node_at root) cells at) (below_of (reading (node_at root) cells at) inside) (uses o s) h)
-  where
-    checks : List (List ℕ) → ℕ → List Check
-    checks = key_checks left cells false
-
-    inside : KeyNode → List Check
-    inside n = name_check names at n.name ∷ below_node (key_checks left cells false) cells n at
-
-    go : ((told : List (List ℕ)) (y : ℕ) → In (key_checks left cells false told y) (uses o s) → IsBelow cells y o s)
-        → (n : KeyNode) → reading key_node_at cells at ≡ Ok n → In (inside n) (uses o s) → IsBelow cells at o s
-    go deep n read (inl e) = absurd (no_test at o (failing (list_any (folds_same n.name) names) DoubleName) s e)
-    go deep n read (inr h) = ⊎_elim
-        (λ c. here cells at o s class
-        (subst (λ (xs : List ℕ). In xs o) (sym (of_node_is cells at n (λ m. used_in (class_checks cells m)) read))
-        (used_from (class_checks cells n) o s c))
-        (λ e. not_so (class_checks cells n) o s ⊥ (class_plain cells n) c e))
-        (λ h2. ⊎_elim
-        (λ c. here cells at o s security
-        (subst (λ (xs : List ℕ). In xs o)
-        (sym (of_node_is cells at n (λ m. used_in (security_checks cells m)) read))
-        (used_from (security_checks cells n) o s c)) (λ e. tt))
-        (λ h3. ⊎_elim (values_below cells n at o s read)
-        (children_below (key_checks left cells false) cells n at o s deep read)
-        (in_cases (values_checks cells n) (children_checks (key_checks left cells false) cells n at) (uses o s) h3))
-        (in_cases (security_checks cells n)
-        (values_checks cells n ++ children_checks (key_checks left cells false) cells n at) (uses o s) h2))
-        (in_cases (class_checks cells n)
-        (security_checks cells n ++ (values_checks cells n
-        ++ children_checks (key_checks left cells false) cells n at)) (uses o s) h)

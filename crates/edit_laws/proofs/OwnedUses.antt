@@ -13,7 +13,6 @@ use Rattle.edit_laws.specs.Relists.{IsSecurityCell}
 use Rattle.edit_laws.proofs.Ins.{in_left, in_right, in_cases, in_flat, in_flat_from}
 use Rattle.edit_laws.proofs.Pairs.{in_map, in_map_from}
 use Rattle.edit_laws.proofs.Wellformed.{sound_hive}
-use Rattle.edit_laws.proofs.Around.{hive_uses}
 use Rattle.edit_laws.specs.Rewrites.{is_secure}
 
 pub plain_is : (r : Role) → (IsSecurity r → ⊥) → is_secure r ≡ false
@@ -155,7 +154,7 @@ use_owned (suc left) cells at u h = ⊎_elim
 
 -- a security cell of the tree is used so
 pub secure_there : (b : Cells) (root : ℕ) (t : Tree) (o : ℕ) → IsWellFormed b root t → IsSecurityCell b root o
-    → In (hive_uses b root) (o, true)
+    → In (tree_uses 512 b root) (o, true)
 secure_there b root t o well s =
     owned_use 512 b s.path root security o ((sound_hive b root t well).shallow s.path s.key s.reached)
     (record { at = s.key; reached = s.reached; has = s.uses })

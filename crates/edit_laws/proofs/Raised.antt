@@ -1,6 +1,6 @@
 -- A node tells greater lengths: the tree stands as it stood, and what was owned is owned.
 use Rattle.std.proofs.Common.{◌≡◌, ℕ, suc, ◌-◌, Bool, true, false, cond, List, [], ◌∷◌, ◌++◌, length, refl, sym, ◌∙◌, ap, subst, inl, inr, ⊎_elim, Some, Result, Ok}
-use Rattle.std.specs.Prelude.{◌⊎◌, MatchBool, ◌==◌, Contains}
+use Rattle.std.specs.Prelude.{◌⊎◌, MatchBool, ◌==◌}
 use Rattle.std.proofs.lemmas.Bool.{cases_eq}
 use Rattle.nt_bytes.specs.declared.fault.HiveFaultKind.{HiveFaultKind}
 use Rattle.hive_model.specs.Bins.{Cells}
@@ -8,11 +8,11 @@ use Rattle.hive_model.specs.Forms.{◌>>=◌}
 use Rattle.hive_model.specs.KeyNode.{KeyNode, key_node_at}
 use Rattle.hive_model.specs.Lists.{offsets_in}
 use Rattle.hive_model.specs.Tree.{Tree, Head, Item, key, head}
-use Rattle.hive_model.specs.Edit.{Step, of_items, at_key, after_step}
+use Rattle.hive_model.specs.Edit.{Step, of_items, at_key}
 use Rattle.hive_model.specs.Walk.{reading}
-use Rattle.hive_model.specs.Footprint.{of_read, child_places, key_place, step_cells, parent_of}
+use Rattle.hive_model.specs.Footprint.{of_read, child_places, key_place, parent_of}
 use Rattle.hive_model.specs.Stands.{items_at, values_of, Stands, KeyStands, IsWellFormed}
-use Rattle.edit_laws.specs.Owned.{Role, node, class, security, value_list, value, lists, In, node_name, value_name, value_places, value_list_at, HasRole, Reaches, Owns, Folds, Extends, IsNode, IsSecurity}
+use Rattle.edit_laws.specs.Owned.{Role, node, class, security, value_list, value, lists, In, node_name, value_name, value_places, value_list_at, HasRole, Reaches, Owns, Folds, Extends, IsSecurity, IsMatched}
 use Rattle.edit_laws.specs.Framed.{IsUnheld}
 use Rattle.edit_laws.specs.Parents.{NamesParents}
 use Rattle.edit_laws.specs.Pairs.{Pairwise}
@@ -36,7 +36,6 @@ use Rattle.edit_laws.proofs.Column.{name_kept}
 use Rattle.edit_laws.proofs.InOrder.{at_key_itself}
 use Rattle.edit_laws.proofs.ParentsKept.{named_through}
 use Rattle.edit_laws.proofs.Rewritten.{elsewhere, still_well}
-use Rattle.edit_laws.proofs.StepBack.{step_back}
 use Rattle.edit_laws.proofs.ValueSteps.{WereValues, levels_left, value_rewritten}
 
 -- a node's list of values, or none
@@ -89,8 +88,8 @@ module _ (b c : Cells) (root : ℕ) (t : Tree) (p : List (List ℕ)) (x : ℕ) (
     -- ---- the key itself
 
     -- a cell in another role than a node is another
-    apart : (q : List (List ℕ)) (r : Role) (o : ℕ) → Owns b root q r o → (IsNode r → ⊥) → o ≡ x → ⊥
-    apart q r o own other e = ⊎_elim (λ (s : (q ≡ p) × (r ≡ node)). other (subst IsNode (sym s.1) tt))
+    apart : (q : List (List ℕ)) (r : Role) (o : ℕ) → Owns b root q r o → (r ≡ node → ⊥) → o ≡ x → ⊥
+    apart q r o own other e = ⊎_elim (λ (s : (q ≡ p) × (r ≡ node)). other s.1)
         (λ (s : IsSecurity r × IsSecurity node). s.1)
         ((are_once b root t well).one q p r node o own (record { at = x; reached = h; has = sym e }))
 
@@ -99,7 +98,7 @@ module _ (b c : Cells) (root : ℕ) (t : Tree) (p : List (List ℕ)) (x : ℕ) (
     there_same q r o own differs =
         let held = (are_held b root t well).held q r o own in g.others o held.0 held.1 differs ∙ sym held.1
 
-    here : (r : Role) (o : ℕ) → HasRole b x r o → (IsNode r → ⊥) → c.payload o ≡ b.payload o
+    here : (r : Role) (o : ℕ) → HasRole b x r o → (r ≡ node → ⊥) → c.payload o ≡ b.payload o
     here r o has other =
         let own : Owns b root p r o = record { at = x; reached = h; has = has } in
         there_same p r o own (apart p r o own other)
@@ -135,16 +134,16 @@ module _ (b c : Cells) (root : ℕ) (t : Tree) (p : List (List ℕ)) (x : ℕ) (
     values_there = record {
       count = ap (λ (n : KeyNode). n.value_count) g.same;
       list = ap (λ (n : KeyNode). n.value_list) g.same;
-      list_cell = λ o i. here value_list o i (λ z. z);
+      list_cell = λ o i. here value_list o i (λ z. cc);
       cells = λ v i o used. here (value (value_name b v)) o
-          (record { place = v; listed = i; named = refl; used = used }) (λ z. z);
+          (record { place = v; listed = i; named = refl; used = used }) (λ z. cc);
     }
 
     children_there : AreChildrenKept b c x g.old g.new
     children_there = record {
       count = ap (λ (n : KeyNode). n.child_count) g.same;
       list = ap (λ (n : KeyNode). n.child_list) g.same;
-      list_cells = λ o i. here lists o i (λ z. z);
+      list_cells = λ o i. here lists o i (λ z. cc);
     }
 
     -- ---- what is owned
@@ -273,11 +272,11 @@ module _ (b c : Cells) (root : ℕ) (t : Tree) (p : List (List ℕ)) (x : ℕ) (
 
 -- where a step is done, and then a node that it names tells greater lengths, the step is done
 pub raised_done : (b m c : Cells) (root : ℕ) (t u : Tree) (step : Step) (path : List (List ℕ)) (x : ℕ)
-    → IsWellFormed b root t → after_step step t ≡ Ok u → IsDone b m root t u step → key_place m path root ≡ Some x
-    → IsNamedPath step path → RaisesLengths m c x → IsDone b c root t u step
-raised_done b m c root t u step path x well ok done at n g = record {
+    → IsDone b m root t u step → key_place m path root ≡ Some x → IsNamedPath step path → RaisesLengths m c x
+    → IsDone b c root t u step
+raised_done b m c root t u step path x done at n g = record {
+  version = g.version ∙ done.version;
   stands = raised_well m c root u w.stored x done.stands w.reached g;
-  leaves = record { version = g.version ∙ done.leaves.version; rest = rest };
   framed = record {
     owned = λ q r o own. done.framed.owned q r o (owned_still m c root u w.stored x done.stands w.reached g q r o own);
     rest = rest;
@@ -293,20 +292,20 @@ raised_done b m c root t u step path x well ok done at n g = record {
         (λ (e : path ≡ parent_of n.key). inr (subst (λ (l : List (List ℕ)). Folds l w.stored) e w.folds)) n.is
 
     -- the node is the step's, or was none
-    the_node : (q : List ℕ) → b.payload x ≡ Ok q → Contains (step_cells b root t step) x
+    the_node : (q : List ℕ) → b.payload x ≡ Ok q → IsMatched b root t step x
     the_node q held = ⊎_elim
-        (λ (own : Owns b root w.stored node x). step_back b root t u step x (sound_hive b root t well) ok (record {
+        (λ (own : Owns b root w.stored node x). record {
           path = w.stored;
           role = node;
           owns = own;
-          matches = inl (record { key = n.key; named = n.named; folds = folds; node = tt });
-        }))
-        (λ (i : IsUnheld b x ⊎ Contains (step_cells b root t step) x). ⊎_elim (λ (none : IsUnheld b x). absurd (none q held))
+          matches = inl (record { key = n.key; named = n.named; folds = folds; is = refl });
+        })
+        (λ (i : IsUnheld b x ⊎ IsMatched b root t step x). ⊎_elim (λ (none : IsUnheld b x). absurd (none q held))
         (λ j. j) i)
         (done.framed.owned w.stored node x (record { at = x; reached = w.reached; has = refl }))
 
-    rest : (o : ℕ) (q : List ℕ) → b.payload o ≡ Ok q → (Contains (step_cells b root t step) o → ⊥) → c.payload o ≡ Ok q
+    rest : (o : ℕ) (q : List ℕ) → b.payload o ≡ Ok q → (IsMatched b root t step o → ⊥) → c.payload o ≡ Ok q
     rest o q held out = ⊎_elim
-        (λ (e : o ≡ x). absurd (out (subst (Contains (step_cells b root t step)) (sym e)
+        (λ (e : o ≡ x). absurd (out (subst (IsMatched b root t step) (sym e)
         (the_node q (subst (λ (z : ℕ). b.payload z ≡ Ok q) e held)))))
         (λ (e : o ≡ x → ⊥). g.others o q (done.framed.rest o q held out) e) (cases_eq o x)

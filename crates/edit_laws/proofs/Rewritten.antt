@@ -1,22 +1,21 @@
 -- A rewritten key, carried up its path: the cells are well-formed with the tree in which it changed, and the step leaves
 -- all cells but its own.
 use Rattle.std.proofs.Common.{◌≡◌, ℕ, ◌+◌, ◌<◌, ◌≤◌, Bool, true, List, [], ◌∷◌, ◌++◌, length, refl, sym, ◌∙◌, ap, subst, inl, inr, ⊎_elim, Ok, arith}
-use Rattle.std.specs.Prelude.{◌⊎◌, Contains}
+use Rattle.std.specs.Prelude.{◌⊎◌}
 use Rattle.std.proofs.lemmas.Bool.{cases_eq}
 use Rattle.nt_bytes.specs.Folding.{folds_same}
 use Rattle.hive_model.specs.Bins.{Cells}
 use Rattle.hive_model.specs.Tree.{Tree, key, head}
-use Rattle.hive_model.specs.Edit.{Step, renamed, at_key, after_step}
+use Rattle.hive_model.specs.Edit.{Step, renamed, at_key}
 use Rattle.hive_model.specs.Valid.{levels}
 use Rattle.hive_model.specs.Walk.{all_checks, AreUsedOnce}
-use Rattle.hive_model.specs.Footprint.{step_cells, child_places}
+use Rattle.hive_model.specs.Footprint.{child_places}
 use Rattle.hive_model.specs.Stands.{Stands, HasApartNames, IsWellFormed}
 use Rattle.edit_laws.specs.Owned.{Role, node, security, In, node_name, HasRole, Reaches, Owns, Folds, Extends, IsSecurity, IsMatched}
 use Rattle.edit_laws.specs.Framed.{IsUnheld}
 use Rattle.edit_laws.specs.Sound.{AllSound}
 use Rattle.edit_laws.specs.Uses.{Agree, Once, tree_uses}
 use Rattle.edit_laws.specs.Done.{IsDone}
-use Rattle.edit_laws.proofs.StepBack.{step_back}
 use Rattle.edit_laws.proofs.Wellformed.{sound_hive, tree_name}
 use Rattle.edit_laws.proofs.Back.{sound_below}
 use Rattle.edit_laws.proofs.Held.{are_held}
@@ -245,17 +244,17 @@ still_well b c root t u path p x left old counted well f h deep r =
 
 -- A step rewrites a key of well-formed cells, and names what it changes: it is done.
 pub rewritten : (b c : Cells) (root : ℕ) (t u : Tree) (step : Step) (path p : List (List ℕ)) (x left : ℕ)
-    (old : List (ℕ × Bool)) (counted : List ℕ) → IsWellFormed b root t → after_step step t ≡ Ok u → Folds path p
+    (old : List (ℕ × Bool)) (counted : List ℕ) → IsWellFormed b root t → Folds path p
     → Reaches b root p x → length p + left ≡ 512 → IsRewritten b c root t u path x left old counted
     → IsMatched b root t step x → ((v : ℕ × Bool) → In old v → IsMatched b root t step v.0)
     → ((o : ℕ) → In counted o → IsMatched b root t step o) → IsDone b c root t u step
-rewritten b c root t u step path p x left old counted well ok f h deep r key_named old_named count_named =
+rewritten b c root t u step path p x left old counted well f h deep r key_named old_named count_named =
     record {
+      version = w.version;
       stands = stands;
-      leaves = record { version = w.version; rest = rest };
       framed = record {
         owned = λ q s o own. owned_through b c path p q root x left s o
-            (λ s v. IsUnheld b v ⊎ Contains (step_cells b root t step) v) (sound_hive b root t well).all f h
+            (λ s v. IsUnheld b v ⊎ IsMatched b root t step v) (sound_hive b root t well).all f h
             (elsewhere b c root t r.key path p x left old r.new counted well f h w) w.name there
             (let s = (sound_hive c root u stands).shallow q own.at own.reached in let e = above_is p left in
             omega (arith, s, e, deep)) own;
@@ -271,17 +270,14 @@ rewritten b c root t u step path p x left old counted well ok f h deep r key_nam
     stands : IsWellFormed c root u
     stands = still_well b c root t u path p x left old counted well f h deep r
 
-    back : (o : ℕ) → IsMatched b root t step o → Contains (step_cells b root t step) o
-    back o m = step_back b root t u step o (sound_hive b root t well) ok m
-
-    rest : (o : ℕ) (q : List ℕ) → b.payload o ≡ Ok q → (Contains (step_cells b root t step) o → ⊥) → c.payload o ≡ Ok q
-    rest o q held out = w.others o q held (λ e. out (back o (subst (IsMatched b root t step) (sym e) key_named)))
-        (λ s i. out (back o (old_named (o, s) i))) (λ i. out (back o (count_named o i)))
+    rest : (o : ℕ) (q : List ℕ) → b.payload o ≡ Ok q → (IsMatched b root t step o → ⊥) → c.payload o ≡ Ok q
+    rest o q held out = w.others o q held (λ e. out (subst (IsMatched b root t step) (sym e) key_named))
+        (λ s i. out (old_named (o, s) i)) (λ i. out (count_named o i))
 
     there : (m : List (List ℕ)) (s : Role) (v : ℕ) → length m < left → Owns c x m s v
-        → Owns b x m s v ⊎ (IsUnheld b v ⊎ Contains (step_cells b root t step) v)
+        → Owns b x m s v ⊎ (IsUnheld b v ⊎ IsMatched b root t step v)
     there m s v lt own = ⊎_elim (λ i. inl i)
-        (λ i. ⊎_elim (λ j. inr (inr (back v (old_named (v, is_secure s) j))))
-        (λ j. ⊎_elim (λ n. inr (inl n)) (λ n. inr (inr (back v (count_named v n.1)))) j)
+        (λ i. ⊎_elim (λ j. inr (inr (old_named (v, is_secure s) j)))
+        (λ j. ⊎_elim (λ n. inr (inl n)) (λ n. inr (inr (count_named v n.1))) j)
         (w.used (v, is_secure s) i))
         (w.owned m s v lt own)

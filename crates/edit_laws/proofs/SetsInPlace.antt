@@ -1,7 +1,7 @@
 -- A value that is there is set where it stands: its size, place and type are written over, and its data are in it or
 -- in one cell.
 use Rattle.std.proofs.Common.{◌≡◌, ℕ, ◌<◌, ◌^◌, true, false, List, [], ◌∷◌, ◌++◌, sym, ◌∙◌, ap, subst, inl, ⊎_elim, Some, Result, Ok}
-use Rattle.std.specs.Prelude.{◌⊎◌, find}
+use Rattle.std.specs.Prelude.{find}
 use Rattle.nt_bytes.specs.Folding.{folds_same}
 use Rattle.nt_bytes.specs.declared.fault.HiveFaultKind.{HiveFaultKind}
 use Rattle.hive_model.specs.Bins.{Cells}

@@ -174,14 +174,14 @@ value_rewritten b c root t (key hd ts) path p x front gone put back come f well 
 
 -- a step that names the values of which one went is done
 value_done : (b c : Cells) (root : ℕ) (t u v : Tree) (step : Step) (path p : List (List ℕ)) (name : List ℕ) (x : ℕ)
-    (front gone back : List ℕ) → IsWellFormed b root t → after_step step t ≡ Ok u → v ≡ u
+    (front gone back : List ℕ) → IsWellFormed b root t → v ≡ u
     → NamesValues t step path name → Folds path p → Reaches b root p x → value_places b x ≡ front ++ (gone ++ back)
     → ((w : ℕ) → In gone w → folds_same name (value_name b w) ≡ true)
     → IsRewritten b c root t v path x (suc (511 - length p)) (plain (value_list_at b x ++ cells_of_values b gone)) []
     → IsDone b c root t u step
-value_done b c root t u v step path p name x front gone back well ok result names folds reached listed each r =
+value_done b c root t u v step path p name x front gone back well result names folds reached listed each r =
     rewritten b c root t u step path p x (suc (511 - length p)) (plain (value_list_at b x ++ cells_of_values b gone)) []
-    well ok folds reached (levels_left b root t p x well reached)
+    well folds reached (levels_left b root t p x well reached)
     (subst (λ (z : Tree). IsRewritten b c root t z path x (suc (511 - length p))
     (plain (value_list_at b x ++ cells_of_values b gone)) []) result r)
     (matched node x refl (names.key p folds))
@@ -215,9 +215,9 @@ at_place b root t path x well at =
 set_names : (t : Tree) (path : List (List ℕ)) (name : List ℕ) (kind : ℕ) (bytes : List ℕ)
     → NamesValues t (set_value path name kind bytes) path name
 set_names t path name kind bytes = record {
-  key = λ p f. inl (record { key = path; named = inl refl; folds = inl f; node = tt });
-  list = λ p f. inr (f, tt);
-  value_of = λ p n f e. inr (f, e);
+  key = λ p f. inl (record { key = path; named = inl refl; folds = inl f; is = refl });
+  list = λ p f. inr (f, inl refl);
+  value_of = λ p n f e. inr (f, inr (n, refl, e));
 }
 
 set_result : (path : List (List ℕ)) (name : List ℕ) (kind : ℕ) (bytes : List ℕ) (t u : Tree)
@@ -269,7 +269,7 @@ pub a_value_set : (b c : Cells) (root : ℕ) (t u : Tree) (path : List (List ℕ
 a_value_set b c root t u path name kind bytes x v front put back well ok at named g =
     let k = at_place b root t path x well at in
     value_done b c root t u (at_key path (of_items (with_item name kind bytes)) t) (set_value path name kind bytes) path
-    k.placed.stored name x front (v ∷ []) back well ok (set_result path name kind bytes t u ok)
+    k.placed.stored name x front (v ∷ []) back well (set_result path name kind bytes t u ok)
     (set_names t path name kind bytes) k.placed.folds k.placed.reached g.listed (of_one b name v named)
     (value_set b c root t k.there.tree path k.placed.stored x v front put back name kind bytes well k.placed.reached
     k.there.found k.there.stands k.there.names named g)
@@ -282,7 +282,7 @@ pub a_new_value_set : (b c : Cells) (root : ℕ) (t u : Tree) (path : List (List
     → IsDone b c root t u (set_value path name kind bytes)
 a_new_value_set b c root t u path name kind bytes x front put well ok at none g =
     value_done b c root t u (at_key path (of_items (with_item name kind bytes)) t) (set_value path name kind bytes) path
-    k.placed.stored name x front [] [] well ok (set_result path name kind bytes t u ok)
+    k.placed.stored name x front [] [] well (set_result path name kind bytes t u ok)
     (set_names t path name kind bytes) k.placed.folds k.placed.reached g.listed (λ z i. absurd i)
     (value_rewritten b c root t k.there.tree path k.placed.stored x front [] put [] (item name kind bytes ∷ [])
     (with_item name kind bytes) well k.placed.reached k.there.found k.there.stands k.there.names g
@@ -320,13 +320,13 @@ pub a_value_deleted : (b c : Cells) (root : ℕ) (t u : Tree) (path : List (List
     → ChangesValues b c x front (v ∷ []) [] back [] → IsDone b c root t u (delete_value path name)
 a_value_deleted b c root t u path name x v front back well ok at named g =
     value_done b c root t u (at_key path (of_items (without_first (is_item name))) t) (delete_value path name) path
-    k.placed.stored name x front (v ∷ []) back well ok
+    k.placed.stored name x front (v ∷ []) back well
     (unless_ok ((is_none (find_key path t), no_key) ∷ (not (has_item path name t), no_value) ∷ [])
     (at_key path (of_items (without_first (is_item name))) t) u ok)
     (record {
-      key = λ p f. inl (record { key = path; named = inl refl; folds = inl f; node = tt });
-      list = λ p f. inr (f, tt);
-      value_of = λ p n f e. inr (f, e);
+      key = λ p f. inl (record { key = path; named = inl refl; folds = inl f; is = refl });
+      list = λ p f. inr (f, inl refl);
+      value_of = λ p n f e. inr (f, inr (n, refl, e));
     }) k.placed.folds k.placed.reached g.listed (of_one b name v named)
     (value_rewritten b c root t k.there.tree path k.placed.stored x front (v ∷ []) [] back []
     (without_first (is_item name)) well k.placed.reached k.there.found k.there.stands k.there.names g

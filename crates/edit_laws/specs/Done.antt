@@ -4,19 +4,19 @@ use Rattle.hive_model.specs.Bins.{Cells}
 use Rattle.hive_model.specs.Tree.{Tree, Item}
 use Rattle.hive_model.specs.Edit.{Step, after_step}
 use Rattle.hive_model.specs.Stands.{IsWellFormed}
-use Rattle.edit_laws.specs.Framed.{LeavesOthers, IsFramed}
+use Rattle.edit_laws.specs.Framed.{IsFramed}
 use Rattle.edit_laws.specs.Parents.{NamesParents}
 
 -- a value of this name, type and data
 abbrev pub item : List ℕ → ℕ → List ℕ → Item
 item name kind bytes = record { name = name; kind = kind; bytes = bytes }
 
--- From cells b to cells c a step is done that makes the one tree of the other: the cells are well-formed with the tree after it, those
--- outside the step's own are as they were, and what is owned after it was owned, is new, or is among the step's. Where each key below
--- another named the node of that one as its parent, each does.
+-- From cells b to cells c, of one version, a step is done that makes the one tree of the other: the cells are well-formed with the tree
+-- after it, those that the step doesn't name are as they were, and what is owned after it was owned, is new, or is among those that it
+-- names. Where each key below another named the node of that one as its parent, each does.
 pub record IsDone (b c : Cells) (root : ℕ) (t u : Tree) (step : Step) : Type 0 where
+  pub version : c.version ≡ b.version
   pub stands : IsWellFormed c root u
-  pub leaves : LeavesOthers b c root t step
   pub framed : IsFramed b c root t step
   pub parents : NamesParents b root → NamesParents c root
 

@@ -1,26 +1,20 @@
 -- What a step leaves where it was, and what steps in order leave (this project's own).
-use Rattle.std.specs.Prelude.{◌≡◌, ◌⊎◌, ℕ, List, [], ◌∷◌, Contains, Ok}
+use Rattle.std.specs.Prelude.{◌≡◌, ◌⊎◌, ℕ, List, [], ◌∷◌, Ok}
 use Rattle.hive_model.specs.Bins.{Cells}
 use Rattle.hive_model.specs.Tree.{Tree}
 use Rattle.hive_model.specs.Edit.{Step, after_step}
-use Rattle.hive_model.specs.Footprint.{step_cells}
-use Rattle.edit_laws.specs.Owned.{Role, Owns}
+use Rattle.edit_laws.specs.Owned.{Role, Owns, IsMatched}
 
 -- no allocated cell begins there
 abbrev pub IsUnheld : Cells → ℕ → Type 0
 IsUnheld b o = (q : List ℕ) → b.payload o ≡ Ok q → ⊥
 
--- cells of one version; those that are allocated before a step on this tree, and are not among its own, are the same after it
-pub record LeavesOthers (b c : Cells) (root : ℕ) (t : Tree) (step : Step) : Type 0 where
-  pub version : c.version ≡ b.version
-  pub rest : (o : ℕ) (q : List ℕ) → b.payload o ≡ Ok q → (Contains (step_cells b root t step) o → ⊥) → c.payload o ≡ Ok q
-
--- A step from cells b to cells c changes only its own cells (rest), and what is owned after it was owned, or was no cell, or is
--- among its cells (owned).
+-- A step from cells b to cells c changes no allocated cell but those that it names (rest), and what is owned after it was owned, or
+-- was no cell, or is among those (owned).
 pub record IsFramed (b c : Cells) (root : ℕ) (t : Tree) (step : Step) : Type 0 where
   pub owned : (path : List (List ℕ)) (role : Role) (o : ℕ) → Owns c root path role o
-      → Owns b root path role o ⊎ (IsUnheld b o ⊎ Contains (step_cells b root t step) o)
-  pub rest : (o : ℕ) (q : List ℕ) → b.payload o ≡ Ok q → (Contains (step_cells b root t step) o → ⊥) → c.payload o ≡ Ok q
+      → Owns b root path role o ⊎ (IsUnheld b o ⊎ IsMatched b root t step o)
+  pub rest : (o : ℕ) (q : List ℕ) → b.payload o ≡ Ok q → (IsMatched b root t step o → ⊥) → c.payload o ≡ Ok q
 
 -- the steps in order, none refused, each framed by the cells that it is made on
 abbrev pub Edits : ℕ → Cells → Tree → List Step → Cells → Type 0

@@ -5,8 +5,8 @@ use Rattle.hive_model.specs.Bins.{Cells}
 use Rattle.hive_model.specs.KeyNode.{KeyNode, key_node_at}
 use Rattle.hive_model.specs.Edit.{Step}
 use Rattle.hive_model.specs.Walk.{reading}
-use Rattle.hive_model.specs.Footprint.{named_keys, parent_of}
-use Rattle.edit_laws.specs.Owned.{In}
+use Rattle.hive_model.specs.Footprint.{parent_of}
+use Rattle.hive_model.specs.Owned.{In, named_keys}
 
 -- a node with other such lengths
 abbrev pub with_lengths : KeyNode → KeyNode → KeyNode

@@ -19,9 +19,7 @@ pub use deletion::{a_key_is_taken_out, a_key_takes_its_size_along};
 pub use greatest::greater_lengths_are_told;
 pub use growth::{other_children_change_the_size, other_values_change_the_size};
 pub use keys::{a_child_is_added, a_child_is_copied, a_key_is_deleted, a_key_is_made};
-pub use outside::{
-    a_step_has_the_cells_that_it_names, steps_are_done_in_order, steps_leave_other_cells,
-};
+pub use outside::{steps_are_done_in_order, steps_leave_other_cells};
 pub use owners::{each_cell_has_one_owner, owned_cells_are_allocated};
 pub use rooms::{a_step_without_room_is_strained, steps_grow_within_their_strain};
 pub use values::{

@@ -1,30 +1,20 @@
-//! Which cells are a step's, and what steps leave.
+//! What steps leave.
 
-ghost use Rattle.std.specs.Prelude.{◌≡◌, ℕ, List, Contains, Ok};
+ghost use Rattle.std.specs.Prelude.{◌≡◌, ℕ, List, Ok};
 ghost use Rattle.hive_model.specs.Bins.{Cells};
 ghost use Rattle.hive_model.specs.Tree.{Tree};
-ghost use Rattle.hive_model.specs.Edit.{Step, after_step, after_steps};
-ghost use Rattle.hive_model.specs.Footprint.{step_cells, IsInFootprint};
+ghost use Rattle.hive_model.specs.Edit.{Step, after_steps};
+ghost use Rattle.hive_model.specs.Owned.{IsInFootprint};
 ghost use Rattle.hive_model.specs.Stands.{IsWellFormed};
-ghost use Rattle.edit_laws.specs.Owned.{IsMatched};
 ghost use Rattle.edit_laws.specs.Framed.{Edits};
 ghost use Rattle.edit_laws.specs.Parents.{NamesParents};
-ghost use Rattle.edit_laws.specs.Sound.{IsSoundHive};
 ghost use Rattle.edit_laws.specs.Done.{AreDone};
 
 /// Steps in order, each framed by the cells that it is made on, leave each allocated cell outside their footprint where it
 /// was, with its payload. The footprint is looked up in the cells from before all steps.
 pub fn steps_leave_other_cells()
-    ensures { (a c : Cells) (root : ℕ) (t : Tree) (steps : List Step) → IsWellFormed a root t → Edits root a t steps c
+    ensures { (a c : Cells) (root : ℕ) (t : Tree) (steps : List Step) → Edits root a t steps c
         → (o : ℕ) (q : List ℕ) → a.payload o ≡ Ok q → (IsInFootprint a root t steps o → ⊥) → c.payload o ≡ Ok q }
-{}
-
-/// A cell of a step is one that a key owns and the step names, in any cells. In sound cells each that a key owns and a step
-/// names that is not refused is a cell of the step.
-pub fn a_step_has_the_cells_that_it_names()
-    ensures named { (cells : Cells) (root : ℕ) (t : Tree) (step : Step) (o : ℕ) → Contains (step_cells cells root t step) o → IsMatched cells root t step o }
-    ensures all { (cells : Cells) (root : ℕ) (t u : Tree) (step : Step) (o : ℕ) → IsSoundHive cells root → after_step step t ≡ Ok u
-        → IsMatched cells root t step o → Contains (step_cells cells root t step) o }
 {}
 
 /// Steps that are done in sequence make the tree that they make in order, which is in the cells after them, and
@@ -34,6 +24,6 @@ pub fn steps_are_done_in_order()
     ensures tree { (root : ℕ) (steps : List Step) (b c : Cells) (t u : Tree) → AreDone root b t steps c u → after_steps t steps ≡ Ok u }
     ensures stands { (root : ℕ) (steps : List Step) (b c : Cells) (t u : Tree) → IsWellFormed b root t → AreDone root b t steps c u → IsWellFormed c root u }
     ensures parents { (root : ℕ) (steps : List Step) (b c : Cells) (t u : Tree) → AreDone root b t steps c u → NamesParents b root → NamesParents c root }
-    ensures left { (b c : Cells) (root : ℕ) (t u : Tree) (steps : List Step) → IsWellFormed b root t → AreDone root b t steps c u
+    ensures left { (b c : Cells) (root : ℕ) (t u : Tree) (steps : List Step) → AreDone root b t steps c u
         → (o : ℕ) (q : List ℕ) → b.payload o ≡ Ok q → (IsInFootprint b root t steps o → ⊥) → c.payload o ≡ Ok q }
 {}

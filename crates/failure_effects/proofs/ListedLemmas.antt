@@ -9,15 +9,14 @@ use Rattle.failure_effects.specs.declared.opening.Taken.{Taken}
 use Rattle.failure_effects.specs.declared.course.Course.{Course}
 use Rattle.failure_effects.specs.Played.{noted, begun, attempts_of, phase_ended, phase_played, played_on, played, waiting_count}
 
-pub begun_listed : (taken : Taken) (set : Tree) (name : Option (List ℕ)) (c : Course) (off m : MachineState)
+pub begun_listed : {E : Type 0} (r : Result (Unit {0}) E) (lists : Lists) (taken : Taken) (name : Option (List ℕ)) (off m n : MachineState)
     → off ≡ off_machine → m ≡ noted name off
-    → c.machine ≡ with_start (without_clone (begun_with set taken.number taken.on_good)) m → c.told ≡ []
-    → c ≡ begun taken set name
+    → OnOk r ((set : Tree) → lists ≡ lists_of set → n ≡ with_start (without_clone (begun_with set taken.number taken.on_good)) m)
+    → OnOk r ((set : Tree) → lists ≡ lists_of set → n ≡ (begun taken set name).machine)
 unfolding begun
-begun_listed taken set name c off m is note start none =
-    let machine = start
-    ∙ ap (with_start (without_clone (begun_with set taken.number taken.on_good))) (note ∙ ap (noted name) is) in
-    λ i. record { told = none i; machine = machine i }
+begun_listed (Ok u) lists taken name off m n is note start = λ set eq.
+    start set eq ∙ ap (with_start (without_clone (begun_with set taken.number taken.on_good))) (note ∙ ap (noted name) is)
+begun_listed (Err e) lists taken name off m n is note start = tt
 
 pub phase_listed : {E : Type 0} (r : Result (Unit {0}) E) (lists : Lists) (usable : Bool) (c m d : Course)
     → m ≡ attempts_of (waiting_count c.machine) usable c
@@ -27,8 +26,8 @@ unfolding phase_played
 phase_listed (Ok u) lists usable c m d tried over = λ set is. over set is ∙ ap (phase_ended set) tried
 phase_listed (Err e) lists usable c m d tried over = tt
 
-pub told_listed : (taken : Taken) (set : Tree) (name : Option (List ℕ)) (c d : Course) → c ≡ begun taken set name
-    → d ≡ played_on taken.usable set c → d.told ≡ played taken set name
-unfolding played
-told_listed taken set name c d start over =
-    ap (λ (x : Course). x.told) (over ∙ ap (played_on taken.usable set) start)
+pub told_listed : (taken : Taken) (set : Tree) (name : Option (List ℕ)) (c : Course) (m : MachineState) (d : Course) → c.told ≡ []
+    → m ≡ (begun taken set name).machine → d ≡ played_on taken.usable set (record c { machine = m }) → d.told ≡ played taken set name
+unfolding begun played
+told_listed taken set name c m d none start over =
+    ap (λ (x : Course). x.told) (over ∙ ap (played_on taken.usable set) (λ i. record { told = none i; machine = start i }))

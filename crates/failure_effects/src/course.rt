@@ -1,9 +1,10 @@
 //! A start in its course, attempt by attempt.
 
-ghost use Rattle.std.specs.Prelude.{◌≡◌, ◌<◌, ◌++◌, false, map, Some, IfOk, OnOk};
+ghost use Rattle.std.specs.Prelude.{◌≡◌, ◌<◌, ◌++◌, [], false, map, Some, IfOk, OnOk};
 ghost use Rattle.std.specs.Option.{option_copied};
 ghost use Rattle.hive_model.specs.Tree.{Tree};
 ghost use Rattle.boot_phases.specs.Lists.{lists_of};
+ghost use Rattle.start_model.specs.Machine.{off_machine};
 ghost use Rattle.boot_machine.specs.Steps.{is_at_end};
 ghost use Rattle.failure_effects.specs.Played.{noted, judged, left, begun, next_course, attempts_of, phase_ended, phase_played, played_on, played, waiting_count};
 ghost use Rattle.error_control.specs.Judgement.{judgement_in};
@@ -15,6 +16,7 @@ use boot_report::Verdict;
 use error_control::Judgement;
 use nt_bytes::Units;
 use std::alloc::{AllocError, Global};
+use std::mem::replace;
 
 /// What a start has said so far, and the machine that plays it.
 #[derive(Drop)]
@@ -33,9 +35,28 @@ pub(crate) fn play(
 ) -> Result<ToldRow, AllocError>
     ensures { IfOk result (λ told. (set : Tree) → lists.now ≡ lists_of set → told ≡ played taken.now set (option_copied failing.entry)) }
 {
-    let mut course = begin(alloc, taken, lists, failing)?;
-    play_phases(alloc, lists, taken.usable, &mut course)?;
-    Ok(course.told)
+    let mut course = Course {
+        told: ToldRow::new(alloc),
+        machine: Machine::new(alloc),
+    };
+    play_on(alloc, taken, lists, failing, &mut course)
+}
+
+/// The same on a machine that is off, where nothing was said.
+fn play_on(
+    alloc: Global,
+    taken: &Taken,
+    lists: &SetLists,
+    failing: Option<&Units>,
+    course: &mut Course,
+) -> Result<ToldRow, AllocError>
+    requires off { course.old.machine ≡ off_machine }
+    requires untold { course.old.told ≡ [] }
+    ensures { IfOk result (λ told. (set : Tree) → lists.now ≡ lists_of set → told ≡ played taken.now set (option_copied failing.entry)) }
+{
+    begin(alloc, taken, lists, failing, &mut course.machine)?;
+    play_phases(alloc, lists, taken.usable, course)?;
+    Ok(replace(&mut course.told, ToldRow::new(alloc)))
 }
 
 /// The start in its boot phase, with the failure that is to come.
@@ -45,16 +66,14 @@ fn begin(
     taken: &Taken,
     lists: &SetLists,
     failing: Option<&Units>,
-) -> Result<Course, AllocError>
-    ensures { IfOk result (λ course. (set : Tree) → lists.now ≡ lists_of set → course ≡ begun taken.now set (option_copied failing.entry)) }
+    machine: &mut Machine,
+) -> Result<(), AllocError>
+    requires { machine.old ≡ off_machine }
+    ensures { OnOk result ((set : Tree) → lists.now ≡ lists_of set
+        → machine.new ≡ (begun taken.now set (option_copied failing.entry)).machine) }
 {
-    let mut machine = Machine::new(alloc);
-    note_failure(alloc, failing, &mut machine)?;
-    machine.begin_listed(alloc, lists, taken.number, taken.on_good)?;
-    Ok(Course {
-        told: ToldRow::new(alloc),
-        machine,
-    })
+    note_failure(alloc, failing, machine)?;
+    machine.begin_listed(alloc, lists, taken.number, taken.on_good)
 }
 
 /// Notes that the first attempt of this name fails, where there is a name.

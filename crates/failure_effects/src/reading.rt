@@ -15,6 +15,7 @@ use crate::switching::{OFF, off_set};
 use crate::told::ToldRow;
 use boot_machine::SetLists;
 use nt_bytes::Units;
+use reg_tree::Key;
 use std::alloc::{AllocError, Global};
 use std::marker::Model;
 
@@ -103,6 +104,14 @@ fn play_changed(alloc: Global, taken: &Taken, name: &[u16]) -> Result<ToldRow, A
     ensures { IfOk result (λ told. told ≡ played taken.now (off_set name.now taken.now.set) None) }
 {
     let set = off_set(alloc, &taken.set, name)?;
-    let lists = SetLists::read(alloc, &set)?;
+    play_set(alloc, taken, &set)
+}
+
+/// What a start says on this set.
+fn play_set(alloc: Global, taken: &Taken, set: &Key) -> Result<ToldRow, AllocError>
+    requires { HoldsKeys set.now }
+    ensures { IfOk result (λ told. told ≡ played taken.now set.now None) }
+{
+    let lists = SetLists::read(alloc, set)?;
     play(alloc, taken, &lists, None)
 }

@@ -32,9 +32,17 @@ pub fn effects(
     ensures { IfOk result (λ lines. lines ≡ effects_of version root choice (option_copied of.entry)) }
 {
     let opening = open(alloc, root, version, choice)?;
+    lines_of(alloc, &opening, of)
+}
+
+/// All lines, by what the plain start comes to.
+fn lines_of(alloc: Global, opening: &Opening, of: Option<&Units>) -> Result<EffectLines, AllocError>
+    requires { HoldsTaken opening.now }
+    ensures { IfOk result (λ lines. lines ≡ EffectLine.Start ∷ opened_lines opening.now (option_copied of.entry) ++ EffectLine.End ∷ []) }
+{
     let mut lines = EffectLines::new(alloc);
     lines.push(EffectLine::Start)?;
-    push_opened(alloc, &opening, of, &mut lines)?;
+    push_opened(alloc, opening, of, &mut lines)?;
     lines.push(EffectLine::End)?;
     Ok(lines)
 }
@@ -84,10 +92,25 @@ fn push_taken(
     ensures { OnOk result (lines.new ≡ lines.old ++ EffectLine.Set taken.now.number taken.now.on_good ∷ EffectLine.Verdict Verdict.Running
         ∷ told_lines taken.now (option_copied of.entry) (plain_told taken.now)) }
 {
-    let mut read = ReadTaken::new(alloc, taken)?;
-    let plain = read.play(alloc, None)?;
     push_set(taken.number, taken.on_good, Verdict::Running, lines)?;
-    push_told(alloc, taken, &mut read, plain.as_slice(), of, lines)
+    let mut read = ReadTaken::new(alloc, taken)?;
+    push_read(alloc, taken, &mut read, of, lines)
+}
+
+/// What follows the verdict.
+fn push_read(
+    alloc: Global,
+    taken: &Taken,
+    read: &mut ReadTaken<'_>,
+    of: Option<&Units>,
+    lines: &mut EffectLines,
+) -> Result<(), AllocError>
+    requires held { HoldsKeys taken.now.set }
+    requires same { read.old ≡ taken.now }
+    ensures { OnOk result (lines.new ≡ lines.old ++ told_lines taken.now (option_copied of.entry) (plain_told taken.now)) }
+{
+    let plain = read.play(alloc, None)?;
+    push_told(alloc, taken, read, plain.as_slice(), of, lines)
 }
 
 /// What follows the verdict, by what the plain start says.

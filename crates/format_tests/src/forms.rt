@@ -1,7 +1,7 @@
 //! Payloads of a hive of three keys, as they lie in its file.
 
 use cell_forms::{
-    DbForm, ListKind, NkForm, VkForm, data_inside, db_bytes, lf_bytes, lh_bytes, name_hash,
+    DbForm, ListKind, NkForm, SkForm, VkForm, data_inside, db_bytes, lf_bytes, lh_bytes, name_hash,
     nk_bytes, offsets_bytes, read_bytes, read_db, read_list, read_nk, read_offsets, read_sk,
     read_vk, ri_bytes, sk_bytes, vk_bytes,
 };
@@ -22,6 +22,11 @@ const WIDE: [u8; 78] = [
 const VALUE: [u8; 25] = [
     0x76, 0x6b, 5, 0, 4, 0, 0, 0x80, 0, 0, 0, 0, 4, 0, 0, 0, 1, 0, 0, 0, 0x53, 0x74, 0x61, 0x72,
     0x74,
+];
+
+/// A number of four bytes in place, 0, with the name 0x4E2D.
+const WIDE_VALUE: [u8; 22] = [
+    0x76, 0x6b, 2, 0, 4, 0, 0, 0x80, 0, 0, 0, 0, 4, 0, 0, 0, 0, 0, 0, 0, 0x2d, 0x4e,
 ];
 
 /// A list of the key nodes at 0x90 and 0x210, `Cont..` and `Sele..`.
@@ -57,6 +62,11 @@ fn wide_node(alloc: Global) -> Result<NkForm, AllocError> {
     })
 }
 
+/// These are the bytes.
+fn are(rt: &impl Abort, bytes: &[u8], wanted: &[u8]) {
+    assert_eq!(rt; bytes, wanted);
+}
+
 /// The fault of this kind at 7.
 fn is_fault(rt: &impl Abort, stop: Option<ReadStop>, kind: HiveFaultKind, length: usize) {
     let fault = HiveFault { kind, at: 7 };
@@ -65,10 +75,9 @@ fn is_fault(rt: &impl Abort, stop: Option<ReadStop>, kind: HiveFaultKind, length
 
 fn wide_is_written(rt: &impl Abort, alloc: Global) -> Result<(), Fail> {
     let node = wide_node(alloc)?;
-    assert_eq!(rt; node.flags, 0);
-    assert_eq!(rt; node.name.len(), 1);
+    assert!(rt; node.flags == 0 && node.name.len() == 1);
     let bytes = nk_bytes(alloc, &node)?;
-    assert_eq!(rt; bytes.as_slice(), WIDE.as_slice());
+    are(rt, bytes.as_slice(), &WIDE);
     Ok(())
 }
 
@@ -86,17 +95,21 @@ fn has_name(
     flags: u16,
 ) -> Result<(), Fail> {
     let node = read_nk(alloc, payload, 232)?;
-    assert_eq!(rt; node.name.as_slice(), name);
-    assert_eq!(rt; (node.parent, node.flags), (32, flags));
+    let found = (node.name.as_slice(), node.parent, node.flags);
+    assert_eq!(rt; found, (name, 32, flags));
     Ok(())
+}
+
+fn names_are_read(rt: &impl Abort, alloc: Global) -> Result<(), Fail> {
+    has_name(rt, alloc, &WIDE, &[0x4e2d], 0)?;
+    let mut payload = WIDE;
+    payload[2] = 0x20;
+    has_name(rt, alloc, &payload, &[0x2d, 0x4e], 0x20)
 }
 
 #[test]
 fn a_name_is_read_by_its_flag(rt: HostRuntime) -> Result<(), Fail> {
-    has_name(&rt, rt.alloc(), &WIDE, &[0x4e2d], 0)?;
-    let mut payload = WIDE;
-    payload[2] = 0x20;
-    has_name(&rt, rt.alloc(), &payload, &[0x2d, 0x4e], 0x20)
+    names_are_read(&rt, rt.alloc())
 }
 
 /// How many bytes of the node stand, which of them is broken, and how; and the first fault.
@@ -137,17 +150,18 @@ fn the_first_fault_of_a_key_node_is_named(rt: HostRuntime) {
 
 fn has_data(rt: &impl Abort, alloc: Global, value: &VkForm) -> Result<(), Fail> {
     let inside = data_inside(alloc, value)?.ok_or("data in place")?;
-    assert_eq!(rt; inside.as_slice(), [0, 0, 0, 0].as_slice());
+    are(rt, inside.as_slice(), &[0; 4]);
     Ok(())
+}
+
+fn is_start(rt: &impl Abort, name: &[u16], kind: u32) {
+    let start = [0x53, 0x74, 0x61, 0x72, 0x74];
+    assert_eq!(rt; (name, kind), (start.as_slice(), 4));
 }
 
 fn value_is_read(rt: &impl Abort, alloc: Global) -> Result<(), Fail> {
     let value = read_vk(alloc, &VALUE, 464)?;
-    assert_eq!(rt;
-        value.name.as_slice(),
-        [0x53, 0x74, 0x61, 0x72, 0x74].as_slice()
-    );
-    assert_eq!(rt; value.kind, 4);
+    is_start(rt, value.name.as_slice(), value.kind);
     has_data(rt, alloc, &value)
 }
 
@@ -165,20 +179,22 @@ fn a_value_has_its_data_in_place(rt: HostRuntime) -> Result<(), Fail> {
     value_is_read(&rt, rt.alloc())
 }
 
-fn value_is_written(rt: &impl Abort, alloc: Global) -> Result<(), Fail> {
-    let value = VkForm {
+/// The value of `WIDE_VALUE`.
+fn wide_value(alloc: Global) -> Result<VkForm, AllocError> {
+    Ok(VkForm {
         size: 0x8000_0004,
         offset: 0,
         kind: 4,
         flags: 0,
         name: Units::from_slice(alloc, &[0x4e2d])?,
-    };
-    assert_eq!(rt; value.name.len(), 1);
+    })
+}
+
+fn value_is_written(rt: &impl Abort, alloc: Global) -> Result<(), Fail> {
+    let value = wide_value(alloc)?;
+    assert!(rt; value.flags == 0 && value.name.len() == 1);
     let bytes = vk_bytes(alloc, &value)?;
-    let expected = [
-        0x76, 0x6b, 2, 0, 4, 0, 0, 0x80, 0, 0, 0, 0, 4, 0, 0, 0, 0, 0, 0, 0, 0x2d, 0x4e,
-    ];
-    assert_eq!(rt; bytes.as_slice(), expected.as_slice());
+    are(rt, bytes.as_slice(), &WIDE_VALUE);
     Ok(())
 }
 
@@ -196,52 +212,59 @@ fn is_list(
     offsets: &[u32],
 ) -> Result<(), Fail> {
     let list = read_list(alloc, payload, 120)?;
-    assert_eq!(rt; list.kind, kind);
-    assert_eq!(rt; list.offsets.as_slice(), offsets);
+    assert_eq!(rt; (list.kind, list.offsets.as_slice()), (kind, offsets));
     Ok(())
 }
 
 fn lf_is_written(rt: &impl Abort, alloc: Global) -> Result<(), Fail> {
     let hints = [[0x43, 0x6f, 0x6e, 0x74], [0x53, 0x65, 0x6c, 0x65]];
     let bytes = lf_bytes(alloc, &[0x90, 0x210], &hints)?;
-    assert_eq!(rt; bytes.as_slice(), LIST.as_slice());
+    are(rt, bytes.as_slice(), &LIST);
     Ok(())
 }
 
 fn ri_is_written(rt: &impl Abort, alloc: Global) -> Result<(), Fail> {
     let lists = ri_bytes(alloc, &[0x78])?;
-    assert_eq!(rt;
-        lists.as_slice(),
-        [0x72, 0x69, 1, 0, 0x78, 0, 0, 0].as_slice()
-    );
+    are(rt, lists.as_slice(), &[0x72, 0x69, 1, 0, 0x78, 0, 0, 0]);
     is_list(rt, alloc, lists.as_slice(), ListKind::Ri, &[0x78])
 }
 
-fn offsets_are_written(rt: &impl Abort, alloc: Global) -> Result<(), Fail> {
-    let values = offsets_bytes(alloc, &[0x1d0, 0x1f0])?;
-    assert_eq!(rt;
-        values.as_slice(),
-        [0xd0, 1, 0, 0, 0xf0, 1, 0, 0].as_slice()
-    );
-    let offsets = read_offsets(alloc, values.as_slice(), 2, 0)?;
+fn offsets_are_read(rt: &impl Abort, alloc: Global, values: &[u8]) -> Result<(), Fail> {
+    let offsets = read_offsets(alloc, values, 2, 0)?;
     assert_eq!(rt; offsets.as_slice(), [0x1d0, 0x1f0].as_slice());
     Ok(())
 }
 
+fn offsets_are_written(rt: &impl Abort, alloc: Global) -> Result<(), Fail> {
+    let values = offsets_bytes(alloc, &[0x1d0, 0x1f0])?;
+    are(rt, values.as_slice(), &[0xd0, 1, 0, 0, 0xf0, 1, 0, 0]);
+    offsets_are_read(rt, alloc, values.as_slice())
+}
+
+fn lists(rt: &impl Abort, alloc: Global) -> Result<(), Fail> {
+    is_list(rt, alloc, &LIST, ListKind::Lf, &[0x90, 0x210])?;
+    lf_is_written(rt, alloc)?;
+    ri_is_written(rt, alloc)?;
+    offsets_are_written(rt, alloc)
+}
+
 #[test]
 fn lists_are_read_and_written(rt: HostRuntime) -> Result<(), Fail> {
-    is_list(&rt, rt.alloc(), &LIST, ListKind::Lf, &[0x90, 0x210])?;
-    lf_is_written(&rt, rt.alloc())?;
-    ri_is_written(&rt, rt.alloc())?;
-    offsets_are_written(&rt, rt.alloc())
+    lists(&rt, rt.alloc())
 }
 
 /// The hash of `Disk` in either case. That of seven units of 0xFFFF is the sum of 65,535 times the powers of 37, modulo 2^32.
+static HASHES: [(&[u16], u32); 4] = [
+    (&[0x44, 0x69, 0x73, 0x6b], 0x0036_215f),
+    (&[0x64, 0x49, 0x53, 0x4b], 0x0036_215f),
+    (&[], 0),
+    (&[0xffff; 7], 0xc2bd_a015),
+];
+
 fn hashes(rt: &impl Abort) {
-    assert_eq!(rt; name_hash(&[0x44, 0x69, 0x73, 0x6b]), 0x0036_215f);
-    assert_eq!(rt; name_hash(&[0x64, 0x49, 0x53, 0x4b]), 0x0036_215f);
-    assert_eq!(rt; name_hash(&[]), 0);
-    assert_eq!(rt; name_hash(&[0xffff; 7]), 0xc2bd_a015);
+    for (name, hash) in HASHES.iter() {
+        assert_eq!(rt; name_hash(name), *hash, "{name:?}");
+    }
 }
 
 #[test]
@@ -252,7 +275,7 @@ fn a_hash_folds_and_keeps_its_low_bits(rt: HostRuntime) {
 fn lh_is_written(rt: &impl Abort, alloc: Global) -> Result<(), Fail> {
     let bytes = lh_bytes(alloc, &[0x90], &[0x0036_215f])?;
     let expected = [0x6c, 0x68, 1, 0, 0x90, 0, 0, 0, 0x5f, 0x21, 0x36, 0];
-    assert_eq!(rt; bytes.as_slice(), expected.as_slice());
+    are(rt, bytes.as_slice(), &expected);
     is_list(rt, alloc, bytes.as_slice(), ListKind::Lh, &[0x90])
 }
 
@@ -261,18 +284,20 @@ fn lists_with_hashes_are_read_and_written(rt: HostRuntime) -> Result<(), Fail> {
     lh_is_written(&rt, rt.alloc())
 }
 
-fn big_data_is_written(rt: &impl Abort, alloc: Global) -> Result<(), Fail> {
-    let form = DbForm {
-        segments: 2,
-        list: 0x1f0,
-    };
-    let bytes = db_bytes(alloc, &form)?;
-    assert_eq!(rt;
-        bytes.as_slice(),
-        [0x64, 0x62, 2, 0, 0xf0, 1, 0, 0].as_slice()
-    );
-    assert_eq!(rt; read_db(bytes.as_slice(), 0)?, form);
+const TWO_SEGMENTS: DbForm = DbForm {
+    segments: 2,
+    list: 0x1f0,
+};
+
+fn big_data_is_read(rt: &impl Abort, payload: &[u8]) -> Result<(), Fail> {
+    assert_eq!(rt; read_db(payload, 0)?, TWO_SEGMENTS);
     Ok(())
+}
+
+fn big_data_is_written(rt: &impl Abort, alloc: Global) -> Result<(), Fail> {
+    let bytes = db_bytes(alloc, &TWO_SEGMENTS)?;
+    are(rt, bytes.as_slice(), &[0x64, 0x62, 2, 0, 0xf0, 1, 0, 0]);
+    big_data_is_read(rt, bytes.as_slice())
 }
 
 /// How many bytes stand, the first of them, and the first fault.
@@ -301,18 +326,22 @@ fn big_data_are_read_and_written(rt: HostRuntime) -> Result<(), Fail> {
     big_data_is_written(&rt, rt.alloc())
 }
 
+fn security_is_written(rt: &impl Abort, alloc: Global, security: &SkForm) -> Result<(), Fail> {
+    assert!(rt; security.uses == 3 && security.descriptor.len() == 2);
+    let bytes = sk_bytes(alloc, security)?;
+    are(rt, bytes.as_slice(), &SECURITY[..22]);
+    Ok(())
+}
+
 fn security_is_read(rt: &impl Abort, alloc: Global) -> Result<(), Fail> {
     let security = read_sk(alloc, &SECURITY, 120)?;
-    assert_eq!(rt; security.uses, 3);
-    assert_eq!(rt; security.descriptor.as_slice(), [1, 2].as_slice());
-    let bytes = sk_bytes(alloc, &security)?;
-    assert_eq!(rt; bytes.as_slice(), &SECURITY[..22]);
-    Ok(())
+    are(rt, security.descriptor.as_slice(), &[1, 2]);
+    security_is_written(rt, alloc, &security)
 }
 
 fn front_is_read(rt: &impl Abort, alloc: Global) -> Result<(), Fail> {
     let front = read_bytes(alloc, &SECURITY, 4, 0)?;
-    assert_eq!(rt; front.as_slice(), [0x73, 0x6b, 0, 0].as_slice());
+    are(rt, front.as_slice(), &[0x73, 0x6b, 0, 0]);
     Ok(())
 }
 

@@ -72,7 +72,7 @@ fn play(rt: &impl Abort, alloc: Global, deeds: &[Deed]) -> Result<(), Fail> {
     Ok(())
 }
 
-const JOINED: [Deed; 23] = [
+static JOINED: [Deed; 23] = [
     Deed::Fit(8, None),
     Deed::Alloc(84, Some(32)),
     Deed::Alloc(4, Some(120)),
@@ -103,7 +103,7 @@ fn the_lowest_free_cell_is_taken_and_neighbours_join(rt: HostRuntime) -> Result<
     play(&rt, rt.alloc(), &JOINED)
 }
 
-const LIMIT: [Deed; 13] = [
+static LIMIT: [Deed; 13] = [
     Deed::Alloc(0, Some(32)),
     Deed::Alloc(16_773_085, None),
     Deed::Alloc(16_773_084, Some(4128)),
@@ -132,17 +132,36 @@ fn has(heap: &OpenHeap, at: u32, wanted: &[u8]) -> bool {
     }
 }
 
-fn write_parts(rt: &impl Abort, alloc: Global) -> Result<(), Fail> {
+/// A heap whose one cell is at 32, with a payload of 12 bytes.
+fn one_cell(rt: &impl Abort, alloc: Global) -> Result<OpenHeap, Fail> {
     let mut heap = empty_heap(alloc)?;
     let place = heap.alloc(alloc, 12)?;
     assert!(rt; place == Some(32));
+    Ok(heap)
+}
+
+/// A cell, where in its payload a part is written, the part, and whether it has room for it.
+static PATCHES: [(u32, u32, &[u8], bool); 4] = [
+    (32, 3, &[1, 2], true),
+    (32, 11, &[9], true),
+    (32, 11, &[9, 9], false),
+    (48, 0, &[9], false),
+];
+
+fn patch(rt: &impl Abort, heap: &mut OpenHeap) {
+    for (at, from, part, fits) in PATCHES.iter() {
+        assert!(rt;
+            patched(heap, *at, *from, part) == *fits,
+            "{part:?} at {at}"
+        );
+    }
+}
+
+fn write_parts(rt: &impl Abort, alloc: Global) -> Result<(), Fail> {
+    let mut heap = one_cell(rt, alloc)?;
     let old = heap.copy(alloc)?;
-    assert!(rt; patched(&mut heap, 32, 3, &[1, 2]));
-    assert!(rt; patched(&mut heap, 32, 11, &[9]));
-    assert!(rt; !patched(&mut heap, 32, 11, &[9, 9]));
-    assert!(rt; !patched(&mut heap, 48, 0, &[9]));
-    assert!(rt; has(&heap, 32, &[0, 0, 0, 1, 2, 0, 0, 0, 0, 0, 0, 9]));
-    assert!(rt; has(&old, 32, &[0; 12]));
+    patch(rt, &mut heap);
+    assert!(rt; has(&heap, 32, &[0, 0, 0, 1, 2, 0, 0, 0, 0, 0, 0, 9]) && has(&old, 32, &[0; 12]));
     Ok(())
 }
 

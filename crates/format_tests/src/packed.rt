@@ -1,6 +1,6 @@
 //! The bytes of a packed root with nothing below it.
 
-ghost use Rattle.std.specs.Prelude.{◌≤◌, IfOk};
+ghost use Rattle.std.specs.Prelude.{◌≡◌, ◌≤◌, IfOk, length};
 ghost use Rattle.hive_model.specs.Valid.{IsValid};
 ghost use Rattle.hive_model.specs.Size.{bulk_of};
 
@@ -11,7 +11,8 @@ use std::alloc::{AllocError, Global};
 use std::process::Abort;
 use std::test::Fail;
 
-fn root(alloc: Global) -> Result<Key, AllocError>
+/// A root with nothing below it.
+pub(crate) fn root(alloc: Global) -> Result<Key, AllocError>
     ensures valid { IfOk result IsValid }
     ensures small { IfOk result (λ k. bulk_of HiveVersion.V3 k ≤ 16773120) }
 {
@@ -26,14 +27,23 @@ fn root(alloc: Global) -> Result<Key, AllocError>
     })
 }
 
-fn root_is_packed(rt: &impl Abort, alloc: Global) -> Result<(), Fail> {
+fn packed_root(alloc: Global) -> Result<Bytes, AllocError> {
     let tree = root(alloc)?;
-    let bins = pack(alloc, &tree, HiveVersion::V3)?;
-    let bytes = bins.as_slice();
-    assert_eq!(rt; bytes.len(), 4096);
+    pack(alloc, &tree, HiveVersion::V3)
+}
+
+fn cells_are_here(rt: &impl Abort, bytes: &[u8])
+    requires { length bytes.now ≡ 4096 }
+{
     let node = [0xa8, 0xff, 0xff, 0xff, 0x6e, 0x6b, 0x2c, 0x00];
     assert_eq!(rt; &bytes[32..40], node.as_slice());
     assert_eq!(rt; &bytes[120..124], [0x88, 0x0f, 0x00, 0x00].as_slice());
+}
+
+fn root_is_packed(rt: &impl Abort, alloc: Global) -> Result<(), Fail> {
+    let bins = packed_root(alloc)?;
+    assert_eq!(rt; bins.len(), 4096);
+    cells_are_here(rt, bins.as_slice());
     Ok(())
 }
 

@@ -5,6 +5,7 @@ ghost use Rattle.std.specs.List.{filter_map, flat_map, range_with_len};
 ghost use Rattle.std.specs.Option.{is_some, option_and_then, option_copied, option_to_list};
 ghost use Rattle.start_model.specs.Entries.{Entry as Item};
 ghost use Rattle.why_state.specs.States.{place_in};
+ghost use Rattle.why_state.specs.Views.{names_of};
 ghost use Rattle.graph_rule.specs.Rows.{missing_names, group_names, grouped_at, members_of, members_in, parts_by};
 
 use crate::names::{first_names, names_of, push_names};
@@ -215,6 +216,30 @@ pub(crate) fn members_in(
 
 // ---- all parts
 
+/// The names of the entries, and those that have no entry.
+fn named(
+    alloc: Global,
+    entries: &[Entry],
+    of: Option<&Units>,
+) -> Result<(NamePlaces, NamePlaces), AllocError>
+    ensures names { IfOk result (λ r. r.0 ≡ names_of entries.now) }
+    ensures missing { IfOk result (λ r. r.1 ≡ missing_names entries.now (names_of entries.now) (option_copied of.entry)) }
+{
+    let names = NamePlaces::new(alloc, names_of(alloc, entries)?)?;
+    let missing = NamePlaces::new(alloc, missing_names(alloc, entries, &names, of)?)?;
+    Ok((names, missing))
+}
+
+/// The groups that entries need, and the entries that have one.
+fn grouped(alloc: Global, entries: &[Entry]) -> Result<(NamePlaces, GroupEntries), AllocError>
+    ensures groups { IfOk result (λ r. r.0 ≡ group_names entries.now) }
+    ensures members { IfOk result (λ r. r.1 ≡ members_of entries.now) }
+{
+    let groups = NamePlaces::new(alloc, group_names(alloc, entries)?)?;
+    let members = members_of(alloc, entries)?;
+    Ok((groups, members))
+}
+
 /// The parts of a start's graph by its entries.
 pub(crate) fn parts(
     alloc: Global,
@@ -225,11 +250,8 @@ pub(crate) fn parts(
     ensures { IfOk result (λ parts. parts ≡ parts_by run.now (option_copied of.entry) entries) }
 {
     let nodes = entry_nodes(alloc, run, entries.as_slice())?;
-    let names = NamePlaces::new(alloc, names_of(alloc, entries.as_slice())?)?;
-    let missing = missing_names(alloc, entries.as_slice(), &names, of)?;
-    let missing = NamePlaces::new(alloc, missing)?;
-    let groups = NamePlaces::new(alloc, group_names(alloc, entries.as_slice())?)?;
-    let members = members_of(alloc, entries.as_slice())?;
+    let (names, missing) = named(alloc, entries.as_slice(), of)?;
+    let (groups, members) = grouped(alloc, entries.as_slice())?;
     Ok(GraphParts {
         entries,
         nodes,

@@ -104,29 +104,29 @@ fn commit_change<S: Scheme, D: Disk>(
 fn change_loaded<S: Scheme, D: Disk>(
     alloc: Global,
     disk: &mut D,
-    loaded: Loaded,
+    loaded: &Loaded,
     number: Option<u32>,
 ) -> Result<Changed, ChangeStop>
     requires on { (D.state disk.old).on ≡ true }
     requires still { D.tells ≡ true → (D.state disk.old).flight ≡ [] }
-    requires settled { D.tells ≡ true → S.settled (D.state disk.old).held loaded.found.base loaded.found.bins }
-    requires sized { is_bins_size (length loaded.found.bins) ≡ true }
-    requires valid { IsValid loaded.tree }
-    requires holds { D.tells ≡ true → Holds loaded.found (held_state loaded.found loaded.tree) }
-    ensures answers { D.tells ≡ true → (image : Image) → S.stands image ≡ Ok loaded.found
+    requires settled { D.tells ≡ true → S.settled (D.state disk.old).held loaded.now.found.base loaded.now.found.bins }
+    requires sized { is_bins_size (length loaded.now.found.bins) ≡ true }
+    requires valid { IsValid loaded.now.tree }
+    requires holds { D.tells ≡ true → Holds loaded.now.found (held_state loaded.now.found loaded.now.tree) }
+    ensures answers { D.tells ≡ true → (image : Image) → S.stands image ≡ Ok loaded.now.found
         → Answers S.stands image (D.state disk.new).held number result }
     ensures no_fault { (fault : HiveFault) → result ≡ Err (stops.Fault fault) → ⊥ }
     ensures still { D.tells ≡ true → OnOk result ((D.state disk.new).flight ≡ []) }
-    ensures mended { D.tells ≡ true → IsDecided result → EachCrash (D.state disk.new) (StandsAfter S.stands loaded.found loaded.tree number) }
-    ensures crash { D.tells ≡ true → EachCrash (D.state disk.new) (IsEitherOf S.stands loaded.found loaded.tree number) }
+    ensures mended { D.tells ≡ true → IsDecided result → EachCrash (D.state disk.new) (StandsAfter S.stands loaded.now.found loaded.now.tree number) }
+    ensures crash { D.tells ≡ true → EachCrash (D.state disk.new) (IsEitherOf S.stands loaded.now.found loaded.now.tree number) }
     ensures goes { GoesOn (D.state disk.old) (D.state disk.new) (IsLost result) (IsFailed result) (IsLacking result) }
 {
     S::settled_is_clean();
     let Loaded { found, tree } = loaded;
-    let base = found.base;
+    let base = &found.base;
     let (first, mended) = (base.first, found.dirty);
     let old = found.bins.as_slice();
-    let next = plan_of(alloc, &tree, base.version(), number)?;
+    let next = plan_of(alloc, tree, base.version(), number)?;
     match next {
         Plan::Nothing => Ok(Changed {
             loaded: first,
@@ -143,7 +143,7 @@ fn change_loaded<S: Scheme, D: Disk>(
         }),
         Plan::Pack(new) => {
             let packed = new.as_slice();
-            commit_change::<S, D>(disk, first, mended, &base, old, packed)
+            commit_change::<S, D>(disk, first, mended, base, old, packed)
         }
     }
 }
@@ -181,5 +181,5 @@ pub fn change_default<S: Scheme, D: Disk>(
     ensures goes { GoesOn (D.state disk.old) (D.state disk.new) (IsLost result) (IsFailed result) (IsLacking result) }
 {
     let loaded = load_checked::<S, D>(alloc, disk)?;
-    change_loaded::<S, D>(alloc, disk, loaded, number)
+    change_loaded::<S, D>(alloc, disk, &loaded, number)
 }

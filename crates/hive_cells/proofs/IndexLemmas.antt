@@ -14,7 +14,7 @@ use Rattle.hive_cells.proofs.Indexed.{alone}
 use Rattle.hive_cells.proofs.SizeLemmas.{room_at, length_bins}
 use Rattle.hive_cells.proofs.PlaceLemmas.{marks_long, place_of, rooms_before}
 
-bins_pages : (bs : List Bin) → AllByRecursion IsBin bs → bins_size bs % 4096 ≡ 0
+pub bins_pages : (bs : List Bin) → AllByRecursion IsBin bs → bins_size bs % 4096 ≡ 0
 bins_pages [] h = refl
 bins_pages (b ∷ bs) h = omega (arith, h.0.whole, bins_pages bs h.1)
 

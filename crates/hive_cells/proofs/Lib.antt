@@ -16,4 +16,6 @@ pub mod GrowLemmas
 pub mod Made
 pub mod PatchLemmas
 pub mod HeldLemmas
+pub mod KeptLemmas
 pub mod Flags
+pub mod RoomLemmas

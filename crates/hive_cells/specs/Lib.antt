@@ -4,3 +4,4 @@ pub mod Holes
 pub mod Changes
 pub mod Frees
 pub mod Sources
+pub mod Opened

@@ -1,19 +1,22 @@
-//! Changes of the cells, which keep an index of the free ones. Each finds first all that it needs and
-//! then writes, so that nothing here wants memory but a new bin, whose room is made first.
+//! Changes of the cells, which keep an index of the free ones, and each page as it was before its first change. Each
+//! finds first all that it needs and then writes, so that nothing here wants memory but a new bin, whose room is made
+//! first.
 
-ghost use Rattle.std.specs.Prelude.{◌≡◌, ℕ, ◌+◌, ◌%◌, ◌<◌, ◌≤◌, ◌∷◌, [], ◌++◌, length, None, IfOk, OnErr, OnOk};
+ghost use Rattle.std.specs.Prelude.{◌≡◌, ℕ, ◌+◌, ◌%◌, ◌<◌, ◌≤◌, ◌∷◌, [], ◌++◌, List, length, None, IfOk, OnErr, OnOk};
 ghost use Rattle.std.specs.Option.{IfSome, IsSome, IsSomeAnd, MatchOption, option_map};
-ghost use Rattle.hive_model.specs.Bins.{or_else, cell_at, cell_size, bins_size, IsHeap};
+ghost use Rattle.hive_model.specs.Bins.{or_else, cell_at, cell_size, bins_size, spelled, IsHeap};
 ghost use Rattle.hive_cells.specs.Held.{held_at, held_among, patched, run_cells, IsRun};
 ghost use Rattle.hive_cells.specs.Holes.{free_bin, free_size, free_sizes, new_bin_size, FindsHole, Grows, IsHole};
 ghost use Rattle.hive_cells.specs.Changes.{at_cell, with_free, with_next, with_part, with_run};
 ghost use Rattle.hive_cells.specs.Frees.{EndsAt, IsFreed, IsFreeOf, Neighbours};
+ghost use Rattle.saved_pages.specs.Overlay.{before, IsCovered};
 
 use crate::heap::CellHeap;
 use crate::marks::mark_run;
 use crate::pushes::{push_bin, push_marks, put, put_word};
 use free_index::FreeIndex;
 use nt_bytes::u32_at;
+use saved_pages::{SavedPages, touch};
 use std::alloc::{AllocError, Global};
 
 impl CellHeap {
@@ -47,17 +50,22 @@ impl CellHeap {
     }
 
     /// Puts allocated cells into the free one that begins here. What remains of it stays free.
-    pub(crate) fn fill(&mut self, free: &mut FreeIndex, at: u32, run: &[u8])
+    pub(crate) fn fill(&mut self, free: &mut FreeIndex, pages: &mut SavedPages, at: u32, run: &[u8])
         requires index { free.old ≡ free_sizes self.old }
         requires hole { IsHole (length run.now) self.old at }
         requires run { IsRun run.now }
+        requires saved { IsCovered pages.old (bins_size self.old) }
         ensures index { free.new ≡ free_sizes self.new }
         ensures exact { self.new ≡ at_cell at (with_run (run_cells run.now)) self.old }
         ensures held { (o : ℕ) → held_at self.new o ≡ or_else (held_among o at (run_cells run.now)) (held_at self.old o) }
         ensures fresh { (o : ℕ) → at ≤ o → o < at + length run.now → held_at self.old o ≡ None }
         ensures long { bins_size self.new ≡ bins_size self.old }
+        ensures base { before pages.new (spelled 0 self.new) ≡ before pages.old (spelled 0 self.old) }
+        ensures covered { IsCovered pages.new (bins_size self.new) }
+        ensures count { length pages.new ≡ length pages.old }
     {
         let place = at as usize;
+        touch(pages, self.bytes.as_slice(), place, place + run.len());
         put(&mut self.bytes, place, run);
         let size = free.size(place / 8);
         mark_run(&mut self.starts, place / 8, run);
@@ -67,34 +75,39 @@ impl CellHeap {
             return;
         }
         let rest = place + run.len();
+        touch(pages, self.bytes.as_slice(), rest, rest + 4);
         put_word(&mut self.bytes, rest, left as u32);
         self.starts[rest / 8] = true;
         free.set(rest / 8, left as u32);
     }
 
     /// The allocated cell becomes free, and one with the free cells before and after it in its bin.
-    pub(crate) fn free(&mut self, free: &mut FreeIndex, at: u32)
+    pub(crate) fn free(&mut self, free: &mut FreeIndex, pages: &mut SavedPages, at: u32)
         requires index { free.old ≡ free_sizes self.old }
         requires allocated { IsSome (held_at self.old at) }
+        requires saved { IsCovered pages.old (bins_size self.old) }
         ensures index { free.new ≡ free_sizes self.new }
         ensures exact { IsFreed at self.old self.new }
         ensures gone { held_at self.new at ≡ None }
         ensures others { (o : ℕ) → (o ≡ at → ⊥) → held_at self.new o ≡ held_at self.old o }
         ensures long { bins_size self.new ≡ bins_size self.old }
+        ensures base { before pages.new (spelled 0 self.new) ≡ before pages.old (spelled 0 self.old) }
+        ensures covered { IsCovered pages.new (bins_size self.new) }
+        ensures count { length pages.new ≡ length pages.old }
     {
         let size = self.size(at);
         let more = self.free_behind(free, at, size);
         let before = self.free_before(free, at);
         if more > 0 {
-            self.merge(free, at, size, more);
+            self.merge(free, pages, at, size, more);
             if let Some((from, room)) = before {
-                self.merge(free, from, room, size + more);
+                self.merge(free, pages, from, room, size + more);
             }
             return;
         }
         match before {
-            None => self.release(free, at, size),
-            Some((from, room)) => self.merge(free, from, room, size),
+            None => self.release(free, pages, at, size),
+            Some((from, room)) => self.merge(free, pages, from, room, size),
         }
     }
 
@@ -111,6 +124,9 @@ impl CellHeap {
         ensures hole { IfOk result (λ r. IfSome r (IsHole size self.new)) }
         ensures held { (o : ℕ) → held_at self.new o ≡ held_at self.old o }
         ensures long { bins_size self.new ≤ bins_size self.old + new_bin_size size }
+        ensures more { bins_size self.old ≤ bins_size self.new }
+        ensures base { (ps : List (List ℕ)) → IsCovered ps (bins_size self.old)
+            → before ps (spelled 0 self.new) ≡ before ps (spelled 0 self.old) }
     {
         let long = self.bytes.len();
         let bin = (u64::from(size) + 4127) / 4096 * 4096;
@@ -122,15 +138,21 @@ impl CellHeap {
     }
 
     /// Writes a part of the payload of the allocated cell, from this byte of it on.
-    pub(crate) fn patch(&mut self, at: u32, from: u32, part: &[u8])
-        requires { IsSomeAnd (held_at self.old at) (λ p. from + length part.now ≤ length p) }
+    pub(crate) fn patch(&mut self, pages: &mut SavedPages, at: u32, from: u32, part: &[u8])
+        requires part { IsSomeAnd (held_at self.old at) (λ p. from + length part.now ≤ length p) }
+        requires saved { IsCovered pages.old (bins_size self.old) }
         ensures sizes { free_sizes self.new ≡ free_sizes self.old }
         ensures exact { self.new ≡ at_cell at (with_part from part.now) self.old }
         ensures here { held_at self.new at ≡ option_map (patched from part.now) (held_at self.old at) }
         ensures others { (o : ℕ) → (o ≡ at → ⊥) → held_at self.new o ≡ held_at self.old o }
         ensures long { bins_size self.new ≡ bins_size self.old }
+        ensures base { before pages.new (spelled 0 self.new) ≡ before pages.old (spelled 0 self.old) }
+        ensures covered { IsCovered pages.new (bins_size self.new) }
+        ensures count { length pages.new ≡ length pages.old }
     {
-        put(&mut self.bytes, at as usize + 4 + from as usize, part);
+        let place = at as usize + 4 + from as usize;
+        touch(pages, self.bytes.as_slice(), place, place + part.len());
+        put(&mut self.bytes, place, part);
     }
 
     /// Appends a bin, one free cell in it.
@@ -142,6 +164,8 @@ impl CellHeap {
         ensures index { free.new ≡ free_sizes self.new }
         ensures ok { OnOk result (self.new ≡ self.old ++ free_bin size ∷ []) }
         ensures err { OnErr result (self.new ≡ self.old) }
+        ensures base { (ps : List (List ℕ)) → IsCovered ps (bins_size self.old)
+            → before ps (spelled 0 self.new) ≡ before ps (spelled 0 self.old) }
     {
         let slot = free.len();
         self.bytes.reserve(size as usize)?;
@@ -195,32 +219,42 @@ impl CellHeap {
     }
 
     /// The cell becomes free.
-    fn release(&mut self, free: &mut FreeIndex, at: u32, size: u32)
+    fn release(&mut self, free: &mut FreeIndex, pages: &mut SavedPages, at: u32, size: u32)
         requires index { free.old ≡ free_sizes self.old }
         requires cell { IsSomeAnd (cell_at self.old at) (λ c. cell_size c ≡ size) }
+        requires saved { IsCovered pages.old (bins_size self.old) }
         ensures index { free.new ≡ free_sizes self.new }
         ensures exact { self.new ≡ at_cell at with_free self.old }
         ensures others { (o : ℕ) → (o ≡ at → ⊥) → cell_at self.new o ≡ cell_at self.old o }
         ensures here { IsFreeOf size (cell_at self.new at) }
         ensures long { bins_size self.new ≡ bins_size self.old }
+        ensures base { before pages.new (spelled 0 self.new) ≡ before pages.old (spelled 0 self.old) }
+        ensures covered { IsCovered pages.new (bins_size self.new) }
+        ensures count { length pages.new ≡ length pages.old }
     {
+        touch(pages, self.bytes.as_slice(), at as usize, at as usize + 4);
         put_word(&mut self.bytes, at as usize, size);
         free.set(at as usize / 8, size);
     }
 
     /// The cell and the one after it become one free cell.
-    fn merge(&mut self, free: &mut FreeIndex, at: u32, size: u32, more: u32)
+    fn merge(&mut self, free: &mut FreeIndex, pages: &mut SavedPages, at: u32, size: u32, more: u32)
         requires index { free.old ≡ free_sizes self.old }
         requires cells { Neighbours at size more self.old }
+        requires saved { IsCovered pages.old (bins_size self.old) }
         ensures index { free.new ≡ free_sizes self.new }
         ensures exact { self.new ≡ at_cell at with_next self.old }
         ensures others { (o : ℕ) → (o ≡ at → ⊥) → (o ≡ at + size → ⊥) → cell_at self.new o ≡ cell_at self.old o }
         ensures here { IsFreeOf (size + more) (cell_at self.new at) }
         ensures gone { cell_at self.new (at + size) ≡ None }
         ensures long { bins_size self.new ≡ bins_size self.old }
+        ensures base { before pages.new (spelled 0 self.new) ≡ before pages.old (spelled 0 self.old) }
+        ensures covered { IsCovered pages.new (bins_size self.new) }
+        ensures count { length pages.new ≡ length pages.old }
     {
         let place = at as usize;
         let slot = (place + size as usize) / 8;
+        touch(pages, self.bytes.as_slice(), place, place + 4);
         put_word(&mut self.bytes, place, size + more);
         self.starts[slot] = false;
         free.set(slot, 0);

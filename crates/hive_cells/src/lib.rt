@@ -16,6 +16,7 @@ mod open;
 mod pushes;
 mod read;
 mod source;
+mod spare;
 
 pub use heap::CellHeap;
 pub use laws::{list_or_fault, one_fault, one_list, one_of_the_two};

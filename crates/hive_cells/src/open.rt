@@ -8,46 +8,62 @@ ghost use Rattle.hive_cells.specs.Held.{held_at, held_among, patched, run_cells,
 ghost use Rattle.hive_cells.specs.Holes.{new_bin_size, FindsHole, Grows, IsHole, MakesRoom};
 ghost use Rattle.hive_cells.specs.Changes.{at_cell, with_part, with_run, Allocates};
 ghost use Rattle.hive_cells.specs.Frees.{IsFreed};
+ghost use Rattle.saved_pages.specs.Overlay.{before, IsCovered};
 
 use crate::heap::CellHeap;
 use crate::index::index_of;
 use crate::pushes::zero_run;
+use crate::spare::{begin_anew, longer, widen_to};
 use free_index::FreeIndex;
 use nt_bytes::{Bytes, HiveFault};
+use saved_pages::{SavedPages, touch};
 use std::alloc::{AllocError, Global};
 use std::marker::Model;
 
-/// Cells that can change, with an index of the free ones: at most 16,777,216 bytes. Each change takes
-/// the same few steps however many cells there are, beside the bytes that it writes.
+/// Cells that can change, with an index of the free ones, and by the pages that were kept the bins data as they were when
+/// they were settled last: the base. At most 16,777,216 bytes. Each change takes the same few steps however many cells
+/// there are, beside the bytes that it writes and the pages that it is the first to change. Of the pages and those that
+/// are spare one has room for all the bins data, so that a next base takes no memory.
 #[derive(Drop)]
 pub struct OpenHeap {
     cells: CellHeap,
     free: FreeIndex,
+    pages: SavedPages,
+    spare: SavedPages,
 }
 
 impl Model for OpenHeap {
-    ghost use Rattle.std.specs.Prelude.{◌≡◌, List};
-    ghost use Rattle.std.specs.Coded.{coded_list};
-    ghost use Rattle.hive_model.specs.Bins.{Bin};
-    ghost use Rattle.hive_model.specs.Codes.{coded_bin};
+    ghost use Rattle.std.specs.Prelude.{◌≡◌};
+    ghost use Rattle.hive_model.specs.Bins.{bins_size};
     ghost use Rattle.hive_cells.specs.Holes.{free_sizes};
+    ghost use Rattle.hive_cells.specs.Opened.{HaveRoom, Opened, coded_opened, opened_of};
+    ghost use Rattle.saved_pages.specs.Overlay.{IsCovered};
 
-    ghost Value = { List Bin };
+    ghost Value = { Opened };
 
-    ghost coded = { coded_list coded_bin };
+    ghost coded = { coded_opened };
 
-    ghost view = { λ a. a.cells };
+    ghost view = { λ a. opened_of a.pages a.cells };
 
-    ghost invariant = { λ a. a.free ≡ free_sizes a.cells };
+    ghost invariant = { λ a. (a.free ≡ free_sizes a.cells) × IsCovered a.pages (bins_size a.cells) × HaveRoom a.pages a.spare (bins_size a.cells) };
 }
 
 impl CellHeap {
-    /// The same heap, with an index of its free cells: one look at each cell.
+    /// The same heap, with an index of its free cells: one look at each cell. The base is the bins data. Room for its
+    /// pages is taken here, as long as the bins data, and touched where a page changes.
     pub fn opened(self, alloc: Global) -> Result<OpenHeap, AllocError>
-        ensures { IfOk result (λ heap. heap ≡ self) }
+        ensures bins { IfOk result (λ heap. heap.bins ≡ self) }
+        ensures base { IfOk result (λ heap. heap.base ≡ spelled 0 self) }
     {
         let free = index_of(alloc, self.bytes.as_slice(), self.starts.as_slice())?;
-        Ok(OpenHeap { cells: self, free })
+        let pages = SavedPages::new(alloc, self.bytes.len() / 4096)?;
+        let spare = SavedPages::new(alloc, 0)?;
+        Ok(OpenHeap {
+            cells: self,
+            free,
+            pages,
+            spare,
+        })
     }
 }
 
@@ -58,19 +74,26 @@ impl OpenHeap {
     {
         let cells = self.cells.copy(alloc)?;
         let free = self.free.copy(alloc)?;
-        Ok(OpenHeap { cells, free })
+        let pages = self.pages.copy(alloc)?;
+        let spare = SavedPages::new(alloc, self.spare.len())?;
+        Ok(OpenHeap {
+            cells,
+            free,
+            pages,
+            spare,
+        })
     }
 
     /// The cells, to be read.
     pub fn cells(&self) -> &CellHeap
-        ensures { result.now ≡ self.now }
+        ensures { result.now ≡ self.now.bins }
     {
         &self.cells
     }
 
     /// The cells, without a copy.
     pub fn into_cells(self) -> CellHeap
-        ensures { result ≡ self }
+        ensures { result ≡ self.bins }
     {
         self.cells
     }
@@ -80,8 +103,8 @@ impl OpenHeap {
     /// eight bytes.
     #[tactic(auto, using(crate::proofs::HeldLemmas::seen_held))]
     pub fn payload(&self, at: u32) -> Result<&[u8], HiveFault>
-        ensures exact { Sees (λ p. p.now) result (with_place at (payload_at self.now at)) }
-        ensures held { IfOk result (λ p. held_at self.now at ≡ Some p.now) }
+        ensures exact { Sees (λ p. p.now) result (with_place at (payload_at self.now.bins at)) }
+        ensures held { IfOk result (λ p. held_at self.now.bins at ≡ Some p.now) }
         ensures whole { IfOk result (λ p. at % 8 ≡ 0) }
     {
         self.cells.payload(at)
@@ -89,8 +112,8 @@ impl OpenHeap {
 
     /// The bins data.
     pub fn bytes(&self) -> &[u8]
-        ensures exact { result.now ≡ spelled 0 self.now }
-        ensures sound { IsHeap self.now }
+        ensures exact { result.now ≡ spelled 0 self.now.bins }
+        ensures sound { IsHeap self.now.bins }
     {
         self.cells.opens();
         self.cells.bytes()
@@ -98,7 +121,7 @@ impl OpenHeap {
 
     /// The bins data, without a copy.
     pub fn into_bytes(self) -> Bytes
-        ensures { result ≡ spelled 0 self }
+        ensures { result ≡ spelled 0 self.bins }
     {
         self.cells.into_bytes()
     }
@@ -107,7 +130,7 @@ impl OpenHeap {
     /// `None` exactly where each free cell is smaller.
     pub fn fit(&self, size: u32) -> Option<u32>
         requires { 0 < size }
-        ensures { FindsHole size self.now result }
+        ensures { FindsHole size self.now.bins result }
     {
         self.cells.fit(&self.free, size)
     }
@@ -115,26 +138,34 @@ impl OpenHeap {
     /// Puts a run of allocated cells, in sequence, into the free cell that begins here. What
     /// is left of it is free.
     pub fn fill(&mut self, at: u32, run: &[u8])
-        requires hole { IsHole (length run.now) self.old at }
+        requires hole { IsHole (length run.now) self.old.bins at }
         requires run { IsRun run.now }
-        ensures exact { self.new ≡ at_cell at (with_run (run_cells run.now)) self.old }
-        ensures held { (o : ℕ) → held_at self.new o ≡ or_else (held_among o at (run_cells run.now)) (held_at self.old o) }
-        ensures fresh { (o : ℕ) → at ≤ o → o < at + length run.now → held_at self.old o ≡ None }
-        ensures long { bins_size self.new ≡ bins_size self.old }
+        ensures exact { self.new.bins ≡ at_cell at (with_run (run_cells run.now)) self.old.bins }
+        ensures held { (o : ℕ) → held_at self.new.bins o ≡ or_else (held_among o at (run_cells run.now)) (held_at self.old.bins o) }
+        ensures fresh { (o : ℕ) → at ≤ o → o < at + length run.now → held_at self.old.bins o ≡ None }
+        ensures long { bins_size self.new.bins ≡ bins_size self.old.bins }
+        ensures base { self.new.base ≡ self.old.base }
     {
-        self.cells.fill(&mut self.free, at, run);
+        self.cells.fill(&mut self.free, &mut self.pages, at, run);
     }
 
     /// Appends a bin of the fewest whole 4096 bytes that hold a cell of this size, one free cell in
     /// it, and answers the offset of that cell. `None` exactly where the bins data would pass
     /// 16,777,216 bytes. The heap is as it was at `None` and where there is no memory.
     pub fn grow(&mut self, size: u32) -> Result<Option<u32>, AllocError>
-        ensures exact { IfOk result (Grows size self.old self.new) }
+        ensures exact { IfOk result (Grows size self.old.bins self.new.bins) }
         ensures refused { OnErr result (self.new ≡ self.old) }
-        ensures hole { IfOk result (λ r. IfSome r (IsHole size self.new)) }
-        ensures held { (o : ℕ) → held_at self.new o ≡ held_at self.old o }
-        ensures long { bins_size self.new ≤ bins_size self.old + new_bin_size size }
+        ensures hole { IfOk result (λ r. IfSome r (IsHole size self.new.bins)) }
+        ensures held { (o : ℕ) → held_at self.new.bins o ≡ held_at self.old.bins o }
+        ensures long { bins_size self.new.bins ≤ bins_size self.old.bins + new_bin_size size }
+        ensures base { self.new.base ≡ self.old.base }
     {
+        self.cells.opens();
+        let long = self.cells.bytes().len();
+        widen_to(
+            &mut self.spare,
+            (long as u64 + u64::from(size) + 4127) / 4096,
+        )?;
         self.cells.grow(&mut self.free, size)
     }
 
@@ -143,11 +174,12 @@ impl OpenHeap {
     /// new bin. The heap is as it was at `None` and where there is no memory.
     pub fn make_room(&mut self, size: u32) -> Result<Option<u32>, AllocError>
         requires { 0 < size }
-        ensures exact { IfOk result (MakesRoom size self.old self.new) }
+        ensures exact { IfOk result (MakesRoom size self.old.bins self.new.bins) }
         ensures refused { OnErr result (self.new ≡ self.old) }
-        ensures hole { IfOk result (λ r. IfSome r (IsHole size self.new)) }
-        ensures held { (o : ℕ) → held_at self.new o ≡ held_at self.old o }
-        ensures long { bins_size self.new ≤ bins_size self.old + new_bin_size size }
+        ensures hole { IfOk result (λ r. IfSome r (IsHole size self.new.bins)) }
+        ensures held { (o : ℕ) → held_at self.new.bins o ≡ held_at self.old.bins o }
+        ensures long { bins_size self.new.bins ≤ bins_size self.old.bins + new_bin_size size }
+        ensures base { self.new.base ≡ self.old.base }
     {
         match self.fit(size) {
             Some(at) => Ok(Some(at)),
@@ -161,12 +193,13 @@ impl OpenHeap {
     /// by the new bin. The heap is as it was at `None` and where there is no memory.
     pub fn alloc(&mut self, alloc: Global, payload: u32) -> Result<Option<u32>, AllocError>
         requires { payload ≤ 16777216 }
-        ensures exact { IfOk result (Allocates payload self.old self.new) }
+        ensures exact { IfOk result (Allocates payload self.old.bins self.new.bins) }
         ensures refused { OnErr result (self.new ≡ self.old) }
-        ensures here { IfOk result (λ r. IfSome r (λ at. held_at self.new at ≡ Some (replicate (cell payload - 4) 0))) }
-        ensures fresh { IfOk result (λ r. IfSome r (λ at. held_at self.old at ≡ None)) }
-        ensures others { IfOk result (λ r. (o : ℕ) → (r ≡ Some o → ⊥) → held_at self.new o ≡ held_at self.old o) }
-        ensures long { bins_size self.new ≤ bins_size self.old + new_bin_size (cell payload) }
+        ensures here { IfOk result (λ r. IfSome r (λ at. held_at self.new.bins at ≡ Some (replicate (cell payload - 4) 0))) }
+        ensures fresh { IfOk result (λ r. IfSome r (λ at. held_at self.old.bins at ≡ None)) }
+        ensures others { IfOk result (λ r. (o : ℕ) → (r ≡ Some o → ⊥) → held_at self.new.bins o ≡ held_at self.old.bins o) }
+        ensures long { bins_size self.new.bins ≤ bins_size self.old.bins + new_bin_size (cell payload) }
+        ensures base { self.new.base ≡ self.old.base }
     {
         let run = zero_run(alloc, payload)?;
         match self.make_room(run.len() as u32)? {
@@ -181,34 +214,72 @@ impl OpenHeap {
     /// Frees the allocated cell. It becomes one with the free cell right before it in its bin, and
     /// with the one right after it.
     pub fn free(&mut self, at: u32)
-        requires { IsSome (held_at self.old at) }
-        ensures exact { IsFreed at self.old self.new }
-        ensures gone { held_at self.new at ≡ None }
-        ensures others { (o : ℕ) → (o ≡ at → ⊥) → held_at self.new o ≡ held_at self.old o }
-        ensures long { bins_size self.new ≡ bins_size self.old }
+        requires { IsSome (held_at self.old.bins at) }
+        ensures exact { IsFreed at self.old.bins self.new.bins }
+        ensures gone { held_at self.new.bins at ≡ None }
+        ensures others { (o : ℕ) → (o ≡ at → ⊥) → held_at self.new.bins o ≡ held_at self.old.bins o }
+        ensures long { bins_size self.new.bins ≡ bins_size self.old.bins }
+        ensures base { self.new.base ≡ self.old.base }
     {
-        self.cells.free(&mut self.free, at);
+        self.cells.free(&mut self.free, &mut self.pages, at);
     }
 
     /// Writes a part of the payload of the allocated cell, from this byte of it on.
     pub fn patch(&mut self, at: u32, from: u32, part: &[u8])
-        requires { IsSomeAnd (held_at self.old at) (λ p. from + length part.now ≤ length p) }
-        ensures exact { self.new ≡ at_cell at (with_part from part.now) self.old }
-        ensures here { held_at self.new at ≡ option_map (patched from part.now) (held_at self.old at) }
-        ensures others { (o : ℕ) → (o ≡ at → ⊥) → held_at self.new o ≡ held_at self.old o }
-        ensures long { bins_size self.new ≡ bins_size self.old }
+        requires { IsSomeAnd (held_at self.old.bins at) (λ p. from + length part.now ≤ length p) }
+        ensures exact { self.new.bins ≡ at_cell at (with_part from part.now) self.old.bins }
+        ensures here { held_at self.new.bins at ≡ option_map (patched from part.now) (held_at self.old.bins at) }
+        ensures others { (o : ℕ) → (o ≡ at → ⊥) → held_at self.new.bins o ≡ held_at self.old.bins o }
+        ensures long { bins_size self.new.bins ≡ bins_size self.old.bins }
+        ensures base { self.new.base ≡ self.old.base }
     {
-        self.cells.patch(at, from, part);
+        self.cells.patch(&mut self.pages, at, from, part);
     }
 
     /// Gives the allocated cell another payload, as long as its own.
     pub fn rewrite(&mut self, at: u32, payload: &[u8])
-        requires { IsSomeAnd (held_at self.old at) (λ p. length p ≡ length payload.now) }
-        ensures exact { self.new ≡ at_cell at (with_part 0 payload.now) self.old }
-        ensures here { held_at self.new at ≡ Some payload.now }
-        ensures others { (o : ℕ) → (o ≡ at → ⊥) → held_at self.new o ≡ held_at self.old o }
-        ensures long { bins_size self.new ≡ bins_size self.old }
+        requires { IsSomeAnd (held_at self.old.bins at) (λ p. length p ≡ length payload.now) }
+        ensures exact { self.new.bins ≡ at_cell at (with_part 0 payload.now) self.old.bins }
+        ensures here { held_at self.new.bins at ≡ Some payload.now }
+        ensures others { (o : ℕ) → (o ≡ at → ⊥) → held_at self.new.bins o ≡ held_at self.old.bins o }
+        ensures long { bins_size self.new.bins ≡ bins_size self.old.bins }
+        ensures base { self.new.base ≡ self.old.base }
     {
         self.patch(at, 0, payload);
+    }
+
+    /// Takes the cells of another heap. The base stays. No memory is taken.
+    pub fn replace(&mut self, other: OpenHeap)
+        ensures bins { self.new.bins ≡ other.bins }
+        ensures base { self.new.base ≡ self.old.base }
+    {
+        self.cells.opens();
+        let bytes = self.cells.bytes();
+        touch(&mut self.pages, bytes, 0, bytes.len());
+        self.spare = longer(other.pages, other.spare);
+        self.cells = other.cells;
+        self.free = other.free;
+    }
+
+    /// The pages of the base that were kept: with the bins data they give it, and only these can differ.
+    pub fn pages(&self) -> &SavedPages
+        ensures base { before result.now (spelled 0 self.now.bins) ≡ self.now.base }
+        ensures covered { IsCovered result.now (length (spelled 0 self.now.bins)) }
+    {
+        self.cells.opens();
+        &self.pages
+    }
+
+    /// From now on the base is the bins data that are there. No memory is taken.
+    pub fn settle(&mut self)
+        ensures bins { self.new.bins ≡ self.old.bins }
+        ensures base { self.new.base ≡ spelled 0 self.old.bins }
+    {
+        self.cells.opens();
+        begin_anew(
+            &mut self.pages,
+            &mut self.spare,
+            self.cells.bytes().len() / 4096,
+        );
     }
 }

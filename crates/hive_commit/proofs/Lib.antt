@@ -12,3 +12,4 @@ pub mod LogSectors
 pub mod Staged
 pub mod StagedCuts
 pub mod Blank
+pub mod KeptMarks

@@ -1,9 +1,10 @@
 -- What each stage of a commit leaves. (This project's own.)
-use Rattle.std.specs.Prelude.{◌≡◌, ◌⊎◌, ◌<◌, ◌+◌, ◌-◌, ◌*◌, ◌%◌, ◌&&◌, nat_le, nat_lt, Bool, true, ℕ, List, length, Some}
+use Rattle.std.specs.Prelude.{◌≡◌, ◌⊎◌, ◌<◌, ◌+◌, ◌-◌, ◌*◌, ◌/◌, ◌%◌, ◌&&◌, nat_le, nat_lt, Bool, true, ℕ, List, length, Some}
 use Rattle.hive_model.specs.Base.{Base, base_text}
 use Rattle.hive_model.specs.Image.{Primary, Log, Address, Image, Bytes, IsLeftBy, same_file, same_address}
-use Rattle.hive_model.specs.Recovery.{primary_in, sector}
-use Rattle.hive_model.specs.Carries.{IsRecoveredAs}
+use Rattle.hive_model.specs.Recovery.{primary_in, bit, sector}
+use Rattle.hive_model.specs.Carries.{Carries, IsRecoveredAs}
+use Rattle.hive_model.specs.Log.{dirty}
 use Rattle.hive_model.specs.State.{HiveState}
 use Rattle.hive_model.specs.Load.{LoadsAs}
 use Rattle.hive_model.specs.Asked.{primary_at}
@@ -47,3 +48,14 @@ IsBeforeOrAfter base old closed new image = IsRecoveredAs image base old ⊎ IsR
 -- the image loads as the one state or as the other
 abbrev pub LoadsAsEither : HiveState → HiveState → Image → Type 0
 LoadsAsEither before after image = LoadsAs image before ⊎ LoadsAs image after
+
+-- the bits of the sectors of the new data that differ from the old, or lie past their end, are on in the marks, and the
+-- others are off
+abbrev pub AreMarked : List ℕ → List ℕ → List ℕ → Type 0
+AreMarked old new marks = (i : ℕ) → i < length new / 512 → bit marks i ≡ dirty old new i
+
+-- the image carries old data, and the marks tell where the new ones differ from them
+pub record IsMarkedChange (image : Image) (base : Base) (new marks : List ℕ) : Type 0 where
+  pub old : List ℕ
+  pub carries : Carries image base old
+  pub marked : AreMarked old new marks

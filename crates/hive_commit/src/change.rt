@@ -1,6 +1,6 @@
 //! A commit: the log, the base block opened, the sectors, the base block closed.
 
-ghost use Rattle.std.specs.Prelude.{◌≡◌, ◌<◌, ◌/◌, ℕ, true, [], length, IfOk, OnOk, IsOk};
+ghost use Rattle.std.specs.Prelude.{◌≡◌, ◌<◌, ◌/◌, ℕ, List, true, [], length, IfOk, OnOk, IsOk};
 ghost use Rattle.hive_model.specs.Recovery.{bit};
 ghost use Rattle.hive_model.specs.Base.{is_bins_size};
 ghost use Rattle.hive_model.specs.Carries.{Carries, HasLog};
@@ -10,7 +10,7 @@ ghost use Rattle.nt_edge.specs.Calls.{MakesUntil};
 ghost use Rattle.nt_edge.specs.Crash.{EachCrash};
 ghost use Rattle.hive_commit.specs.Alone.{KeepsRest};
 ghost use Rattle.hive_commit.specs.Calls.{change_calls};
-ghost use Rattle.hive_commit.specs.Stages.{closed_of, IsBeforeOrAfter};
+ghost use Rattle.hive_commit.specs.Stages.{closed_of, AreMarked, IsBeforeOrAfter, IsMarkedChange};
 ghost use Rattle.hive_commit.specs.Stops.{IsCommitOn};
 
 use crate::CommitStop;
@@ -57,10 +57,39 @@ pub fn commit<D: Disk>(
     ensures done { (Rises (D.state disk.old).cuts (D.state disk.new).cuts → ⊥) → (Rises (D.state disk.old).faults (D.state disk.new).faults → ⊥)
         → (Rises (D.state disk.old).lacks (D.state disk.new).lacks → ⊥) → IsOk result }
 {
+    mark_dirty(old, new, marks);
+    write_change(disk, base, marks, new, root)
+}
+
+/// The four stages of a commit, by marks that tell which sectors differ: of whatever old data they are the marks.
+pub(crate) fn write_change<D: Disk>(
+    disk: &mut D,
+    base: &BaseBlock,
+    marks: &[u8; 4096],
+    new: &[u8],
+    root: u32,
+) -> Result<BaseBlock, CommitStop>
+    requires on { (D.state disk.old).on ≡ true }
+    requires still { D.tells ≡ true → (D.state disk.old).flight ≡ [] }
+    requires change { D.tells ≡ true → IsMarkedChange (D.state disk.old).held base.now new.now marks.now }
+    requires sized { is_bins_size (length new.now) ≡ true }
+    ensures made { (old : List ℕ) → AreMarked old new.now marks.now
+        → MakesUntil (D.calls disk.old) (D.calls disk.new) (change_calls base.now old new.now root) result }
+    ensures answered { IfOk result (λ b. b ≡ closed_of base.now new.now root) }
+    ensures still { D.tells ≡ true → OnOk result ((D.state disk.new).flight ≡ []) }
+    ensures carries { D.tells ≡ true → OnOk result (Carries (D.state disk.new).held (closed_of base.now new.now root) new.now) }
+    ensures crash { D.tells ≡ true → (old : List ℕ) → Carries (D.state disk.old).held base.now old → AreMarked old new.now marks.now
+        → EachCrash (D.state disk.new) (IsBeforeOrAfter base.now old (closed_of base.now new.now root) new.now) }
+    ensures logged { D.tells ≡ true → (old : List ℕ) → AreMarked old new.now marks.now
+        → OnOk result (HasLog (D.state disk.new).held (log_of (dirty old new.now) new.now (closed_of base.now new.now root))) }
+    ensures rest { D.tells ≡ true → EachCrash (D.state disk.new) (KeepsRest (length new.now) (D.state disk.old).held) }
+    ensures goes { IsCommitOn (D.state disk.old) (D.state disk.new) result }
+    ensures done { (Rises (D.state disk.old).cuts (D.state disk.new).cuts → ⊥) → (Rises (D.state disk.old).faults (D.state disk.new).faults → ⊥)
+        → (Rises (D.state disk.old).lacks (D.state disk.new).lacks → ⊥) → IsOk result }
+{
     numbers_fit(base);
     texts_fit(base);
     let closed = closed_block(base, new.len() as u32, root);
-    mark_dirty(old, new, marks);
     write_log(disk, &closed, marks, new)?;
     write_block(disk, &opened_block(base))?;
     write_bins(disk, marks, new)?;

@@ -9,9 +9,11 @@
 
 mod blocks;
 mod change;
+mod kept_marks;
 mod laws;
 mod loading;
 mod marks;
+mod paged;
 mod parts;
 mod restoring;
 mod stages;
@@ -26,6 +28,7 @@ pub use laws::{
     a_cut_while_the_bins_are_written_leaves_the_new, a_cut_while_the_log_is_written_leaves_the_old,
 };
 pub use loading::{look, recover};
+pub use paged::commit_kept;
 pub use parts::{put_sector, settle};
 pub use restoring::restore;
 pub use stops::CommitStop;

@@ -1,5 +1,5 @@
 -- The step that adds a child: what it is judged by, and that it is made.
-use Rattle.std.proofs.Common.{◌≡◌, ◌≤◌, ◌<◌, ◌^◌, ℕ, ◌+◌, ◌-◌, Bool, true, false, List, [], ◌∷◌, ◌++◌, length, Option, Some, None, Result, Ok, Err, refl, sym, ap, subst, ◌∙◌, ⊎_elim, arith}
+use Rattle.std.proofs.Common.{◌≡◌, ◌≤◌, ◌<◌, ◌^◌, ℕ, ◌+◌, Bool, true, false, List, [], ◌∷◌, ◌++◌, length, Option, Some, None, Result, Ok, Err, refl, sym, ap, subst, ◌∙◌, ⊎_elim, arith}
 use Rattle.std.specs.Prelude.{nat_lt, find, is_some, MatchBool, IfOk}
 use Rattle.std.specs.Result.{IsOk}
 use Rattle.std.specs.Option.{IfSome}
@@ -17,6 +17,7 @@ use Rattle.hive_model.specs.Edit.{add_child, Refusal, bad_name, name_too_long, e
 use Rattle.hive_model.specs.Footprint.{child_places, security_cell_at, is_node_named, list_sizes, sizes, room_of, needed_sizes, added_sizes_in}
 use Rattle.hive_model.specs.Stands.{IsWellFormed, security_of}
 use Rattle.hive_model.specs.InPlace.{IsKeptSecurity}
+use Rattle.hive_cells.specs.Opened.{Opened}
 use Rattle.hive_cells.specs.Holes.{new_bin_size}
 use Rattle.hive_pack.proofs.Formed.{apart}
 use Rattle.reg_tree.specs.Makes.{IsRefused, refusal_of}
@@ -228,9 +229,9 @@ add_lacks h name k f low over = λ w e.
 
 -- ---- is a child there?
 
-pub child_there : (bins heap : List Bin) (root : ℕ) (version : HiveVersion) (bulk : ℕ) (h : HiveCells) (name : List ℕ)
+pub child_there : (bins : Opened) (heap : List Bin) (root : ℕ) (version : HiveVersion) (bulk : ℕ) (h : HiveCells) (name : List ℕ)
     (r : Option ℕ) (v : Bool)
-    → IsHive bins root version bulk → hive_of bins root version ≡ h → heap ≡ bins
+    → IsHive bins.bins root version bulk → hive_of bins root version ≡ h → heap ≡ bins.bins
     → r ≡ find (is_node_named (look_up version heap) name) (child_places (look_up version heap) root) → is_some r ≡ v
     → has_child name h.tree ≡ v
 child_there bins heap root version bulk h name r v is view same e some =
@@ -239,12 +240,12 @@ child_there bins heap root version bulk h name r v is view same e some =
     (child_places (look_up version z) root)) same)) some)
   where
     t : Tree
-    t = tree_of (look_up version bins) root
+    t = tree_of (look_up version bins.bins) root
 
-    go : (o : Option ℕ) → find (is_node_named (look_up version bins) name) (child_places (look_up version bins) root)
+    go : (o : Option ℕ) → find (is_node_named (look_up version bins.bins) name) (child_places (look_up version bins.bins) root)
         ≡ o → is_some o ≡ v → has_child name t ≡ v
-    go None f g = key_absent (look_up version bins) root t t [] name root is.stands refl f ∙ g
-    go (Some y) f g = key_present (look_up version bins) root t t [] name root y is.stands refl f ∙ g
+    go None f g = key_absent (look_up version bins.bins) root t t [] name root is.stands refl f ∙ g
+    go (Some y) f g = key_present (look_up version bins.bins) root t t [] name root y is.stands refl f ∙ g
 
 -- ---- what the root's node says
 
@@ -253,13 +254,13 @@ pub record RootSays (h : HiveCells) (above : Above) : Type 0 where
   pub parent : IsParent (cells_in h) h.root h.tree [] h.root h.tree node
   pub says : AboveIs above node
 
-pub root_says : (bins heap : List Bin) (root : ℕ) (version : HiveVersion) (bulk : ℕ) (h : HiveCells) (above : Above)
-    → IsHive bins root version bulk
-    → hive_of bins root version ≡ h → heap ≡ bins
+pub root_says : (bins : Opened) (heap : List Bin) (root : ℕ) (version : HiveVersion) (bulk : ℕ) (h : HiveCells) (above : Above)
+    → IsHive bins.bins root version bulk
+    → hive_of bins root version ≡ h → heap ≡ bins.bins
     → ((n : KeyNode) → reading key_node_at (look_up version heap) root ≡ Ok n → AboveIs above n) → RootSays h above
 root_says bins heap root version bulk h above is view same says =
-    let t = tree_of (look_up version bins) root in
-    let read = node_read (look_up version bins) root t is.stands.stands in
+    let t = tree_of (look_up version bins.bins) root in
+    let read = node_read (look_up version bins.bins) root t is.stands.stands in
     subst (λ (g : HiveCells). RootSays g above) view (record {
       node = read.0;
       parent = record { well = is.stands; reached = refl; below = is.stands; read = read.1 };
@@ -278,20 +279,20 @@ root_descriptor h above r =
     ∙ (node_stands (cells_in h) h.root h.tree r.node r.parent.well.stands r.parent.read).security
 
 -- the cells that a lookup reads from are the hive's
-pub same_cells : (bins heap : List Bin) (root : ℕ) (version : HiveVersion) (h : HiveCells)
-    → hive_of bins root version ≡ h → heap ≡ bins → look_up version heap ≡ cells_in h
+pub same_cells : (bins : Opened) (heap : List Bin) (root : ℕ) (version : HiveVersion) (h : HiveCells)
+    → hive_of bins root version ≡ h → heap ≡ bins.bins → look_up version heap ≡ cells_in h
 same_cells bins heap root version h view same = ap (look_up version) same ∙ ap cells_in view
 
-pub root_readable : (bins heap : List Bin) (root : ℕ) (version : HiveVersion) (h : HiveCells) (above : Above)
-    → hive_of bins root version ≡ h → heap ≡ bins → RootSays h above
+pub root_readable : (bins : Opened) (heap : List Bin) (root : ℕ) (version : HiveVersion) (h : HiveCells) (above : Above)
+    → hive_of bins root version ≡ h → heap ≡ bins.bins → RootSays h above
     → IsOk (descriptor_of (look_up version heap) above.security)
 root_readable bins heap root version h above view same r =
     is_ok_of (descriptor_of (look_up version heap) above.security) (head h.tree).security
     (ap (λ (z : Cells). descriptor_of z above.security) (same_cells bins heap root version h view same)
     ∙ root_descriptor h above r)
 
-pub root_shared : (bins heap : List Bin) (root : ℕ) (version : HiveVersion) (h : HiveCells) (above : Above)
-    (shared : List ℕ) → hive_of bins root version ≡ h → heap ≡ bins → RootSays h above
+pub root_shared : (bins : Opened) (heap : List Bin) (root : ℕ) (version : HiveVersion) (h : HiveCells) (above : Above)
+    (shared : List ℕ) → hive_of bins root version ≡ h → heap ≡ bins.bins → RootSays h above
     → descriptor_of (look_up version heap) above.security ≡ Ok shared → shared ≡ (head h.tree).security
 root_shared bins heap root version h above shared view same r e =
     ok_same shared (head h.tree).security
@@ -335,12 +336,6 @@ added_if (Ok true) h new above shared k says same g = record {
 }
 added_if (Ok false) h new above shared k says same g = subst (λ (z : List ℕ). LacksGraftRoom h z k) same g
 added_if (Err e) h new above shared k says same g = tt
-
-pub well_in : (bins : List Bin) (root : ℕ) (version : HiveVersion) (bulk : ℕ) (h : HiveCells)
-    → IsHive bins root version bulk → hive_of bins root version ≡ h
-    → IsWellFormed (cells_in h) h.root h.tree
-well_in bins root version bulk h is view =
-    subst (λ (g : HiveCells). IsWellFormed (cells_in g) g.root g.tree) view is.stands
 
 pub low_by : (k : Tree) (v : Bool) → v ≡ nat_lt 511 (levels k) → v ≡ false → levels k ≤ 511
 low_by k v e f = ltb-false 511 (levels k) (sym e ∙ f)

@@ -9,6 +9,7 @@ use Rattle.hive_model.specs.Tree.{Tree}
 use Rattle.hive_model.specs.Edit.{Step, Refusal, edited}
 use Rattle.hive_model.specs.Valid.{IsValid}
 use Rattle.hive_model.specs.Stands.{IsWellFormed}
+use Rattle.hive_cells.specs.Opened.{Opened}
 use Rattle.hive_cells.proofs.Again.{one_list}
 use Rattle.reg_tree.specs.declared.stop.EditStop.{EditStop}
 use Rattle.reg_tree.specs.declared.stop.EditStop.TheVariants.{Memory}
@@ -21,20 +22,20 @@ use Rattle.hive_edit.proofs.StandingLemmas.{tree_is}
 use Rattle.hive_edit.proofs.HiveLemmas.{hive_opened}
 
 -- the cells of a packed tree, read back and opened
-pub record PackedHere (version : HiveVersion) (heap : List Bin) (t : Tree) : Type 0 where
-  pub stands : IsWellFormed (look_up version heap) 32 t
-  pub tree : tree_of (look_up version heap) 32 ≡ t
+pub record PackedHere (version : HiveVersion) (heap : Opened) (t : Tree) : Type 0 where
+  pub stands : IsWellFormed (look_up version heap.bins) 32 t
+  pub tree : tree_of (look_up version heap.bins) 32 ≡ t
   pub anew : IsPackedAnew (hive_of heap 32 version)
 
-pub packed_here : (version : HiveVersion) (text : List ℕ) (bins heap : List Bin) (t : Tree)
+pub packed_here : (version : HiveVersion) (text : List ℕ) (bins : List Bin) (heap : Opened) (t : Tree)
     → IsBins text (packed_bins version t) → IsBins text bins
-    → IsWellFormed (look_up version (packed_bins version t)) 32 t → heap ≡ bins
+    → IsWellFormed (look_up version (packed_bins version t)) 32 t → heap.bins ≡ bins
     → NamesParents (look_up version (packed_bins version t)) 32 → PackedHere version heap t
 packed_here version text bins heap t is was well e names =
-    let same : heap ≡ packed_bins version t =
+    let same : heap.bins ≡ packed_bins version t =
     e ∙ sym (one_list (packed_bins version t) bins is.0 was.0 (sym is.1 ∙ was.1)) in
     let stands = subst (λ (bs : List Bin). IsWellFormed (look_up version bs) 32 t) (sym same) well in
-    let tree = tree_is (look_up version heap) 32 t stands in
+    let tree = tree_is (look_up version heap.bins) 32 t stands in
     record {
       stands = stands;
       tree = tree;
@@ -45,9 +46,9 @@ packed_here version text bins heap t is was well e names =
       };
     }
 
-pub packed_hive : (version : HiveVersion) (heap : List Bin) (bulk : ℕ) (t : Tree) → PackedHere version heap t
-    → IsValid t → bulk ≡ bulk_of version t → IsHive heap 32 version bulk
-packed_hive version heap bulk t h v b = hive_opened heap heap 32 version bulk t refl h.stands v b
+pub packed_hive : (version : HiveVersion) (heap : Opened) (bulk : ℕ) (t : Tree) → PackedHere version heap t
+    → IsValid t → bulk ≡ bulk_of version t → IsHive heap.bins 32 version bulk
+packed_hive version heap bulk t h v b = hive_opened heap.bins heap.bins 32 version bulk t refl h.stands v b
 
 -- what is said of each outcome by itself, said of both
 pub both : {A E : Type 0} (r : Result A E) (P Q : A → Type 0) (M N : E → Type 0) → ((x : A) → P x → Q x)

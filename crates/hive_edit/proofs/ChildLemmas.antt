@@ -1,4 +1,4 @@
--- A hive whose root got a child, or for which there is no room.
+-- A hive in which a key got a child with all below it, or for which there is no room.
 use Rattle.std.proofs.Common.{◌≡◌, ◌≤◌, ◌<◌, ◌^◌, ℕ, ◌+◌, ◌*◌, ◌-◌, min, List, [], ◌∷◌, ◌++◌, length, take, drop, refl, sym, ap, subst, ◌∙◌, inl, inr, arith}
 use Rattle.std.specs.Prelude.{◌⊎◌}
 use Rattle.std.specs.List.{position_or_len}
@@ -13,6 +13,7 @@ use Rattle.hive_model.specs.Packed.{rounded}
 use Rattle.hive_model.specs.Edit.{renamed, with_child}
 use Rattle.hive_model.specs.Footprint.{list_sizes, room_of}
 use Rattle.hive_model.specs.Stands.{Stands, IsWellFormed}
+use Rattle.hive_cells.specs.Opened.{Opened}
 use Rattle.hive_cells.specs.Holes.{new_bin_size}
 use Rattle.hive_pack.specs.Below.{beside}
 use Rattle.hive_pack.specs.Numbers.{HasNumbers}
@@ -53,46 +54,49 @@ use Rattle.hive_edit.proofs.ListedLemmas.{inserted_lists}
 abbrev pub tree_in : HiveVersion → List Bin → ℕ → Tree
 tree_in version bins root = tree_of (look_up version bins) root
 
-pub record IsReady (version : HiveVersion) (old : List Bin) (root : ℕ) (above : Above) (shared : List ℕ) (k : Tree)
-    (at : ℕ) : Type 0 where
+-- what is known of the key above, the key and its place
+pub record IsReady (version : HiveVersion) (old : List Bin) (root x : ℕ) (host : Tree) (left : ℕ) (above : Above)
+    (shared : List ℕ) (k : Tree) (at : ℕ) : Type 0 where
   pub node : KeyNode
-  pub ready : Ready version old root (tree_in version old root) node above shared k at
+  pub ready : Ready version old root (tree_in version old root) x host node left above shared k at
   pub holds : HoldsKeys k
-  pub child : IsNewChild (hive_of old root version) k
 
-pub root_ready : (old : List Bin) (root : ℕ) (version : HiveVersion) (bulk : ℕ) (h : HiveCells) (above : Above)
+-- the root's
+abbrev pub IsRootReady : HiveVersion → List Bin → ℕ → Above → List ℕ → Tree → ℕ → Type 0
+IsRootReady version old root above shared k at = IsReady version old root root (tree_in version old root) 511 above shared k at
+
+pub root_ready : (old : Opened) (root : ℕ) (version : HiveVersion) (bulk : ℕ) (above : Above)
     (shared : List ℕ) (k : Tree) (at : ℕ)
-    → IsHive old root version bulk → hive_of old root version ≡ h → IsNewChild h k → MayGraft h above shared
+    → IsHive old.bins root version bulk → IsNewChild (hive_of old root version) k
+    → MayGraft (hive_of old root version) above shared
     → at + size version shared k ≤ 16777216
-    → root < 2 ^ 32 → IsReady version old root above shared k at
-root_ready old root version bulk h above shared k at is view child may inside small =
-    let m : MayGraft (hive_of old root version) above shared =
-    subst (λ (g : HiveCells). MayGraft g above shared) (sym view) may in
-    let n : IsNewChild (hive_of old root version) k = subst (λ (g : HiveCells). IsNewChild g k) (sym view) child in
-    let read = node_read (look_up version old) root (tree_in version old root) is.stands.stands in
+    → root < 2 ^ 32 → IsRootReady version old.bins root above shared k at
+root_ready old root version bulk above shared k at is n m inside small =
+    let read = node_read (look_up version old.bins) root (tree_in version old.bins root) is.stands.stands in
     record {
       node = read.0;
       ready = record {
+        path = [];
         parent = record { well = is.stands; reached = refl; below = is.stands; read = read.1 };
         says = m.says read.0 read.1;
         shares = m.shares;
         low = n.low;
+        deep = omega arith;
         few = m.few;
         inside = inside;
-        root_small = small;
+        small = small;
       };
       holds = n.holds;
-      child = n;
     }
 
-pub can_graft : (version : HiveVersion) (old : List Bin) (root : ℕ) (above : Above) (shared : List ℕ) (k : Tree)
-    (at : ℕ) → IsReady version old root above shared k at
-    → IsPlace (size version shared k) old at → CanGraft version root above shared k at old
-can_graft version old root above shared k at r place = record {
+pub can_graft : (version : HiveVersion) (old : List Bin) (root x : ℕ) (host : Tree) (left : ℕ) (above : Above)
+    (shared : List ℕ) (k : Tree) (at : ℕ) → IsReady version old root x host left above shared k at
+    → IsPlace (size version shared k) old at → CanGraft version x above shared k at old
+can_graft version old root x host left above shared k at r place = record {
   holds = r.holds;
   place = place;
-  linkable = λ mid numbers put. linkable version old mid root (tree_in version old root)
-      r.node above shared k at r.ready numbers r.holds put;
+  linkable = λ mid numbers put. linkable version old mid root (tree_in version old root) x host
+      r.node left above shared k at r.ready numbers r.holds put;
 }
 
 -- ---- how long the lists and the bins data are
@@ -105,29 +109,54 @@ with_length n place child offs e =
     let c = ap (λ (l : List ℕ). length l) (take-append-drop place offs) in
     omega (arith, a, b, c, e)
 
-pub children_more : (version : HiveVersion) (old mid : List Bin) (root : ℕ) (above : Above) (shared : List ℕ) (k : Tree)
-    (at : ℕ)
-    → (r : IsReady version old root above shared k at) → HasNumbers k → IsRunPut version root above shared k at old mid
-    → length (above_children version above at mid) ≡ length (children (tree_in version old root)) + 1
-children_more version old mid root above shared k at r numbers put =
+pub children_more : (version : HiveVersion) (old mid : List Bin) (root x : ℕ) (host : Tree) (left : ℕ) (above : Above)
+    (shared : List ℕ) (k : Tree) (at : ℕ)
+    → (r : IsReady version old root x host left above shared k at) → HasNumbers k
+    → IsRunPut version x above shared k at old mid
+    → length (above_children version above at mid) ≡ length (children host) + 1
+children_more version old mid root x host left above shared k at r numbers put =
     let t = tree_in version old root in
-    let n = siblings_count version old mid root t r.node above shared k at r.ready numbers r.holds put in
-    let count : above.count ≡ length (children t) =
-    r.ready.says.count ∙ counted_children (look_up version old) root t [] root t r.node r.ready.parent in
-    with_length (length (children t))
+    let n = siblings_count version old mid root t x host r.node left above shared k at r.ready numbers r.holds put in
+    let count : above.count ≡ length (children host) =
+    r.ready.says.count ∙ counted_children (look_up version old) root t r.ready.path x host r.node r.ready.parent in
+    with_length (length (children host))
     (position_or_len (is_behind (look_up version mid) (name_in (look_up version mid) at))
     (children_at (look_up version mid) above.list above.count)) at
     (children_at (look_up version mid) above.list above.count) (n ∙ count)
 
-pub run_room : (version : HiveVersion) (old mid : List Bin) (root : ℕ) (above : Above) (shared : List ℕ) (k : Tree)
-    (at : ℕ)
-    → IsReady version old root above shared k at → (put : IsRunPut version root above shared k at old mid)
+pub run_room : (version : HiveVersion) (old mid : List Bin) (root x : ℕ) (host : Tree) (left : ℕ) (above : Above)
+    (shared : List ℕ) (k : Tree) (at : ℕ)
+    → IsReady version old root x host left above shared k at → (put : IsRunPut version x above shared k at old mid)
     → bins_size mid ≤ bins_size old + new_bin_size (size version shared k)
-run_room version old mid root above shared k at r put =
+run_room version old mid root x host left above shared k at r put =
     let inside = r.ready.inside in
-    let run = graft_run version (beside version root shared above.security at k) at k put.run put.is
+    let run = graft_run version (beside version x shared above.security at k) at k put.run put.is
     (omega (arith, inside)) in
     subst (λ (n : ℕ). bins_size mid ≤ bins_size old + new_bin_size n) run.long put.put.long
+
+-- a bin for the run, and one for each list
+pub whole_room : (version : HiveVersion) (old new : List Bin) (root x : ℕ) (host : Tree) (left : ℕ) (above : Above)
+    (shared : List ℕ) (k : Tree) (at : ℕ)
+    → (r : IsReady version old root x host left above shared k at) → IsGrafted version x above shared k at old new
+    → (bins_size old ≤ bins_size new)
+    × (bins_size new ≤ bins_size old
+    + (new_bin_size (size version shared k) + room_of (list_sizes (length (children host) + 1))))
+whole_room version old new root x host left above shared k at r a =
+    let noted = a.linked.fields.long in
+    let counted = a.linked.counted.long in
+    let put_least = a.put.put.least in
+    let lists_least = a.linked.lists.kept_long in (
+      omega (arith, noted, counted, put_least, lists_least),
+      total (bins_size old) (bins_size a.mid) (bins_size a.linked.listed) (bins_size a.linked.noted)
+          (bins_size new) (new_bin_size (size version shared k)) (room_of (list_sizes (length (children host) + 1)))
+          (run_room version old a.mid root x host left above shared k at r a.put)
+          (subst (λ (z : ℕ). bins_size a.linked.listed ≤ bins_size a.mid + room_of (list_sizes z))
+          (children_more version old a.mid root x host left above shared k at r a.numbers a.put) a.linked.lists.long)
+          noted counted,
+    )
+  where
+    total : (o m l n w x y : ℕ) → m ≤ o + x → l ≤ m + y → n ≡ l → w ≡ n → w ≤ o + (x + y)
+    total o m l n w x y a b c d = omega (arith, a, b, c, d)
 
 -- ---- the bulk
 
@@ -156,27 +185,30 @@ grown version name k t bulk count own new b c o n =
 renamed_itself : (k : Tree) → renamed (head k).name k ≡ k
 renamed_itself (key h ts) = refl
 
--- the root has new lists
-graft_lists : (version : HiveVersion) (old new : List Bin) (root : ℕ) (above : Above) (shared : List ℕ) (k : Tree) (at : ℕ)
-    → (r : IsReady version old root above shared k at) → (a : IsGrafted version root above shared k at old new)
-    → ChangesChildren (look_up version old) (look_up version new) root root 511
-    (front version old a.mid root (tree_in version old root) r.node above shared k at r.ready a.numbers r.holds a.put) []
+-- the key above has new lists
+pub graft_lists : (version : HiveVersion) (old new : Opened) (root x : ℕ) (host : Tree) (left : ℕ) (above : Above)
+    (shared : List ℕ) (k : Tree) (at : ℕ)
+    → (r : IsReady version old.bins root x host left above shared k at) → (a : IsGrafted version x above shared k at old.bins new.bins)
+    → ChangesChildren (look_up version old.bins) (look_up version new.bins) root x left
+    (front version old.bins a.mid root (tree_in version old.bins root) x host r.node left above shared k at r.ready a.numbers
+    r.holds a.put) []
     (at ∷ [])
-    (back version old a.mid root (tree_in version old root) r.node above shared k at r.ready a.numbers r.holds a.put)
+    (back version old.bins a.mid root (tree_in version old.bins root) x host r.node left above shared k at r.ready a.numbers
+    r.holds a.put)
     (security_listed above.security)
-    → HasNewLists (hive_of old root version) (hive_of new root version) root
-graft_lists version old new root above shared k at r a ch =
-    let t = tree_in version old root in
+    → HasNewLists (hive_of old root version) (hive_of new root version) x
+graft_lists version old new root x host left above shared k at r a ch =
+    let t = tree_in version old.bins root in
     let n = r.node in
     let sp = above.security in
-    let fr = front version old a.mid root t n above shared k at r.ready a.numbers r.holds a.put in
-    let bk = back version old a.mid root t n above shared k at r.ready a.numbers r.holds a.put in
-    let g = grafts version old new root t n above shared k at r.ready r.holds a in
-    let still = lists_still version old a.mid root t n above shared k at r.ready a.numbers r.holds a.put in
+    let fr = front version old.bins a.mid root t x host n left above shared k at r.ready a.numbers r.holds a.put in
+    let bk = back version old.bins a.mid root t x host n left above shared k at r.ready a.numbers r.holds a.put in
+    let g = grafts version old.bins new.bins root t x host n left above shared k at r.ready r.holds a in
+    let still = lists_still version old.bins a.mid root t x host n left above shared k at r.ready a.numbers r.holds a.put in
     let read = node_read (look_up version a.mid) at k g.formed.well.stands in
     let q = then-so ((look_up version a.mid).payload at) key_node_at read.0 read.1 in
     let some = some_size version shared k in
-    inserted_lists version old a.mid a.linked.listed new root t [] root t n at a.linked.list sp 511
+    inserted_lists version old a.mid a.linked.listed new root t r.ready.path x host n at a.linked.list sp left
     (above_lists version above a.mid) fr bk (security_listed sp)
     (record {
       parent = r.ready.parent;
@@ -197,58 +229,50 @@ graft_lists version old new root above shared k at r a ch =
     })
     ch
 
-pub record IsGraftMade (h : HiveCells) (new : List Bin) (root : ℕ) (version : HiveVersion) (bulk : ℕ) (sp : ℕ)
+pub record IsGraftMade (h : HiveCells) (new : Opened) (root : ℕ) (version : HiveVersion) (bulk : ℕ) (sp : ℕ)
     (shared : List ℕ) (k : Tree) : Type 0 where
-  pub hive : IsHive new root version bulk
+  pub hive : IsHive new.bins root version bulk
   pub made : IsGraftedIn h sp shared k (hive_of new root version)
 
-pub graft_made : (old new : List Bin) (root : ℕ) (version : HiveVersion) (bulk count own after : ℕ) (h : HiveCells)
+pub graft_made : (old new : Opened) (root : ℕ) (version : HiveVersion) (bulk own after : ℕ) (h : HiveCells)
     (above : Above) (shared : List ℕ) (k : Tree) (at : ℕ)
-    → IsHive old root version bulk → hive_of old root version ≡ h → (r : IsReady version old root above shared k at)
-    → IsGrafted version root above shared k at old new
-    → IsBytes (spelled 0 new) → own ≡ size version (head (tree_in version old root)).security k
+    → IsHive old.bins root version bulk → hive_of old root version ≡ h → (r : IsRootReady version old.bins root above shared k at)
+    → IsNewChild (hive_of old root version) k → IsGrafted version root above shared k at old.bins new.bins
+    → IsBytes (spelled 0 new.bins) → own ≡ size version (head (tree_in version old.bins root)).security k
     → after ≡ min (bulk + (own + (list_size (above.count + 1) - list_size above.count))) 18446744073709551615
     → IsGraftMade h new root version after above.security shared k
-graft_made old new root version bulk count own after h above shared k at is view r a bytes own_is after_is =
-    let b = look_up version old in
-    let c = look_up version new in
+graft_made old new root version bulk own after h above shared k at is view r child a bytes own_is after_is =
+    let b = look_up version old.bins in
+    let c = look_up version new.bins in
     let m = look_up version a.mid in
     let l = look_up version a.linked.listed in
-    let t = tree_in version old root in
+    let t = tree_in version old.bins root in
     let n = r.node in
     let sp = above.security in
     let sz = size version shared k in
-    let fr = front version old a.mid root t n above shared k at r.ready a.numbers r.holds a.put in
-    let bk = back version old a.mid root t n above shared k at r.ready a.numbers r.holds a.put in
-    let g = grafts version old new root t n above shared k at r.ready r.holds a in
+    let fr = front version old.bins a.mid root t root t n 511 above shared k at r.ready a.numbers r.holds a.put in
+    let bk = back version old.bins a.mid root t root t n 511 above shared k at r.ready a.numbers r.holds a.put in
+    let g = grafts version old.bins new.bins root t root t n 511 above shared k at r.ready r.holds a in
     let name = (head k).name in
     let u = with_child name k t in
-    let stands : Stands c at k = stands_new b m l c root t n k at sz sp a.linked.list shared fr bk g in
+    let stands : Stands c at k = stands_new b m l c root t root t n 511 k at sz sp a.linked.list shared fr bk g in
     let ch : ChangesChildren b c root root 511 fr [] (at ∷ []) bk (security_listed sp) =
-    changes b m l c root t n k at sz sp a.linked.list shared fr bk g in
+    changes b m l c root t root t n 511 k at sz sp a.linked.list shared fr bk g in
     let place : HasPlace b name fr bk =
-    placed version old a.mid root t n above shared k at r.ready a.numbers r.holds a.put in
+    placed version old.bins a.mid root t root t n 511 above shared k at r.ready a.numbers r.holds a.put in
     let well : IsWellFormed c root u =
-    root_gets b c root t k name at fr bk (security_listed sp) r.ready.parent.well r.child.absent r.child.good ch
+    root_gets b c root t k name at fr bk (security_listed sp) r.ready.parent.well child.absent child.good ch
     (subst (Stands c at) (sym (renamed_itself k)) stands) (apart k r.holds) r.ready.low place in
     let count_is : above.count ≡ length (children t) =
-    r.ready.says.count ∙ counted_children b root t [] root t n r.ready.parent in
+    r.ready.says.count ∙ counted_children b root t r.ready.path root t n r.ready.parent in
     let bulk_is : after ≡ bulk_of version u =
     grown version name k t bulk above.count own after is.counted count_is
     (own_is ∙ ap (size version (head t).security) (sym (renamed_itself k))) after_is in
     let tree : tree_of c root ≡ u = tree_is c root u well in
-    let lists = a.linked.lists.long in
-    let more = children_more version old a.mid root above shared k at r a.numbers a.put in
-    let room = run_room version old a.mid root above shared k at r a.put in
-    let lists_room : bins_size a.linked.listed ≤ bins_size a.mid + room_of (list_sizes (length (children t) + 1)) =
-    subst (λ (z : ℕ). bins_size a.linked.listed ≤ bins_size a.mid + room_of (list_sizes z)) more lists in
-    let noted = a.linked.fields.long in
-    let counted = a.linked.counted.long in
-    let put_least = a.put.put.least in
-    let lists_least = a.linked.lists.kept_long in
+    let room = whole_room version old.bins new.bins root root t 511 above shared k at r a in
     record {
-      hive = hive_opened new new root version after u refl well
-          (well-formed-valid c root u (cells-bytes version new bytes) well) bulk_is;
+      hive = hive_opened new.bins new.bins root version after u refl well
+          (well-formed-valid c root u (cells-bytes version new.bins bytes) well) bulk_is;
       made = subst (λ (g : HiveCells). IsGraftedIn g sp shared k (hive_of new root version)) view (record {
         version = refl;
         root = refl;
@@ -259,61 +283,64 @@ graft_made old new root version bulk count own after h above shared k at is view
         changes = ch;
         stands = stands;
         place = place;
-        secure = kept_secure b m l c root t n k at sz sp a.linked.list shared fr bk g;
+        secure = kept_secure b m l c root t root t n 511 k at sz sp a.linked.list shared fr bk g;
         run = run_made version old new root t n above shared k at r.ready r.holds a;
-        lists = graft_lists version old new root above shared k at r a ch;
-        long = omega (arith, noted, counted, put_least, lists_least);
-        room = total (bins_size old) (bins_size a.mid) (bins_size a.linked.listed) (bins_size a.linked.noted)
-            (bins_size new) (new_bin_size sz)
-            (room_of (list_sizes (length (children t) + 1))) room lists_room noted counted;
+        lists = graft_lists version old new root root t 511 above shared k at r a ch;
+        long = room.0;
+        room = room.1;
       });
     }
-  where
-    total : (o m l n w x y : ℕ) → m ≤ o + x → l ≤ m + y → n ≡ l → w ≡ n → w ≤ o + (x + y)
-    total o m l n w x y a b c d = omega (arith, a, b, c, d)
 
 -- ---- the hive is as it was, whatever run is put
 
-pub still_hive : (old new : List Bin) (root : ℕ) (version : HiveVersion) (bulk : ℕ) (above : Above) (shared : List ℕ)
-    (k : Tree) (at : ℕ) → IsHive old root version bulk
-    → IsReady version old root above shared k at → IsRunPut version root above shared k at old new
+pub still_hive : (old new : List Bin) (root x : ℕ) (host : Tree) (left : ℕ) (version : HiveVersion) (bulk : ℕ)
+    (above : Above) (shared : List ℕ) (k : Tree) (at : ℕ) → IsHive old root version bulk
+    → IsReady version old root x host left above shared k at → IsRunPut version x above shared k at old new
     → IsHive new root version bulk
-still_hive old new root version bulk above shared k at is r put =
+still_hive old new root x host left version bulk above shared k at is r put =
     let b = look_up version old in
     let c = look_up version new in
     let t = tree_in version old root in
     let inside = r.ready.inside in
-    let keeps : Keeps b c = (run_there version (beside version root shared above.security at k)
+    let keeps : Keeps b c = (run_there version (beside version x shared above.security at k)
     at k put.run old new put.is (omega (arith, inside)) put.put).kept in
     hive_opened new new root version bulk t refl (kept_well b c root t is.stands keeps) is.valid is.counted
 
-pub still_or : (old new : List Bin) (root : ℕ) (version : HiveVersion) (bulk : ℕ) (above : Above) (shared : List ℕ)
-    (k : Tree) (at : ℕ) → IsHive old root version bulk
-    → IsReady version old root above shared k at → (new ≡ old) ⊎ IsRunPut version root above shared k at old new
+pub still_or : (old new : List Bin) (root x : ℕ) (host : Tree) (left : ℕ) (version : HiveVersion) (bulk : ℕ)
+    (above : Above) (shared : List ℕ) (k : Tree) (at : ℕ) → IsHive old root version bulk
+    → IsReady version old root x host left above shared k at
+    → (new ≡ old) ⊎ IsRunPut version x above shared k at old new
     → IsHive new root version bulk
-still_or old new root version bulk above shared k at is r (inl e) =
+still_or old new root x host left version bulk above shared k at is r (inl e) =
     subst (λ (z : List Bin). IsHive z root version bulk) (sym e) is
-still_or old new root version bulk above shared k at is r (inr put) =
-    still_hive old new root version bulk above shared k at is r put
+still_or old new root x host left version bulk above shared k at is r (inr put) =
+    still_hive old new root x host left version bulk above shared k at is r put
 
 -- ---- there is no room
 
-pub lacks_lists : (old new : List Bin) (root : ℕ) (version : HiveVersion) (h : HiveCells) (above : Above)
+pub lacks_bins : (old new : List Bin) (root x : ℕ) (host : Tree) (left : ℕ) (version : HiveVersion) (above : Above)
     (shared : List ℕ) (k : Tree) (at : ℕ)
-    → hive_of old root version ≡ h → IsReady version old root above shared k at
-    → LacksGraftLists version root above shared k at old new → LacksGraftRoom h shared k
-lacks_lists old new root version h above shared k at view r a =
-    let t = tree_in version old root in
-    let more = children_more version old new root above shared k at r a.numbers a.put in
-    let room = run_room version old new root above shared k at r a.put in
-    let over : 16777216 < bins_size new + room_of (list_sizes (length (children t) + 1)) =
-    subst (λ (z : ℕ). 16777216 < bins_size new + room_of (list_sizes z)) more a.lacks in
-    subst (λ (g : HiveCells). LacksGraftRoom g shared k) view
-    (total (bins_size old) (bins_size new) (new_bin_size (size version shared k))
-    (room_of (list_sizes (length (children t) + 1))) room over)
+    → IsReady version old root x host left above shared k at
+    → LacksGraftLists version x above shared k at old new
+    → 16777216 < bins_size old
+    + (new_bin_size (size version shared k) + room_of (list_sizes (length (children host) + 1)))
+lacks_bins old new root x host left version above shared k at r a =
+    total (bins_size old) (bins_size new) (new_bin_size (size version shared k))
+    (room_of (list_sizes (length (children host) + 1)))
+    (run_room version old new root x host left above shared k at r a.put)
+    (subst (λ (z : ℕ). 16777216 < bins_size new + room_of (list_sizes z))
+    (children_more version old new root x host left above shared k at r a.numbers a.put) a.lacks)
   where
     total : (o m x y : ℕ) → m ≤ o + x → 16777216 < m + y → 16777216 < o + (x + y)
     total o m x y a b = omega (arith, a, b)
+
+pub lacks_lists : (old : Opened) (new : List Bin) (root : ℕ) (version : HiveVersion) (h : HiveCells) (above : Above)
+    (shared : List ℕ) (k : Tree) (at : ℕ)
+    → hive_of old root version ≡ h → IsRootReady version old.bins root above shared k at
+    → LacksGraftLists version root above shared k at old.bins new → LacksGraftRoom h shared k
+lacks_lists old new root version h above shared k at view r a =
+    subst (λ (g : HiveCells). LacksGraftRoom g shared k) view
+    (lacks_bins old.bins new root root (tree_in version old.bins root) 511 version above shared k at r a)
 
 pub lacks_size : (h : HiveCells) (shared : List ℕ) (k : Tree) → 16777216 < size h.version shared k
     → LacksGraftRoom h shared k
@@ -345,24 +372,25 @@ pub record Asked (h : HiveCells) (above : Above) (shared : List ℕ) (k : Tree) 
   pub long : n ≡ size h.version shared k
   pub place : IsPlace n h.bins at
 
-pub record ReadyAt (version : HiveVersion) (old : List Bin) (root : ℕ) (above : Above) (shared : List ℕ) (k : Tree)
+pub record ReadyAt (version : HiveVersion) (old : Opened) (root : ℕ) (above : Above) (shared : List ℕ) (k : Tree)
     (own at : ℕ) : Type 0 where
-  pub ready : IsReady version old root above shared k at
-  pub place : IsPlace (size version shared k) old at
-  pub own_is : own ≡ size version (head (tree_in version old root)).security k
+  pub ready : IsRootReady version old.bins root above shared k at
+  pub child : IsNewChild (hive_of old root version) k
+  pub place : IsPlace (size version shared k) old.bins at
+  pub own_is : own ≡ size version (head (tree_in version old.bins root)).security k
 
-pub ready_at : (old : List Bin) (root : ℕ) (version : HiveVersion) (bulk : ℕ) (h : HiveCells) (above : Above)
+pub ready_at : (old : Opened) (root : ℕ) (version : HiveVersion) (bulk : ℕ) (h : HiveCells) (above : Above)
     (shared : List ℕ) (k : Tree) (own n at : ℕ)
-    → IsHive old root version bulk → hive_of old root version ≡ h → Asked h above shared k own n at → root < 2 ^ 32
+    → IsHive old.bins root version bulk → hive_of old root version ≡ h → Asked h above shared k own n at → root < 2 ^ 32
     → ReadyAt version old root above shared k own at
 ready_at old root version bulk h above shared k own n at is view asked small =
     let q : Asked (hive_of old root version) above shared k own n at =
     subst (λ (g : HiveCells). Asked g above shared k own n at) (sym view) asked in
-    let place : IsPlace (size version shared k) old at = subst (λ (m : ℕ). IsPlace m old at) q.long q.place in
+    let place : IsPlace (size version shared k) old.bins at = subst (λ (m : ℕ). IsPlace m old.bins at) q.long q.place in
     let inside = place.inside in
     record {
-      ready = root_ready old root version bulk (hive_of old root version) above shared k at is refl q.child q.may
-          (omega (arith, inside)) small;
+      ready = root_ready old root version bulk above shared k at is q.child q.may (omega (arith, inside)) small;
+      child = q.child;
       place = place;
       own_is = q.own_is;
     }

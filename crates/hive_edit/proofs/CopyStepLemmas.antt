@@ -1,21 +1,21 @@
 -- The step that copies a child: what it is judged by, and that it is made.
-use Rattle.std.proofs.Common.{◌≡◌, ◌≤◌, ◌<◌, ◌^◌, ℕ, ◌+◌, Bool, false, not, List, [], ◌∷◌, length, Option, Some, None, Result, Ok, Err, refl, sym, ap, subst, ◌∙◌, ⊎_elim, arith}
+use Rattle.std.proofs.Common.{◌≡◌, ◌≤◌, ◌<◌, ◌^◌, ℕ, ◌+◌, Bool, not, List, [], ◌∷◌, length, Option, Some, None, Result, Ok, Err, refl, sym, ap, subst, ◌∙◌, ⊎_elim, arith}
 use Rattle.std.specs.Prelude.{nat_lt, find, is_some, option_and_then}
 use Rattle.std.specs.Option.{IfSome, option_map_or}
 use Rattle.std.proofs.lemmas.Bool.{le-ltb}
-use Rattle.std.proofs.lemmas.Slice.Eq.{bytes_eq-Decides}
 use Rattle.nt_bytes.specs.declared.version.HiveVersion.{HiveVersion}
 use Rattle.hive_model.specs.Bins.{Bin, bins_size, look_up}
 use Rattle.hive_model.specs.KeyNode.{KeyNode, key_node_at}
 use Rattle.hive_model.specs.Tree.{Tree, key, head, children, is_named, find_key}
 use Rattle.hive_model.specs.Valid.{HoldsKeys, levels}
-use Rattle.hive_model.specs.Size.{has_own, size}
+use Rattle.hive_model.specs.Size.{size}
 use Rattle.hive_model.specs.Packed.{rounded}
 use Rattle.hive_model.specs.Edit.{copy_child, Refusal, no_key, bad_name, name_too_long, exists, unless, has_child, is_bad_name, renamed, with_child, after_step}
 use Rattle.hive_model.specs.Walk.{reading}
 use Rattle.hive_model.specs.Footprint.{child_places, is_node_named, key_place, security_cell_at, list_sizes, room_of, needed_sizes}
 use Rattle.hive_model.specs.Stands.{IsWellFormed, security_of}
 use Rattle.hive_model.specs.InPlace.{IsKeptSecurity}
+use Rattle.hive_cells.specs.Opened.{Opened}
 use Rattle.hive_cells.specs.Holes.{new_bin_size}
 use Rattle.hive_pack.proofs.Formed.{apart}
 use Rattle.reg_tree.specs.Makes.{IsRefused, refusal_of}
@@ -34,6 +34,7 @@ use Rattle.hive_edit.specs.Stepped.{IsStepped, LacksStepRoom}
 use Rattle.hive_edit.specs.Listed.{HasNewLists}
 use Rattle.hive_edit.specs.NewRun.{HasNewRun}
 use Rattle.hive_edit.proofs.EditLemmas.{the_tree}
+use Rattle.hive_edit.proofs.JudgeLemmas.{shared_own}
 use Rattle.hive_edit.proofs.KeyLemmas.{node_read}
 use Rattle.hive_edit.proofs.ParentLemmas.{node_stands, security_at_node, security_there}
 use Rattle.hive_edit.proofs.PlaceLemmas.{key_there}
@@ -84,13 +85,9 @@ key_found h from k e = go (find (is_named from) (children h.tree)) e
 
 -- ---- the size below another key is no less than below one with the same descriptor
 
-alike : (s : List ℕ) → has_own s s ≡ false
-alike [] = refl
-alike (b ∷ s) = ap not ((bytes_eq-Decides (b ∷ s) (b ∷ s)).1 refl)
-
 size_less : (version : HiveVersion) (shared : List ℕ) (k : Tree)
     → size version (head k).security k ≤ size version shared k
-size_less version shared (key hd ts) = rw (alike hd.security) (omega arith)
+size_less version shared (key hd ts) = rw (shared_own hd.security) (omega arith)
 
 -- ---- the security that is shared
 
@@ -98,9 +95,9 @@ extends_one : (from : List ℕ) (stored : List (List ℕ)) → Folds (from ∷ [
 extends_one from [] f = absurd f
 extends_one from (m ∷ ms) f = (f.0, tt)
 
-pub shares_child : (bins heap : List Bin) (root : ℕ) (version : HiveVersion) (bulk : ℕ) (h : HiveCells) (from : List ℕ)
+pub shares_child : (bins : Opened) (heap : List Bin) (root : ℕ) (version : HiveVersion) (bulk : ℕ) (h : HiveCells) (from : List ℕ)
     (at place : ℕ)
-    → IsHive bins root version bulk → hive_of bins root version ≡ h → heap ≡ bins
+    → IsHive bins.bins root version bulk → hive_of bins root version ≡ h → heap ≡ bins.bins
     → some at ≡ find (is_node_named (look_up version heap) from) (child_places (look_up version heap) root)
     → ((n : KeyNode) → reading key_node_at (look_up version heap) at ≡ Ok n → place ≡ n.security) → place < 2 ^ 32
     → SharesChild h from place
@@ -110,15 +107,15 @@ shares_child bins heap root version bulk h from at place is view same found says
       small = small;
       each = λ k e. record {
         small = small;
-        descriptor = subst (λ (j : Tree). descriptor_of (look_up version bins) place ≡ Ok (head j).security) (one k e)
-            (ap (descriptor_of (look_up version bins)) place_is
-            ∙ (node_stands (look_up version bins) at there.there node.0 there.well.stands node.1).security);
+        descriptor = subst (λ (j : Tree). descriptor_of (look_up version bins.bins) place ≡ Ok (head j).security) (one k e)
+            (ap (descriptor_of (look_up version bins.bins)) place_is
+            ∙ (node_stands (look_up version bins.bins) at there.there node.0 there.well.stands node.1).security);
         used = λ used. record {
           path = placed.stored;
           key = at;
           reached = placed.reached;
-          uses = subst (In (security_cell_at (look_up version bins) at)) (sym place_is)
-              (security_there (look_up version bins) at node.0 node.1 (λ e. used (place_is ∙ e)));
+          uses = subst (In (security_cell_at (look_up version bins.bins) at)) (sym place_is)
+              (security_there (look_up version bins.bins) at node.0 node.1 (λ e. used (place_is ∙ e)));
         };
       };
       owned = λ o i. (
@@ -127,32 +124,32 @@ shares_child bins heap root version bulk h from at place is view same found says
         record {
           at = at;
           reached = placed.reached;
-          has = subst (λ (l : List ℕ). In l o) (sym (security_at_node (look_up version bins) at node.0 node.1))
+          has = subst (λ (l : List ℕ). In l o) (sym (security_at_node (look_up version bins.bins) at node.0 node.1))
               (subst (λ (z : ℕ). In (security_listed z) o) place_is i);
         },
       );
-      same = ap security_listed place_is ∙ sym (security_at_node (look_up version bins) at node.0 node.1)
-          ∙ sym (ap (λ (o : Option ℕ). option_map_or (security_cell_at (look_up version bins)) o []) key_at);
+      same = ap security_listed place_is ∙ sym (security_at_node (look_up version bins.bins) at node.0 node.1)
+          ∙ sym (ap (λ (o : Option ℕ). option_map_or (security_cell_at (look_up version bins.bins)) o []) key_at);
     })
   where
     t : Tree
-    t = tree_of (look_up version bins) root
+    t = tree_of (look_up version bins.bins) root
 
-    here : find (is_node_named (look_up version bins) from) (child_places (look_up version bins) root) ≡ some at
+    here : find (is_node_named (look_up version bins.bins) from) (child_places (look_up version bins.bins) root) ≡ some at
     here = sym (found ∙ ap (λ (z : List Bin). find (is_node_named (look_up version z) from)
         (child_places (look_up version z) root)) same)
 
-    key_at : key_place (look_up version bins) (from ∷ []) root ≡ some at
-    key_at = ap (λ (o : Option ℕ). option_and_then (key_place (look_up version bins) []) o) here
+    key_at : key_place (look_up version bins.bins) (from ∷ []) root ≡ some at
+    key_at = ap (λ (o : Option ℕ). option_and_then (key_place (look_up version bins.bins) []) o) here
 
-    there : Rattle.hive_edit.proofs.PlaceLemmas.KeyThere (look_up version bins) (from ∷ []) t at
-    there = key_there (look_up version bins) (from ∷ []) root t at is.stands key_at
+    there : Rattle.hive_edit.proofs.PlaceLemmas.KeyThere (look_up version bins.bins) (from ∷ []) t at
+    there = key_there (look_up version bins.bins) (from ∷ []) root t at is.stands key_at
 
-    placed : Rattle.edit_laws.proofs.Out.IsPlaced (look_up version bins) root (from ∷ []) at
-    placed = placed_at (look_up version bins) (from ∷ []) root at key_at
+    placed : Rattle.edit_laws.proofs.Out.IsPlaced (look_up version bins.bins) root (from ∷ []) at
+    placed = placed_at (look_up version bins.bins) (from ∷ []) root at key_at
 
-    node : (n : KeyNode) × (reading key_node_at (look_up version bins) at ≡ done n)
-    node = node_read (look_up version bins) at there.there there.well.stands
+    node : (n : KeyNode) × (reading key_node_at (look_up version bins.bins) at ≡ done n)
+    node = node_read (look_up version bins.bins) at there.there there.well.stands
 
     place_is : place ≡ node.0.security
     place_is = says node.0 (subst (λ (z : List Bin). reading key_node_at (look_up version z) at ≡ done node.0)

@@ -1,7 +1,7 @@
 -- A key deleted in place as an edit of the hive: judged by the bulk, refused, or with no room.
-use Rattle.std.proofs.Common.{◌≡◌, ◌≤◌, ◌<◌, ℕ, ◌+◌, ◌||◌, Bool, true, false, cond, List, [], ◌∷◌, length, Option, Some, None, Result, Ok, Err, refl, sym, ap, subst, ◌∙◌}
+use Rattle.std.proofs.Common.{◌≡◌, ◌≤◌, ◌<◌, ℕ, ◌+◌, ◌||◌, Bool, true, false, cond, List, [], ◌∷◌, length, Result, Ok, Err, refl, sym, ap, subst, ◌∙◌}
 use Rattle.std.specs.Prelude.{nat_lt, ◌==◌, ◌⊎◌, OnOk, MatchBool}
-use Rattle.std.specs.Option.{is_none, IfSome}
+use Rattle.std.specs.Option.{is_none}
 use Rattle.nt_bytes.specs.declared.version.HiveVersion.{HiveVersion}
 use Rattle.hive_model.specs.Bins.{bins_size}
 use Rattle.hive_model.specs.Tree.{Tree, find_key}
@@ -9,14 +9,14 @@ use Rattle.hive_model.specs.Size.{bulk_of}
 use Rattle.hive_model.specs.Edit.{Step, Refusal, no_key, full, delete_key, without_key, unless, after_step, most_bulk, edited}
 use Rattle.hive_model.specs.Footprint.{needed_sizes, room_of, strain_of, unless_refused}
 use Rattle.reg_tree.specs.declared.stop.EditStop.{EditStop}
-use Rattle.reg_tree.specs.Makes.{refusal_of, IsRefused, Makes}
+use Rattle.reg_tree.specs.Makes.{Makes}
 use Rattle.hive_edit.specs.Hive.{HiveCells}
 use Rattle.hive_edit.specs.Edits.{IsPackedAnew, IsPackedForRoom}
 use Rattle.hive_edit.specs.Stepped.{IsStepped, LacksStepRoom}
 use Rattle.hive_edit.specs.Deleting.{DropsUses}
 use Rattle.hive_edit.specs.Deleted.{IsDeletedInPlace}
 use Rattle.hive_edit.proofs.EditLemmas.{the_tree}
-use Rattle.hive_edit.proofs.SteppedLemmas.{packed_for_room, step_within, step_full, stepped_kept}
+use Rattle.hive_edit.proofs.SteppedLemmas.{packed_for_room, step_within, stepped_kept}
 use Rattle.hive_edit.proofs.ToldLemmas.{deleted_told}
 use Rattle.hive_model.specs.Forms.{◌>>=◌}
 
@@ -90,17 +90,6 @@ anew_for_room h new step r P made anew lacks =
 
 -- ---- what is answered
 
--- a refusal of the step is one of the edit
-pub refused_edit : (version : HiveVersion) (t : Tree) (step : Step) (stop : EditStop)
-    → IsRefused (after_step step t) stop
-    → IsRefused (edited version t (step ∷ [])) stop
-refused_edit version t step stop h = go (refusal_of stop) h
-  where
-    go : (o : Option Refusal) → IfSome o (λ why. after_step step t ≡ Err why)
-        → IfSome o (λ why. edited version t (step ∷ []) ≡ Err why)
-    go None h = h
-    go (Some why) h = edit_refused version t step why h
-
 pub judged_done : (done : Bool) (old new : HiveCells) (path : List (List ℕ))
     → MatchBool done (IsStepped old (delete_key path) new) (LacksStepRoom old (delete_key path))
     → (done ≡ true → DropsUses old path new)
@@ -110,20 +99,3 @@ judged_done true old new path s d small =
     deleted_in_place old new path s (d refl)
     (subst (λ (u : Tree). bulk_of old.version u ≤ 16773120) (sym (step_leaves path old.tree new.tree s.tree)) small)
 judged_done false old new path s d small = s
-
--- a draft in which the key was deleted, whose bulk is judged at its end
-pub drafted_full : (h old new : HiveCells) (path : List (List ℕ)) (bulk : ℕ) → old ≡ h
-    → IsStepped old (delete_key path) new
-    → bulk ≡ bulk_of new.version new.tree → 16773120 < bulk → edited h.version h.tree (delete_key path ∷ []) ≡ Err full
-drafted_full h old new path bulk same s counted large =
-    subst (λ (g : HiveCells). edited g.version g.tree (delete_key path ∷ []) ≡ Err full) same
-    (step_full old.version old.tree new.tree (delete_key path) s.tree
-    (subst (λ (n : ℕ). 16773120 < n) (counted ∙ ap (λ (v : HiveVersion). bulk_of v new.tree) s.version) large))
-
-pub drafted_done : (h old new : HiveCells) (path : List (List ℕ)) (bulk : ℕ) → old ≡ h
-    → IsStepped old (delete_key path) new → DropsUses old path new
-    → bulk ≡ bulk_of new.version new.tree → bulk ≤ 16773120 → IsDeletedInPlace h path new
-drafted_done h old new path bulk same s d counted small =
-    subst (λ (g : HiveCells). IsDeletedInPlace g path new) same
-    (deleted_in_place old new path s d
-    (subst (λ (n : ℕ). n ≤ 16773120) (counted ∙ ap (λ (v : HiveVersion). bulk_of v new.tree) s.version) small))

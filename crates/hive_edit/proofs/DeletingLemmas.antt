@@ -16,6 +16,7 @@ use Rattle.hive_model.specs.Stands.{IsWellFormed}
 use Rattle.hive_model.specs.InPlace.{IsKeptSecurity, KeepsSecurity}
 use Rattle.hive_model.specs.Security.{security_at}
 use Rattle.hive_model.specs.Forms.{◌>>=◌}
+use Rattle.hive_cells.specs.Opened.{Opened}
 use Rattle.hive_cells.specs.Held.{held_at}
 use Rattle.hive_cells.proofs.HeldLemmas.{payload_held, held_payload}
 use Rattle.hive_read.proofs.ValidTrees.{AreBytes, well-formed-valid, cells-bytes}
@@ -40,6 +41,7 @@ use Rattle.hive_edit.specs.Deleting.{pair_place, levels_left, DropsUses, IsPairT
 use Rattle.hive_edit.proofs.StandingLemmas.{tree_is}
 use Rattle.hive_edit.proofs.HiveLemmas.{hive_opened}
 use Rattle.hive_edit.proofs.EditLemmas.{the_tree}
+use Rattle.hive_edit.proofs.LowLemmas.{bulk_is, bulk_then}
 use Rattle.hive_edit.proofs.ParentLemmas.{lists_are, children_are, node_no_security, list_no_security}
 use Rattle.hive_edit.proofs.JudgeLemmas.{counted_children}
 use Rattle.edit_laws.specs.Owned.{In, security}
@@ -256,9 +258,9 @@ pair_secure version old new root t path p well place g =
         (secure_same b c root t well o s (held_payload new o q.0 same ∙ sym q.1))
 
 -- the key above it has new lists
-pair_lists : (version : HiveVersion) (old new : List Bin) (root : ℕ) (t : Tree) (path : List (List ℕ)) (p : KeyPair)
-    → IsWellFormed (look_up version old) root t → pair_place (look_up version old) path root ≡ a_pair p
-    → IsPairTaken version path p old new
+pair_lists : (version : HiveVersion) (old new : Opened) (root : ℕ) (t : Tree) (path : List (List ℕ)) (p : KeyPair)
+    → IsWellFormed (look_up version old.bins) root t → pair_place (look_up version old.bins) path root ≡ a_pair p
+    → IsPairTaken version path p old.bins new.bins
     → HasNewLists (hive_of old root version) (hive_of new root version) p.above
 pair_lists version old new root t path p well place g =
     removed_lists version old new root t h.stored p.above h.there n g.above p.at left uses s.front s.back
@@ -272,17 +274,17 @@ pair_lists version old new root t path p well place g =
     (λ o i. contains_from (lists_at b g.above.list g.above.count) o
     (subst (λ (w : List ℕ). In w o) (sym lists_is) i))
     (λ o v i. let q = used_held b root t well (o, v) (in_hive b root t path p h (o, v) i) in
-    (q.0, payload_held old o q.0 q.1))
+    (q.0, payload_held old.bins o q.0 q.1))
     (λ o v i j. no_list b root t path p h o v i j)
   where
     b : Cells
-    b = look_up version old
+    b = look_up version old.bins
 
     l : Cells
     l = look_up version g.removed.listed
 
     c : Cells
-    c = look_up version new
+    c = look_up version new.bins
 
     h : PairHere b root t path p
     h = pair_here b root t path p well place
@@ -303,49 +305,49 @@ pair_lists version old new root t path p well place g =
     says = g.says n h.parent_is.read
 
     takes_it : TakesChild b l c p.above left n s.front s.back p.at g.removed.list
-    takes_it = takes version old new root t h.stored p.above h.there n g.above p.at left uses h.parent_is says s g.few
+    takes_it = takes version old.bins new.bins root t h.stored p.above h.there n g.above p.at left uses h.parent_is says s g.few
         refl (λ v i. no_node b root t path p h p.above v i refl) g.removed (secure_cells b root t path p h)
         (λ o i. no_list b root t path p h o true i)
 
     lists_is : lists_at b g.above.list g.above.count ≡ list_cells_at b p.above
     lists_is = (λ i. lists_at b (says.list i) (says.count i)) ∙ lists_are b root t h.stored p.above h.there n h.parent_is
 
-    left_is : left_children version g.above p.at old ≡ s.front ++ s.back
+    left_is : left_children version g.above p.at old.bins ≡ s.front ++ s.back
     left_is = ap (without_child p.at) ((λ i. children_at b (says.list i) (says.count i))
         ∙ children_are b root t h.stored p.above h.there n h.parent_is) ∙ s.others
 
 -- ---- the hive
 
 -- the bins and the bulk are those of a hive in which the key was deleted
-pub record IsPairGone (h : HiveCells) (new : List Bin) (root : ℕ) (version : HiveVersion) (bulk : ℕ)
+pub record IsPairGone (h : HiveCells) (new : Opened) (root : ℕ) (version : HiveVersion) (bulk : ℕ)
     (path : List (List ℕ)) : Type 0 where
-  pub hive : IsHive new root version bulk
+  pub hive : IsHive new.bins root version bulk
   pub stepped : IsStepped h (delete_key path) (hive_of new root version)
-  pub tree : tree_of (look_up version new) root ≡ without_key path h.tree
+  pub tree : tree_of (look_up version new.bins) root ≡ without_key path h.tree
 
-pub pair_gone : (old new : List Bin) (root : ℕ) (version : HiveVersion) (bulk bulk_then : ℕ) (h : HiveCells)
+pub pair_gone : (old new : Opened) (root : ℕ) (version : HiveVersion) (bulk bulk_then : ℕ) (h : HiveCells)
     (path : List (List ℕ)) (p : KeyPair)
-    → IsHive old root version bulk → hive_of old root version ≡ h
-    → pair_place (look_up version old) path root ≡ a_pair p
-    → IsPairTaken version path p old new → AreBytes (look_up version new)
-    → bulk_then ≡ bulk_of version (without_key path (tree_of (look_up version old) root))
+    → IsHive old.bins root version bulk → hive_of old root version ≡ h
+    → pair_place (look_up version old.bins) path root ≡ a_pair p
+    → IsPairTaken version path p old.bins new.bins → AreBytes (look_up version new.bins)
+    → bulk_then ≡ bulk_of version (without_key path (tree_of (look_up version old.bins) root))
     → IsPairGone h new root version bulk_then path
 pair_gone old new root version bulk bulk_then h path p is view place taken bytes counted =
-    let b = look_up version old in
-    let c = look_up version new in
+    let b = look_up version old.bins in
+    let c = look_up version new.bins in
     let t = tree_of b root in
     let u = without_key path t in
-    let d = pair_done version old new root t path p is.stands place taken in
+    let d = pair_done version old.bins new.bins root t path p is.stands place taken in
     let tree : tree_of c root ≡ u = tree_is c root u d.made.stands in
     let valid = well-formed-valid c root u bytes d.made.stands in
     record {
-      hive = hive_opened new new root version bulk_then u refl d.made.stands valid counted;
+      hive = hive_opened new.bins new.bins root version bulk_then u refl d.made.stands valid counted;
       stepped = subst (λ (g : HiveCells). IsStepped g (delete_key path) (hive_of new root version)) view (record {
         version = refl;
         root = refl;
         tree = d.step ∙ ap the_tree (sym tree);
         done = subst (λ (v : Tree). IsDone b c root t v (delete_key path)) (sym tree) d.made;
-        secure = pair_secure version old new root t path p is.stands place taken;
+        secure = pair_secure version old.bins new.bins root t path p is.stands place taken;
         lists = λ at among.
             let one : In (p.above ∷ []) at = subst (λ (l : List ℕ). In l at)
             (λ i. option_map_or (λ (q : KeyPair). q.above ∷ []) (place i) []) among in
@@ -356,30 +358,30 @@ pair_gone old new root version bulk bulk_then h path p is view place taken bytes
             (λ i. option_map_or (λ (q : KeyPair). plain_cells (tree_uses (levels_left path) b q.at)) (place i) []) given));
         runs = λ r among. absurd among;
         long = d.long;
-        room = subst (λ (v : Tree). bins_size new ≤ bins_size old
+        room = subst (λ (v : Tree). bins_size new.bins ≤ bins_size old.bins
             + room_of (needed_sizes version t (delete_key path) v)) (sym tree) d.room;
       });
       tree = subst (λ (g : HiveCells). tree_of c root ≡ without_key path g.tree) view tree;
     }
 
 -- no room for the lists is no room for the step
-pub pair_kept : (old new : List Bin) (root : ℕ) (version : HiveVersion) (bulk : ℕ) (h : HiveCells)
+pub pair_kept : (old : Opened) (new : List Bin) (root : ℕ) (version : HiveVersion) (bulk : ℕ) (h : HiveCells)
     (path : List (List ℕ)) (p : KeyPair)
-    → IsHive old root version bulk → hive_of old root version ≡ h
-    → pair_place (look_up version old) path root ≡ a_pair p
-    → IsPairKept version p old new → LacksStepRoom h (delete_key path)
+    → IsHive old.bins root version bulk → hive_of old root version ≡ h
+    → pair_place (look_up version old.bins) path root ≡ a_pair p
+    → IsPairKept version p old.bins new → LacksStepRoom h (delete_key path)
 pair_kept old new root version bulk h path p is view place kept =
-    let b = look_up version old in
+    let b = look_up version old.bins in
     let t = tree_of b root in
     let here = pair_here b root t path p is.stands place in
     let says = kept.says here.node here.parent_is.read in
     let less = pair_lessens version b root t path p here in
-    let fewer = ap (λ (z : ℕ). list_strain_of (bins_size old) z)
-    (left_length version old root t path p kept.above here says) in
-    let room = less.room (bins_size old) in
+    let fewer = ap (λ (z : ℕ). list_strain_of (bins_size old.bins) z)
+    (left_length version old.bins root t path p kept.above here says) in
+    let room = less.room (bins_size old.bins) in
     let lacks = kept.lacks.0 in
     subst (λ (g : HiveCells). LacksStepRoom g (delete_key path)) view (λ u e.
-    subst (λ (v : Tree). 16777216 < bins_size old + room_of (needed_sizes version t (delete_key path) v))
+    subst (λ (v : Tree). 16777216 < bins_size old.bins + room_of (needed_sizes version t (delete_key path) v))
     (the_same (without_key path t) u (sym less.step ∙ e))
     (omega (arith, fewer, room, lacks)))
   where
@@ -403,11 +405,11 @@ pair_refused version bins root t path well none =
 
 -- ---- what the key and those below it used
 
-pub drops_uses : (old new : List Bin) (root : ℕ) (version : HiveVersion) (bulk : ℕ) (h : HiveCells)
+pub drops_uses : (old new : Opened) (root : ℕ) (version : HiveVersion) (bulk : ℕ) (h : HiveCells)
     (path : List (List ℕ)) (p : KeyPair)
-    → IsHive old root version bulk → hive_of old root version ≡ h
-    → pair_place (look_up version old) path root ≡ a_pair p
-    → IsPairTaken version path p old new → DropsUses h path (hive_of new root version)
+    → IsHive old.bins root version bulk → hive_of old root version ≡ h
+    → pair_place (look_up version old.bins) path root ≡ a_pair p
+    → IsPairTaken version path p old.bins new.bins → DropsUses h path (hive_of new root version)
 drops_uses old new root version bulk h path p is view place g =
     subst (λ (z : HiveCells). DropsUses z path (hive_of new root version)) view (record {
       pair = p;
@@ -416,17 +418,17 @@ drops_uses old new root version bulk h path p is view place g =
       counted = λ o q i held. g.removed.dropped.counted o q i (noted o q i held);
     })
   where
-    here : PairHere (look_up version old) root (tree_of (look_up version old) root) path p
-    here = pair_here (look_up version old) root (tree_of (look_up version old) root) path p is.stands place
+    here : PairHere (look_up version old.bins) root (tree_of (look_up version old.bins) root) path p
+    here = pair_here (look_up version old.bins) root (tree_of (look_up version old.bins) root) path p is.stands place
 
-    noted : (o : ℕ) (q : List ℕ) → In (tree_uses (levels_left path) (look_up version old) p.at) (o, true)
-        → held_at old o ≡ Some q → held_at g.removed.noted o ≡ Some q
+    noted : (o : ℕ) (q : List ℕ) → In (tree_uses (levels_left path) (look_up version old.bins) p.at) (o, true)
+        → held_at old.bins o ≡ Some q → held_at g.removed.noted o ≡ Some q
     noted o q i held =
         g.removed.fields.others o
-        (no_node (look_up version old) root (tree_of (look_up version old) root) path p here o true i)
-        ∙ shortened_keeps version g.above p.at old g.removed.listed g.removed.list g.removed.lists o q held
-        (λ j. no_list (look_up version old) root (tree_of (look_up version old) root) path p here o true i
-        (in_lists version old root (tree_of (look_up version old) root) path p g.above here
+        (no_node (look_up version old.bins) root (tree_of (look_up version old.bins) root) path p here o true i)
+        ∙ shortened_keeps version g.above p.at old.bins g.removed.listed g.removed.list g.removed.lists o q held
+        (λ j. no_list (look_up version old.bins) root (tree_of (look_up version old.bins) root) path p here o true i
+        (in_lists version old.bins root (tree_of (look_up version old.bins) root) path p g.above here
         (g.says here.node here.parent_is.read) o j))
 
 -- ---- the bulk
@@ -444,7 +446,7 @@ shared_size version shared (key h ts) =
     sum n c s z i l b = omega arith
 
 pub below_size : (version : HiveVersion) (shared : List ℕ) (k : Tree) (bulk more less : ℕ) → bulk ≡ bulk_of version k
-    → bulk ≤ 1099511627776
+    → bulk ≤ 576460752303423488
     → more ≡ security_size shared (head k).security → less ≡ 32 + security_size [] (head k).security
     → (less ≤ bulk + more) × (bulk + more - less ≡ size version shared k)
 below_size version shared k bulk more less b few m l =
@@ -452,130 +454,85 @@ below_size version shared k bulk more less b few m l =
     (security_size shared (head k).security) bulk more less
     (shared_size version shared k) b few m l
   where
-    sum : (s t z m bulk more less : ℕ) → s + z ≡ t + m → bulk ≡ min (32 + t) 18446744073709551615 → bulk ≤ 1099511627776
+    sum : (s t z m bulk more less : ℕ) → s + z ≡ t + m → bulk ≡ min (32 + t) 18446744073709551615
+        → bulk ≤ 576460752303423488
         → more ≡ m → less ≡ 32 + z
         → (less ≤ bulk + more) × (bulk + more - less ≡ s)
     sum s t z m bulk more less e b few p q = (omega (arith, e, b, few, p, q), omega (arith, e, b, few, p, q))
 
-pub bulk_less : (version : HiveVersion) (b : Cells) (root : ℕ) (t : Tree) (path : List (List ℕ)) (p : KeyPair)
-    (bulk fewer now below : ℕ)
-    → (h : PairHere b root t path p) → bulk ≡ bulk_of version t → bulk ≤ 1099511627776
-    → now ≡ list_size (length (children h.there))
-    → fewer ≡ list_size (length (children h.there) - 1) → fewer ≤ 100000000000
-    → below ≡ size version (head h.there).security h.kid
-    → (now + below ≤ bulk + fewer) × (bulk + fewer - (now + below) ≡ bulk_of version (without_key path t))
-bulk_less version b root t path p bulk fewer now below h counted few n f small k =
-    sum (size version [] (without_key path t)) (size version [] t) (list_size (length (children h.there)))
-    (list_size (length (children h.there) - 1))
-    (size version (head h.there).security h.kid) bulk fewer now below
-    (pair_lessens version b root t path p h).sizes counted few n f small k
-  where
-    sum : (u t l m s bulk fewer now below : ℕ) → u + (l + s) ≡ t + m → bulk ≡ min (32 + t) 18446744073709551615
-        → bulk ≤ 1099511627776 → now ≡ l
-        → fewer ≡ m → fewer ≤ 100000000000 → below ≡ s
-        → (now + below ≤ bulk + fewer) × (bulk + fewer - (now + below) ≡ min (32 + u) 18446744073709551615)
-    sum u t l m s bulk fewer now below e b few n f small k =
-        (omega (arith, e, b, few, n, f, small, k), omega (arith, e, b, few, n, f, small, k))
-
 -- ---- said of a hive as it is seen
 
-pub place_seen : (bins : List Bin) (root : ℕ) (version : HiveVersion) (h : HiveCells) (path : List (List ℕ))
+pub place_seen : (bins : Opened) (root : ℕ) (version : HiveVersion) (h : HiveCells) (path : List (List ℕ))
     (p : KeyPair)
     → hive_of bins root version ≡ h → pair_place (cells_in h) path h.root ≡ a_pair p
-    → pair_place (look_up version bins) path root ≡ a_pair p
+    → pair_place (look_up version bins.bins) path root ≡ a_pair p
 place_seen bins root version h path p view place =
     subst (λ (g : HiveCells). pair_place (cells_in g) path g.root ≡ a_pair p) (sym view) place
 
-pub pair_seen : (bins : List Bin) (root : ℕ) (version : HiveVersion) (bulk : ℕ) (h : HiveCells) (path : List (List ℕ))
+pub pair_seen : (bins : Opened) (root : ℕ) (version : HiveVersion) (bulk : ℕ) (h : HiveCells) (path : List (List ℕ))
     (p : KeyPair)
-    → IsHive bins root version bulk → hive_of bins root version ≡ h → pair_place (cells_in h) path h.root ≡ a_pair p
-    → PairHere (look_up version bins) root (tree_of (look_up version bins) root) path p
+    → IsHive bins.bins root version bulk → hive_of bins root version ≡ h → pair_place (cells_in h) path h.root ≡ a_pair p
+    → PairHere (look_up version bins.bins) root (tree_of (look_up version bins.bins) root) path p
 pair_seen bins root version bulk h path p is view place =
-    pair_here (look_up version bins) root (tree_of (look_up version bins) root) path p is.stands
+    pair_here (look_up version bins.bins) root (tree_of (look_up version bins.bins) root) path p is.stands
     (place_seen bins root version h path p view place)
 
--- the root is in the cells without the key
-pub root_seen : (bins heap new : List Bin) (root : ℕ) (version : HiveVersion) (bulk : ℕ) (h : HiveCells)
+pub gone_seen : (bins new : Opened) (root : ℕ) (version : HiveVersion) (bulk bulk_then : ℕ) (h : HiveCells)
     (path : List (List ℕ)) (p : KeyPair)
-    → IsHive bins root version bulk → hive_of bins root version ≡ h → heap ≡ bins
+    → IsHive bins.bins root version bulk → hive_of bins root version ≡ h
     → pair_place (cells_in h) path h.root ≡ a_pair p
-    → IsPairTaken version path p heap new
-    → IsWellFormed (look_up version new) root (without_key path (tree_of (look_up version bins) root))
-root_seen bins heap new root version bulk h path p is view same place taken =
-    (pair_done version bins new root (tree_of (look_up version bins) root) path p is.stands
-    (place_seen bins root version h path p view place)
-    (subst (λ (z : List Bin). IsPairTaken version path p z new) same taken)).made.stands
-
-pub gone_seen : (bins heap new : List Bin) (root : ℕ) (version : HiveVersion) (bulk bulk_then : ℕ) (h : HiveCells)
-    (path : List (List ℕ)) (p : KeyPair)
-    → IsHive bins root version bulk → hive_of bins root version ≡ h → heap ≡ bins
-    → pair_place (cells_in h) path h.root ≡ a_pair p
-    → IsPairTaken version path p heap new → IsBytes (spelled 0 new)
+    → IsPairTaken version path p bins.bins new.bins → IsBytes (spelled 0 new.bins)
     → bulk_then ≡ bulk_of h.version (without_key path h.tree)
     → IsPairGone h new root version bulk_then path
-gone_seen bins heap new root version bulk bulk_then h path p is view same place taken bytes counted =
+gone_seen bins new root version bulk bulk_then h path p is view place taken bytes counted =
     pair_gone bins new root version bulk bulk_then h path p is view (place_seen bins root version h path p view place)
-    (subst (λ (z : List Bin). IsPairTaken version path p z new) same taken) (cells-bytes version new bytes)
+    taken (cells-bytes version new.bins bytes)
     (subst (λ (g : HiveCells). bulk_then ≡ bulk_of g.version (without_key path g.tree)) (sym view) counted)
 
-pub counted_seen : (bins heap new : List Bin) (root : ℕ) (version : HiveVersion) (bulk bulk_then : ℕ) (h : HiveCells)
+pub drops_seen : (bins new : Opened) (root : ℕ) (version : HiveVersion) (bulk : ℕ) (h : HiveCells)
     (path : List (List ℕ)) (p : KeyPair)
-    → IsHive bins root version bulk → hive_of bins root version ≡ h → heap ≡ bins
+    → IsHive bins.bins root version bulk → hive_of bins root version ≡ h
     → pair_place (cells_in h) path h.root ≡ a_pair p
-    → IsPairTaken version path p heap new
-    → ((t : Tree) → IsWellFormed (look_up version new) root t → bulk_then ≡ bulk_of version t)
-    → bulk_then ≡ bulk_of h.version (without_key path h.tree)
-counted_seen bins heap new root version bulk bulk_then h path p is view same place taken told =
-    subst (λ (g : HiveCells). bulk_then ≡ bulk_of g.version (without_key path g.tree)) view
-    (told (without_key path (tree_of (look_up version bins) root))
-    (root_seen bins heap new root version bulk h path p is view same place taken))
+    → IsPairTaken version path p bins.bins new.bins → DropsUses h path (hive_of new root version)
+drops_seen bins new root version bulk h path p is view place taken =
+    drops_uses bins new root version bulk h path p is view (place_seen bins root version h path p view place) taken
 
-pub drops_seen : (bins heap new : List Bin) (root : ℕ) (version : HiveVersion) (bulk : ℕ) (h : HiveCells)
+pub kept_seen : (bins : Opened) (new : List Bin) (root : ℕ) (version : HiveVersion) (bulk : ℕ) (h : HiveCells)
     (path : List (List ℕ)) (p : KeyPair)
-    → IsHive bins root version bulk → hive_of bins root version ≡ h → heap ≡ bins
+    → IsHive bins.bins root version bulk → hive_of bins root version ≡ h
     → pair_place (cells_in h) path h.root ≡ a_pair p
-    → IsPairTaken version path p heap new → DropsUses h path (hive_of new root version)
-drops_seen bins heap new root version bulk h path p is view same place taken =
-    drops_uses bins new root version bulk h path p is view (place_seen bins root version h path p view place)
-    (subst (λ (z : List Bin). IsPairTaken version path p z new) same taken)
-
-pub kept_seen : (bins heap new : List Bin) (root : ℕ) (version : HiveVersion) (bulk : ℕ) (h : HiveCells)
-    (path : List (List ℕ)) (p : KeyPair)
-    → IsHive bins root version bulk → hive_of bins root version ≡ h → heap ≡ bins
-    → pair_place (cells_in h) path h.root ≡ a_pair p
-    → IsPairKept version p heap new → LacksStepRoom h (delete_key path)
-kept_seen bins heap new root version bulk h path p is view same place kept =
-    pair_kept bins new root version bulk h path p is view (place_seen bins root version h path p view place)
-    (subst (λ (z : List Bin). IsPairKept version p z new) same kept)
+    → IsPairKept version p bins.bins new → LacksStepRoom h (delete_key path)
+kept_seen bins new root version bulk h path p is view place kept =
+    pair_kept bins new root version bulk h path p is view (place_seen bins root version h path p view place) kept
 
 -- what the search for the pair answers of the step
-pub step_seen : (bins : List Bin) (root : ℕ) (version : HiveVersion) (bulk : ℕ) (h : HiveCells) (path : List (List ℕ))
+pub step_seen : (bins : Opened) (root : ℕ) (version : HiveVersion) (bulk : ℕ) (h : HiveCells) (path : List (List ℕ))
     (o : Option KeyPair)
-    → IsHive bins root version bulk → hive_of bins root version ≡ h → o ≡ pair_place (look_up version bins) path root
+    → IsHive bins.bins root version bulk → hive_of bins root version ≡ h → o ≡ pair_place (look_up version bins.bins) path root
     → MatchOption o (after_step (delete_key path) h.tree ≡ Err no_key)
     (λ p. after_step (delete_key path) h.tree ≡ the_tree (without_key path h.tree))
 step_seen bins root version bulk h path None is view e =
     subst (λ (g : HiveCells). after_step (delete_key path) g.tree ≡ Err no_key) view
-    (pair_refused version bins root (tree_of (look_up version bins) root) path is.stands (sym e))
+    (pair_refused version bins.bins root (tree_of (look_up version bins.bins) root) path is.stands (sym e))
 step_seen bins root version bulk h path (Some p) is view e =
     subst (λ (g : HiveCells). after_step (delete_key path) g.tree ≡ the_tree (without_key path g.tree)) view
-    (pair_lessens version (look_up version bins) root (tree_of (look_up version bins) root) path p
-    (pair_here (look_up version bins) root (tree_of (look_up version bins) root) path p is.stands (sym e))).step
+    (pair_lessens version (look_up version bins.bins) root (tree_of (look_up version bins.bins) root) path p
+    (pair_here (look_up version bins.bins) root (tree_of (look_up version bins.bins) root) path p is.stands (sym e))).step
 
 -- the bulk is known from the child and the lists
-pub bulk_seen : (bins heap : List Bin) (root : ℕ) (version : HiveVersion) (bulk : ℕ) (h : HiveCells)
+pub bulk_seen : (bins : Opened) (heap : List Bin) (root : ℕ) (version : HiveVersion) (bulk : ℕ) (h : HiveCells)
     (path : List (List ℕ)) (p : KeyPair) (above : Above)
-    (shared : List ℕ) (now fewer below : ℕ) → IsHive bins root version bulk → hive_of bins root version ≡ h
-    → heap ≡ bins
+    (shared : List ℕ) (now fewer below : ℕ) → IsHive bins.bins root version bulk → hive_of bins root version ≡ h
+    → heap ≡ bins.bins → bins_size bins.bins ≤ 16777216
     → pair_place (cells_in h) path h.root ≡ a_pair p
     → ((n : KeyNode) → reading key_node_at (look_up version heap) p.above ≡ Ok n → AboveIs above n)
-    → ((t : Tree) → IsWellFormed (look_up version heap) p.above t → shared ≡ (head t).security) → bulk ≤ 1099511627776
-    → now ≡ list_size above.count → fewer ≡ list_size (above.count - 1) → fewer ≤ 100000000000
+    → ((t : Tree) → IsWellFormed (look_up version heap) p.above t → shared ≡ (head t).security)
+    → now ≡ list_size above.count → fewer ≡ list_size (above.count - 1) → fewer ≤ 68719476736
     → ((t : Tree) → IsWellFormed (look_up version heap) p.at t → below ≡ size version shared t)
     → (now + below ≤ bulk + fewer) × (bulk + fewer - (now + below) ≡ bulk_of h.version (without_key path h.tree))
-bulk_seen bins heap root version bulk h path p above shared now fewer below is view same place says shares few n f small
+bulk_seen bins heap root version bulk h path p above shared now fewer below is view same fit place says shares n f small
     told =
-    let b = look_up version bins in
+    let b = look_up version bins.bins in
     let t = tree_of b root in
     let here = pair_seen bins root version bulk h path p is view place in
     let read = subst (λ (z : List Bin). reading key_node_at (look_up version z) p.above ≡ Ok here.node) (sym same)
@@ -587,30 +544,37 @@ bulk_seen bins heap root version bulk h path p above shared now fewer below is v
     here.parent_is.below) in
     let k = told here.kid (subst (λ (z : List Bin). IsWellFormed (look_up version z) p.at here.kid) (sym same)
     here.kid_well) in
-    let r = bulk_less version b root t path p bulk fewer now below here is.counted few (n ∙ ap list_size count)
-    (f ∙ ap (λ (z : ℕ). list_size (z - 1)) count) small
-    (k ∙ ap (λ (s : List ℕ). size version s here.kid) security) in (
+    let r = bulk_then version t (without_key path t) bulk fewer (now + below) (bulk_is bins.bins root version bulk is fit)
+    (sizes (size version [] (without_key path t)) (size version [] t) (list_size (length (children here.there)))
+    (list_size (length (children here.there) - 1)) (size version (head here.there).security here.kid) now fewer below
+    (pair_lessens version b root t path p here).sizes (n ∙ ap list_size count)
+    (f ∙ ap (λ (z : ℕ). list_size (z - 1)) count) (k ∙ ap (λ (s : List ℕ). size version s here.kid) security))
+    small in (
       r.0,
       subst (λ (g : HiveCells). bulk + fewer - (now + below) ≡ bulk_of g.version (without_key path g.tree))
           view r.1,
     )
+  where
+    sizes : (u t l m s now fewer below : ℕ) → u + (l + s) ≡ t + m → now ≡ l → fewer ≡ m → below ≡ s
+        → u + (now + below) ≡ t + fewer
+    sizes u t l m s now fewer below e n f k = omega (arith, e, n, f, k)
 
-pub some_children : (bins heap : List Bin) (root : ℕ) (version : HiveVersion) (bulk : ℕ) (h : HiveCells)
+pub some_children : (bins : Opened) (heap : List Bin) (root : ℕ) (version : HiveVersion) (bulk : ℕ) (h : HiveCells)
     (path : List (List ℕ)) (p : KeyPair) (above : Above)
-    → IsHive bins root version bulk → hive_of bins root version ≡ h → heap ≡ bins
+    → IsHive bins.bins root version bulk → hive_of bins root version ≡ h → heap ≡ bins.bins
     → pair_place (cells_in h) path h.root ≡ a_pair p
     → ((n : KeyNode) → reading key_node_at (look_up version heap) p.above ≡ Ok n → AboveIs above n) → 1 ≤ above.count
 some_children bins heap root version bulk h path p above is view same place says =
-    let b = look_up version bins in
+    let b = look_up version bins.bins in
     let here = pair_seen bins root version bulk h path p is view place in
     let read = subst (λ (z : List Bin). reading key_node_at (look_up version z) p.above ≡ Ok here.node) (sym same)
     here.parent_is.read in
-    (can_remove version bins root (tree_of b root) path p above here (says here.node read)).some
+    (can_remove version bins.bins root (tree_of b root) path p above here (says here.node read)).some
 
 -- what a key and all below it take under another key, by its bulk and its own descriptor
 pub below_seen : (version : HiveVersion) (shared own : List ℕ) (k : Tree) (bulk more less : ℕ)
     → bulk ≡ bulk_of version k → own ≡ (head k).security
-    → bulk ≤ 1099511627776 → more ≡ security_size shared own → less ≡ 32 + security_size [] own
+    → bulk ≤ 576460752303423488 → more ≡ security_size shared own → less ≡ 32 + security_size [] own
     → (less ≤ bulk + more) × (bulk + more - less ≡ size version shared k)
 below_seen version shared own k bulk more less b o few m l =
     below_size version shared k bulk more less b few (m ∙ ap (security_size shared) o)

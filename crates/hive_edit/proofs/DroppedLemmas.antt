@@ -19,7 +19,7 @@ use Rattle.hive_edit.specs.declared.making.Above.{Above}
 use Rattle.hive_edit.specs.Making.{IsWritten}
 use Rattle.hive_edit.specs.Dropped.{AreDropped, AreShortened, CanDrop, CanRemove, IsLowered, IsRecounted, is_secured, times}
 use Rattle.hive_edit.proofs.ResultLemmas.{done, some}
-use Rattle.hive_edit.proofs.NodeMade.{security_counted, security_text_is}
+use Rattle.hive_edit.proofs.CountLemmas.{security_counted, security_text_is}
 use Rattle.hive_edit.proofs.GoneLemmas.{is_held, held_of, and_some}
 use Rattle.hive_edit.proofs.LinkLemmas.{some_and}
 use Rattle.hive_edit.proofs.UsesLemmas.{use_of}

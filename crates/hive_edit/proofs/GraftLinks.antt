@@ -6,6 +6,7 @@ use Rattle.hive_model.specs.Bins.{Bin, bins_size}
 use Rattle.hive_model.specs.Tree.{Tree}
 use Rattle.hive_model.specs.Footprint.{list_strain_of}
 use Rattle.hive_model.specs.Packed.{sharers}
+use Rattle.hive_cells.specs.Opened.{Opened}
 use Rattle.hive_pack.specs.Numbers.{HasNumbers}
 use Rattle.hive_edit.specs.declared.making.Above.{Above}
 use Rattle.hive_edit.specs.Making.{above_children, LacksListRoom}
@@ -33,12 +34,12 @@ graft_linked (Ok false) version parent above shared k at keys old mid new count 
 graft_linked (Err e) version parent above shared k at keys old mid new count numbers put h = tt
 
 pub graft_refused : {E : Type 0} (r : Result Bool E) (version : HiveVersion) (parent : ℕ) (above : Above)
-    (shared : List ℕ) (k : Tree) (at : ℕ) (old mid new : List Bin)
-    → IsRunPut version parent above shared k at old mid → OnErr r (new ≡ mid)
-    → OnErr r ((new ≡ old) ⊎ IsRunPut version parent above shared k at old new)
+    (shared : List ℕ) (k : Tree) (at : ℕ) (old : List Bin) (mid new : Opened)
+    → IsRunPut version parent above shared k at old mid.bins → OnErr r (new ≡ mid)
+    → OnErr r ((new.bins ≡ old) ⊎ IsRunPut version parent above shared k at old new.bins)
 graft_refused (Ok d) version parent above shared k at old mid new put h = tt
 graft_refused (Err e) version parent above shared k at old mid new put h =
-    inr (subst (λ (z : List Bin). IsRunPut version parent above shared k at old z) (sym h) put)
+    inr (subst (λ (z : Opened). IsRunPut version parent above shared k at old z.bins) (sym h) put)
 
 -- ---- how many keys share the security
 

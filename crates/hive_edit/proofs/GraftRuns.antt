@@ -38,9 +38,8 @@ use Rattle.edit_laws.proofs.SameTree.{IsSameKey, tree_same, uses_same}
 use Rattle.edit_laws.proofs.ParentsKept.{child_still}
 use Rattle.key_index.proofs.Runs.{among_from, has_held, run_is}
 use Rattle.hive_edit.specs.Runs.{IsRunPutAt}
-use Rattle.hive_edit.proofs.ResultLemmas.{done, some}
+use Rattle.hive_edit.proofs.ResultLemmas.{done, some, no_some}
 use Rattle.hive_edit.proofs.ParentLemmas.{Keeps}
-use Rattle.hive_edit.proofs.AddedLemmas.{no_some}
 use Rattle.hive_pack.proofs.Whole.{used_size}
 use Rattle.reg_tree.proofs.Sound.{some_size}
 

@@ -1,7 +1,7 @@
--- What the changes of bins amount to, where the run of a key is put into them and named by the root.
+-- What the changes of bins amount to, where the run of a key is put into them and named by the key above.
 use Rattle.std.proofs.Common.{◌≡◌, ◌≤◌, ◌<◌, ◌^◌, ℕ, ◌+◌, Bool, true, false, eqb, cond, List, [], length, take, drop, Option, Result, Ok, refl, sym, ap, subst, ◌∙◌, inl, inr, arith}
 use Rattle.std.specs.Prelude.{◌⊎◌}
-use Rattle.std.specs.Option.{IsSome, IsSomeAnd}
+use Rattle.std.specs.Option.{IsSomeAnd}
 use Rattle.std.specs.Result.{IsOk}
 use Rattle.std.specs.List.{position_or_len}
 use Rattle.std.specs.Ordering.{is_gt}
@@ -19,7 +19,6 @@ use Rattle.hive_model.specs.Security.{security_at}
 use Rattle.hive_model.specs.Tree.{Tree, head}
 use Rattle.hive_model.specs.Valid.{HoldsKeys, levels}
 use Rattle.hive_model.specs.Size.{size}
-use Rattle.hive_model.specs.Packed.{Above as PackedAbove}
 use Rattle.hive_model.specs.Walk.{reading, nowhere, entries_checks}
 use Rattle.hive_model.specs.Footprint.{of_read, used_in, child_places, list_cells_at, security_cell_at}
 use Rattle.hive_cells.specs.Held.{held_at, patched}
@@ -45,47 +44,41 @@ use Rattle.hive_edit.specs.declared.making.Above.{Above}
 use Rattle.hive_edit.specs.Making.{above_lists, child_fields, IsLinkable}
 use Rattle.hive_edit.specs.Grafted.{sharing, counted_more, descriptor_of, SharesAt, IsRunPut, IsGrafted}
 use Rattle.hive_edit.specs.Children.{ListsAs}
-use Rattle.hive_edit.proofs.ResultLemmas.{done, some}
-use Rattle.hive_edit.proofs.NodeMade.{security_text_is}
-use Rattle.hive_edit.proofs.ParentLemmas.{Keeps, IsParent, kept_parent, parent_held, lists_are, children_are, siblings_are, list_no_node, list_no_security, node_no_security}
+use Rattle.hive_edit.proofs.ResultLemmas.{done, some, no_some}
+use Rattle.hive_edit.proofs.CountLemmas.{security_text_is}
+use Rattle.hive_edit.proofs.ParentLemmas.{Keeps, IsParent, kept_parent, parent_held, node_kept, list_kept, lists_are, children_are, siblings_are, list_no_node, list_no_security, node_no_security}
 use Rattle.hive_edit.proofs.ParentLemmas.{lists_apart as parent_apart}
-use Rattle.hive_edit.proofs.PlacedLemmas.{name_read, node_name_read, has_place}
-use Rattle.hive_edit.proofs.MakingLemmas.{node_kept, list_kept, one_list}
+use Rattle.hive_edit.proofs.PlacedLemmas.{one_list, name_read, node_name_read, has_place}
 use Rattle.hive_edit.proofs.KeyLemmas.{node_read}
-use Rattle.hive_edit.proofs.AddedLemmas.{no_some}
 use Rattle.hive_edit.proofs.GraftRuns.{IsFormed, IsRunThere, run_there, formed}
 use Rattle.hive_edit.proofs.GraftLemmas.{Grafts}
 use Rattle.hive_edit.proofs.PackedParents.{packed_names}
 use Rattle.key_index.proofs.Tests.{is_ok_of}
 use Rattle.hive_read.proofs.FormFacts.{then-so}
 
--- ---- what is known of the root, the key and its place
+-- ---- what is known of the key above, the key and its place
 
-pub record Ready (version : HiveVersion) (old : List Bin) (root : ℕ) (t : Tree) (n : KeyNode) (above : Above)
-    (shared : List ℕ) (k : Tree) (at : ℕ) : Type 0 where
-  pub parent : IsParent (look_up version old) root t [] root t n
+pub record Ready (version : HiveVersion) (old : List Bin) (root : ℕ) (t : Tree) (x : ℕ) (host : Tree) (n : KeyNode)
+    (left : ℕ) (above : Above) (shared : List ℕ) (k : Tree) (at : ℕ) : Type 0 where
+  pub path : List (List ℕ)
+  pub parent : IsParent (look_up version old) root t path x host n
   pub says : ListsAs above n
   pub shares : SharesAt (look_up version old) root above.security shared
-  pub low : levels k ≤ 511
+  pub low : levels k ≤ left
+  pub deep : left ≤ 511
   pub few : above.count ≤ 2097150
   pub inside : at + size version shared k ≤ 16777216
-  pub root_small : root < 2 ^ 32
+  pub small : x < 2 ^ 32
 
-module _ (version : HiveVersion) (old mid : List Bin) (root : ℕ) (t : Tree) (n : KeyNode) (above : Above)
-    (shared : List ℕ) (k : Tree) (at : ℕ)
-    (r : Ready version old root t n above shared k at) (numbers : HasNumbers k) (holds : HoldsKeys k)
-    (put : IsRunPut version root above shared k at old mid) where
-  up : PackedAbove
-  up = beside version root shared above.security at k
-
-  sp : ℕ
-  sp = above.security
-
-  pub there : IsRunThere (look_up version old) (look_up version mid) (beside version root shared above.security at k)
+module _ (version : HiveVersion) (old mid : List Bin) (root : ℕ) (t : Tree) (x : ℕ) (host : Tree) (n : KeyNode)
+    (left : ℕ) (above : Above) (shared : List ℕ) (k : Tree) (at : ℕ)
+    (r : Ready version old root t x host n left above shared k at) (numbers : HasNumbers k) (holds : HoldsKeys k)
+    (put : IsRunPut version x above shared k at old mid) where
+  pub there : IsRunThere (look_up version old) (look_up version mid) (beside version x shared above.security at k)
       at k
   there =
       let inside = r.inside in
-      run_there version (beside version root shared above.security at k) at k put.run old mid put.is
+      run_there version (beside version x shared above.security at k) at k put.run old mid put.is
       (omega (arith, inside)) put.put
 
   pub keeps : Keeps (look_up version old) (look_up version mid)
@@ -112,9 +105,9 @@ module _ (version : HiveVersion) (old mid : List Bin) (root : ℕ) (t : Tree) (n
           ∙ sym (ap (λ (v : Bool). cond v (Ok []) (descriptor_at (look_up version old) above.security)) e)
           ∙ r.shares.descriptor
 
-  stands_above : AboveStands (look_up version mid) (beside version root shared above.security at k)
+  stands_above : AboveStands (look_up version mid) (beside version x shared above.security at k)
   stands_above = record {
-    place = r.root_small;
+    place = r.small;
     security_place = r.shares.small;
     descriptor = descriptor_kept;
     ring = ring_fits version shared at k r.inside;
@@ -144,39 +137,40 @@ module _ (version : HiveVersion) (old mid : List Bin) (root : ℕ) (t : Tree) (n
   pub is_formed : IsFormed (look_up version mid) at (size version shared k) k above.security
   is_formed =
       let low = r.low in
-      formed (look_up version mid) (beside version root shared above.security at k)
-      at k r.inside stands_above beside_run there.has holds numbers (omega (arith, low))
+      let deep = r.deep in
+      formed (look_up version mid) (beside version x shared above.security at k)
+      at k r.inside stands_above beside_run there.has holds numbers (omega (arith, low, deep))
 
-  pub is_named : IsChildOf (look_up version mid) root at
+  pub is_named : IsChildOf (look_up version mid) x at
   is_named =
-      packed_names (look_up version mid) (beside version root shared above.security at k) at k stands_above there.has
+      packed_names (look_up version mid) (beside version x shared above.security at k) at k stands_above there.has
       holds numbers r.inside
 
-  parent_mid : IsParent (look_up version mid) root t [] root t n
-  parent_mid = kept_parent (look_up version old) (look_up version mid) root t [] root t n r.parent there.kept
+  parent_mid : IsParent (look_up version mid) root t r.path x host n
+  parent_mid = kept_parent (look_up version old) (look_up version mid) root t r.path x host n r.parent there.kept
 
-  pub lists_still : lists_at (look_up version mid) above.list above.count ≡ list_cells_at (look_up version old) root
+  pub lists_still : lists_at (look_up version mid) above.list above.count ≡ list_cells_at (look_up version old) x
   lists_still =
       (λ i. lists_at (look_up version mid) (r.says.list i) (r.says.count i))
-      ∙ lists_are (look_up version mid) root t [] root t n parent_mid
-      ∙ lists_same (look_up version old) (look_up version mid) root
-      (node_kept (look_up version old) (look_up version mid) root t [] root t n r.parent there.kept)
-      (list_kept (look_up version old) (look_up version mid) root t [] root t n r.parent there.kept)
+      ∙ lists_are (look_up version mid) root t r.path x host n parent_mid
+      ∙ lists_same (look_up version old) (look_up version mid) x
+      (node_kept (look_up version old) (look_up version mid) root t r.path x host n r.parent there.kept)
+      (list_kept (look_up version old) (look_up version mid) root t r.path x host n r.parent there.kept)
 
   pub children_still : children_at (look_up version mid) above.list above.count
-      ≡ child_places (look_up version old) root
+      ≡ child_places (look_up version old) x
   children_still =
       (λ i. children_at (look_up version mid) (r.says.list i) (r.says.count i))
-      ∙ children_are (look_up version mid) root t [] root t n parent_mid
-      ∙ places_same (look_up version old) (look_up version mid) root
-      (node_kept (look_up version old) (look_up version mid) root t [] root t n r.parent there.kept)
-      (list_kept (look_up version old) (look_up version mid) root t [] root t n r.parent there.kept)
+      ∙ children_are (look_up version mid) root t r.path x host n parent_mid
+      ∙ places_same (look_up version old) (look_up version mid) x
+      (node_kept (look_up version old) (look_up version mid) root t r.path x host n r.parent there.kept)
+      (list_kept (look_up version old) (look_up version mid) root t r.path x host n r.parent there.kept)
 
   pub siblings_count : length (children_at (look_up version mid) above.list above.count) ≡ above.count
   siblings_count =
       subst (λ (z : ℕ). length (children_at (look_up version mid) z above.count) ≡ above.count) (sym r.says.list)
       (subst (λ (z : ℕ). length (children_at (look_up version mid) n.child_list z) ≡ z) (sym r.says.count)
-      (siblings_are (look_up version mid) root t [] root t n parent_mid).number)
+      (siblings_are (look_up version mid) root t r.path x host n parent_mid).number)
 
   key_node : (m : KeyNode) × (p : List ℕ) × ((look_up version mid).payload at ≡ done p) × (key_node_at p ≡ done m)
   key_node =
@@ -204,33 +198,31 @@ module _ (version : HiveVersion) (old mid : List Bin) (root : ℕ) (t : Tree) (n
       subst (λ (o : Option (List ℕ)). IsSomeAnd o (λ z. 20 ≤ length z))
       (sym (payload_held mid above.security q.0 (there.kept.held above.security q.0 q.1))) long
 
-  pub linkable : IsLinkable version root above at mid
+  pub linkable : IsLinkable version x above at mid
   linkable =
-      let q = parent_held (look_up version mid) root t [] root t n parent_mid in
+      let q = parent_held (look_up version mid) root t r.path x host n parent_mid in
       let long = (Rattle.edit_laws.proofs.Patches.node_text q.0 n q.2).long in
-      let m = key_node in
       record {
         siblings = subst (λ (z : ℕ). ListsSiblings (look_up version mid) z above.count) (sym r.says.list)
             (subst (λ (z : ℕ). ListsSiblings (look_up version mid) n.child_list z) (sym r.says.count)
-            (siblings_are (look_up version mid) root t [] root t n parent_mid));
+            (siblings_are (look_up version mid) root t r.path x host n parent_mid));
         apart = subst AreApart (sym (λ i. lists_at (look_up version mid) (r.says.list i) (r.says.count i)))
-            (parent_apart (look_up version mid) root t [] root t n parent_mid);
+            (parent_apart (look_up version mid) root t r.path x host n parent_mid);
         node = key_there;
         few = r.few;
         parent_long = subst (λ (o : Option (List ℕ)). IsSomeAnd o (λ z. 76 ≤ length z))
-            (sym (payload_held mid root q.0 q.1)) (omega (arith, long));
-        parent_apart = λ i. list_no_node (look_up version old) root t [] root t n r.parent
-            (subst (λ (l : List ℕ). In l root) lists_still (in_from (above_lists version above mid) root i));
+            (sym (payload_held mid x q.0 q.1)) (omega (arith, long));
+        parent_apart = λ i. list_no_node (look_up version old) root t r.path x host n r.parent
+            (subst (λ (l : List ℕ). In l x) lists_still (in_from (above_lists version above mid) x i));
         security_long = secure_long;
         security_lists = λ used i. let u = r.shares.used used in
             list_no_security (look_up version old)
-            root t [] root t n u.path u.key above.security r.parent u.reached u.uses
+            root t r.path x host n u.path u.key above.security r.parent u.reached u.uses
             (subst (λ (l : List ℕ). In l above.security) lists_still
             (in_from (above_lists version above mid) above.security i));
         security_parent = λ used z. let u = r.shares.used used in
-            node_no_security (look_up version old) root t [] root t n u.path u.key r.parent u.reached
+            node_no_security (look_up version old) root t r.path x host n u.path u.key r.parent u.reached
             (subst (λ (w : ℕ). In (security_cell_at (look_up version old) u.key) w) z u.uses);
-        child_held = subst IsSome (sym (payload_held mid at m.1 m.2)) refl;
       }
 
   -- ---- the place of the key among its siblings
@@ -256,10 +248,10 @@ module _ (version : HiveVersion) (old mid : List Bin) (root : ℕ) (t : Tree) (n
       has_place (look_up version old) (head k).name (is_behind (look_up version mid) (name_in (look_up version mid) at))
       (children_at (look_up version mid) above.list above.count) same
     where
-      name_same : (o : ℕ) → In (child_places (look_up version old) root) o
+      name_same : (o : ℕ) → In (child_places (look_up version old) x) o
           → name_in (look_up version mid) o ≡ node_name (look_up version old) o
       name_same o i =
-          let s = ((sound_hive (look_up version old) root t r.parent.well).all.each [] root r.parent.reached).child o
+          let s = ((sound_hive (look_up version old) root t r.parent.well).all.each r.path x r.parent.reached).child o
           i in
           let read = plain_node false (look_up version old) o s.node s.read in
           let q = then-so ((look_up version old).payload o) key_node_at s.node read in
@@ -275,39 +267,40 @@ module _ (version : HiveVersion) (old mid : List Bin) (root : ℕ) (t : Tree) (n
           λ v. is_gt (folded_order (name_same o j v) (key_name v))
 
 -- the changes of the bins, as those of cells
-pub grafts : (version : HiveVersion) (old new : List Bin) (root : ℕ) (t : Tree) (n : KeyNode) (above : Above)
-    (shared : List ℕ) (k : Tree) (at : ℕ)
-    → (r : Ready version old root t n above shared k at) → (holds : HoldsKeys k)
-    → (a : IsGrafted version root above shared k at old new)
+pub grafts : (version : HiveVersion) (old new : List Bin) (root : ℕ) (t : Tree) (x : ℕ) (host : Tree) (n : KeyNode)
+    (left : ℕ) (above : Above) (shared : List ℕ) (k : Tree) (at : ℕ)
+    → (r : Ready version old root t x host n left above shared k at) → (holds : HoldsKeys k)
+    → (a : IsGrafted version x above shared k at old new)
     → Grafts (look_up version old) (look_up version a.mid) (look_up version a.linked.listed) (look_up version new)
-    root t n k at (size version shared k)
+    root t x host n left k at (size version shared k)
     above.security a.linked.list shared
-    (front version old a.mid root t n above shared k at r a.numbers holds a.put)
-    (back version old a.mid root t n above shared k at r a.numbers holds a.put)
-grafts version old new root t n above shared k at r holds a =
+    (front version old a.mid root t x host n left above shared k at r a.numbers holds a.put)
+    (back version old a.mid root t x host n left above shared k at r a.numbers holds a.put)
+grafts version old new root t x host n left above shared k at r holds a =
     let b = look_up version old in
     let m = look_up version a.mid in
     let offs = children_at m above.list above.count in
-    let still = lists_still version old a.mid root t n above shared k at r a.numbers holds a.put in
+    let still = lists_still version old a.mid root t x host n left above shared k at r a.numbers holds a.put in
     let count = r.says.count in
     let few = r.few in
     let noted : (q : List ℕ) → (above.security ≡ nowhere → ⊥)
     → (look_up version a.linked.listed).payload above.security ≡ done q
     → held_at a.linked.noted above.security ≡ some q = λ q used e.
     a.linked.fields.others above.security (λ z. let u = r.shares.used used in
-    node_no_security b root t [] root t n u.path u.key r.parent u.reached
+    node_no_security b root t r.path x host n u.path u.key r.parent u.reached
     (subst (In (security_cell_at b u.key)) z u.uses))
     ∙ payload_held a.linked.listed above.security q e in
     record {
+      path = r.path;
       parent = r.parent;
       shares = r.shares;
-      formed = is_formed version old a.mid root t n above shared k at r a.numbers holds a.put;
-      named = is_named version old a.mid root t n above shared k at r a.numbers holds a.put;
+      formed = is_formed version old a.mid root t x host n left above shared k at r a.numbers holds a.put;
+      named = is_named version old a.mid root t x host n left above shared k at r a.numbers holds a.put;
       low = r.low;
-      kept_m = keeps version old a.mid root t n above shared k at r a.numbers holds a.put;
+      kept_m = keeps version old a.mid root t x host n left above shared k at r a.numbers holds a.put;
       version = refl;
       fresh = λ o q low high e.
-          (there version old a.mid root t n above shared k at r a.numbers holds a.put).fresh o q low high e;
+          (there version old a.mid root t x host n left above shared k at r a.numbers holds a.put).fresh o q low high e;
       gone = above_lists version above a.mid;
       gone_is = λ o i. subst (λ (l : List ℕ). In l o) still (in_from (above_lists version above a.mid) o i);
       kept_l = λ o q e ng. held_payload a.linked.listed o q (a.linked.lists.kept o q (payload_held a.mid o q e) ng);
@@ -325,20 +318,20 @@ grafts version old new root t n above shared k at r holds a =
       kept_c = λ o q e nx ns. held_payload new o q
           (a.linked.counted.others o (λ used z. ns used z) ∙ a.linked.fields.others o nx
           ∙ payload_held a.linked.listed o q e);
-      node_c = λ q e. held_payload new root
+      node_c = λ q e. held_payload new x
           (patched 20 (child_fields (n.child_count + 1) n.volatile_count a.linked.list) q)
-          (a.linked.counted.others root (λ used z. let u = r.shares.used used in
-          node_no_security b root t [] root t n u.path u.key r.parent u.reached
+          (a.linked.counted.others x (λ used z. let u = r.shares.used used in
+          node_no_security b root t r.path x host n u.path u.key r.parent u.reached
           (subst (In (security_cell_at b u.key)) (sym z) u.uses))
-          ∙ a.linked.fields.here q (payload_held a.linked.listed root q e)
+          ∙ a.linked.fields.here q (payload_held a.linked.listed x q e)
           ∙ (λ i. some (patched 20 (child_fields (count i + 1) (r.says.volatile i) a.linked.list) q)));
       secure_c = λ q used e.
           held_payload new above.security (patched 12 (to_le_bytes w32 (counted_more (sharing shared k) (u32_in q 12))) q)
           (a.linked.counted.here q used (noted q used e));
       uses_small = λ q used e. a.linked.counted.small q used (noted q used e);
-      places = sym (children_still version old a.mid root t n above shared k at r a.numbers holds a.put)
+      places = sym (children_still version old a.mid root t x host n left above shared k at r a.numbers holds a.put)
           ∙ sym (take-append-drop (position_or_len (is_behind m (name_in m at)) offs) offs);
-      count_is = sym count ∙ sym (siblings_count version old a.mid root t n above shared k at r a.numbers holds a.put)
+      count_is = sym count ∙ sym (siblings_count version old a.mid root t x host n left above shared k at r a.numbers holds a.put)
           ∙ ap (λ (l : List ℕ). length l)
           (sym (take-append-drop (position_or_len (is_behind m (name_in m at)) offs) offs));
     }

@@ -32,6 +32,7 @@ use Rattle.hive_edit.proofs.ResultLemmas.{done, some, some_same, only_if, ok_sam
 use Rattle.hive_edit.proofs.ItemLemmas.{item_facts}
 use Rattle.hive_edit.proofs.HiveLemmas.{stands_there, subtree_nowhere}
 use Rattle.hive_edit.proofs.PlaceLemmas.{IsItemAt, KeyThere, key_there, place_of_item}
+use Rattle.hive_cells.specs.Opened.{Opened}
 
 -- ---- that many bytes of a payload
 
@@ -325,9 +326,9 @@ this_kind cells at own kind size place p bytes t h e k same s o test v is =
 
 -- ---- a value of a key
 
-pub no_key_holds : (bins heap : List Bin) (root : ℕ) (version : HiveVersion) (bulk : ℕ) (h : HiveCells)
-    (path : List (List ℕ)) (name : List ℕ) (kind : ℕ) (bytes : List ℕ) → IsHive bins root version bulk
-    → heap ≡ bins → hive_of bins root version ≡ h → None ≡ key_place (look_up version heap) path root
+pub no_key_holds : (bins : Opened) (heap : List Bin) (root : ℕ) (version : HiveVersion) (bulk : ℕ) (h : HiveCells)
+    (path : List (List ℕ)) (name : List ℕ) (kind : ℕ) (bytes : List ℕ) → IsHive bins.bins root version bulk
+    → heap ≡ bins.bins → hive_of bins root version ≡ h → None ≡ key_place (look_up version heap) path root
     → ((false ≡ true) ↔ HoldsValue path name kind bytes h.tree)
 no_key_holds bins heap root version bulk h path name kind bytes is e view p = (
   λ none. absurd cc,
@@ -336,9 +337,9 @@ no_key_holds bins heap root version bulk h path name kind bytes is e view p = (
 )
 
 -- what a value's place says of it
-module _ (bins heap : List Bin) (root : ℕ) (version : HiveVersion) (bulk : ℕ) (h : HiveCells)
-    (path : List (List ℕ)) (name : List ℕ) (kind : ℕ) (bytes : List ℕ) (key : ℕ) (is : IsHive bins root version bulk)
-    (e : heap ≡ bins) (view : hive_of bins root version ≡ h)
+module _ (bins : Opened) (heap : List Bin) (root : ℕ) (version : HiveVersion) (bulk : ℕ) (h : HiveCells)
+    (path : List (List ℕ)) (name : List ℕ) (kind : ℕ) (bytes : List ℕ) (key : ℕ) (is : IsHive bins.bins root version bulk)
+    (e : heap ≡ bins.bins) (view : hive_of bins root version ≡ h)
     (p : Some key ≡ key_place (look_up version heap) path root) where
   here : KeyThere (look_up version heap) path h.tree key
   here = key_there (look_up version heap) path root h.tree key (stands_there bins heap root version bulk h is e view) (sym p)

@@ -8,6 +8,7 @@ use Rattle.hive_model.specs.Bins.{Bin, bins_size, look_up, spelled}
 use Rattle.hive_model.specs.Size.{bulk_of}
 use Rattle.hive_model.specs.Edit.{set_value}
 use Rattle.hive_model.specs.Footprint.{key_place}
+use Rattle.hive_cells.specs.Opened.{Opened}
 use Rattle.hive_cells.specs.Held.{held_at, patched}
 use Rattle.hive_read.proofs.FormFacts.{IsBytes}
 use Rattle.edit_laws.specs.Owned.{In}
@@ -27,23 +28,23 @@ use Rattle.hive_edit.proofs.SetLemmas.{inside_there, edit_there, inside_frees}
 use Rattle.hive_edit.proofs.SteppedLemmas.{IsStepMade, stepped, stepped_bulk}
 
 -- where the value was written in place
-pub record IsInsideSet (h : HiveCells) (new : List Bin) (root : ℕ) (version : HiveVersion) (bulk : ℕ)
+pub record IsInsideSet (h : HiveCells) (new : Opened) (root : ℕ) (version : HiveVersion) (bulk : ℕ)
     (path : List (List ℕ)) (name : List ℕ) (kind : ℕ) (bytes : List ℕ) : Type 0 where
   pub made : IsStepMade h new root version bulk (set_value path name kind bytes)
-  pub same : bulk_of h.version (tree_of (look_up version new) root) ≡ bulk_of h.version h.tree
+  pub same : bulk_of h.version (tree_of (look_up version new.bins) root) ≡ bulk_of h.version h.tree
 
-pub inside_set : (old new : List Bin) (root : ℕ) (version : HiveVersion) (bulk : ℕ) (h : HiveCells)
+pub inside_set : (old new : Opened) (root : ℕ) (version : HiveVersion) (bulk : ℕ) (h : HiveCells)
     (path : List (List ℕ)) (name : List ℕ) (kind : ℕ) (bytes : List ℕ) (v : ℕ)
-    → IsHive old root version bulk → hive_of old root version ≡ h → inside_place (cells_in h) path name h.root ≡ some v
+    → IsHive old.bins root version bulk → hive_of old root version ≡ h → inside_place (cells_in h) path name h.root ≡ some v
     → length bytes ≤ 4
     → ((i : ℕ) → get_or bytes i 0 < 256) → kind < 2 ^ 32
-    → held_at new v ≡ option_map (patched 4 (fields_for kind bytes)) (held_at old v)
-    → ((o : ℕ) → (o ≡ v → ⊥) → held_at new o ≡ held_at old o) → bins_size new ≡ bins_size old
-    → IsBytes (spelled 0 new)
+    → held_at new.bins v ≡ option_map (patched 4 (fields_for kind bytes)) (held_at old.bins v)
+    → ((o : ℕ) → (o ≡ v → ⊥) → held_at new.bins o ≡ held_at old.bins o) → bins_size new.bins ≡ bins_size old.bins
+    → IsBytes (spelled 0 new.bins)
     → IsInsideSet h new root version bulk path name kind bytes
 inside_set old new root version bulk h path name kind bytes v is view e short small fits here others long text =
-    let b = look_up version old in
-    let c = look_up version new in
+    let b = look_up version old.bins in
+    let c = look_up version new.bins in
     let t = tree_of b root in
     let u = set_tree path name kind bytes t in
     let place : inside_place b path name root ≡ some v =
@@ -51,7 +52,7 @@ inside_set old new root version bulk h path name kind bytes v is view e short sm
     let i = inside_there b path name root v place in
     let there : place_in b path name root ≡ some v = ap (option_and_then (value_place b name)) i.place ∙ i.named in
     let d = edit_there b version root t path name kind bytes v is.stands i short in
-    let patch = patched_at version old new v 4 (fields_for kind bytes) here others in
+    let patch = patched_at version old.bins new.bins v 4 (fields_for kind bytes) here others in
     let done = set_done b c root t path name i.key v kind bytes i.value is.stands i.place i.named patch i.read short
     small fits u d.step in
     let made : IsStepMade h new root version bulk (set_value path name kind bytes) =

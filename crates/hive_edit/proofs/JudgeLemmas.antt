@@ -118,15 +118,16 @@ nothing_made parent name t k found there =
 
 -- ---- the bulk
 
-shared : (s : List ℕ) → has_own s s ≡ false
-shared [] = refl
-shared (b ∷ s) = ap not ((bytes_eq-Decides (b ∷ s) (b ∷ s)).1 refl)
+-- a descriptor that is shared has no cell of its own
+pub shared_own : (s : List ℕ) → has_own s s ≡ false
+shared_own [] = refl
+shared_own (b ∷ s) = ap not ((bytes_eq-Decides (b ∷ s) (b ∷ s)).1 refl)
 
-new_size : (version : HiveVersion) (hd : Head) (ts : Trees) (name : List ℕ)
-    → size version hd.security (new_key name (key hd ts)) ≡ cell (76 + name_bytes name)
-new_size version hd ts name =
+pub new_size : (version : HiveVersion) (u : Tree) (name : List ℕ)
+    → size version (head u).security (new_key name u) ≡ cell (76 + name_bytes name)
+new_size version (key hd ts) name =
     ap (λ (v : Bool). cell (76 + name_bytes name) + 0 + (cond v (cell (20 + length hd.security)) 0) + 0 + 0 + 0)
-    (shared hd.security) ∙ omega arith
+    (shared_own hd.security) ∙ omega arith
 
 -- how the sizes before and after belong together, where that many keys are siblings of the new one
 pub record Grows (version : HiveVersion) (parent : List (List ℕ)) (name : List ℕ) (t : Tree) (n : ℕ) : Type 0 where
@@ -156,7 +157,7 @@ grows version parent name t (key hd ts) found absent =
     ∙ e
     ∙ (λ i. size version [] t + (list_size (l i) + z i))
     ∙ ap (λ (q : ℕ). size version [] t + (list_size (count ts + 1) + (q + sizes_of version hd.security (listed ts))))
-    (new_size version hd ts name) in
+    (new_size version (key hd ts) name) in
     record {
       sizes = sums (size version [] (made_tree parent name t)) (size version [] t) (list_size (count ts))
           (list_size (count ts + 1)) (sizes_of version hd.security (listed ts))
@@ -245,7 +246,7 @@ new_sizes : (version : HiveVersion) (hd : Head) (ts : Trees) (name : List ℕ)
 unfolding list_sizes
 new_sizes version hd ts name =
     ap (λ (v : Bool). cell (76 + name_bytes name)
-    ∷ ((some_cell (cond v (cell (20 + length hd.security)) 0) ++ []) ++ [])) (shared hd.security)
+    ∷ ((some_cell (cond v (cell (20 + length hd.security)) 0) ++ []) ++ [])) (shared_own hd.security)
 
 -- the room for the cells that a new key may need: the lists of its parent, and its node
 pub make_room : (version : HiveVersion) (parent : List (List ℕ)) (name : List ℕ) (t k : Tree)

@@ -23,17 +23,13 @@ pub mod StrainLemmas
 pub mod MeasureLemmas
 pub mod GoneLemmas
 pub mod UnsetLemmas
-pub mod NodeMade
+pub mod CountLemmas
 pub mod ParentLemmas
 pub mod SecuredLemmas
 pub mod PlacedLemmas
-pub mod AddedLemmas
 pub mod ListedLemmas
-pub mod MakingLemmas
-pub mod KeyLists
 pub mod JudgeLemmas
 pub mod KeyLemmas
-pub mod PutLemmas
 pub mod AskedLemmas
 pub mod LinkLemmas
 pub mod NewRunLemmas
@@ -52,6 +48,7 @@ pub mod GraftLemmas
 pub mod GraftedLemmas
 pub mod ChildRuns
 pub mod ChildLemmas
+pub mod MakeLemmas
 pub mod AddStepLemmas
 pub mod GraftLinks
 pub mod CopyStepLemmas

@@ -1,6 +1,6 @@
 -- The lists of a key whose children changed: they are as they are written, and the old ones are free.
-use Rattle.std.proofs.Common.{◌≡◌, ◌<◌, ◌^◌, ℕ, ◌+◌, ◌-◌, Bool, true, false, not, eqb, cond, List, [], ◌∷◌, ◌++◌, length, Some, None, Result, Ok, refl, sym, ap, subst, ◌∙◌, inl, inr, ⊎_elim, arith}
-use Rattle.std.specs.Prelude.{◌==◌, ◌⊎◌, Contains, MatchBool}
+use Rattle.std.proofs.Common.{◌≡◌, ◌<◌, ◌^◌, ℕ, ◌+◌, Bool, true, false, not, eqb, cond, List, [], ◌∷◌, ◌++◌, length, Some, None, Result, Ok, refl, sym, ap, subst, ◌∙◌, inl, inr, ⊎_elim, arith}
+use Rattle.std.specs.Prelude.{◌==◌, Contains, MatchBool}
 use Rattle.std.proofs.lemmas.Bool.{ne_eqb, eqb-false}
 use Rattle.std.proofs.lemmas.List.{length-append}
 use Rattle.nt_bytes.specs.declared.fault.HiveFaultKind.{HiveFaultKind}
@@ -13,6 +13,7 @@ use Rattle.hive_model.specs.Walk.{reading, nowhere}
 use Rattle.hive_model.specs.Footprint.{of_read, child_places, list_cells_at}
 use Rattle.hive_model.specs.Stands.{ListsAt, ListsChildren}
 use Rattle.hive_model.specs.InPlace.{IsPackedList}
+use Rattle.hive_cells.specs.Opened.{Opened}
 use Rattle.hive_cells.specs.Held.{held_at}
 use Rattle.hive_cells.proofs.HeldLemmas.{payload_held, held_payload}
 use Rattle.edit_laws.specs.Owned.{Role, node, security, lists, In, node_name, HasRole, Reaches, Owns}
@@ -34,10 +35,9 @@ use Rattle.hive_edit.specs.declared.making.Above.{Above}
 use Rattle.hive_edit.specs.Hive.{hive_of}
 use Rattle.hive_edit.specs.Dropped.{AreShortened, IsRemoved, left_children}
 use Rattle.hive_edit.specs.Listed.{HasNewLists}
-use Rattle.hive_edit.proofs.ResultLemmas.{done}
+use Rattle.hive_edit.proofs.ResultLemmas.{done, no_some}
 use Rattle.hive_edit.proofs.ParentLemmas.{Keeps, IsParent, parent_held, list_no_node, list_no_security, role_code}
 use Rattle.hive_edit.proofs.SecuredLemmas.{secure_own}
-use Rattle.hive_edit.proofs.AddedLemmas.{no_some}
 
 -- ---- a child is no other cell of its parent
 
@@ -123,16 +123,16 @@ some_listed c n os l some =
 -- ---- the lists of a node
 
 -- lists that are as they are written, of children whose nodes are those of the cells that the hints are of
-listed_anew : (version : HiveVersion) (old hinted new : List Bin) (root x list : ℕ) (was n : KeyNode) (os : List ℕ)
-    → reading key_node_at (look_up version old) x ≡ done was → reading key_node_at (look_up version new) x ≡ done n
+listed_anew : (version : HiveVersion) (old : Opened) (hinted : List Bin) (new : Opened) (root x list : ℕ) (was n : KeyNode) (os : List ℕ)
+    → reading key_node_at (look_up version old.bins) x ≡ done was → reading key_node_at (look_up version new.bins) x ≡ done n
     → SaysTheRest was n → n.child_list ≡ list
-    → ListsChildren (look_up version new) n os
-    → (0 < length os → IsPackedList (look_up version new) list os (hints_in (look_up version hinted) os))
-    → ((o : ℕ) → In os o → (look_up version new).payload o ≡ (look_up version hinted).payload o)
-    → ((o : ℕ) → In (list_cells_at (look_up version old) x) o → held_at new o ≡ None)
+    → ListsChildren (look_up version new.bins) n os
+    → (0 < length os → IsPackedList (look_up version new.bins) list os (hints_in (look_up version hinted) os))
+    → ((o : ℕ) → In os o → (look_up version new.bins).payload o ≡ (look_up version hinted).payload o)
+    → ((o : ℕ) → In (list_cells_at (look_up version old.bins) x) o → held_at new.bins o ≡ None)
     → HasNewLists (hive_of old root version) (hive_of new root version) x
 listed_anew version old hinted new root x list was n os read_old read rest at listed packed same freed =
-    let c = look_up version new in
+    let c = look_up version new.bins in
     let places : child_places c x ≡ os = places_listed c x n os read listed in
     let hints : hints_in c os ≡ hints_in (look_up version hinted) os =
     hints_same (look_up version hinted) c os refl same in
@@ -169,15 +169,15 @@ pub record Inserts (version : HiveVersion) (old mid listed new : List Bin) (root
   pub others : (o : ℕ) → (o ≡ x → ⊥) → ((sp ≡ nowhere → ⊥) → o ≡ sp → ⊥) → held_at new o ≡ held_at listed o
   pub secure : (sp ≡ nowhere → ⊥) → IsSecurityCell (look_up version old) root sp
 
-pub inserted_lists : (version : HiveVersion) (old mid listed new : List Bin) (root : ℕ) (t : Tree) (p : List (List ℕ))
+pub inserted_lists : (version : HiveVersion) (old : Opened) (mid listed : List Bin) (new : Opened) (root : ℕ) (t : Tree) (p : List (List ℕ))
     (x : ℕ) (k : Tree) (n : KeyNode) (y list sp left : ℕ) (gone front back counted : List ℕ)
-    → (g : Inserts version old mid listed new root t p x k n y list sp gone front back)
-    → ChangesChildren (look_up version old) (look_up version new) root x left front [] (y ∷ []) back counted
+    → (g : Inserts version old.bins mid listed new.bins root t p x k n y list sp gone front back)
+    → ChangesChildren (look_up version old.bins) (look_up version new.bins) root x left front [] (y ∷ []) back counted
     → HasNewLists (hive_of old root version) (hive_of new root version) x
 inserted_lists version old mid listed new root t p x k n y list sp left gone front back counted g ch =
     listed_anew version old mid new root x list ch.old ch.new (front ++ y ∷ back) ch.read ch.read_new ch.same list_is
     ch.listed_new
-    (λ some. relisted_packed version gone (front ++ y ∷ back) (look_up version mid) mid listed new list g.lists some
+    (λ some. relisted_packed version gone (front ++ y ∷ back) (look_up version mid) mid listed new.bins list g.lists some
     (λ o q e none. g.others o (λ z. no_some (held_at mid o) here.0 none (ap (held_at mid) z ∙ held_x))
     (λ used z. let s = secure_held used in no_some (held_at mid o) s.0 none (ap (held_at mid) z ∙ s.1)) ∙ e))
     (λ o i. ⊎_elim (λ j. stays o (in_left front back o j))
@@ -190,13 +190,13 @@ inserted_lists version old mid listed new root t p x k n y list sp left gone fro
     ∙ g.lists.freed o (g.gone_from o i))
   where
     b : Cells
-    b = look_up version old
+    b = look_up version old.bins
 
     m : Cells
     m = look_up version mid
 
     c : Cells
-    c = look_up version new
+    c = look_up version new.bins
 
     here : (q : List ℕ) × (b.payload x ≡ done q) × (key_node_at q ≡ done n)
     here = parent_held b root t p x k n g.parent
@@ -235,7 +235,7 @@ inserted_lists version old mid listed new root t p x k n y list sp left gone fro
     new_stays : c.payload y ≡ m.payload y
     new_stays =
         let q = g.there in
-        held_payload new y q.0
+        held_payload new.bins y q.0
         (g.others y (λ z. g.fresh here.0 (ap b.payload z ∙ here.1))
         (λ used z. let s = g.secure used in
         let r = (are_held b root t g.parent.well).held s.path security sp (secure_own b root sp s) in
@@ -258,20 +258,20 @@ without_it (z ∷ zs) y o i e = go (λ j. without_it zs y o j e) (eqb z y) refl 
     go later false f (inl same) = eqb-false z y f (same ∙ e)
     go later false f (inr j) = later j
 
-pub removed_lists : (version : HiveVersion) (old new : List Bin) (root : ℕ) (t : Tree) (p : List (List ℕ)) (x : ℕ)
+pub removed_lists : (version : HiveVersion) (old new : Opened) (root : ℕ) (t : Tree) (p : List (List ℕ)) (x : ℕ)
     (k : Tree) (n : KeyNode) (above : Above) (y left : ℕ) (uses : List (ℕ × Bool)) (front back counted q : List ℕ)
-    → IsParent (look_up version old) root t p x k n → (r : IsRemoved version x above y uses old new)
-    → RemovesChild (look_up version old) (look_up version new) root x left n front back y q r.list counted
-    → child_places (look_up version old) x ≡ front ++ y ∷ back → left_children version above y old ≡ front ++ back
-    → without_child y (child_places (look_up version old) x) ≡ front ++ back
-    → ((o : ℕ) → In (list_cells_at (look_up version old) x) o
-    → Contains (lists_at (look_up version old) above.list above.count) o)
-    → ((o : ℕ) (v : Bool) → In uses (o, v) → (z : List ℕ) × (held_at old o ≡ Some z))
-    → ((o : ℕ) (v : Bool) → In uses (o, v) → In (list_cells_at (look_up version old) x) o → ⊥)
+    → IsParent (look_up version old.bins) root t p x k n → (r : IsRemoved version x above y uses old.bins new.bins)
+    → RemovesChild (look_up version old.bins) (look_up version new.bins) root x left n front back y q r.list counted
+    → child_places (look_up version old.bins) x ≡ front ++ y ∷ back → left_children version above y old.bins ≡ front ++ back
+    → without_child y (child_places (look_up version old.bins) x) ≡ front ++ back
+    → ((o : ℕ) → In (list_cells_at (look_up version old.bins) x) o
+    → Contains (lists_at (look_up version old.bins) above.list above.count) o)
+    → ((o : ℕ) (v : Bool) → In uses (o, v) → (z : List ℕ) × (held_at old.bins o ≡ Some z))
+    → ((o : ℕ) (v : Bool) → In uses (o, v) → In (list_cells_at (look_up version old.bins) x) o → ⊥)
     → HasNewLists (hive_of old root version) (hive_of new root version) x
 removed_lists version old new root t p x k n above y left uses front back counted q h r g places left_is without gone
     used no_list =
-    listed_anew version old old new root x r.list ch.old ch.new os ch.read ch.read_new ch.same list_is
+    listed_anew version old old.bins new root x r.list ch.old ch.new os ch.read ch.read_new ch.same list_is
     (subst (λ (l : List ℕ). ListsChildren c ch.new l) (sym left_is) ch.listed_new)
     (packed r.lists)
     (λ o i. stays o (subst (λ (l : List ℕ). In l o) left_is i))
@@ -279,13 +279,13 @@ removed_lists version old new root t p x k n above y left uses front back counte
     (λ z. list_no_node b root t p x k n h (subst (In (list_cells_at b x)) z i)) ∙ freed r.lists o (gone o i))
   where
     b : Cells
-    b = look_up version old
+    b = look_up version old.bins
 
     c : Cells
-    c = look_up version new
+    c = look_up version new.bins
 
     os : List ℕ
-    os = left_children version above y old
+    os = left_children version above y old.bins
 
     ch : ChangesChildren b c root x left front (y ∷ []) [] back counted
     ch = removes_child b c root x left n front back y q r.list counted h.read places g
@@ -301,17 +301,17 @@ removed_lists version old new root t p x k n above y left uses front back counte
         ∙ g.node.list_is
 
     -- what is held when the lists are written, and is neither the node nor used, is held then
-    final : (o : ℕ) → ((v : Bool) → In uses (o, v) → ⊥) → (o ≡ x → ⊥) → held_at new o ≡ held_at r.listed o
+    final : (o : ℕ) → ((v : Bool) → In uses (o, v) → ⊥) → (o ≡ x → ⊥) → held_at new.bins o ≡ held_at r.listed o
     final o nu nx = r.dropped.others o nu ∙ r.fields.others o nx
 
-    packed : AreShortened version above y old r.listed r.list → 0 < length os → IsPackedList c r.list os (hints_in b os)
+    packed : AreShortened version above y old.bins r.listed r.list → 0 < length os → IsPackedList c r.list os (hints_in b os)
     packed (inl s) some =
-        relisted_packed version (lists_at b above.list above.count) os b old r.listed new r.list s.1 some
-        (λ o z e none. final o (λ v u. let w = used o v u in no_some (held_at old o) w.0 none w.1)
-        (λ f. no_some (held_at old o) here.0 none (ap (held_at old) f ∙ payload_held old x here.0 here.1)) ∙ e)
+        relisted_packed version (lists_at b above.list above.count) os b old.bins r.listed new.bins r.list s.1 some
+        (λ o z e none. final o (λ v u. let w = used o v u in no_some (held_at old.bins o) w.0 none w.1)
+        (λ f. no_some (held_at old.bins o) here.0 none (ap (held_at old.bins) f ∙ payload_held old.bins x here.0 here.1)) ∙ e)
     packed (inr s) some = absurd (omega (arith, some, ap (λ (l : List ℕ). length l) s.0))
 
-    freed : AreShortened version above y old r.listed r.list → (o : ℕ)
+    freed : AreShortened version above y old.bins r.listed r.list → (o : ℕ)
         → Contains (lists_at b above.list above.count) o → held_at r.listed o ≡ None
     freed (inl s) o i = s.1.freed o i
     freed (inr s) o i = s.1.freed o i

@@ -317,45 +317,42 @@ few_below xs n apart below =
     (IsDistinct-from_AllPairs Decides-eqb xs (pairwise_to (λ p q. p ≡ q → ⊥) xs apart))
     (λ q e. below q (in_from xs q (Contains-from_any eqb-true q xs e)))
 
--- ---- the hive
-
--- the size of the tree of a hive whose bins have at most 16 MiB
-pub hive_low : (bins : List Bin) (root : ℕ) (version : HiveVersion) (bulk : ℕ) → IsHive bins root version bulk
-    → bins_size bins ≤ 16777216
-    → size version [] (tree_of (look_up version bins) root) ≤ 288230376151711744
-hive_low bins root version bulk is fit =
-    let b = look_up version bins in
-    let t = tree_of b root in
-    let us = tree_uses 512 b root in
-    let once = hive_once b root t is.stands.stands is.stands.names is.stands.once in
-    let few = few_below (plains us) (bins_size bins) (plains_apart us once)
-    (λ x i. let q = used_held b root t is.stands (x, false) (plains_in us x i) in
-    held_below bins x q.0 (payload_held bins x q.0 q.1)) in
-    let used = units_used 512 b root t is.stands is.stands.levels in
-    let low = tree_low version [] t is.valid.keys in
-    sum (size version [] t) (units t) (many us) (bins_size bins) low used few fit
-  where
-    sum : (s u m n : ℕ) → s + 64 ≤ 17179869184 * u → u ≤ m → m ≤ n → n ≤ 16777216 → s ≤ 288230376151711744
-    sum s u m n a b c d = omega (arith, a, b, c, d)
+-- ---- the bulk
 
 -- what is known of a bulk: it is the size of the tree with the bin's header, and low
 pub record BulkIs (version : HiveVersion) (t : Tree) (bulk : ℕ) : Type 0 where
   pub exact : bulk ≡ 32 + size version [] t
   pub low : bulk ≤ 576460752303423488
 
-pub bulk_is : (bins : List Bin) (root : ℕ) (version : HiveVersion) (bulk : ℕ) → IsHive bins root version bulk
-    → bins_size bins ≤ 16777216
-    → BulkIs version (tree_of (look_up version bins) root) bulk
-bulk_is bins root version bulk is fit =
-    let s = size version [] (tree_of (look_up version bins) root) in
-    let low = hive_low bins root version bulk is fit in
-    record { exact = one bulk s is.counted low; low = two bulk s is.counted low }
+-- where the bins have at most 16 MiB
+pub bulk_there : (bins : List Bin) (at : ℕ) (version : HiveVersion) (bulk : ℕ) (t : Tree)
+    → IsWellFormed (look_up version bins) at t
+    → HoldsKeys t → bulk ≡ bulk_of version t → bins_size bins ≤ 16777216 → BulkIs version t bulk
+bulk_there bins at version bulk t well holds counted fit =
+    let b = look_up version bins in
+    let us = tree_uses 512 b at in
+    let once = hive_once b at t well.stands well.names well.once in
+    let few = few_below (plains us) (bins_size bins) (plains_apart us once)
+    (λ x i. let q = used_held b at t well (x, false) (plains_in us x i) in
+    held_below bins x q.0 (payload_held bins x q.0 q.1)) in
+    let used = units_used 512 b at t well well.levels in
+    let low = sum (size version [] t) (units t) (many us) (bins_size bins) (tree_low version [] t holds) used few fit in
+    record { exact = one bulk (size version [] t) counted low; low = two bulk (size version [] t) counted low }
   where
+    sum : (s u m n : ℕ) → s + 64 ≤ 17179869184 * u → u ≤ m → m ≤ n → n ≤ 16777216 → s ≤ 288230376151711744
+    sum s u m n a b c d = omega (arith, a, b, c, d)
+
     one : (n s : ℕ) → n ≡ min (32 + s) 18446744073709551615 → s ≤ 288230376151711744 → n ≡ 32 + s
     one n s e l = omega (arith, e, l)
 
     two : (n s : ℕ) → n ≡ min (32 + s) 18446744073709551615 → s ≤ 288230376151711744 → n ≤ 576460752303423488
     two n s e l = omega (arith, e, l)
+
+pub bulk_is : (bins : List Bin) (root : ℕ) (version : HiveVersion) (bulk : ℕ) → IsHive bins root version bulk
+    → bins_size bins ≤ 16777216
+    → BulkIs version (tree_of (look_up version bins) root) bulk
+bulk_is bins root version bulk is fit =
+    bulk_there bins root version bulk (tree_of (look_up version bins) root) is.stands is.valid.keys is.counted fit
 
 pub bulk_low : (bins : List Bin) (root : ℕ) (version : HiveVersion) (bulk : ℕ) → IsHive bins root version bulk
     → bins_size bins ≤ 16777216 → bulk ≤ 576460752303423488

@@ -17,6 +17,7 @@ use Rattle.hive_model.specs.Packed.{rounded}
 use Rattle.hive_model.specs.Walk.{reading}
 use Rattle.hive_model.specs.Footprint.{of_read, key_place, value_list_sizes, item_sizes, needed_sizes, room_of}
 use Rattle.hive_model.specs.Stands.{Stands, IsWellFormed, items_at, values_of}
+use Rattle.hive_cells.specs.Opened.{Opened}
 use Rattle.hive_cells.specs.Holes.{new_bin_size}
 use Rattle.hive_read.proofs.FormFacts.{IsBytes, then-so}
 use Rattle.edit_laws.specs.Owned.{In, value_list_at}
@@ -219,12 +220,12 @@ record NewThere (b : Cells) (root : ℕ) (t : Tree) (path : List (List ℕ)) (na
   none : find_item name key ≡ None
   short : length name ≤ 16383
 
-new_there : (bins : List Bin) (root : ℕ) (version : HiveVersion) (bulk : ℕ) (h : HiveCells) (path : List (List ℕ))
-    (name : List ℕ) (x : ℕ) → IsHive bins root version bulk
+new_there : (bins : Opened) (root : ℕ) (version : HiveVersion) (bulk : ℕ) (h : HiveCells) (path : List (List ℕ))
+    (name : List ℕ) (x : ℕ) → IsHive bins.bins root version bulk
     → hive_of bins root version ≡ h → IsNewIn h path name x
-    → NewThere (look_up version bins) root (tree_of (look_up version bins) root) path name x
+    → NewThere (look_up version bins.bins) root (tree_of (look_up version bins.bins) root) path name x
 new_there bins root version bulk h path name x is view new =
-    let b = look_up version bins in
+    let b = look_up version bins.bins in
     let n = subst (λ (g : HiveCells). IsNewIn g path name x) (sym view) new in
     let there = key_there b path root (tree_of b root) x is.stands n.key in
     record {
@@ -236,46 +237,46 @@ new_there bins root version bulk h path name x is view new =
       short = n.short;
     }
 
-pub hive_can_add : (bins : List Bin) (root : ℕ) (version : HiveVersion) (bulk : ℕ) (h : HiveCells)
-    (path : List (List ℕ)) (name : List ℕ) (x : ℕ) → IsHive bins root version bulk
-    → hive_of bins root version ≡ h → IsNewIn h path name x → CanAdd (look_up version bins) bins x
+pub hive_can_add : (bins : Opened) (root : ℕ) (version : HiveVersion) (bulk : ℕ) (h : HiveCells)
+    (path : List (List ℕ)) (name : List ℕ) (x : ℕ) → IsHive bins.bins root version bulk
+    → hive_of bins root version ≡ h → IsNewIn h path name x → CanAdd (look_up version bins.bins) bins.bins x
 hive_can_add bins root version bulk h path name x is view new =
-    can_add version bins root (tree_of (look_up version bins) root) path x is.stands
+    can_add version bins.bins root (tree_of (look_up version bins.bins) root) path x is.stands
     (new_there bins root version bulk h path name x is view new).place
 
 -- the bulk with it
-pub new_bulk : (bins : List Bin) (root : ℕ) (version : HiveVersion) (bulk : ℕ) (h : HiveCells) (path : List (List ℕ))
+pub new_bulk : (bins : Opened) (root : ℕ) (version : HiveVersion) (bulk : ℕ) (h : HiveCells) (path : List (List ℕ))
     (name : List ℕ) (x kind : ℕ) (bytes : List ℕ) (count more less : ℕ)
-    → IsHive bins root version bulk → hive_of bins root version ≡ h → IsNewIn h path name x → bins_size bins ≤ 16777216
-    → ((n : KeyNode) → reading key_node_at (look_up version bins) x ≡ done n → count ≡ n.value_count)
+    → IsHive bins.bins root version bulk → hive_of bins root version ≡ h → IsNewIn h path name x → bins_size bins.bins ≤ 16777216
+    → ((n : KeyNode) → reading key_node_at (look_up version bins.bins) x ≡ done n → count ≡ n.value_count)
     → more ≡ added_size version count (item name kind bytes) → more ≤ 68719476736 → less ≡ list_room count
     → (less ≤ bulk + more) × (bulk + more - less ≡ bulk_of h.version (set_tree path name kind bytes h.tree))
 new_bulk bins root version bulk h path name x kind bytes count more less is view new fit counts m few l =
-    let b = look_up version bins in
+    let b = look_up version bins.bins in
     let t = tree_of b root in
     let n = new_there bins root version bulk h path name x is view new in
-    let can = can_add version bins root t path x is.stands n.place in
+    let can = can_add version bins.bins root t path x is.stands n.place in
     let counted : count ≡ length (head n.key).values =
-    counts can.node can.read ∙ values_many version bins x n.key n.well can in
+    counts can.node can.read ∙ values_many version bins.bins x n.key n.well can in
     let s = size version [] t in
     let u = size version [] (set_tree path name kind bytes t) in
     let e : u + less ≡ s + more =
     ap (λ (r : ℕ). u + r) (l ∙ ap list_room counted)
     ∙ size_more version t n.key path name kind bytes n.found n.none
     ∙ ap (λ (r : ℕ). s + r) (sym (m ∙ ap (λ (k : ℕ). added_size version k (item name kind bytes)) counted)) in
-    let d = bulk_then version t (set_tree path name kind bytes t) bulk more less (bulk_is bins root version bulk is fit)
+    let d = bulk_then version t (set_tree path name kind bytes t) bulk more less (bulk_is bins.bins root version bulk is fit)
     e few in (
       d.0,
       subst (λ (g : HiveCells). bulk + more - less ≡ bulk_of g.version (set_tree path name kind bytes g.tree))
           view d.1,
     )
 
-pub new_step : (bins : List Bin) (root : ℕ) (version : HiveVersion) (bulk : ℕ) (h : HiveCells) (path : List (List ℕ))
+pub new_step : (bins : Opened) (root : ℕ) (version : HiveVersion) (bulk : ℕ) (h : HiveCells) (path : List (List ℕ))
     (name : List ℕ) (x kind : ℕ) (bytes : List ℕ)
-    → IsHive bins root version bulk → hive_of bins root version ≡ h → IsNewIn h path name x → length bytes ≤ 1048576
+    → IsHive bins.bins root version bulk → hive_of bins root version ≡ h → IsNewIn h path name x → length bytes ≤ 1048576
     → after_step (set_value path name kind bytes) h.tree ≡ the_tree (set_tree path name kind bytes h.tree)
 new_step bins root version bulk h path name x kind bytes is view new few =
-    let t = tree_of (look_up version bins) root in
+    let t = tree_of (look_up version bins.bins) root in
     let n = new_there bins root version bulk h path name x is view new in
     subst (λ (g : HiveCells). after_step (set_value path name kind bytes) g.tree
     ≡ the_tree (set_tree path name kind bytes g.tree)) view
@@ -354,19 +355,19 @@ run_within version t old path name kind bytes count found none counted =
     within a b c d e f g = omega (arith, e, f, g)
 
 -- where the value was put
-pub new_set : (old new : List Bin) (root : ℕ) (version : HiveVersion) (bulk after : ℕ) (h : HiveCells)
+pub new_set : (old new : Opened) (root : ℕ) (version : HiveVersion) (bulk after : ℕ) (h : HiveCells)
     (path : List (List ℕ)) (name : List ℕ) (x kind : ℕ) (bytes : List ℕ)
-    → IsHive old root version bulk → hive_of old root version ≡ h → IsNewIn h path name x → length bytes ≤ 1048576
-    → after ≡ bulk_of h.version (set_tree path name kind bytes h.tree) → IsBytes (spelled 0 new)
-    → PutsValue version old new x (item name kind bytes)
+    → IsHive old.bins root version bulk → hive_of old root version ≡ h → IsNewIn h path name x → length bytes ≤ 1048576
+    → after ≡ bulk_of h.version (set_tree path name kind bytes h.tree) → IsBytes (spelled 0 new.bins)
+    → PutsValue version old.bins new.bins x (item name kind bytes)
     → IsStepMade h new root version after (set_value path name kind bytes)
 new_set old new root version bulk after h path name x kind bytes is view isnew few counted small put =
-    let b = look_up version old in
-    let c = look_up version new in
+    let b = look_up version old.bins in
+    let c = look_up version new.bins in
     let t = tree_of b root in
     let u = set_tree path name kind bytes t in
     let n = new_there old root version bulk h path name x is view isnew in
-    let can = can_add version old root t path x is.stands n.place in
+    let can = can_add version old.bins root t path x is.stands n.place in
     let d = edit_new t n.key path name kind bytes n.found n.none n.short few in
     let told : after ≡ bulk_of version u =
     subst (λ (g : HiveCells). after ≡ bulk_of g.version (set_tree path name kind bytes g.tree)) (sym view)
@@ -375,7 +376,7 @@ new_set old new root version bulk after h path name x kind bytes is view isnew f
     put.place put.text put.list d.step put.places d.absent put.adds in
     let node : put.node ≡ can.node = ok_same put.node can.node (sym put.read ∙ can.read) in
     let many : put.node.value_count ≡ length (head n.key).values =
-    ap (λ (m : KeyNode). m.value_count) node ∙ values_many version old x n.key n.well can in
+    ap (λ (m : KeyNode). m.value_count) node ∙ values_many version old.bins x n.key n.well can in
     let r = run_within version t n.key path name kind bytes put.node.value_count n.found n.none many in
     let l = put.long in
     let none = subst (λ (g : HiveCells). value_place (cells_in g) name x ≡ None) (sym view) isnew.absent in
@@ -388,19 +389,19 @@ new_set old new root version bulk after h path name x kind bytes is view isnew f
     (λ run i. absurd i)
 
 -- where a new bin for the run is not to be had
-pub new_lacks : (bins : List Bin) (root : ℕ) (version : HiveVersion) (bulk : ℕ) (h : HiveCells) (path : List (List ℕ))
+pub new_lacks : (bins : Opened) (root : ℕ) (version : HiveVersion) (bulk : ℕ) (h : HiveCells) (path : List (List ℕ))
     (name : List ℕ) (x kind : ℕ) (bytes : List ℕ)
-    → IsHive bins root version bulk → hive_of bins root version ≡ h → IsNewIn h path name x → length bytes ≤ 1048576
-    → LacksRoomForValue version bins x (item name kind bytes) → LacksStepRoom h (set_value path name kind bytes)
+    → IsHive bins.bins root version bulk → hive_of bins root version ≡ h → IsNewIn h path name x → length bytes ≤ 1048576
+    → LacksRoomForValue version bins.bins x (item name kind bytes) → LacksStepRoom h (set_value path name kind bytes)
 new_lacks bins root version bulk h path name x kind bytes is view isnew few lacks =
-    let b = look_up version bins in
+    let b = look_up version bins.bins in
     let t = tree_of b root in
     let n = new_there bins root version bulk h path name x is view isnew in
-    let can = can_add version bins root t path x is.stands n.place in
+    let can = can_add version bins.bins root t path x is.stands n.place in
     let d = edit_new t n.key path name kind bytes n.found n.none n.short few in
     let node : lacks.node ≡ can.node = ok_same lacks.node can.node (sym lacks.read ∙ can.read) in
     let many : lacks.node.value_count ≡ length (head n.key).values =
-    ap (λ (m : KeyNode). m.value_count) node ∙ values_many version bins x n.key n.well can in
+    ap (λ (m : KeyNode). m.value_count) node ∙ values_many version bins.bins x n.key n.well can in
     let r = run_within version t n.key path name kind bytes lacks.node.value_count n.found n.none many in
     let over = lacks.full in
     lacks_room bins root version h (set_tree path name kind bytes t) (set_value path name kind bytes) view d.step
@@ -422,14 +423,14 @@ never_long h path name long = λ kind bytes u e.
     absurd (let m = (set_made h.version h.tree u path name kind bytes e).short in omega (arith, m, long))
 
 -- nor is a value of a key that is not there
-pub never_there : (bins heap : List Bin) (root : ℕ) (version : HiveVersion) (bulk : ℕ) (h : HiveCells)
-    (path : List (List ℕ)) (name : List ℕ) → IsHive bins root version bulk
-    → heap ≡ bins → hive_of bins root version ≡ h → nowhere ≡ key_place (look_up version heap) path root
+pub never_there : (bins : Opened) (heap : List Bin) (root : ℕ) (version : HiveVersion) (bulk : ℕ) (h : HiveCells)
+    (path : List (List ℕ)) (name : List ℕ) → IsHive bins.bins root version bulk
+    → heap ≡ bins.bins → hive_of bins root version ≡ h → nowhere ≡ key_place (look_up version heap) path root
     → NeverSets h path name
 never_there bins heap root version bulk h path name is e view none =
     subst (λ (g : HiveCells). NeverSets g path name) view
     (λ kind bytes u f.
-    let b = look_up version bins in
+    let b = look_up version bins.bins in
     let here : key_place b path root ≡ nowhere =
     sym (none ∙ ap (λ (bs : List Bin). key_place (look_up version bs) path root) e) in
     let gone = no_place b path root (tree_of b root) is.stands here in
@@ -444,14 +445,14 @@ refused why = Err why
 abbrev tested : Bool → Bool → Bool → Tree → Result Tree Refusal
 tested a b c u = unless ((a, no_key) ∷ (b, name_too_long) ∷ (c, data_too_long) ∷ []) u
 
-pub sets_nowhere : (bins heap : List Bin) (root : ℕ) (version : HiveVersion) (bulk : ℕ) (h : HiveCells)
+pub sets_nowhere : (bins : Opened) (heap : List Bin) (root : ℕ) (version : HiveVersion) (bulk : ℕ) (h : HiveCells)
     (path : List (List ℕ)) (name : List ℕ) (kind : ℕ) (bytes : List ℕ)
-    → IsHive bins root version bulk → heap ≡ bins → hive_of bins root version ≡ h
+    → IsHive bins.bins root version bulk → heap ≡ bins.bins → hive_of bins root version ≡ h
     → nowhere ≡ key_place (look_up version heap) path root
     → after_step (set_value path name kind bytes) h.tree ≡ refused no_key
 sets_nowhere bins heap root version bulk h path name kind bytes is e view none =
     subst (λ (g : HiveCells). after_step (set_value path name kind bytes) g.tree ≡ refused no_key) view
-    (let b = look_up version bins in
+    (let b = look_up version bins.bins in
     let here : key_place b path root ≡ nowhere =
     sym (none ∙ ap (λ (bs : List Bin). key_place (look_up version bs) path root) e) in
     let gone = no_place b path root (tree_of b root) is.stands here in
@@ -459,35 +460,35 @@ sets_nowhere bins heap root version bulk h path name kind bytes is e view none =
     (set_tree path name kind bytes (tree_of b root))) (ap is_none gone))
 
 -- a key that is there, seen in the hive
-pub key_seen : (bins heap : List Bin) (root : ℕ) (version : HiveVersion) (h : HiveCells) (path : List (List ℕ)) (x : ℕ)
-    → heap ≡ bins → hive_of bins root version ≡ h
+pub key_seen : (bins : Opened) (heap : List Bin) (root : ℕ) (version : HiveVersion) (h : HiveCells) (path : List (List ℕ)) (x : ℕ)
+    → heap ≡ bins.bins → hive_of bins root version ≡ h
     → some x ≡ key_place (look_up version heap) path root → key_place (cells_in h) path h.root ≡ some x
 key_seen bins heap root version h path x e view k =
     sym (k ∙ ap (λ (bs : List Bin). key_place (look_up version bs) path root) e
     ∙ ap (λ (g : HiveCells). key_place (cells_in g) path g.root) view)
 
-found_there : (bins : List Bin) (root : ℕ) (version : HiveVersion) (bulk : ℕ) (h : HiveCells) (path : List (List ℕ))
-    (x : ℕ) → IsHive bins root version bulk
+found_there : (bins : Opened) (root : ℕ) (version : HiveVersion) (bulk : ℕ) (h : HiveCells) (path : List (List ℕ))
+    (x : ℕ) → IsHive bins.bins root version bulk
     → hive_of bins root version ≡ h → key_place (cells_in h) path h.root ≡ some x
     → is_none (find_key path h.tree) ≡ false
 found_there bins root version bulk h path x is view k =
     subst (λ (g : HiveCells). is_none (find_key path g.tree) ≡ false) view
     (let here = subst (λ (g : HiveCells). key_place (cells_in g) path g.root ≡ some x) (sym view) k in
-    ap is_none (key_there (look_up version bins) path root (tree_of (look_up version bins) root)
+    ap is_none (key_there (look_up version bins.bins) path root (tree_of (look_up version bins.bins) root)
     x is.stands here).found)
 
-pub sets_long_name : (bins : List Bin) (root : ℕ) (version : HiveVersion) (bulk : ℕ) (h : HiveCells)
+pub sets_long_name : (bins : Opened) (root : ℕ) (version : HiveVersion) (bulk : ℕ) (h : HiveCells)
     (path : List (List ℕ)) (name : List ℕ) (x kind : ℕ) (bytes : List ℕ)
-    → IsHive bins root version bulk → hive_of bins root version ≡ h → key_place (cells_in h) path h.root ≡ some x
+    → IsHive bins.bins root version bulk → hive_of bins root version ≡ h → key_place (cells_in h) path h.root ≡ some x
     → 16383 < length name
     → after_step (set_value path name kind bytes) h.tree ≡ refused name_too_long
 sets_long_name bins root version bulk h path name x kind bytes is view k long =
     λ i. tested (found_there bins root version bulk h path x is view k i) (lt-ltb 16383 (length name) long i)
     (nat_lt 1048576 (length bytes)) (set_tree path name kind bytes h.tree)
 
-pub sets_long_data : (bins : List Bin) (root : ℕ) (version : HiveVersion) (bulk : ℕ) (h : HiveCells)
+pub sets_long_data : (bins : Opened) (root : ℕ) (version : HiveVersion) (bulk : ℕ) (h : HiveCells)
     (path : List (List ℕ)) (name : List ℕ) (x kind : ℕ) (bytes : List ℕ)
-    → IsHive bins root version bulk → hive_of bins root version ≡ h → key_place (cells_in h) path h.root ≡ some x
+    → IsHive bins.bins root version bulk → hive_of bins root version ≡ h → key_place (cells_in h) path h.root ≡ some x
     → length name ≤ 16383 → 1048576 < length bytes
     → after_step (set_value path name kind bytes) h.tree ≡ refused data_too_long
 sets_long_data bins root version bulk h path name x kind bytes is view k short long =
@@ -495,21 +496,21 @@ sets_long_data bins root version bulk h path name x kind bytes is view k short l
     (lt-ltb 1048576 (length bytes) long i) (set_tree path name kind bytes h.tree)
 
 -- where the value of a name is in a key
-pub value_seen_in : (bins heap : List Bin) (root : ℕ) (version : HiveVersion) (h : HiveCells) (name : List ℕ) (x : ℕ)
-    → heap ≡ bins → hive_of bins root version ≡ h
+pub value_seen_in : (bins : Opened) (heap : List Bin) (root : ℕ) (version : HiveVersion) (h : HiveCells) (name : List ℕ) (x : ℕ)
+    → heap ≡ bins.bins → hive_of bins root version ≡ h
     → value_place (look_up version heap) name x ≡ value_place (cells_in h) name x
 value_seen_in bins heap root version h name x e view =
     ap (λ (bs : List Bin). value_place (look_up version bs) name x) e
     ∙ ap (λ (g : HiveCells). value_place (cells_in g) name x) view
 
 -- the key is in the cells as they are lent
-pub stands_at : (bins heap : List Bin) (root : ℕ) (version : HiveVersion) (bulk : ℕ) (h : HiveCells)
-    (path : List (List ℕ)) (x : ℕ) → IsHive bins root version bulk
-    → heap ≡ bins → hive_of bins root version ≡ h → key_place (cells_in h) path h.root ≡ some x
+pub stands_at : (bins : Opened) (heap : List Bin) (root : ℕ) (version : HiveVersion) (bulk : ℕ) (h : HiveCells)
+    (path : List (List ℕ)) (x : ℕ) → IsHive bins.bins root version bulk
+    → heap ≡ bins.bins → hive_of bins root version ≡ h → key_place (cells_in h) path h.root ≡ some x
     → IsKeyAt (look_up version heap) x
 stands_at bins heap root version bulk h path x is e view k =
     let here = subst (λ (g : HiveCells). key_place (cells_in g) path g.root ≡ some x) (sym view) k in
-    let there = key_there (look_up version bins) path root (tree_of (look_up version bins) root) x is.stands here in
+    let there = key_there (look_up version bins.bins) path root (tree_of (look_up version bins.bins) root) x is.stands here in
     subst (λ (bs : List Bin). IsKeyAt (look_up version bs) x) (sym e) (there.there, there.well)
 
 -- the value is there by its key

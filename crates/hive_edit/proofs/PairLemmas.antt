@@ -16,7 +16,7 @@ use Rattle.hive_model.specs.Footprint.{child_places, is_node_named, key_place, l
 use Rattle.hive_model.specs.Stands.{security_of, IsWellFormed}
 use Rattle.hive_cells.specs.Held.{held_at}
 use Rattle.hive_cells.proofs.HeldLemmas.{payload_held}
-use Rattle.edit_laws.specs.Owned.{node, security, In, node_name, class_cell_at, Reaches, Folds}
+use Rattle.edit_laws.specs.Owned.{In, node_name, class_cell_at, Reaches, Folds}
 use Rattle.edit_laws.specs.Relists.{IsSecurityCell}
 use Rattle.edit_laws.specs.Uses.{Agree, Once, plain, secure, own_uses, tree_uses}
 use Rattle.edit_laws.specs.Revalues.{all_value_cells}
@@ -41,7 +41,7 @@ use Rattle.hive_edit.specs.Dropped.{CanRemove}
 use Rattle.hive_edit.specs.Deleting.{pair, pair_from, pair_place, levels_left}
 use Rattle.hive_edit.proofs.ResultLemmas.{done, some, some_same, ok_same}
 use Rattle.hive_edit.proofs.GoneLemmas.{is_held, and_some}
-use Rattle.hive_edit.proofs.NodeMade.{security_text_is}
+use Rattle.hive_edit.proofs.CountLemmas.{security_text_is}
 use Rattle.hive_edit.proofs.PlaceLemmas.{IsPlaceOf, child_place, key_there}
 use Rattle.hive_edit.proofs.KeyLemmas.{node_read}
 use Rattle.hive_edit.proofs.NodeLemmas.{node_here}

@@ -188,6 +188,16 @@ pub list_held : (b : Cells) (root : ℕ) (t : Tree) (p : List (List ℕ)) (x : �
 list_held b root t p x k n o h i =
     (are_held b root t h.well).held p lists o (record { at = x; reached = h.reached; has = i })
 
+-- where all that is held stays, so do its node and its lists
+pub node_kept : (b m : Cells) (root : ℕ) (t : Tree) (p : List (List ℕ)) (x : ℕ) (k : Tree) (n : KeyNode)
+    → IsParent b root t p x k n → Keeps b m → m.payload x ≡ b.payload x
+node_kept b m root t p x k n h keeps = let q = parent_held b root t p x k n h in keeps.held x q.0 q.1 ∙ sym q.1
+
+pub list_kept : (b m : Cells) (root : ℕ) (t : Tree) (p : List (List ℕ)) (x : ℕ) (k : Tree) (n : KeyNode)
+    → IsParent b root t p x k n → Keeps b m
+    → (o : ℕ) → In (list_cells_at b x) o → m.payload o ≡ b.payload o
+list_kept b m root t p x k n h keeps o i = let q = list_held b root t p x k n o h i in keeps.held o q.0 q.1 ∙ sym q.1
+
 -- ---- its security
 
 -- the cell of its security, if there is one

@@ -13,7 +13,7 @@ use Rattle.hive_model.specs.Walk.{reading, leaf_at, joined_at, entries_of, entri
 use Rattle.hive_model.specs.Footprint.{used_in, of_read}
 use Rattle.edit_laws.specs.Owned.{In, first_or_empty, node_name}
 use Rattle.edit_laws.specs.Relists.{HasPlace}
-use Rattle.key_index.specs.Lists.{name_in, name_of, payload_in}
+use Rattle.key_index.specs.Lists.{lists_at, name_in, name_of, payload_in}
 use Rattle.hive_edit.proofs.ResultLemmas.{done}
 use Rattle.hive_read.proofs.FormFacts.{then-so}
 
@@ -97,3 +97,8 @@ entries_held cells at offsets o r (inr h) =
         → In (used_in (cond t (leaves_checks cells list.offsets) [])) o → Held cells o
     go list true r h = leaf_held cells list.offsets offsets o r h
     go list false r h = absurd h
+
+-- a list of one
+pub one_list : (cells : Cells) (at : ℕ) → lists_at cells at 1 ≡ used_in (entries_checks cells at)
+unfolding lists_at
+one_list cells at = refl

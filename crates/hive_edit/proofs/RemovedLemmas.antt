@@ -27,11 +27,10 @@ use Rattle.key_index.specs.Relists.{AreApart}
 use Rattle.hive_edit.specs.declared.making.Above.{Above}
 use Rattle.hive_edit.specs.Making.{AboveIs, child_fields}
 use Rattle.hive_edit.specs.Dropped.{IsRemoved, left_children}
-use Rattle.hive_edit.proofs.ResultLemmas.{done, some}
+use Rattle.hive_edit.proofs.ResultLemmas.{done, some, no_some}
 use Rattle.hive_edit.proofs.ParentLemmas.{IsParent, lists_are, children_are, siblings_are}
-use Rattle.hive_edit.proofs.AddedLemmas.{no_some}
+use Rattle.hive_edit.proofs.PlacedLemmas.{one_list}
 use Rattle.hive_edit.proofs.DroppedLemmas.{shortened_keeps}
-use Rattle.hive_edit.proofs.MakingLemmas.{one_list}
 use Rattle.hive_edit.proofs.SecuredLemmas.{secure_reads}
 use Rattle.hive_read.proofs.FormFacts.{then-so}
 

@@ -1,5 +1,5 @@
 -- What a reading that was no fault has passed.
-use Rattle.std.proofs.Common.{◌≡◌, Bool, true, false, Option, Some, Result, Ok, Err, cond, refl}
+use Rattle.std.proofs.Common.{◌≡◌, ℕ, Bool, true, false, List, Option, Some, None, Result, Ok, Err, cond, refl}
 use Rattle.nt_bytes.specs.declared.fault.HiveFaultKind.{HiveFaultKind}
 
 abbrev pub done : {A : Type 0} → A → Result A HiveFaultKind
@@ -19,3 +19,7 @@ ok_same x y e = cc
 
 pub some_same : {A : Type 0} (x y : A) → some x ≡ some y → x ≡ y
 some_same x y e = cc
+
+pub no_some : (o : Option (List ℕ)) (q : List ℕ) → o ≡ None → o ≡ some q → ⊥
+no_some None q e f = absurd cc
+no_some (Some x) q e f = absurd cc

@@ -1,6 +1,6 @@
 -- Cells of security that keys of a tree use: what is read of them, and with which count after a step.
 use Rattle.std.proofs.Common.{◌≡◌, ◌<◌, ◌^◌, ℕ, zero, suc, ◌+◌, ◌-◌, Bool, true, false, List, [], ◌∷◌, Result, Ok, sym, ap, subst, ◌∙◌, inl, inr, ⊎_elim, arith}
-use Rattle.std.specs.Prelude.{◌⊎◌, min, replicate, Contains}
+use Rattle.std.specs.Prelude.{min, replicate, Contains}
 use Rattle.std.specs.Int.{w32, to_le_bytes}
 use Rattle.nt_bytes.specs.declared.fault.HiveFaultKind.{HiveFaultKind}
 use Rattle.nt_bytes.specs.Fields.{u32_in}
@@ -14,6 +14,7 @@ use Rattle.hive_model.specs.Walk.{Check, uses, tests, reading, all_checks}
 use Rattle.hive_model.specs.Footprint.{security_used_in}
 use Rattle.hive_model.specs.Stands.{Stands, IsWellFormed}
 use Rattle.edit_laws.specs.Owned.{Role, node, class, security, value_list, value, lists, In, HasRole, Owns, IsSecurity, Matches, IsMatched}
+use Rattle.hive_model.specs.Owned.{IsOfValue}
 use Rattle.edit_laws.specs.Uses.{tree_uses}
 use Rattle.edit_laws.specs.Written.{with_part}
 use Rattle.edit_laws.specs.Relists.{descriptor_at, IsSecurityCell}
@@ -21,12 +22,11 @@ use Rattle.edit_laws.specs.Done.{IsDone}
 use Rattle.edit_laws.proofs.Ins.{in_from}
 use Rattle.edit_laws.proofs.Uses.{marks, walk_uses}
 use Rattle.edit_laws.proofs.Held.{are_held}
-use Rattle.edit_laws.proofs.StepOut.{step_out}
 use Rattle.edit_laws.proofs.Untouched.{root_node, are_once}
 use Rattle.edit_laws.proofs.Wellformed.{sound_tree, standing}
 use Rattle.edit_laws.proofs.OwnedUses.{secure_is, use_owned}
 use Rattle.hive_edit.proofs.ResultLemmas.{done}
-use Rattle.hive_edit.proofs.NodeMade.{security_counted, security_text_is}
+use Rattle.hive_edit.proofs.CountLemmas.{security_counted, security_text_is}
 use Rattle.hive_edit.proofs.ParentLemmas.{security_at_node, security_some, security_read}
 
 -- ---- which cells are they
@@ -159,14 +159,18 @@ none_counted b c root t u step well made none = keeps_security b c root t (λ o.
     each o s =
         let q = (are_held b root t well).held s.path security o (secure_own b root o s) in
         secure_same b c root t well o s
-        (made.leaves.rest o q.0 q.1 (λ i. unmatched o s (step_out b root t step o i)) ∙ sym q.1)
+        (made.framed.rest o q.0 q.1 (unmatched o s) ∙ sym q.1)
+
+not_of_value : (name : List ℕ) → IsOfValue name security → ⊥
+not_of_value name (inl e) = cc
+not_of_value name (inr v) = let d = v.1 in cc
 
 pub set_counts_none : (t : Tree) (path : List (List ℕ)) (name : List ℕ) (kind : ℕ) (bytes : List ℕ)
     (p : List (List ℕ)) → Matches t (set_value path name kind bytes) p security → ⊥
-set_counts_none t path name kind bytes p (inl n) = n.node
-set_counts_none t path name kind bytes p (inr m) = m.1
+set_counts_none t path name kind bytes p (inl n) = let d = n.is in cc
+set_counts_none t path name kind bytes p (inr m) = not_of_value name m.1
 
 pub delete_counts_none : (t : Tree) (path : List (List ℕ)) (name : List ℕ) (p : List (List ℕ))
     → Matches t (delete_value path name) p security → ⊥
-delete_counts_none t path name p (inl n) = n.node
-delete_counts_none t path name p (inr m) = m.1
+delete_counts_none t path name p (inl n) = let d = n.is in cc
+delete_counts_none t path name p (inr m) = not_of_value name m.1

@@ -17,6 +17,7 @@ use Rattle.hive_model.specs.Edit.{set_value, Refusal, full, most_bulk, edited, a
 use Rattle.hive_model.specs.Walk.{reading, data_checks}
 use Rattle.hive_model.specs.Footprint.{key_place, is_value_named, of_read, used_in}
 use Rattle.hive_model.specs.Stands.{data_of, item_at, IsWellFormed}
+use Rattle.hive_cells.specs.Opened.{Opened}
 use Rattle.hive_cells.specs.Held.{held_at}
 use Rattle.hive_read.proofs.FormFacts.{held-short, value-facts, then-so}
 use Rattle.key_index.specs.Lists.{payload_in}
@@ -215,14 +216,14 @@ abbrev refused : Refusal → Result Tree Refusal
 refused why = Err why
 
 -- over the greatest bulk the edit is refused
-pub set_full : (old heap : List Bin) (root : ℕ) (version : HiveVersion) (bulk : ℕ) (h : HiveCells)
+pub set_full : (old : Opened) (heap : List Bin) (root : ℕ) (version : HiveVersion) (bulk : ℕ) (h : HiveCells)
     (path : List (List ℕ)) (name : List ℕ) (kind : ℕ) (bytes : List ℕ) (v : ℕ)
-    → IsHive old root version bulk → hive_of old root version ≡ h → inside_place (cells_in h) path name h.root ≡ some v
+    → IsHive old.bins root version bulk → hive_of old root version ≡ h → inside_place (cells_in h) path name h.root ≡ some v
     → length bytes ≤ 4 → 16773120 < bulk
     → edited h.version h.tree (set_value path name kind bytes ∷ []) ≡ refused full
 set_full old heap root version bulk h path name kind bytes v is view e short big =
     subst (λ (g : HiveCells). edited g.version g.tree (set_value path name kind bytes ∷ []) ≡ refused full) view
-    (let b = look_up version old in
+    (let b = look_up version old.bins in
     let t = tree_of b root in
     let i = inside_there b path name root v
     (subst (λ (g : HiveCells). inside_place (cells_in g) path name g.root ≡ some v) (sym view) e) in
@@ -283,26 +284,26 @@ inside_off_key cells path name root e =
     ap (option_and_then (λ (k : ℕ). option_and_then (if_inside cells) (value_place cells name k))) e
 
 -- it is the hive's
-pub inside_seen : (bins heap : List Bin) (root : ℕ) (version : HiveVersion) (h : HiveCells) (path : List (List ℕ))
-    (name : List ℕ) → heap ≡ bins → hive_of bins root version ≡ h
+pub inside_seen : (bins : Opened) (heap : List Bin) (root : ℕ) (version : HiveVersion) (h : HiveCells) (path : List (List ℕ))
+    (name : List ℕ) → heap ≡ bins.bins → hive_of bins root version ≡ h
     → inside_place (look_up version heap) path name root ≡ inside_place (cells_in h) path name h.root
 inside_seen bins heap root version h path name e view =
     ap (λ (b : List Bin). inside_place (look_up version b) path name root) e
     ∙ ap (λ (g : HiveCells). inside_place (cells_in g) path name g.root) view
 
 -- the value's cell has room for its fields
-pub patch_room : (old : List Bin) (root : ℕ) (version : HiveVersion) (bulk : ℕ) (h : HiveCells) (path : List (List ℕ))
-    (name : List ℕ) (v : ℕ) (part : List ℕ) → IsHive old root version bulk
+pub patch_room : (old : Opened) (root : ℕ) (version : HiveVersion) (bulk : ℕ) (h : HiveCells) (path : List (List ℕ))
+    (name : List ℕ) (v : ℕ) (part : List ℕ) → IsHive old.bins root version bulk
     → hive_of old root version ≡ h → inside_place (cells_in h) path name h.root ≡ some v → length part ≡ 12
-    → IsSomeAnd (held_at old v) (λ p. 4 + length part ≤ length p)
+    → IsSomeAnd (held_at old.bins v) (λ p. 4 + length part ≤ length p)
 patch_room old root version bulk h path name v part is view e long =
-    let b = look_up version old in
+    let b = look_up version old.bins in
     let i = inside_there b path name root v
     (subst (λ (g : HiveCells). inside_place (cells_in g) path name g.root ≡ some v) (sym view) e) in
     let p = then-so (b.payload v) key_value_at i.value i.read in
     let f = value_facts p.0 i.value p.2 in
     let room : 4 + length part ≤ length p.0 = omega (arith, long, f.long) in
-    subst (λ (o : Option (List ℕ)). IsSomeAnd o (λ q. 4 + length part ≤ length q)) (sym (payload_held old v p.0 p.1))
+    subst (λ (o : Option (List ℕ)). IsSomeAnd o (λ q. 4 + length part ≤ length q)) (sym (payload_held old.bins v p.0 p.1))
     room
 
 pub fields_long : (size offset kind : ℕ) → length (value_fields size offset kind) ≡ 12

@@ -1,18 +1,18 @@
 -- A step that is made on the cells of a hive, whatever the bulk of the tree then: what it reports the edit of one
 -- step, and of steps in order.
-use Rattle.std.proofs.Common.{◌≡◌, ◌≤◌, ◌<◌, ◌⊎◌, ℕ, zero, suc, ◌+◌, Bool, true, false, cond, List, [], ◌∷◌, ◌++◌, length, map, take, drop, get_or, Option, Some, None, Result, Ok, Err, inr, refl, sym, ap, subst, ◌∙◌, arith}
+use Rattle.std.proofs.Common.{◌≡◌, ◌≤◌, ◌<◌, ◌⊎◌, ℕ, zero, suc, ◌+◌, Bool, true, false, cond, List, [], ◌∷◌, ◌++◌, length, map, take, drop, get_or, Option, Some, None, Result, Ok, Err, inl, inr, refl, sym, ap, subst, ◌∙◌, arith}
 use Rattle.std.specs.Prelude.{nat_lt, MatchBool, OnOk}
 use Rattle.std.specs.Option.{IfSome}
 use Rattle.std.specs.List.{All}
 use Rattle.std.proofs.lemmas.Bool.{le-ltb, lt-ltb}
-use Rattle.std.proofs.lemmas.List.Elements.{Contains-append_left}
 use Rattle.nt_bytes.specs.declared.version.HiveVersion.{HiveVersion}
 use Rattle.hive_model.specs.Bins.{Bin, bins_size, look_up, spelled}
 use Rattle.hive_model.specs.Size.{bulk_of}
 use Rattle.hive_model.specs.Tree.{Tree}
 use Rattle.hive_model.specs.Edit.{Step, Refusal, full, after_step, after_steps, most_bulk, edited}
-use Rattle.hive_model.specs.Footprint.{step_cells, unless_refused, needed_sizes, room_of, strain_of}
+use Rattle.hive_model.specs.Footprint.{needed_sizes, room_of, strain_of}
 use Rattle.hive_model.specs.Stands.{IsWellFormed}
+use Rattle.hive_cells.specs.Opened.{Opened}
 use Rattle.hive_cells.proofs.HeldLemmas.{payload_held, held_payload}
 use Rattle.hive_read.proofs.FormFacts.{IsBytes}
 use Rattle.hive_read.proofs.ValidTrees.{well-formed-valid, cells-bytes}
@@ -45,9 +45,9 @@ use Rattle.hive_model.specs.InPlace.{KeepsSecurity}
 -- ---- one step
 
 -- the bins and the bulk are those of a hive in which the step was made
-pub record IsStepMade (h : HiveCells) (new : List Bin) (root : ℕ) (version : HiveVersion) (bulk : ℕ)
+pub record IsStepMade (h : HiveCells) (new : Opened) (root : ℕ) (version : HiveVersion) (bulk : ℕ)
     (step : Step) : Type 0 where
-  pub hive : IsHive new root version bulk
+  pub hive : IsHive new.bins root version bulk
   pub stepped : IsStepped h step (hive_of new root version)
 
 -- the bins data are longer by at most the room for the cells that the step may need
@@ -55,28 +55,28 @@ abbrev pub IsWithinRoom : HiveVersion → List Bin → List Bin → ℕ → Step
 IsWithinRoom version old new root step u =
     bins_size new ≤ bins_size old + room_of (needed_sizes version (tree_of (look_up version old) root) step u)
 
-pub stepped : (old new : List Bin) (root : ℕ) (version : HiveVersion) (bulk bulk_then : ℕ) (h : HiveCells) (u : Tree)
-    (step : Step) → IsHive old root version bulk
-    → hive_of old root version ≡ h → after_step step (tree_of (look_up version old) root) ≡ the_tree u
-    → IsDone (look_up version old) (look_up version new) root (tree_of (look_up version old) root) u step
-    → IsBytes (spelled 0 new) → bulk_then ≡ bulk_of version u
-    → bins_size old ≤ bins_size new → IsWithinRoom version old new root step u
-    → KeepsSecurity root (changes_of (look_up version old) root (tree_of (look_up version old) root) step)
-    (look_up version old) (look_up version new)
-    → ((at : ℕ) → In (relisted_keys (look_up version old) root (tree_of (look_up version old) root) step) at
+pub stepped : (old new : Opened) (root : ℕ) (version : HiveVersion) (bulk bulk_then : ℕ) (h : HiveCells) (u : Tree)
+    (step : Step) → IsHive old.bins root version bulk
+    → hive_of old root version ≡ h → after_step step (tree_of (look_up version old.bins) root) ≡ the_tree u
+    → IsDone (look_up version old.bins) (look_up version new.bins) root (tree_of (look_up version old.bins) root) u step
+    → IsBytes (spelled 0 new.bins) → bulk_then ≡ bulk_of version u
+    → bins_size old.bins ≤ bins_size new.bins → IsWithinRoom version old.bins new.bins root step u
+    → KeepsSecurity root (changes_of (look_up version old.bins) root (tree_of (look_up version old.bins) root) step)
+    (look_up version old.bins) (look_up version new.bins)
+    → ((at : ℕ) → In (relisted_keys (look_up version old.bins) root (tree_of (look_up version old.bins) root) step) at
     → HasNewLists (hive_of old root version) (hive_of new root version) at)
-    → ((o : ℕ) → In (given_up (look_up version old) root step) o → held_at new o ≡ None)
-    → ((r : List ℕ × Tree) → In (run_trees (tree_of (look_up version old) root) step) r
+    → ((o : ℕ) → In (given_up (look_up version old.bins) root step) o → held_at new.bins o ≡ None)
+    → ((r : List ℕ × Tree) → In (run_trees (tree_of (look_up version old.bins) root) step) r
     → HasNewRun (hive_of old root version) r.0 r.1 (hive_of new root version))
     → IsStepMade h new root version bulk_then step
 stepped old new root version bulk bulk_then h u step is view ok made bytes counted long room secure lists freed runs =
-    let b = look_up version old in
-    let c = look_up version new in
+    let b = look_up version old.bins in
+    let c = look_up version new.bins in
     let t = tree_of b root in
     let tree : tree_of c root ≡ u = tree_is c root u made.stands in
-    let valid = well-formed-valid c root u (cells-bytes version new bytes) made.stands in
+    let valid = well-formed-valid c root u (cells-bytes version new.bins bytes) made.stands in
     record {
-      hive = hive_opened new new root version bulk_then u refl made.stands valid counted;
+      hive = hive_opened new.bins new.bins root version bulk_then u refl made.stands valid counted;
       stepped = subst (λ (g : HiveCells). IsStepped g step (hive_of new root version)) view (record {
         version = refl;
         root = refl;
@@ -87,30 +87,30 @@ stepped old new root version bulk bulk_then h u step is view ok made bytes count
         freed = freed;
         runs = runs;
         long = long;
-        room = subst (λ (w : Tree). IsWithinRoom version old new root step w) (sym tree) room;
+        room = subst (λ (w : Tree). IsWithinRoom version old.bins new.bins root step w) (sym tree) room;
       });
     }
 
 -- the bulk is that of its tree
-pub stepped_bulk : (h : HiveCells) (new : List Bin) (root : ℕ) (version : HiveVersion) (bulk : ℕ) (step : Step)
+pub stepped_bulk : (h : HiveCells) (new : Opened) (root : ℕ) (version : HiveVersion) (bulk : ℕ) (step : Step)
     → IsStepMade h new root version bulk step
-    → bulk ≡ bulk_of h.version (tree_of (look_up version new) root)
+    → bulk ≡ bulk_of h.version (tree_of (look_up version new.bins) root)
 stepped_bulk h new root version bulk step m =
-    m.hive.counted ∙ ap (λ (v : HiveVersion). bulk_of v (tree_of (look_up version new) root)) m.stepped.version
+    m.hive.counted ∙ ap (λ (v : HiveVersion). bulk_of v (tree_of (look_up version new.bins) root)) m.stepped.version
 
 -- where room for cells that the step needs is over the limit
-pub lacks_room : (bins : List Bin) (root : ℕ) (version : HiveVersion) (h : HiveCells) (u : Tree) (step : Step)
+pub lacks_room : (bins : Opened) (root : ℕ) (version : HiveVersion) (h : HiveCells) (u : Tree) (step : Step)
     → hive_of bins root version ≡ h
-    → after_step step (tree_of (look_up version bins) root) ≡ the_tree u
-    → 16777216 < bins_size bins + room_of (needed_sizes version (tree_of (look_up version bins) root) step u)
+    → after_step step (tree_of (look_up version bins.bins) root) ≡ the_tree u
+    → 16777216 < bins_size bins.bins + room_of (needed_sizes version (tree_of (look_up version bins.bins) root) step u)
     → LacksStepRoom h step
 lacks_room bins root version h u step view ok over =
     subst (λ (g : HiveCells). LacksStepRoom g step) view
-    (λ w e. subst (λ (z : Tree). 16777216 < bins_size bins + room_of (needed_sizes version t step z))
+    (λ w e. subst (λ (z : Tree). 16777216 < bins_size bins.bins + room_of (needed_sizes version t step z))
     (same u w (sym ok ∙ e)) over)
   where
     t : Tree
-    t = tree_of (look_up version bins) root
+    t = tree_of (look_up version bins.bins) root
 
     same : (a b : Tree) → the_tree a ≡ the_tree b → a ≡ b
     same a b e = cc
@@ -200,9 +200,8 @@ stepped_edit h g step s room = step_within h.version h.tree g.tree step s.tree r
 
 pub stepped_kept : (h g : HiveCells) (step : Step) → IsToldStep h step g → IsEditedInPlace h (step ∷ []) g
 stepped_kept h g step s = record {
-  kept = λ o p held outside. payload_held g.bins o p (s.stepped.done.leaves.rest o p (held_payload h.bins o p held)
-      (λ i. outside (Contains-append_left (step_cells (cells_in h) h.root h.tree step)
-      (unless_refused [] (after_step step h.tree) (λ w. [])) o i)));
+  kept = λ o p held outside. payload_held g.bins o p (s.stepped.done.framed.rest o p (held_payload h.bins o p held)
+      (λ m. outside (g.tree, s.stepped.tree, inl m)));
   root = s.stepped.root;
   long = s.stepped.long;
   parents = λ n. subst (NamesParents (cells_in g)) (sym s.stepped.root) (s.stepped.done.parents n);
@@ -233,9 +232,9 @@ if_undone A B true e h = absurd cc
 if_undone A B false e h = h
 
 -- the hive, where the bins are as they were
-pub same_hive : (old new : List Bin) (root : ℕ) (version : HiveVersion) (h : HiveCells) → hive_of old root version ≡ h
-    → new ≡ old → hive_of new root version ≡ h
-same_hive old new root version h view e = ap (λ (bs : List Bin). hive_of bs root version) e ∙ view
+pub same_hive : (old new : Opened) (root : ℕ) (version : HiveVersion) (h : HiveCells) → hive_of old root version ≡ h
+    → new.bins ≡ old.bins → new.base ≡ old.base → hive_of new root version ≡ h
+same_hive old new root version h view e b = (λ i. hive_of (record { bins = e i; base = b i }) root version) ∙ view
 
 -- ---- steps in order
 
@@ -295,7 +294,7 @@ pub ordered_kept : (steps : List Step) (a b : HiveCells) → IsWellFormed (cells
     → AreStepped a steps b → IsEditedInPlace a steps b
 ordered_kept steps a b well m = record {
   kept = λ o p held outside. payload_held b.bins o p
-      (left_outside (cells_in a) (cells_in b) a.root a.tree b.tree steps well (done_in_order steps a b m) o p
+      (left_outside (cells_in a) (cells_in b) a.root a.tree b.tree steps (done_in_order steps a b m) o p
       (held_payload a.bins o p held) outside);
   root = same_root steps a b m;
   long = longer steps a b m;

@@ -4,13 +4,14 @@ use Rattle.std.specs.Prelude.{nat_lt, find, is_some, OnOk}
 use Rattle.std.specs.Option.{is_none}
 use Rattle.std.proofs.lemmas.Bool.{ltb-false, ltb-true}
 use Rattle.nt_bytes.specs.declared.version.HiveVersion.{HiveVersion}
-use Rattle.hive_model.specs.Bins.{Bin, Cells, bins_size, look_up, spelled}
+use Rattle.hive_model.specs.Bins.{Cells, bins_size, look_up, spelled}
 use Rattle.hive_model.specs.Size.{cell, name_bytes, data_sizes, data_size, bulk_of}
 use Rattle.hive_model.specs.Tree.{Tree, Item, head, is_item, find_key, find_item}
 use Rattle.hive_model.specs.Tree.{key as tree_key}
 use Rattle.hive_model.specs.Edit.{set_value, no_key, name_too_long, data_too_long, full, unless, at_first, with_item, of_items, after_steps, most_bulk, edited}
 use Rattle.hive_model.specs.Packed.{rounded}
 use Rattle.hive_model.specs.Footprint.{value_list_sizes, item_sizes, needed_sizes, room_of}
+use Rattle.hive_cells.specs.Opened.{Opened}
 use Rattle.hive_cells.specs.Holes.{new_bin_size}
 use Rattle.hive_read.proofs.FormFacts.{IsBytes}
 use Rattle.reg_tree.specs.declared.stop.EditStop.{EditStop}
@@ -105,14 +106,14 @@ data_within version b root t path name kind bytes v i few long =
     omega (arith, r, s, e)
 
 -- where a new bin for the data is not to be had
-pub there_lacks : (bins : List Bin) (root : ℕ) (version : HiveVersion) (bulk : ℕ) (h : HiveCells) (path : List (List ℕ))
+pub there_lacks : (bins : Opened) (root : ℕ) (version : HiveVersion) (bulk : ℕ) (h : HiveCells) (path : List (List ℕ))
     (name : List ℕ) (kind : ℕ) (bytes : List ℕ) (v : ℕ)
-    → IsHive bins root version bulk → hive_of bins root version ≡ h → place_in (cells_in h) path name h.root ≡ some v
+    → IsHive bins.bins root version bulk → hive_of bins root version ≡ h → place_in (cells_in h) path name h.root ≡ some v
     → length bytes ≤ 1048576
-    → 4 < length bytes → 16777216 < bins_size bins + rounded (data_size version bytes + 32)
+    → 4 < length bytes → 16777216 < bins_size bins.bins + rounded (data_size version bytes + 32)
     → LacksStepRoom h (set_value path name kind bytes)
 there_lacks bins root version bulk h path name kind bytes v is view e few long over =
-    let b = look_up version bins in
+    let b = look_up version bins.bins in
     let t = tree_of b root in
     let i = there_in bins root version bulk h path name v is view e in
     let d = data_within version b root t path name kind bytes v i few long in
@@ -120,15 +121,15 @@ there_lacks bins root version bulk h path name kind bytes v is view e few long o
     (edit_there b root t path name kind bytes v i few) (omega (arith, over, d))
 
 -- the value was given them
-pub there_set : (old new : List Bin) (root : ℕ) (version : HiveVersion) (bulk after : ℕ) (h : HiveCells)
+pub there_set : (old new : Opened) (root : ℕ) (version : HiveVersion) (bulk after : ℕ) (h : HiveCells)
     (path : List (List ℕ)) (name : List ℕ) (kind : ℕ) (bytes : List ℕ) (v : ℕ)
-    → IsHive old root version bulk → hive_of old root version ≡ h → place_in (cells_in h) path name h.root ≡ some v
+    → IsHive old.bins root version bulk → hive_of old root version ≡ h → place_in (cells_in h) path name h.root ≡ some v
     → length bytes ≤ 1048576 → kind < 2 ^ 32
-    → after ≡ bulk_of h.version (set_tree path name kind bytes h.tree) → IsBytes (spelled 0 new)
-    → IsGiven version v kind bytes (data_places (look_up version old) v) old new
+    → after ≡ bulk_of h.version (set_tree path name kind bytes h.tree) → IsBytes (spelled 0 new.bins)
+    → IsGiven version v kind bytes (data_places (look_up version old.bins) v) old.bins new.bins
     → IsStepMade h new root version after (set_value path name kind bytes)
 there_set old new root version bulk after h path name kind bytes v is view e few kind_fits counted small g =
-    let b = look_up version old in
+    let b = look_up version old.bins in
     let t = tree_of b root in
     let u = set_tree path name kind bytes t in
     let i = there_in old root version bulk h path name v is view e in
@@ -137,11 +138,11 @@ there_set old new root version bulk after h path name kind bytes v is view e few
     counted in
     stepped old new root version bulk after h u (set_value path name kind bytes) is view
     (edit_there b root t path name kind bytes v i few)
-    (there_done old new root version bulk h path name kind bytes v is view e few kind_fits g) small told g.least
+    (there_done old new.bins root version bulk h path name kind bytes v is view e few kind_fits g) small told g.least
     (by_length (nat_lt 4 (length bytes)) refl g.long
     (λ long. data_within version b root t path name kind bytes v i few long))
-    (none_counted b (look_up version new) root t u (set_value path name kind bytes) is.stands
-    (there_done old new root version bulk h path name kind bytes v is view e few kind_fits g)
+    (none_counted b (look_up version new.bins) root t u (set_value path name kind bytes) is.stands
+    (there_done old new.bins root version bulk h path name kind bytes v is view e few kind_fits g)
     (set_counts_none t path name kind bytes))
     (λ key among. absurd among)
     (λ o given. g.freed o (contains_from (data_places b v) o
@@ -150,12 +151,12 @@ there_set old new root version bulk after h path name kind bytes v is view e few
     (λ run j. absurd j)
   where
     by_length : (q : Bool) → nat_lt 4 (length bytes) ≡ q
-        → bins_size new ≤ bins_size old + cond q (new_bin_size (data_size version bytes)) 0
+        → bins_size new.bins ≤ bins_size old.bins + cond q (new_bin_size (data_size version bytes)) 0
         → (4 < length bytes → rounded (data_size version bytes + 32)
-        ≤ room_of (needed_sizes version (tree_of (look_up version old) root) (set_value path name kind bytes)
-        (set_tree path name kind bytes (tree_of (look_up version old) root))))
-        → IsWithinRoom version old new root (set_value path name kind bytes)
-        (set_tree path name kind bytes (tree_of (look_up version old) root))
+        ≤ room_of (needed_sizes version (tree_of (look_up version old.bins) root) (set_value path name kind bytes)
+        (set_tree path name kind bytes (tree_of (look_up version old.bins) root))))
+        → IsWithinRoom version old.bins new.bins root (set_value path name kind bytes)
+        (set_tree path name kind bytes (tree_of (look_up version old.bins) root))
     by_length true q l within = let w = within (ltb-true 4 (length bytes) q) in omega (arith, l, w)
     by_length false q l within = omega (arith, l)
 

@@ -30,6 +30,7 @@ use Rattle.hive_edit.proofs.ParentLemmas.{IsParent}
 use Rattle.hive_edit.proofs.PlaceLemmas.{IsPlaceOf, key_there, place_of_key}
 use Rattle.hive_edit.proofs.ResultLemmas.{some}
 use Rattle.hive_edit.proofs.SteppedLemmas.{same_version}
+use Rattle.hive_cells.specs.Opened.{Opened}
 
 -- ---- counts by the node
 
@@ -37,43 +38,43 @@ use Rattle.hive_edit.proofs.SteppedLemmas.{same_version}
 abbrev place_in_hive : List Bin → HiveVersion → List (List ℕ) → ℕ → Option ℕ
 place_in_hive bins version path root = key_place (look_up version bins) path root
 
-pub no_count : (f : Tree → ℕ) (bins : List Bin) (root : ℕ) (version : HiveVersion) (bulk : ℕ) (h : HiveCells)
+pub no_count : (f : Tree → ℕ) (bins : Opened) (root : ℕ) (version : HiveVersion) (bulk : ℕ) (h : HiveCells)
     (path : List (List ℕ))
-    → IsHive bins root version bulk → hive_of bins root version ≡ h → place_in_hive bins version path root ≡ None
+    → IsHive bins.bins root version bulk → hive_of bins root version ≡ h → place_in_hive bins.bins version path root ≡ None
     → option_map_or f (find_key path h.tree) 0 ≡ 0
 no_count f bins root version bulk h path is view e =
     subst (λ (g : HiveCells). option_map_or f (find_key path g.tree) 0 ≡ 0) view
-    (go (find_key path t) (subst (λ (o : Option ℕ). IsPlaceOf (look_up version bins) o (find_key path t)) e
-    (place_of_key (look_up version bins) path root t is.stands)))
+    (go (find_key path t) (subst (λ (o : Option ℕ). IsPlaceOf (look_up version bins.bins) o (find_key path t)) e
+    (place_of_key (look_up version bins.bins) path root t is.stands)))
   where
     t : Tree
-    t = tree_of (look_up version bins) root
+    t = tree_of (look_up version bins.bins) root
 
-    go : (u : Option Tree) → IsPlaceOf (look_up version bins) None u → option_map_or f u 0 ≡ 0
+    go : (u : Option Tree) → IsPlaceOf (look_up version bins.bins) None u → option_map_or f u 0 ≡ 0
     go None p = refl
     go (Some v) p = absurd p
 
-pub values_seen : (bins : List Bin) (root : ℕ) (version : HiveVersion) (bulk : ℕ) (h : HiveCells) (path : List (List ℕ))
+pub values_seen : (bins : Opened) (root : ℕ) (version : HiveVersion) (bulk : ℕ) (h : HiveCells) (path : List (List ℕ))
     (x n : ℕ)
-    → IsHive bins root version bulk → hive_of bins root version ≡ h → place_in_hive bins version path root ≡ some x
-    → ((m : KeyNode) → reading key_node_at (look_up version bins) x ≡ Ok m → n ≡ m.value_count)
+    → IsHive bins.bins root version bulk → hive_of bins root version ≡ h → place_in_hive bins.bins version path root ≡ some x
+    → ((m : KeyNode) → reading key_node_at (look_up version bins.bins) x ≡ Ok m → n ≡ m.value_count)
     → n ≡ values_in path h.tree
 values_seen bins root version bulk h path x n is view e read =
-    let b = look_up version bins in
+    let b = look_up version bins.bins in
     let t = tree_of b root in
     let there = key_there b path root t x is.stands e in
-    let can = can_add version bins root t path x is.stands e in
-    let many = read can.node can.read ∙ values_many version bins x there.there there.well can in
+    let can = can_add version bins.bins root t path x is.stands e in
+    let many = read can.node can.read ∙ values_many version bins.bins x there.there there.well can in
     subst (λ (g : HiveCells). n ≡ values_in path g.tree) view
     (many ∙ sym (ap (λ (o : Option Tree). option_map_or (λ (k : Tree). length (head k).values) o 0) there.found))
 
-pub children_seen : (bins : List Bin) (root : ℕ) (version : HiveVersion) (bulk : ℕ) (h : HiveCells)
+pub children_seen : (bins : Opened) (root : ℕ) (version : HiveVersion) (bulk : ℕ) (h : HiveCells)
     (path : List (List ℕ)) (x n : ℕ)
-    → IsHive bins root version bulk → hive_of bins root version ≡ h → place_in_hive bins version path root ≡ some x
-    → ((m : KeyNode) → reading key_node_at (look_up version bins) x ≡ Ok m → n ≡ m.child_count)
+    → IsHive bins.bins root version bulk → hive_of bins root version ≡ h → place_in_hive bins.bins version path root ≡ some x
+    → ((m : KeyNode) → reading key_node_at (look_up version bins.bins) x ≡ Ok m → n ≡ m.child_count)
     → n ≡ children_in path h.tree
 children_seen bins root version bulk h path x n is view e read =
-    let b = look_up version bins in
+    let b = look_up version bins.bins in
     let t = tree_of b root in
     let there = key_there b path root t x is.stands e in
     let placed = placed_at b path root x e in

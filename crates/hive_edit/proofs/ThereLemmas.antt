@@ -15,6 +15,7 @@ use Rattle.hive_model.specs.Edit.{set_value, after_step, with_item}
 use Rattle.hive_model.specs.Walk.{reading, value_checks, data_checks}
 use Rattle.hive_model.specs.Footprint.{used_in, key_place, is_value_named}
 use Rattle.hive_model.specs.Stands.{item_at, IsWellFormed}
+use Rattle.hive_cells.specs.Opened.{Opened}
 use Rattle.hive_cells.specs.Held.{held_at, patched}
 use Rattle.hive_cells.proofs.HeldLemmas.{payload_held, held_payload}
 use Rattle.key_index.specs.Relists.{AreApart}
@@ -123,44 +124,44 @@ edit_there b root t path name kind bytes v i few =
     (le-ltb 1048576 (length bytes) few)
 
 -- the value is found in the hive
-pub value_seen : (bins heap : List Bin) (root : ℕ) (version : HiveVersion) (h : HiveCells) (path : List (List ℕ))
-    (name : List ℕ) → heap ≡ bins → hive_of bins root version ≡ h
+pub value_seen : (bins : Opened) (heap : List Bin) (root : ℕ) (version : HiveVersion) (h : HiveCells) (path : List (List ℕ))
+    (name : List ℕ) → heap ≡ bins.bins → hive_of bins root version ≡ h
     → place_in (look_up version heap) path name root ≡ place_in (cells_in h) path name h.root
 value_seen bins heap root version h path name e view =
     ap (λ (b : List Bin). place_in (look_up version b) path name root) e
     ∙ ap (λ (g : HiveCells). place_in (cells_in g) path name g.root) view
 
-pub there_in : (bins : List Bin) (root : ℕ) (version : HiveVersion) (bulk : ℕ) (h : HiveCells) (path : List (List ℕ))
-    (name : List ℕ) (v : ℕ) → IsHive bins root version bulk
+pub there_in : (bins : Opened) (root : ℕ) (version : HiveVersion) (bulk : ℕ) (h : HiveCells) (path : List (List ℕ))
+    (name : List ℕ) (v : ℕ) → IsHive bins.bins root version bulk
     → hive_of bins root version ≡ h → place_in (cells_in h) path name h.root ≡ some v
-    → ThereIs (look_up version bins) (tree_of (look_up version bins) root) root path name v
+    → ThereIs (look_up version bins.bins) (tree_of (look_up version bins.bins) root) root path name v
 there_in bins root version bulk h path name v is view e =
-    there_is (look_up version bins) (tree_of (look_up version bins) root) root path name v is.stands
+    there_is (look_up version bins.bins) (tree_of (look_up version bins.bins) root) root path name v is.stands
     (subst (λ (g : HiveCells). place_in (cells_in g) path name g.root ≡ some v) (sym view) e)
 
-pub there_step : (bins : List Bin) (root : ℕ) (version : HiveVersion) (bulk : ℕ) (h : HiveCells) (path : List (List ℕ))
+pub there_step : (bins : Opened) (root : ℕ) (version : HiveVersion) (bulk : ℕ) (h : HiveCells) (path : List (List ℕ))
     (name : List ℕ) (kind : ℕ) (bytes : List ℕ) (v : ℕ)
-    → IsHive bins root version bulk → hive_of bins root version ≡ h → place_in (cells_in h) path name h.root ≡ some v
+    → IsHive bins.bins root version bulk → hive_of bins root version ≡ h → place_in (cells_in h) path name h.root ≡ some v
     → length bytes ≤ 1048576
     → after_step (set_value path name kind bytes) h.tree ≡ the_tree (set_tree path name kind bytes h.tree)
 there_step bins root version bulk h path name kind bytes v is view e few =
     subst (λ (g : HiveCells). after_step (set_value path name kind bytes) g.tree
     ≡ the_tree (set_tree path name kind bytes g.tree)) view
-    (edit_there (look_up version bins) root (tree_of (look_up version bins) root) path name kind bytes v
+    (edit_there (look_up version bins.bins) root (tree_of (look_up version bins.bins) root) path name kind bytes v
     (there_in bins root version bulk h path name v is view e) few)
 
 room_is : (b : Cells) (v : ℕ) (one : Item) → item_at b v ≡ done one → data_room b v ≡ data_size b.version one.bytes
 room_is b v one e = ap (room_for_item b.version) e
 
 -- the bulk after the step
-pub there_bulk : (bins : List Bin) (root : ℕ) (version : HiveVersion) (bulk : ℕ) (h : HiveCells) (path : List (List ℕ))
+pub there_bulk : (bins : Opened) (root : ℕ) (version : HiveVersion) (bulk : ℕ) (h : HiveCells) (path : List (List ℕ))
     (name : List ℕ) (kind : ℕ) (bytes : List ℕ) (v has had : ℕ)
-    → IsHive bins root version bulk → hive_of bins root version ≡ h → place_in (cells_in h) path name h.root ≡ some v
-    → bins_size bins ≤ 16777216
-    → has ≡ data_size version bytes → has ≤ 4294967296 → had ≡ data_room (look_up version bins) v
+    → IsHive bins.bins root version bulk → hive_of bins root version ≡ h → place_in (cells_in h) path name h.root ≡ some v
+    → bins_size bins.bins ≤ 16777216
+    → has ≡ data_size version bytes → has ≤ 4294967296 → had ≡ data_room (look_up version bins.bins) v
     → (had ≤ bulk + has) × (bulk + has - had ≡ bulk_of h.version (set_tree path name kind bytes h.tree))
 there_bulk bins root version bulk h path name kind bytes v has had is view e fit new few old =
-    let b = look_up version bins in
+    let b = look_up version bins.bins in
     let t = tree_of b root in
     let i = there_in bins root version bulk h path name v is view e in
     let room = old ∙ room_is b v i.one i.stands in
@@ -168,7 +169,7 @@ there_bulk bins root version bulk h path name kind bytes v has had is view e fit
     ap (λ (n : ℕ). size version [] (set_tree path name kind bytes t) + n) room
     ∙ resized version t i.tree path name kind bytes i.one i.found i.there
     ∙ ap (λ (n : ℕ). size version [] t + n) (sym new) in
-    let d = bulk_then version t (set_tree path name kind bytes t) bulk has had (bulk_is bins root version bulk is fit) s
+    let d = bulk_then version t (set_tree path name kind bytes t) bulk has had (bulk_is bins.bins root version bulk is fit) s
     (omega (arith, few)) in (
       d.0,
       subst (λ (g : HiveCells). bulk + has - had ≡ bulk_of g.version (set_tree path name kind bytes g.tree))
@@ -231,15 +232,15 @@ pub own_there : (b : Cells) (root : ℕ) (t : Tree) (path : List (List ℕ)) (na
 own_there b root t path name v well i = value_own b root t path name i.key v i.value well i.place i.named i.read
 
 -- the step is done
-pub there_done : (old new : List Bin) (root : ℕ) (version : HiveVersion) (bulk : ℕ) (h : HiveCells)
+pub there_done : (old : Opened) (new : List Bin) (root : ℕ) (version : HiveVersion) (bulk : ℕ) (h : HiveCells)
     (path : List (List ℕ)) (name : List ℕ) (kind : ℕ) (bytes : List ℕ) (v : ℕ)
-    → IsHive old root version bulk → hive_of old root version ≡ h → place_in (cells_in h) path name h.root ≡ some v
+    → IsHive old.bins root version bulk → hive_of old root version ≡ h → place_in (cells_in h) path name h.root ≡ some v
     → length bytes ≤ 1048576 → kind < 2 ^ 32
-    → IsGiven version v kind bytes (data_places (look_up version old) v) old new
-    → IsDone (look_up version old) (look_up version new) root (tree_of (look_up version old) root)
-    (set_tree path name kind bytes (tree_of (look_up version old) root)) (set_value path name kind bytes)
+    → IsGiven version v kind bytes (data_places (look_up version old.bins) v) old.bins new
+    → IsDone (look_up version old.bins) (look_up version new) root (tree_of (look_up version old.bins) root)
+    (set_tree path name kind bytes (tree_of (look_up version old.bins) root)) (set_value path name kind bytes)
 there_done old new root version bulk h path name kind bytes v is view e few kind_fits g =
-    let b = look_up version old in
+    let b = look_up version old.bins in
     let c = look_up version new in
     let t = tree_of b root in
     let u = set_tree path name kind bytes t in
@@ -247,39 +248,39 @@ there_done old new root version bulk h path name kind bytes v is view e few kind
     let d = edit_there b root t path name kind bytes v i few in
     let among = found_among (is_value_named b name) (value_places b i.key) v i.named in
     let node = node_read b i.key i.tree i.well.stands in
-    let gets = given_gets version v kind bytes old new (own_there b root t path name v is.stands i) g kind_fits in
+    let gets = given_gets version v kind bytes old.bins new (own_there b root t path name v is.stands i) g kind_fits in
     data_set b c root t u path name i.key node.0 is.stands i.place node.1 kind bytes among.front among.back v d
     (places_same b i.key ∙ among.whole)
     (ap (folds_same name) (name_of_value b v i.value i.read) ∙ named_folds b name v i.value i.read among.passes) gets
 
 -- ---- what is asked on the way
 
-pub there_here : (bins heap : List Bin) (root : ℕ) (version : HiveVersion) (bulk : ℕ) (h : HiveCells)
-    (path : List (List ℕ)) (name : List ℕ) (v : ℕ) → IsHive bins root version bulk
-    → heap ≡ bins → hive_of bins root version ≡ h → place_in (cells_in h) path name h.root ≡ some v
+pub there_here : (bins : Opened) (heap : List Bin) (root : ℕ) (version : HiveVersion) (bulk : ℕ) (h : HiveCells)
+    (path : List (List ℕ)) (name : List ℕ) (v : ℕ) → IsHive bins.bins root version bulk
+    → heap ≡ bins.bins → hive_of bins root version ≡ h → place_in (cells_in h) path name h.root ≡ some v
     → IsItemHere (look_up version heap) v
 there_here bins heap root version bulk h path name v is e view there =
     let i = there_in bins root version bulk h path name v is view there in
     subst (λ (b : List Bin). IsItemHere (look_up version b) v) (sym e)
-    (is_ok_of (item_at (look_up version bins) v) i.one i.stands)
+    (is_ok_of (item_at (look_up version bins.bins) v) i.one i.stands)
 
-pub there_room : (bins : List Bin) (root : ℕ) (version : HiveVersion) (bulk : ℕ) (h : HiveCells) (path : List (List ℕ))
-    (name : List ℕ) (v : ℕ) → IsHive bins root version bulk
+pub there_room : (bins : Opened) (root : ℕ) (version : HiveVersion) (bulk : ℕ) (h : HiveCells) (path : List (List ℕ))
+    (name : List ℕ) (v : ℕ) → IsHive bins.bins root version bulk
     → hive_of bins root version ≡ h → place_in (cells_in h) path name h.root ≡ some v
-    → IsSomeAnd (held_at bins v) (λ p. 16 ≤ length p)
+    → IsSomeAnd (held_at bins.bins v) (λ p. 16 ≤ length p)
 there_room bins root version bulk h path name v is view there =
     let i = there_in bins root version bulk h path name v is view there in
-    let p = then-so ((look_up version bins).payload v) key_value_at i.value i.read in
+    let p = then-so ((look_up version bins.bins).payload v) key_value_at i.value i.read in
     let f = value_facts p.0 i.value p.2 in
     let room : 16 ≤ length p.0 = omega (arith, f.long) in
-    subst (λ (o : Option (List ℕ)). IsSomeAnd o (λ q. 16 ≤ length q)) (sym (payload_held bins v p.0 p.1)) room
+    subst (λ (o : Option (List ℕ)). IsSomeAnd o (λ q. 16 ≤ length q)) (sym (payload_held bins.bins v p.0 p.1)) room
 
-pub there_own : (bins : List Bin) (root : ℕ) (version : HiveVersion) (bulk : ℕ) (h : HiveCells) (path : List (List ℕ))
-    (name : List ℕ) (v : ℕ) → IsHive bins root version bulk
+pub there_own : (bins : Opened) (root : ℕ) (version : HiveVersion) (bulk : ℕ) (h : HiveCells) (path : List (List ℕ))
+    (name : List ℕ) (v : ℕ) → IsHive bins.bins root version bulk
     → hive_of bins root version ≡ h → place_in (cells_in h) path name h.root ≡ some v
-    → ValueOwn (look_up version bins) v
+    → ValueOwn (look_up version bins.bins) v
 there_own bins root version bulk h path name v is view there =
-    own_there (look_up version bins) root (tree_of (look_up version bins) root) path name v is.stands
+    own_there (look_up version bins.bins) root (tree_of (look_up version bins.bins) root) path name v is.stands
     (there_in bins root version bulk h path name v is view there)
 
 -- the cells that go, as they were read

@@ -20,6 +20,7 @@ use Rattle.hive_model.specs.Edit.{Step, set_value, delete_value, make_key, delet
 use Rattle.hive_model.specs.Valid.{HoldsKeys}
 use Rattle.hive_model.specs.Footprint.{has_key, key_place, needed_sizes, room_of}
 use Rattle.hive_model.specs.Stands.{IsWellFormed}
+use Rattle.hive_cells.specs.Opened.{Opened}
 use Rattle.hive_cells.specs.Changes.{at_cell, with_part}
 use Rattle.hive_cells.specs.Held.{held_at, patched}
 use Rattle.hive_cells.proofs.HeldLemmas.{payload_held, held_payload}
@@ -47,7 +48,7 @@ use Rattle.hive_edit.proofs.ChildRuns.{run_kept}
 use Rattle.hive_edit.proofs.EditLemmas.{the_tree}
 use Rattle.hive_edit.proofs.HiveLemmas.{hive_opened}
 use Rattle.hive_edit.proofs.NodeLemmas.{node_here}
-use Rattle.hive_edit.proofs.NodeMade.{security_text_is}
+use Rattle.hive_edit.proofs.CountLemmas.{security_text_is}
 use Rattle.hive_edit.proofs.StandingLemmas.{tree_is}
 use Rattle.hive_edit.proofs.ToldLists.{held_alike, HasLists, lists_still, children_still}
 use Rattle.hive_edit.proofs.ResultLemmas.{done, some, some_same, ok_same}
@@ -300,17 +301,17 @@ node_room version bins heap x e k =
     let room : 76 ≤ length p.0 = omega (arith, long) in
     subst (λ (o : Option (List ℕ)). IsSomeAnd o (λ q. 76 ≤ length q)) (sym (payload_held bins x p.0 p.1)) room
 
-pub record IsHiveTold (h : HiveCells) (new : List Bin) (root : ℕ) (version : HiveVersion) (bulk : ℕ)
+pub record IsHiveTold (h : HiveCells) (new : Opened) (root : ℕ) (version : HiveVersion) (bulk : ℕ)
     (path : List (List ℕ)) (field first second : ℕ) : Type 0 where
-  pub hive : IsHive new root version bulk
+  pub hive : IsHive new.bins root version bulk
   pub told : IsTold h path field first second (hive_of new root version)
 
-pub hive_told : (old new heap : List Bin) (root : ℕ) (version : HiveVersion) (bulk : ℕ) (h : HiveCells)
-    (path : List (List ℕ)) (x field first second : ℕ) → IsHive old root version bulk → hive_of old root version ≡ h
-    → heap ≡ old → some x ≡ key_place (look_up version heap) path root → IsKeyAt (look_up version heap) x → field ≤ 2
-    → AreRaisedTo x field first second old new → IsHiveTold h new root version bulk path field first second
+pub hive_told : (old new : Opened) (heap : List Bin) (root : ℕ) (version : HiveVersion) (bulk : ℕ) (h : HiveCells)
+    (path : List (List ℕ)) (x field first second : ℕ) → IsHive old.bins root version bulk → hive_of old root version ≡ h
+    → heap ≡ old.bins → some x ≡ key_place (look_up version heap) path root → IsKeyAt (look_up version heap) x → field ≤ 2
+    → AreRaisedTo x field first second old.bins new.bins → IsHiveTold h new root version bulk path field first second
 hive_told old new heap root version bulk h path x field first second is view e found k few a = record {
-  hive = hive_opened new new root version bulk t refl well is.valid is.counted;
+  hive = hive_opened new.bins new.bins root version bulk t refl well is.valid is.counted;
   told = subst (λ (g : HiveCells). IsTold g path field first second (hive_of new root version)) view (record {
     version = refl;
     root = refl;
@@ -329,10 +330,10 @@ hive_told old new heap root version bulk h path x field first second is view e f
 }
   where
     b : Cells
-    b = look_up version old
+    b = look_up version old.bins
 
     c : Cells
-    c = look_up version new
+    c = look_up version new.bins
 
     t : Tree
     t = tree_of b root
@@ -341,10 +342,10 @@ hive_told old new heap root version bulk h path x field first second is view e f
     at = sym (found ∙ ap (λ (bs : List Bin). key_place (look_up version bs) path root) e)
 
     form : (n : KeyNode) × (reading key_node_at b x ≡ done n)
-    form = node_of version old x (subst (λ (bs : List Bin). IsKeyAt (look_up version bs) x) e k)
+    form = node_of version old.bins x (subst (λ (bs : List Bin). IsKeyAt (look_up version bs) x) e k)
 
     told : AreTold b c x field first second
-    told = told_cells version old new x field first second form.0 form.1 few a
+    told = told_cells version old.bins new.bins x field first second form.0 form.1 few a
 
     placed : IsPlaced b root path x
     placed = placed_at b path root x at
@@ -352,18 +353,18 @@ hive_told old new heap root version bulk h path x field first second is view e f
     well : IsWellFormed c root t
     well = raised_well b c root t placed.stored x is.stands placed.reached told.raises
 
-    free : (o : ℕ) → held_at old o ≡ None → held_at new o ≡ None
+    free : (o : ℕ) → held_at old.bins o ≡ None → held_at new.bins o ≡ None
     free o none = ⊎_elim
         (λ (s : o ≡ x). absurd (let p = then-so (b.payload x) key_node_at form.0 form.1 in
-        let q = payload_held old x p.0 p.1 in let d = sym q ∙ sym (ap (held_at old) s) ∙ none in cc))
+        let q = payload_held old.bins x p.0 p.1 in let d = sym q ∙ sym (ap (held_at old.bins) s) ∙ none in cc))
         (λ (s : o ≡ x → ⊥). a.two.others o s ∙ a.one.others o s ∙ none) (cases_eq o x)
 
 abbrev no_number : Option ℕ
 no_number = None
 
 -- where there is no key, nothing changed
-pub none_told : (old heap : List Bin) (root : ℕ) (version : HiveVersion) (h : HiveCells) (path : List (List ℕ))
-    (field first second : ℕ) → hive_of old root version ≡ h → heap ≡ old
+pub none_told : (old : Opened) (heap : List Bin) (root : ℕ) (version : HiveVersion) (h : HiveCells) (path : List (List ℕ))
+    (field first second : ℕ) → hive_of old root version ≡ h → heap ≡ old.bins
     → no_number ≡ key_place (look_up version heap) path root → IsTold h path field first second h
 none_told old heap root version h path field first second view e found =
     subst (λ (g : HiveCells). IsTold g path field first second g) view (record {
@@ -376,7 +377,7 @@ none_told old heap root version h path field first second view e found =
       none = λ n. refl;
     })
   where
-    none : key_place (look_up version old) path root ≡ no_number
+    none : key_place (look_up version old.bins) path root ≡ no_number
     none = sym (found ∙ ap (λ (bs : List Bin). key_place (look_up version bs) path root) e)
 
 -- ---- a step
@@ -435,7 +436,7 @@ stepped_told old mid new step path field first second well s names told = record
   tree = s.tree ∙ ap the_tree (sym told.tree);
   done = subst (λ (u : Tree). IsDone (cells_in old) (cells_in new) old.root old.tree u step) (sym told.tree)
       (by_place (λ (c : Cells). IsDone (cells_in old) c old.root old.tree mid.tree step) s.done
-      (λ x at g. raised_done (cells_in old) (cells_in mid) (cells_in new) old.root old.tree mid.tree step path x well s.tree
+      (λ x at g. raised_done (cells_in old) (cells_in mid) (cells_in new) old.root old.tree mid.tree step path x
       s.done at names.names g));
   secure = by_place (λ (c : Cells). KeepsSecurity old.root (changes_of (cells_in old) old.root old.tree step)
       (cells_in old) c) s.secure

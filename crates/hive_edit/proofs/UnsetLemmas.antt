@@ -22,6 +22,7 @@ use Rattle.hive_model.specs.Edit.{delete_value, Refusal, no_key, no_value, unles
 use Rattle.hive_model.specs.Walk.{reading, below_of, use_as, big_data_of, segments_checks, big_checks, data_checks, value_checks}
 use Rattle.hive_model.specs.Footprint.{used_in, key_place, is_value_named}
 use Rattle.hive_model.specs.Stands.{IsWellFormed, big_bytes_at, joined_segments, data_of, item_at, items_at}
+use Rattle.hive_cells.specs.Opened.{Opened}
 use Rattle.hive_cells.specs.Held.{held_at, patched}
 use Rattle.hive_cells.proofs.HeldLemmas.{held_payload, payload_held}
 use Rattle.hive_read.proofs.FormFacts.{IsBytes, then-so}
@@ -471,25 +472,25 @@ none_named b name x k well e =
 abbrev nowhere : Option ℕ
 nowhere = None
 
-pub hive_no_key : (bins heap : List Bin) (root : ℕ) (version : HiveVersion) (bulk : ℕ) (h : HiveCells)
-    (path : List (List ℕ)) (name : List ℕ) → IsHive bins root version bulk
-    → heap ≡ bins → hive_of bins root version ≡ h → nowhere ≡ key_place (look_up version heap) path root
+pub hive_no_key : (bins : Opened) (heap : List Bin) (root : ℕ) (version : HiveVersion) (bulk : ℕ) (h : HiveCells)
+    (path : List (List ℕ)) (name : List ℕ) → IsHive bins.bins root version bulk
+    → heap ≡ bins.bins → hive_of bins root version ≡ h → nowhere ≡ key_place (look_up version heap) path root
     → after_step (delete_value path name) h.tree ≡ refused no_key
 hive_no_key bins heap root version bulk h path name is e view none =
     subst (λ (g : HiveCells). after_step (delete_value path name) g.tree ≡ refused no_key) view
-    (let b = look_up version bins in
+    (let b = look_up version bins.bins in
     let here : key_place b path root ≡ nowhere =
     sym (none ∙ ap (λ (bs : List Bin). key_place (look_up version bs) path root) e) in
     no_key_there (tree_of b root) path name (no_place b path root (tree_of b root) is.stands here))
 
-pub hive_no_value : (bins heap : List Bin) (root : ℕ) (version : HiveVersion) (bulk : ℕ) (h : HiveCells)
-    (path : List (List ℕ)) (name : List ℕ) (x : ℕ) → IsHive bins root version bulk
-    → heap ≡ bins → hive_of bins root version ≡ h → some x ≡ key_place (look_up version heap) path root
+pub hive_no_value : (bins : Opened) (heap : List Bin) (root : ℕ) (version : HiveVersion) (bulk : ℕ) (h : HiveCells)
+    (path : List (List ℕ)) (name : List ℕ) (x : ℕ) → IsHive bins.bins root version bulk
+    → heap ≡ bins.bins → hive_of bins root version ≡ h → some x ≡ key_place (look_up version heap) path root
     → nowhere ≡ value_place (look_up version heap) name x
     → after_step (delete_value path name) h.tree ≡ refused no_value
 hive_no_value bins heap root version bulk h path name x is e view k none =
     subst (λ (g : HiveCells). after_step (delete_value path name) g.tree ≡ refused no_value) view
-    (let b = look_up version bins in
+    (let b = look_up version bins.bins in
     let here : key_place b path root ≡ some x =
     sym (k ∙ ap (λ (bs : List Bin). key_place (look_up version bs) path root) e) in
     let gone : value_place b name x ≡ nowhere =
@@ -503,39 +504,39 @@ record IsNamed (bins : List Bin) (root : ℕ) (version : HiveVersion) (path : Li
   key : key_place (look_up version bins) path root ≡ some x
   value : value_place (look_up version bins) name x ≡ some v
 
-is_named : (bins : List Bin) (root : ℕ) (version : HiveVersion) (h : HiveCells) (path : List (List ℕ)) (name : List ℕ)
+is_named : (bins : Opened) (root : ℕ) (version : HiveVersion) (h : HiveCells) (path : List (List ℕ)) (name : List ℕ)
     (x v : ℕ) → hive_of bins root version ≡ h
     → key_place (cells_in h) path h.root ≡ some x → value_place (cells_in h) name x ≡ some v
-    → IsNamed bins root version path name x v
+    → IsNamed bins.bins root version path name x v
 is_named bins root version h path name x v view k e = record {
   key = subst (λ (g : HiveCells). key_place (cells_in g) path g.root ≡ some x) (sym view) k;
   value = subst (λ (g : HiveCells). value_place (cells_in g) name x ≡ some v) (sym view) e;
 }
 
 -- a value of the hive can be taken out
-pub hive_can_take : (bins : List Bin) (root : ℕ) (version : HiveVersion) (bulk : ℕ) (h : HiveCells)
-    (path : List (List ℕ)) (name : List ℕ) (x v : ℕ) → IsHive bins root version bulk
+pub hive_can_take : (bins : Opened) (root : ℕ) (version : HiveVersion) (bulk : ℕ) (h : HiveCells)
+    (path : List (List ℕ)) (name : List ℕ) (x v : ℕ) → IsHive bins.bins root version bulk
     → hive_of bins root version ≡ h → key_place (cells_in h) path h.root ≡ some x
-    → value_place (cells_in h) name x ≡ some v → CanTake (look_up version bins) bins x v
+    → value_place (cells_in h) name x ≡ some v → CanTake (look_up version bins.bins) bins.bins x v
 hive_can_take bins root version bulk h path name x v is view k e =
     let n = is_named bins root version h path name x v view k e in
-    can_take version bins root (tree_of (look_up version bins) root) path name x v is.stands n.key n.value
+    can_take version bins.bins root (tree_of (look_up version bins.bins) root) path name x v is.stands n.key n.value
 
 -- the bulk without it
-pub hive_bulk : (bins heap : List Bin) (root : ℕ) (version : HiveVersion) (bulk : ℕ) (h : HiveCells)
+pub hive_bulk : (bins : Opened) (heap : List Bin) (root : ℕ) (version : HiveVersion) (bulk : ℕ) (h : HiveCells)
     (path : List (List ℕ)) (name : List ℕ) (x v count own less : ℕ)
-    → IsHive bins root version bulk → hive_of bins root version ≡ h → heap ≡ bins → bins_size bins ≤ 16777216
+    → IsHive bins.bins root version bulk → hive_of bins root version ≡ h → heap ≡ bins.bins → bins_size bins.bins ≤ 16777216
     → key_place (cells_in h) path h.root ≡ some x → value_place (cells_in h) name x ≡ some v
-    → ((n : KeyNode) → reading key_node_at (look_up version bins) x ≡ done n → count ≡ n.value_count)
+    → ((n : KeyNode) → reading key_node_at (look_up version bins.bins) x ≡ done n → count ≡ n.value_count)
     → ((i : Item) → item_at (look_up version heap) v ≡ done i → own ≡ item_size version i)
     → less ≡ own + list_room count - list_room (count - 1)
     → (less ≤ bulk) × (bulk - less ≡ bulk_of h.version (unset_tree path name h.tree))
 hive_bulk bins heap root version bulk h path name x v count own less is view same fit k e counts sizes l =
-    let b = look_up version bins in
+    let b = look_up version bins.bins in
     let t = tree_of b root in
     let n = is_named bins root version h path name x v view k e in
-    let c = can_take version bins root t path name x v is.stands n.key n.value in
-    let f = list_facts bins c.node.value_list c.node.value_count c.offsets c.listed in
+    let c = can_take version bins.bins root t path name x v is.stands n.key n.value in
+    let f = list_facts bins.bins c.node.value_list c.node.value_count c.offsets c.listed in
     let there = named_there b root t path name x v is.stands n.key n.value in
     let many : length c.offsets ≡ length (head there.key).values =
     items_length b c.offsets (head there.key).values
@@ -554,8 +555,8 @@ hive_bulk bins heap root version bulk h path name x v count own less is view sam
     (sym owned)
     (size_less version t there.key path name there.item there.found there.named)) in
     let d = sum bulk (size version [] t) (size version [] w) (list_room count) (list_room (count - 1)) own less
-    (bulk_is bins root version bulk is fit).exact
-    (bulk_is bins root version bulk is fit).low s (room_less count) l in
+    (bulk_is bins.bins root version bulk is fit).exact
+    (bulk_is bins.bins root version bulk is fit).low s (room_less count) l in
     (d.0, subst (λ (g : HiveCells). bulk - less ≡ bulk_of g.version (unset_tree path name g.tree)) view d.1)
   where
     sum : (n s u r q o l : ℕ) → n ≡ 32 + s → n ≤ 576460752303423488 → u + (r + o) ≡ s + q → q ≤ r → l ≡ o + r - q
@@ -563,15 +564,15 @@ hive_bulk bins heap root version bulk h path name x v count own less is view sam
     sum n s u r q o l a b e le is = (omega (arith, a, e, le, is), omega (arith, a, b, e, le, is))
 
 -- the step is made
-pub hive_unset : (bins : List Bin) (root : ℕ) (version : HiveVersion) (bulk : ℕ) (h : HiveCells) (path : List (List ℕ))
-    (name : List ℕ) (x v : ℕ) → IsHive bins root version bulk
+pub hive_unset : (bins : Opened) (root : ℕ) (version : HiveVersion) (bulk : ℕ) (h : HiveCells) (path : List (List ℕ))
+    (name : List ℕ) (x v : ℕ) → IsHive bins.bins root version bulk
     → hive_of bins root version ≡ h → key_place (cells_in h) path h.root ≡ some x
     → value_place (cells_in h) name x ≡ some v
     → after_step (delete_value path name) h.tree ≡ the_tree (unset_tree path name h.tree)
 hive_unset bins root version bulk h path name x v is view k e =
     let n = is_named bins root version h path name x v view k e in
-    let t = tree_of (look_up version bins) root in
-    let there = named_there (look_up version bins) root t path name x v is.stands n.key n.value in
+    let t = tree_of (look_up version bins.bins) root in
+    let there = named_there (look_up version bins.bins) root t path name x v is.stands n.key n.value in
     subst (λ (g : HiveCells). after_step (delete_value path name) g.tree ≡ the_tree (unset_tree path name g.tree)) view
     (unset_there t there.key path name there.item there.found there.named)
 
@@ -579,16 +580,16 @@ name_there : (cells : Cells) (v : ℕ) (h : IsItemHere cells v) → (k : KeyValu
 name_there cells v h = let f = item_facts cells v h in (f.value, f.read)
 
 -- where the value was taken out
-pub is_unset : (old new : List Bin) (root : ℕ) (version : HiveVersion) (bulk after : ℕ) (h : HiveCells)
-    (path : List (List ℕ)) (name : List ℕ) (x v : ℕ) → IsHive old root version bulk
+pub is_unset : (old new : Opened) (root : ℕ) (version : HiveVersion) (bulk after : ℕ) (h : HiveCells)
+    (path : List (List ℕ)) (name : List ℕ) (x v : ℕ) → IsHive old.bins root version bulk
     → hive_of old root version ≡ h → key_place (cells_in h) path h.root ≡ some x
-    → value_place (cells_in h) name x ≡ some v → TakesOut version old new x v
-    → IsBytes (spelled 0 new) → after ≡ bulk_of h.version (unset_tree path name h.tree)
+    → value_place (cells_in h) name x ≡ some v → TakesOut version old.bins new.bins x v
+    → IsBytes (spelled 0 new.bins) → after ≡ bulk_of h.version (unset_tree path name h.tree)
     → IsStepMade h new root version after (delete_value path name)
 is_unset old new root version bulk after h path name x v is view k e taken bytes counted =
     let n = is_named old root version h path name x v view k e in
-    let b = look_up version old in
-    let c = look_up version new in
+    let b = look_up version old.bins in
+    let c = look_up version new.bins in
     let t = tree_of b root in
     let u = unset_tree path name t in
     let there = named_there b root t path name x v is.stands n.key n.value in
@@ -606,14 +607,14 @@ is_unset old new root version bulk after h path name x v is view k e taken bytes
     (omega (arith, long))
     (none_counted b c root t u (delete_value path name) is.stands made (delete_counts_none t path name))
     (λ key among. absurd among)
-    (λ o given. dropped_free b new x v taken.front taken.back taken.places taken.freed taken.unlisted o
+    (λ o given. dropped_free b new.bins x v taken.front taken.back taken.places taken.freed taken.unlisted o
     (subst (λ (l : List ℕ). In l o) (dropped_there b path name root x v n.key n.value) given))
     (λ run j. absurd j)
 
 -- its cells are free
-pub frees_value : (old new : List Bin) (root : ℕ) (version : HiveVersion) (h : HiveCells) (path : List (List ℕ))
+pub frees_value : (old new : Opened) (root : ℕ) (version : HiveVersion) (h : HiveCells) (path : List (List ℕ))
     (name : List ℕ) (x v : ℕ) → hive_of old root version ≡ h → key_place (cells_in h) path h.root ≡ some x
-    → value_place (cells_in h) name x ≡ some v → TakesOut version old new x v
+    → value_place (cells_in h) name x ≡ some v → TakesOut version old.bins new.bins x v
     → FreesValue h path name (hive_of new root version)
 frees_value old new root version h path name x v view at place t = record {
   key = x;

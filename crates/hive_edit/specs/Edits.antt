@@ -7,7 +7,8 @@ use Rattle.hive_model.specs.Bins.{Bin, Cells, bins_size}
 use Rattle.hive_model.specs.KeyValue.{KeyValue, key_value_at, data_inside}
 use Rattle.hive_model.specs.Walk.{reading}
 use Rattle.hive_model.specs.Edit.{Step}
-use Rattle.hive_model.specs.Footprint.{IsInFootprint, key_place, strain_of}
+use Rattle.hive_model.specs.Footprint.{key_place, strain_of}
+use Rattle.hive_model.specs.Owned.{IsInFootprint}
 use Rattle.hive_model.specs.Packed.{packed_bins}
 use Rattle.hive_cells.specs.Held.{held_at}
 use Rattle.hive_cells.specs.Changes.{at_cell, with_part}

@@ -12,7 +12,7 @@ ghost use Rattle.hive_cells.specs.Sources.{cells_of};
 ghost use Rattle.hive_edit.specs.Children.{IsAddedIn, IsFreeName, IsGraftedIn, IsNewChild, LacksGraftRoom, MayGraft, RefusesName};
 ghost use Rattle.hive_edit.specs.Grafted.{descriptor_of};
 ghost use Rattle.hive_edit.specs.Runs.{IsPlace};
-ghost use Rattle.hive_edit.specs.Stepped.{IsStepped, LacksStepRoom};
+ghost use Rattle.hive_edit.specs.Stepped.{LacksStepRoom};
 ghost use Rattle.hive_edit.specs.Tells.{IsToldStep};
 
 use crate::adding::above_at;
@@ -24,7 +24,7 @@ use crate::path::child_at;
 use crate::telling::class_len;
 use cell_forms::read_sk;
 use hive_cells::{OpenHeap, Source};
-use hive_pack::{NOWHERE, list_len};
+use hive_pack::{NOWHERE, cells_below, list_len};
 use key_index::payload;
 use nt_bytes::{Bytes, HiveVersion, ReadStop, Units};
 use reg_tree::{EditStop, Key, LONGEST_KEY_NAME, is_bad_name};
@@ -139,11 +139,21 @@ impl HiveBytes {
         requires place { IsPlace bytes self.old.bins at }
         ensures grafted { IfOk result (λ done. MatchBool done (IsGraftedIn self.old above.security shared.now key.now self.new)
             (LacksGraftRoom self.old shared.now key.now)) }
+        ensures base { self.new.base ≡ self.old.base }
     {
         let bulk = grafted_bulk(self.bulk, above.count, own);
         let version = self.version;
         let root = self.root;
         offset_fits(root);
+        let run = cells_below(
+            alloc,
+            version,
+            root,
+            shared,
+            above.security,
+            at as usize,
+            key,
+        )?;
         let done = graft_cells(
             alloc,
             &mut self.cells,
@@ -153,6 +163,7 @@ impl HiveBytes {
             shared,
             key,
             at,
+            run.as_slice(),
         )?;
         if !done {
             return Ok(false);
@@ -180,6 +191,7 @@ impl HiveBytes {
         requires small { bytes ≤ 16777216 }
         ensures grafted { IfOk result (λ done. MatchBool done (IsGraftedIn self.old above.security shared.now key.now self.new)
             (LacksGraftRoom self.old shared.now key.now)) }
+        ensures base { self.new.base ≡ self.old.base }
     {
         match place_for(&self.cells, bytes) {
             None => Ok(false),
@@ -192,6 +204,7 @@ impl HiveBytes {
         requires new { IsNewChild self.old key.now }
         ensures added { IfOk result (λ done. MatchBool done (IsAddedIn self.old key.now self.new)
             (LacksGraftRoom self.old (head self.old.tree).security key.now)) }
+        ensures base { self.new.base ≡ self.old.base }
     {
         let source = Source {
             heap: self.cells.cells(),
@@ -209,43 +222,28 @@ impl HiveBytes {
         }
     }
 
-    /// Adds a key under a name that it may have.
+    /// Adds a key under a name that it may have; the root's node tells no less than the lengths of the name and of the class.
     fn add_named(&mut self, alloc: Global, name: &[u16], key: &Key) -> Result<bool, EditStop>
-        requires free { IsFreeName self.old name.now }
-        requires fits { Fits (add_child name.now key.now) }
-        ensures made { MatchResult result
-            (λ done. MatchBool done (IsStepped self.old (add_child name.now key.now) self.new) (LacksStepRoom self.old (add_child name.now key.now)))
-            (IsRefused (after_step (add_child name.now key.now) self.old.tree)) }
-    {
-        let _cells = &self.cells;
-        if key.is_deeper(511) {
-            return Err(EditStop::TooDeep);
-        }
-        let child = renamed(alloc, key, name)?;
-        match self.add_below_root(alloc, &child) {
-            Ok(true) => Ok(true),
-            Ok(false) => Ok(false),
-            Err(_) => Err(EditStop::Memory),
-        }
-    }
-
-    /// The same, and the root's node tells no less than the lengths of the name and of the class.
-    fn add_told(&mut self, alloc: Global, name: &[u16], key: &Key) -> Result<bool, EditStop>
         requires free { IsFreeName self.old name.now }
         requires fits { Fits (add_child name.now key.now) }
         ensures made { MatchResult result
             (λ done. MatchBool done (IsToldStep self.old (add_child name.now key.now) self.new) (LacksStepRoom self.old (add_child name.now key.now)))
             (IsRefused (after_step (add_child name.now key.now) self.old.tree)) }
+        ensures base { self.new.base ≡ self.old.base }
     {
         self.stands();
-        match self.add_named(alloc, name, key) {
+        if key.is_deeper(511) {
+            return Err(EditStop::TooDeep);
+        }
+        let child = renamed(alloc, key, name)?;
+        match self.add_below_root(alloc, &child) {
             Ok(true) => {
                 let class = class_len(key);
                 self.tell_child(alloc, name, class);
                 Ok(true)
             }
             Ok(false) => Ok(false),
-            Err(stop) => Err(stop),
+            Err(_) => Err(EditStop::Memory),
         }
     }
 
@@ -262,10 +260,11 @@ impl HiveBytes {
         ensures made { MatchResult result
             (λ done. MatchBool done (IsToldStep self.old (add_child name.now key.now) self.new) (LacksStepRoom self.old (add_child name.now key.now)))
             (IsRefused (after_step (add_child name.now key.now) self.old.tree)) }
+        ensures base { self.new.base ≡ self.old.base }
     {
         match self.judge_name(name) {
             Err(stop) => Err(stop),
-            Ok(()) => self.add_told(alloc, name, key),
+            Ok(()) => self.add_named(alloc, name, key),
         }
     }
 }

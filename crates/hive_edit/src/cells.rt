@@ -13,15 +13,15 @@ pub(crate) const MOST_BINS: u64 = 16_777_216;
 
 /// How many bytes the bins data have, at most 16 MiB.
 pub(crate) fn long(heap: &OpenHeap) -> u32
-    ensures long { result ≡ bins_size heap.now }
-    ensures fits { bins_size heap.now ≤ 16777216 }
+    ensures long { result ≡ bins_size heap.now.bins }
+    ensures fits { bins_size heap.now.bins ≤ 16777216 }
 {
     heap.bytes().len() as u32
 }
 
 /// What the bins data have are bytes.
 pub(crate) fn are_bytes(heap: &OpenHeap)
-    ensures { (i : ℕ) → slice_index (spelled 0 heap.now) i < 256 }
+    ensures { (i : ℕ) → slice_index (spelled 0 heap.now.bins) i < 256 }
 {
     bytes_small(heap.bytes());
 }
@@ -37,7 +37,7 @@ fn bytes_small(bytes: &[u8])
 pub(crate) fn place_for(heap: &OpenHeap, size: u32) -> Option<u32>
     requires some { 0 < size }
     requires few { size ≤ 16777216 }
-    ensures { MatchOption result (LacksPlace size heap.now) (IsPlace size heap.now) }
+    ensures { MatchOption result (LacksPlace size heap.now.bins) (IsPlace size heap.now.bins) }
 {
     let long = long(heap);
     match heap.fit(size) {
@@ -54,10 +54,11 @@ pub(crate) fn place_for(heap: &OpenHeap, size: u32) -> Option<u32>
 /// Puts a run into a new bin.
 fn put_behind(heap: &mut OpenHeap, at: u32, run: &[u8]) -> Result<(), AllocError>
     requires few { length run.now ≤ 16777216 }
-    requires place { IsNewPlace (length run.now) heap.old at }
+    requires place { IsNewPlace (length run.now) heap.old.bins at }
     requires run { IsRun run.now }
-    ensures put { OnOk result (IsRunPutAt (length run.now) at (run_cells run.now) heap.old heap.new) }
+    ensures put { OnOk result (IsRunPutAt (length run.now) at (run_cells run.now) heap.old.bins heap.new.bins) }
     ensures refused { OnErr result (heap.new ≡ heap.old) }
+    ensures base { heap.new.base ≡ heap.old.base }
 {
     match heap.grow(run.len() as u32)? {
         None => unreachable!(),
@@ -71,10 +72,11 @@ fn put_behind(heap: &mut OpenHeap, at: u32, run: &[u8]) -> Result<(), AllocError
 /// Puts a run of allocated cells at the place that `place_for` answers. The heap is as it was where there is no
 /// memory, which only a new bin takes.
 pub(crate) fn put_run(heap: &mut OpenHeap, at: u32, run: &[u8]) -> Result<(), AllocError>
-    requires place { IsPlace (length run.now) heap.old at }
+    requires place { IsPlace (length run.now) heap.old.bins at }
     requires run { IsRun run.now }
-    ensures put { OnOk result (IsRunPutAt (length run.now) at (run_cells run.now) heap.old heap.new) }
+    ensures put { OnOk result (IsRunPutAt (length run.now) at (run_cells run.now) heap.old.bins heap.new.bins) }
     ensures refused { OnErr result (heap.new ≡ heap.old) }
+    ensures base { heap.new.base ≡ heap.old.base }
 {
     if at > long(heap) {
         return put_behind(heap, at, run);

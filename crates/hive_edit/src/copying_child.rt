@@ -8,7 +8,7 @@ ghost use Rattle.hive_model.specs.Edit.{after_step, copy_child, has_child};
 ghost use Rattle.reg_tree.specs.Makes.{IsRefused};
 ghost use Rattle.hive_edit.specs.Children.{IsFreeName, IsGraftedIn, IsNewChild, LacksGraftRoom, MayGraft};
 ghost use Rattle.hive_edit.specs.Copying.{HasSecurityOf, IsCopiedIn, SharesChild};
-ghost use Rattle.hive_edit.specs.Stepped.{IsStepped, LacksStepRoom};
+ghost use Rattle.hive_edit.specs.Stepped.{LacksStepRoom};
 ghost use Rattle.hive_edit.specs.Tells.{IsToldStep};
 
 use crate::adding::above_at;
@@ -80,6 +80,7 @@ impl HiveBytes {
         requires few { own ≤ 16777216 }
         ensures grafted { IfOk result (λ done. MatchBool done (IsGraftedIn self.old above.security (head key.now).security key.now self.new)
             (LacksGraftRoom self.old (head key.now).security key.now)) }
+        ensures base { self.new.base ≡ self.old.base }
     {
         match size_below(self.version, key.security(), key) {
             None => Ok(false),
@@ -98,6 +99,7 @@ impl HiveBytes {
         requires like { HasSecurityOf self.old from.now key.now }
         ensures copied { IfOk result (λ done. MatchBool done (IsCopiedIn self.old from.now key.now self.new)
             (LacksGraftRoom self.old (head self.old.tree).security key.now)) }
+        ensures base { self.new.base ≡ self.old.base }
     {
         let place = self.shared_of(from);
         let source = Source {
@@ -118,33 +120,8 @@ impl HiveBytes {
         }
     }
 
-    /// Copies a child under a name that one may have.
+    /// Copies a child under a name that one may have; the root's node tells no less than the lengths of the name and of the class.
     fn copy_named(
-        &mut self,
-        alloc: Global,
-        from: &[u16],
-        to: &[u16],
-        key: &Key,
-    ) -> Result<bool, EditStop>
-        requires found { find (is_named from.now) (children self.old.tree) ≡ Some key.now }
-        requires free { IsFreeName self.old to.now }
-        requires holds { HoldsKeys key.now }
-        requires low { levels key.now ≤ 511 }
-        ensures made { MatchResult result
-            (λ done. MatchBool done (IsStepped self.old (copy_child from.now to.now) self.new) (LacksStepRoom self.old (copy_child from.now to.now)))
-            (IsRefused (after_step (copy_child from.now to.now) self.old.tree)) }
-    {
-        let _cells = &self.cells;
-        let child = renamed(alloc, key, to)?;
-        match self.copy_below_root(alloc, from, &child) {
-            Ok(true) => Ok(true),
-            Ok(false) => Ok(false),
-            Err(_) => Err(EditStop::Memory),
-        }
-    }
-
-    /// The same, and the root's node tells no less than the lengths of the name and of the class.
-    fn copy_told(
         &mut self,
         alloc: Global,
         from: &[u16],
@@ -158,16 +135,18 @@ impl HiveBytes {
         ensures made { MatchResult result
             (λ done. MatchBool done (IsToldStep self.old (copy_child from.now to.now) self.new) (LacksStepRoom self.old (copy_child from.now to.now)))
             (IsRefused (after_step (copy_child from.now to.now) self.old.tree)) }
+        ensures base { self.new.base ≡ self.old.base }
     {
         self.stands();
-        match self.copy_named(alloc, from, to, key) {
+        let child = renamed(alloc, key, to)?;
+        match self.copy_below_root(alloc, from, &child) {
             Ok(true) => {
                 let class = class_len(key);
                 self.tell_child(alloc, to, class);
                 Ok(true)
             }
             Ok(false) => Ok(false),
-            Err(stop) => Err(stop),
+            Err(_) => Err(EditStop::Memory),
         }
     }
 
@@ -183,13 +162,14 @@ impl HiveBytes {
         ensures made { MatchResult result
             (λ done. MatchBool done (IsToldStep self.old (copy_child from.now to.now) self.new) (LacksStepRoom self.old (copy_child from.now to.now)))
             (IsRefused (after_step (copy_child from.now to.now) self.old.tree)) }
+        ensures base { self.new.base ≡ self.old.base }
     {
         let path = path_of(alloc, from)?;
         match self.subtree(alloc, &path)? {
             None => Err(EditStop::NoKey),
             Some(key) => match self.judge_name(to) {
                 Err(stop) => Err(stop),
-                Ok(()) => self.copy_told(alloc, from, to, &key),
+                Ok(()) => self.copy_named(alloc, from, to, &key),
             },
         }
     }

@@ -1,8 +1,7 @@
 //! A key deleted in place, with all below it.
 
-ghost use Rattle.std.specs.Prelude.{◌≡◌, ◌≤◌, ◌<◌, ◌⊎◌, ℕ, [], ◌∷◌, length, map, slice_index, true, false, Some, Ok, Err, IfOk, IfErr, OnOk, OnErr, MatchBool, MatchOption, MatchResult};
+ghost use Rattle.std.specs.Prelude.{◌≡◌, ◌≤◌, ◌<◌, ◌⊎◌, [], ◌∷◌, length, map, true, false, Some, Ok, Err, IfOk, IfErr, OnOk, OnErr, MatchBool, MatchOption, MatchResult};
 ghost use Rattle.std.specs.List.{All};
-ghost use Rattle.std.specs.Option.{IfSome};
 ghost use Rattle.hive_model.specs.Size.{bulk_of};
 ghost use Rattle.hive_model.specs.Edit.{after_step, delete_key, edited, no_key, without_key};
 ghost use Rattle.hive_cells.specs.Sources.{cells_of};
@@ -18,12 +17,14 @@ ghost use Rattle.hive_edit.specs.Deleting.{levels_left, pair_place, DropsUses, I
 ghost use Rattle.hive_edit.specs.Deleted.{IsDeletedInPlace};
 
 use crate::adding::above_at;
+use crate::cells::are_bytes;
 use crate::dropping::take_child;
 use crate::hive::HiveBytes;
-use crate::key_size::{MANY, below_len, bulk_in, descriptor_at, list_len};
+use crate::key_size::{below_len, descriptor_at, list_len};
 use crate::path::child_at;
 use crate::uses::push_key;
 use hive_cells::{OpenHeap, Source};
+use key_index::bins_fit;
 use nt_bytes::{HiveVersion, Names, Row};
 use reg_tree::{EditStop, MOST_BULK, Steps, TreeStep};
 use std::alloc::{AllocError, Global};
@@ -88,10 +89,11 @@ fn take_pair(
     path: &Names,
     pair: KeyPair,
 ) -> Result<bool, AllocError>
-    requires { IsPairThere version root path.now pair heap.old }
-    ensures taken { IfOk result (λ done. MatchBool done (IsPairTaken version path.now pair heap.old heap.new)
-        (IsPairKept version pair heap.old heap.new)) }
+    requires { IsPairThere version root path.now pair heap.old.bins }
+    ensures taken { IfOk result (λ done. MatchBool done (IsPairTaken version path.now pair heap.old.bins heap.new.bins)
+        (IsPairKept version pair heap.old.bins heap.new.bins)) }
     ensures refused { OnErr result (heap.new ≡ heap.old) }
+    ensures base { heap.new.base ≡ heap.old.base }
 {
     let source = Source {
         heap: heap.cells(),
@@ -108,13 +110,6 @@ fn take_pair(
         pair.at,
         uses.as_slice(),
     )
-}
-
-/// Each is below 256.
-fn hold_bytes(bytes: &[u8])
-    ensures { (i : ℕ) → slice_index bytes.now i < 256 }
-{
-    let _whole = bytes;
 }
 
 /// The step that deletes a key.
@@ -144,37 +139,29 @@ impl HiveBytes {
         pair_at(&source, self.root, path)
     }
 
-    /// The bulk without a key. None where that is not known from its own cells and the lists of the key above.
+    /// The bulk without a key, by its own cells and the lists of the key above.
     fn bulk_without_key(
         &self,
         alloc: Global,
         path: &Names,
         pair: KeyPair,
-    ) -> Result<Option<u64>, AllocError>
+    ) -> Result<u64, AllocError>
         requires place { pair_place (cells_in self.now) path.now self.now.root ≡ Some pair }
-        ensures { IfOk result (λ r. IfSome r (λ n. n ≡ bulk_of self.now.version (without_key path.now self.now.tree))) }
+        ensures { IfOk result (λ n. n ≡ bulk_of self.now.version (without_key path.now self.now.tree)) }
     {
+        bins_fit(&self.cells);
         let source = Source {
             heap: self.cells.cells(),
             version: self.version,
         };
-        let bulk = self.bulk;
-        if bulk > MANY {
-            return Ok(None);
-        }
         let count = above_at(&source, pair.above).count;
         let shared = descriptor_at(&source, pair.above);
-        let own = below_len(alloc, &source, shared, pair.at)?;
-        match own {
-            None => Ok(None),
-            Some(below) => {
-                let less = list_len(count) + below;
-                Ok(Some(bulk + list_len(count - 1) - less))
-            }
-        }
+        let below = below_len(alloc, &source, shared, pair.at)?;
+        let less = list_len(count) + below;
+        Ok(self.bulk + list_len(count - 1) - less)
     }
 
-    /// Deletes the key in place, where the bulk without it is known. `false` where there is no room.
+    /// Deletes the key in place, where this is the bulk without it. `false` where there is no room.
     fn take_at(
         &mut self,
         alloc: Global,
@@ -188,55 +175,16 @@ impl HiveBytes {
         ensures drops { result ≡ Ok true → DropsUses self.old path.now self.new }
         ensures kept { result ≡ Ok false → self.new ≡ self.old }
         ensures refused { OnErr result (self.new ≡ self.old) }
+        ensures base { self.new.base ≡ self.old.base }
     {
         let version = self.version;
         let done = take_pair(alloc, &mut self.cells, version, self.root, path, pair)?;
         if !done {
             return Ok(false);
         }
-        hold_bytes(self.cells.bytes());
+        are_bytes(&self.cells);
         self.bulk = bulk;
         Ok(true)
-    }
-
-    /// Deletes the key in a copy of the cells, and counts the bulk of what remains by itself.
-    fn take_counted(
-        &mut self,
-        alloc: Global,
-        path: &Names,
-        pair: KeyPair,
-    ) -> Result<bool, AllocError>
-        requires { pair_place (cells_in self.old) path.now self.old.root ≡ Some pair }
-        ensures made { IfOk result (λ done. MatchBool done (IsStepped self.old (delete_key path.now) self.new) (LacksStepRoom self.old (delete_key path.now))) }
-        ensures drops { result ≡ Ok true → DropsUses self.old path.now self.new }
-        ensures kept { result ≡ Ok false → self.new ≡ self.old }
-        ensures refused { OnErr result (self.new ≡ self.old) }
-    {
-        let version = self.version;
-        let mut cells = self.cells.copy(alloc)?;
-        let done = take_pair(alloc, &mut cells, version, self.root, path, pair)?;
-        if !done {
-            return Ok(false);
-        }
-        hold_bytes(cells.bytes());
-        let bulk = bulk_in(alloc, &cells, version, self.root)?;
-        self.cells = cells;
-        self.bulk = bulk;
-        Ok(true)
-    }
-
-    /// Deletes the key that is there.
-    fn take_key(&mut self, alloc: Global, path: &Names, pair: KeyPair) -> Result<bool, AllocError>
-        requires { pair_place (cells_in self.old) path.now self.old.root ≡ Some pair }
-        ensures made { IfOk result (λ done. MatchBool done (IsStepped self.old (delete_key path.now) self.new) (LacksStepRoom self.old (delete_key path.now))) }
-        ensures drops { result ≡ Ok true → DropsUses self.old path.now self.new }
-        ensures kept { result ≡ Ok false → self.new ≡ self.old }
-        ensures refused { OnErr result (self.new ≡ self.old) }
-    {
-        match self.bulk_without_key(alloc, path, pair)? {
-            None => self.take_counted(alloc, path, pair),
-            Some(bulk) => self.take_at(alloc, path, pair, bulk),
-        }
     }
 
     /// Deletes the key that a path leads to, with all below it, whatever the bulk. `false` where there is no room for the
@@ -248,13 +196,15 @@ impl HiveBytes {
         ensures drops { result ≡ Ok true → DropsUses self.old path.now self.new }
         ensures kept { result ≡ Ok false → self.new ≡ self.old }
         ensures refused { OnErr result (self.new ≡ self.old) }
+        ensures base { self.new.base ≡ self.old.base }
     {
         match self.key_pair(path) {
             None => Err(EditStop::NoKey),
-            Some(pair) => match self.take_key(alloc, path, pair) {
-                Ok(done) => Ok(done),
-                Err(_) => Err(EditStop::Memory),
-            },
+            Some(pair) => {
+                let bulk = self.bulk_without_key(alloc, path, pair)?;
+                let done = self.take_at(alloc, path, pair, bulk)?;
+                Ok(done)
+            }
         }
     }
 
@@ -264,34 +214,13 @@ impl HiveBytes {
         ensures refused { OnErr result (self.new ≡ self.old) }
         ensures version { self.new.version ≡ self.old.version }
         ensures anew { OnOk result (IsPackedAnew self.new) }
+        ensures base { self.new.base ≡ self.old.base }
     {
         let steps = deleting(alloc, path)?;
         self.apply_anew(alloc, steps)
     }
 
-    /// Deletes a key in a copy of the cells, so that a refusal leaves nothing at the end. `false` where there is no room.
-    fn delete_drafted(&mut self, alloc: Global, path: &Names) -> Result<bool, EditStop>
-        ensures made { MatchResult result
-            (λ done. MatchBool done (IsDeletedInPlace self.old path.now self.new) (LacksStepRoom self.old (delete_key path.now)))
-            (IsRefused (edited self.old.version self.old.tree (delete_key path.now ∷ []))) }
-        ensures kept { result ≡ Ok false → self.new ≡ self.old }
-        ensures refused { OnErr result (self.new ≡ self.old) }
-    {
-        let mut draft = self.copy(alloc)?;
-        match draft.delete_key_step(alloc, path) {
-            Err(stop) => Err(stop),
-            Ok(false) => Ok(false),
-            Ok(true) => {
-                if draft.bulk() > MOST_BULK {
-                    return Err(EditStop::Full);
-                }
-                *self = draft;
-                Ok(true)
-            }
-        }
-    }
-
-    /// Deletes a key where the bulk without it is known. `false` where there is no room.
+    /// Deletes a key, where this is the bulk without it. `false` where there is no room.
     fn delete_judged(
         &mut self,
         alloc: Global,
@@ -307,6 +236,7 @@ impl HiveBytes {
             (IsRefused (edited self.old.version self.old.tree (delete_key path.now ∷ []))) }
         ensures kept { result ≡ Ok false → self.new ≡ self.old }
         ensures refused { OnErr result (self.new ≡ self.old) }
+        ensures base { self.new.base ≡ self.old.base }
     {
         if bulk > MOST_BULK {
             return Err(EditStop::Full);
@@ -324,13 +254,14 @@ impl HiveBytes {
             (IsRefused (edited self.old.version self.old.tree (delete_key path.now ∷ []))) }
         ensures kept { result ≡ Ok false → self.new ≡ self.old }
         ensures refused { OnErr result (self.new ≡ self.old) }
+        ensures base { self.new.base ≡ self.old.base }
     {
         match self.key_pair(path) {
             None => Err(EditStop::NoKey),
-            Some(pair) => match self.bulk_without_key(alloc, path, pair)? {
-                None => self.delete_drafted(alloc, path),
-                Some(bulk) => self.delete_judged(alloc, path, pair, bulk),
-            },
+            Some(pair) => {
+                let bulk = self.bulk_without_key(alloc, path, pair)?;
+                self.delete_judged(alloc, path, pair, bulk)
+            }
         }
     }
 
@@ -345,6 +276,7 @@ impl HiveBytes {
             ⊎ IsPackedForRoom self.old (delete_key path.now ∷ []) self.new) }
         ensures parents { OnOk result (KeepsParents self.old self.new) }
         ensures drops { OnOk result (DropsUses self.old path.now self.new ⊎ IsPackedForRoom self.old (delete_key path.now ∷ []) self.new) }
+        ensures base { self.new.base ≡ self.old.base }
     {
         if self.delete_in_place(alloc, path)? {
             return Ok(());

@@ -17,8 +17,9 @@ use std::alloc::{AllocError, Global};
 
 /// One key less uses the security cell, which stays even where none uses it.
 fn lower(heap: &mut OpenHeap, at: u32)
-    requires { IsSomeAnd (held_at heap.old at) (λ p. 20 ≤ length p) }
-    ensures { IsLowered at heap.old heap.new }
+    requires { IsSomeAnd (held_at heap.old.bins at) (λ p. 20 ≤ length p) }
+    ensures lowered { IsLowered at heap.old.bins heap.new.bins }
+    ensures base { heap.new.base ≡ heap.old.base }
 {
     let uses = uses_at(heap, at).saturating_sub(1);
     heap.patch(at, 12, &uses.to_le_bytes());
@@ -26,8 +27,9 @@ fn lower(heap: &mut OpenHeap, at: u32)
 
 /// Drops these cells: one that is used as security is counted again, each other one is freed.
 fn drop_uses(heap: &mut OpenHeap, uses: &[(u32, bool)])
-    requires { CanDrop heap.old uses.now }
-    ensures { AreDropped uses.now uses.now heap.old heap.new }
+    requires { CanDrop heap.old.bins uses.now }
+    ensures dropped { AreDropped uses.now uses.now heap.old.bins heap.new.bins }
+    ensures base { heap.new.base ≡ heap.old.base }
 {
     for used in uses {
         let (at, security) = *used;
@@ -48,11 +50,12 @@ fn shorten(
     above: Above,
     child: u32,
 ) -> Result<Option<u32>, AllocError>
-    requires siblings { ListsSiblings (look_up version heap.old) above.list above.count }
-    requires apart { AreApart (lists_at (look_up version heap.old) above.list above.count) }
-    ensures exact { IfOk result (λ r. MatchOption r (LacksRoomWithout version above child heap.old heap.new)
-        (AreShortened version above child heap.old heap.new)) }
+    requires siblings { ListsSiblings (look_up version heap.old.bins) above.list above.count }
+    requires apart { AreApart (lists_at (look_up version heap.old.bins) above.list above.count) }
+    ensures exact { IfOk result (λ r. MatchOption r (LacksRoomWithout version above child heap.old.bins heap.new.bins)
+        (AreShortened version above child heap.old.bins heap.new.bins)) }
     ensures refused { OnErr result (heap.new ≡ heap.old) }
+    ensures base { heap.new.base ≡ heap.old.base }
 {
     match remove_child(alloc, heap, version, above.list, above.count, child)? {
         Removal::NoRoom => Ok(None),
@@ -72,10 +75,11 @@ pub(crate) fn take_child(
     child: u32,
     uses: &[(u32, bool)],
 ) -> Result<bool, AllocError>
-    requires { CanRemove version parent above uses.now heap.old }
-    ensures removed { IfOk result (λ done. MatchBool done (IsRemoved version parent above child uses.now heap.old heap.new)
-        (LacksRoomWithout version above child heap.old heap.new)) }
+    requires { CanRemove version parent above uses.now heap.old.bins }
+    ensures removed { IfOk result (λ done. MatchBool done (IsRemoved version parent above child uses.now heap.old.bins heap.new.bins)
+        (LacksRoomWithout version above child heap.old.bins heap.new.bins)) }
     ensures refused { OnErr result (heap.new ≡ heap.old) }
+    ensures base { heap.new.base ≡ heap.old.base }
 {
     match shorten(alloc, heap, version, above, child)? {
         None => Ok(false),

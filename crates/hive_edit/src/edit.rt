@@ -13,7 +13,7 @@ ghost use Rattle.hive_model.specs.Valid.{IsValid, longest_data};
 ghost use Rattle.hive_model.specs.Stands.{IsWellFormed};
 ghost use Rattle.reg_tree.specs.Makes.{IsRefused, Makes, step_of};
 ghost use Rattle.reg_tree.specs.declared.stop.EditStop.TheVariants.{Full, Memory};
-ghost use Rattle.hive_edit.specs.Hive.{cells_in};
+ghost use Rattle.hive_edit.specs.Hive.{cells_in, settled_as};
 ghost use Rattle.hive_edit.specs.Edits.{inside_place, value_fields, IsEditedInPlace, IsPackedAnew, IsPackedForRoom, KeepsParents, WritesFields};
 ghost use Rattle.hive_edit.specs.Stepped.{IsStepped};
 ghost use Rattle.hive_edit.specs.Tells.{IsToldStep};
@@ -115,6 +115,16 @@ impl HiveBytes {
         of_packed(alloc, &tree, version)
     }
 
+    /// Takes the cells of another hive, and keeps what they were when they were settled last.
+    fn replace(&mut self, other: HiveBytes)
+        ensures { self.new ≡ settled_as self.old.base other }
+    {
+        self.cells.replace(other.cells);
+        self.root = other.root;
+        self.version = other.version;
+        self.bulk = other.bulk;
+    }
+
     /// Makes the steps in order, all or none, and repacks the tree.
     pub(crate) fn apply_anew(&mut self, alloc: Global, steps: Steps) -> Result<(), EditStop>
         requires fits { All Fits (map step_of steps) }
@@ -122,9 +132,10 @@ impl HiveBytes {
         ensures refused { OnErr result (self.new ≡ self.old) }
         ensures version { self.new.version ≡ self.old.version }
         ensures anew { OnOk result (IsPackedAnew self.new) }
+        ensures base { self.new.base ≡ self.old.base }
     {
         let after = self.packed_anew(alloc, steps)?;
-        *self = after;
+        self.replace(after);
         Ok(())
     }
 
@@ -137,6 +148,7 @@ impl HiveBytes {
         ensures version { self.new.version ≡ self.old.version }
         ensures cells { OnOk result (IsEditedInPlace self.old (map step_of steps) self.new ⊎ IsPackedForRoom self.old (map step_of steps) self.new) }
         ensures parents { OnOk result (KeepsParents self.old self.new) }
+        ensures base { self.new.base ≡ self.old.base }
     {
         self.stands();
         let mut draft = self.copy(alloc)?;
@@ -161,6 +173,7 @@ impl HiveBytes {
         ensures version { self.new.version ≡ self.old.version }
         ensures cells { OnOk result (IsEditedInPlace self.old (map step_of steps) self.new ⊎ IsPackedForRoom self.old (map step_of steps) self.new) }
         ensures parents { OnOk result (KeepsParents self.old self.new) }
+        ensures base { self.new.base ≡ self.old.base }
     {
         match steps.as_slice() {
             [
@@ -190,6 +203,7 @@ impl HiveBytes {
         ensures refused { OnErr result (self.new ≡ self.old) }
         ensures version { self.new.version ≡ self.old.version }
         ensures anew { OnOk result (IsPackedAnew self.new) }
+        ensures base { self.new.base ≡ self.old.base }
     {
         let steps = setting(alloc, path, name, kind, bytes)?;
         self.apply_anew(alloc, steps)
@@ -216,6 +230,7 @@ impl HiveBytes {
         ensures freed { result ≡ Ok true → FreesData self.old path.now name.now self.new }
         ensures no_room { result ≡ Ok false → (u : Tree) → edited self.old.version self.old.tree (set_value path.now name.now kind bytes.now ∷ []) ≡ Ok u
             → 16777216 < strain_of self.old.version (bins_size self.old.bins) self.old.tree (set_value path.now name.now kind bytes.now ∷ []) }
+        ensures base { self.new.base ≡ self.old.base }
     {
         if self.set_there(alloc, path, name, kind, bytes)? {
             return Ok(true);
@@ -241,6 +256,7 @@ impl HiveBytes {
         ensures parents { OnOk result (KeepsParents self.old self.new) }
         ensures freed { OnOk result (FreesData self.old path.now name.now self.new
             ⊎ IsPackedForRoom self.old (set_value path.now name.now kind bytes.now ∷ []) self.new) }
+        ensures base { self.new.base ≡ self.old.base }
     {
         if bytes.len() > LONGEST_DATA {
             return self.set_anew(alloc, path, name, kind, bytes);
@@ -258,6 +274,7 @@ impl HiveBytes {
         ensures stepped { IsStepped self.old (set_value path.now name.now kind bytes.now) self.new }
         ensures bulk { bulk_of self.old.version self.new.tree ≡ bulk_of self.old.version self.old.tree }
         ensures written { WritesFields at (value_fields (2147483648 + length bytes.now) (from_le_bytes w32 bytes.now) kind) self.old.bins self.new.bins }
+        ensures base { self.new.base ≡ self.old.base }
     {
         let fields = inside_fields(kind, bytes);
         self.cells.patch(at, 4, &fields);
@@ -272,6 +289,7 @@ impl HiveBytes {
         ensures bulk { bulk_of self.old.version self.new.tree ≡ bulk_of self.old.version self.old.tree }
         ensures written { WritesValue self.old path.now at (value_fields (2147483648 + length bytes.now) (from_le_bytes w32 bytes.now) kind)
             (length bytes.now) self.new }
+        ensures base { self.new.base ≡ self.old.base }
     {
         self.stands();
         self.write_inside(path, name, at, kind, bytes);
@@ -308,6 +326,7 @@ impl HiveBytes {
             → OnOk result (WritesValue self.old path.now at (value_fields (2147483648 + length bytes.now) (from_le_bytes w32 bytes.now) kind) (length bytes.now) self.new) }
         ensures no_memory { is_some (inside_place (cells_in self.old) path.now name.now self.old.root) ≡ true → length bytes.now ≤ 4
             → IfErr result (λ stop. stop ≡ Full) }
+        ensures base { self.new.base ≡ self.old.base }
     {
         let size = bytes.len();
         if size > 4 {

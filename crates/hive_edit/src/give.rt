@@ -71,14 +71,15 @@ fn data_run(
 
 /// Writes the fields of the value at an offset, and frees these cells.
 fn refer(heap: &mut OpenHeap, at: u32, fields: &[u8; 12], gone: &[u32])
-    requires room { IsSomeAnd (held_at heap.old at) (λ p. 16 ≤ length p) }
-    requires held { All (λ o. IsSome (held_at heap.old o)) gone.now }
+    requires room { IsSomeAnd (held_at heap.old.bins at) (λ p. 16 ≤ length p) }
+    requires held { All (λ o. IsSome (held_at heap.old.bins o)) gone.now }
     requires apart { AreApart gone.now }
     requires outside { Contains gone.now at → ⊥ }
-    ensures here { held_at heap.new at ≡ option_map (patched 4 fields.now) (held_at heap.old at) }
-    ensures freed { (o : ℕ) → Contains gone.now o → held_at heap.new o ≡ None }
-    ensures others { (o : ℕ) → (o ≡ at → ⊥) → (Contains gone.now o → ⊥) → held_at heap.new o ≡ held_at heap.old o }
-    ensures long { bins_size heap.new ≡ bins_size heap.old }
+    ensures here { held_at heap.new.bins at ≡ option_map (patched 4 fields.now) (held_at heap.old.bins at) }
+    ensures freed { (o : ℕ) → Contains gone.now o → held_at heap.new.bins o ≡ None }
+    ensures others { (o : ℕ) → (o ≡ at → ⊥) → (Contains gone.now o → ⊥) → held_at heap.new.bins o ≡ held_at heap.old.bins o }
+    ensures long { bins_size heap.new.bins ≡ bins_size heap.old.bins }
+    ensures base { heap.new.base ≡ heap.old.base }
 {
     heap.patch(at, 4, fields);
     free_all(heap, gone);
@@ -97,13 +98,14 @@ fn give_at(
 ) -> Result<(), AllocError>
     requires some { 4 < length bytes.now }
     requires few { length bytes.now ≤ longest_data }
-    requires room { IsSomeAnd (held_at heap.old at) (λ p. 16 ≤ length p) }
-    requires held { All (λ o. IsSome (held_at heap.old o)) gone.now }
+    requires room { IsSomeAnd (held_at heap.old.bins at) (λ p. 16 ≤ length p) }
+    requires held { All (λ o. IsSome (held_at heap.old.bins o)) gone.now }
     requires apart { AreApart gone.now }
     requires outside { Contains gone.now at → ⊥ }
-    requires place { IsPlace (data_size version bytes.now) heap.old place }
-    ensures given { OnOk result (IsGiven version at kind bytes.now gone.now heap.old heap.new) }
+    requires place { IsPlace (data_size version bytes.now) heap.old.bins place }
+    ensures given { OnOk result (IsGiven version at kind bytes.now gone.now heap.old.bins heap.new.bins) }
     ensures refused { OnErr result (heap.new ≡ heap.old) }
+    ensures base { heap.new.base ≡ heap.old.base }
 {
     let run = data_run(alloc, version, place, bytes)?;
     put_run(heap, place, run.as_slice())?;
@@ -124,12 +126,13 @@ pub(crate) fn give(
     gone: &[u32],
 ) -> Result<bool, AllocError>
     requires few { length bytes.now ≤ longest_data }
-    requires room { IsSomeAnd (held_at heap.old at) (λ p. 16 ≤ length p) }
-    requires held { All (λ o. IsSome (held_at heap.old o)) gone.now }
+    requires room { IsSomeAnd (held_at heap.old.bins at) (λ p. 16 ≤ length p) }
+    requires held { All (λ o. IsSome (held_at heap.old.bins o)) gone.now }
     requires apart { AreApart gone.now }
     requires outside { Contains gone.now at → ⊥ }
-    ensures given { IfOk result (Gives version at kind bytes.now gone.now heap.old heap.new) }
+    ensures given { IfOk result (Gives version at kind bytes.now gone.now heap.old.bins heap.new.bins) }
     ensures refused { OnErr result (heap.new ≡ heap.old) }
+    ensures base { heap.new.base ≡ heap.old.base }
 {
     if bytes.len() <= 4 {
         let fields = inside_fields(kind, bytes);

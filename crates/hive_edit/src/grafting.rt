@@ -1,5 +1,5 @@
-//! The cells of a key that is put below the root with all below it: one run, new lists of the root, and the count of the security
-//! that it shares.
+//! The cells of a key that is put below another with all below it: one run, new lists of the key above, and the count of the
+//! security that it shares.
 
 ghost use Rattle.std.specs.Prelude.{◌≡◌, ◌≤◌, ◌<◌, ◌⊎◌, length, IfOk, MatchBool, OnErr};
 ghost use Rattle.std.specs.Option.{IsSomeAnd};
@@ -7,12 +7,12 @@ ghost use Rattle.hive_model.specs.Packed.{sharers};
 ghost use Rattle.hive_model.specs.Walk.{nowhere};
 ghost use Rattle.hive_cells.specs.Held.{held_at};
 ghost use Rattle.hive_edit.specs.Making.{IsLinkable, LacksListRoom};
-ghost use Rattle.hive_edit.specs.Grafted.{CanGraft, IsGrafted, IsLinkedBy, IsRaisedBy, IsRunPut, LacksGraftLists, sharing};
+ghost use Rattle.hive_edit.specs.Grafted.{run_of, sharing, CanGraft, IsGrafted, IsLinkedBy, IsRaisedBy, IsRunPut, LacksGraftLists};
 
 use crate::cells::put_run;
 use crate::making::{Above, note, uses_at};
 use hive_cells::OpenHeap;
-use hive_pack::{NOWHERE, cells_below, sharing_keys, tree_fits};
+use hive_pack::{NOWHERE, sharing_keys, tree_fits};
 use key_index::insert_child;
 use nt_bytes::HiveVersion;
 use reg_tree::Key;
@@ -20,8 +20,9 @@ use std::alloc::{AllocError, Global};
 
 /// That many keys more use the security cell, if there is one.
 fn raise_by(heap: &mut OpenHeap, at: u32, keys: u32)
-    requires { (at ≡ nowhere → ⊥) → IsSomeAnd (held_at heap.old at) (λ p. 20 ≤ length p) }
-    ensures { IsRaisedBy at keys heap.old heap.new }
+    requires { (at ≡ nowhere → ⊥) → IsSomeAnd (held_at heap.old.bins at) (λ p. 20 ≤ length p) }
+    ensures raised { IsRaisedBy at keys heap.old.bins heap.new.bins }
+    ensures base { heap.new.base ≡ heap.old.base }
 {
     if at == NOWHERE {
         return;
@@ -41,10 +42,11 @@ fn link_by(
     child: u32,
     keys: u32,
 ) -> Result<bool, AllocError>
-    requires linkable { IsLinkable version parent above child heap.old }
-    ensures linked { IfOk result (λ done. MatchBool done (IsLinkedBy version parent above child keys heap.old heap.new)
-        (LacksListRoom version above child heap.old heap.new)) }
+    requires linkable { IsLinkable version parent above child heap.old.bins }
+    ensures linked { IfOk result (λ done. MatchBool done (IsLinkedBy version parent above child keys heap.old.bins heap.new.bins)
+        (LacksListRoom version above child heap.old.bins heap.new.bins)) }
     ensures refused { OnErr result (heap.new ≡ heap.old) }
+    ensures base { heap.new.base ≡ heap.old.base }
 {
     match insert_child(alloc, heap, version, above.list, above.count, child)? {
         None => Ok(false),
@@ -67,8 +69,8 @@ fn sharing(shared: &[u8], key: &Key) -> u32
     sharing_keys(shared, key)
 }
 
-/// Puts the cells of a key and of all below it at a place that has room for them, and names the key in new lists of its
-/// parent. `false` where there is no room for the lists; the run stands there then, and nothing names it.
+/// Puts a run at a place that has room for it, which is the cells of a key and of all below it, and names the key in new lists
+/// of its parent. `false` where there is no room for the lists; the run stands there then, and nothing names it.
 pub(crate) fn graft_cells(
     alloc: Global,
     heap: &mut OpenHeap,
@@ -78,23 +80,17 @@ pub(crate) fn graft_cells(
     shared: &[u8],
     key: &Key,
     at: u32,
+    run: &[u8],
 ) -> Result<bool, AllocError>
-    requires can { CanGraft version parent above shared.now key.now at heap.old }
-    ensures grafted { IfOk result (λ done. MatchBool done (IsGrafted version parent above shared.now key.now at heap.old heap.new)
-        (LacksGraftLists version parent above shared.now key.now at heap.old heap.new)) }
-    ensures refused { OnErr result ((heap.new ≡ heap.old) ⊎ IsRunPut version parent above shared.now key.now at heap.old heap.new) }
+    requires can { CanGraft version parent above shared.now key.now at heap.old.bins }
+    requires run { run.now ≡ run_of version parent above shared.now key.now at }
+    ensures grafted { IfOk result (λ done. MatchBool done (IsGrafted version parent above shared.now key.now at heap.old.bins heap.new.bins)
+        (LacksGraftLists version parent above shared.now key.now at heap.old.bins heap.new.bins)) }
+    ensures refused { OnErr result ((heap.new.bins ≡ heap.old.bins) ⊎ IsRunPut version parent above shared.now key.now at heap.old.bins heap.new.bins) }
+    ensures base { heap.new.base ≡ heap.old.base }
 {
     tree_fits(key);
-    let run = cells_below(
-        alloc,
-        version,
-        parent,
-        shared,
-        above.security,
-        at as usize,
-        key,
-    )?;
     let keys = sharing(shared, key);
-    put_run(heap, at, run.as_slice())?;
+    put_run(heap, at, run)?;
     link_by(alloc, heap, version, parent, above, at, keys)
 }

@@ -1,13 +1,14 @@
 //! A hive as its cells.
 
-ghost use Rattle.std.specs.Prelude.{◌≡◌, [], Some, None, is_some, Ok, IfOk};
+ghost use Rattle.std.specs.Prelude.{◌≡◌, [], length, Some, None, is_some, Ok, IfOk};
 ghost use Rattle.hive_model.specs.Bins.{IsHeap, bins_size, spelled};
 ghost use Rattle.hive_model.specs.Size.{bulk_of};
 ghost use Rattle.hive_model.specs.Tree.{Tree, find_key};
 ghost use Rattle.hive_model.specs.Valid.{IsValid};
 ghost use Rattle.hive_model.specs.Stands.{IsWellFormed};
 ghost use Rattle.hive_edit.specs.Found.{found_dword, found_names, FitsBelow};
-ghost use Rattle.hive_edit.specs.Hive.{cells_in, Takes};
+ghost use Rattle.hive_edit.specs.Hive.{cells_in, settled_as, Takes};
+ghost use Rattle.saved_pages.specs.Overlay.{before, IsCovered};
 
 use crate::children::child_names;
 use crate::path::key_at;
@@ -16,6 +17,7 @@ use hive_cells::{CellHeap, OpenHeap, Source};
 use hive_read::{judge, read_tree};
 use nt_bytes::{HiveVersion, Names, ReadStop};
 use reg_tree::Key;
+use saved_pages::SavedPages;
 use std::alloc::{AllocError, Global};
 use std::marker::Model;
 
@@ -37,7 +39,7 @@ impl Model for HiveBytes {
 
     ghost view = { λ a. hive_of a.cells a.root a.version };
 
-    ghost invariant = { λ a. IsHive a.cells a.root a.version a.bulk };
+    ghost invariant = { λ a. IsHive a.cells.bins a.root a.version a.bulk };
 }
 
 impl HiveBytes {
@@ -68,6 +70,21 @@ impl HiveBytes {
         ensures sound { IsHeap self.now.bins }
     {
         self.cells.bytes()
+    }
+
+    /// The pages of the bins data that were kept since these were settled last, before each was changed first.
+    pub fn pages(&self) -> &SavedPages
+        ensures base { before result.now (spelled 0 self.now.bins) ≡ self.now.base }
+        ensures covered { IsCovered result.now (length (spelled 0 self.now.bins)) }
+    {
+        self.cells.pages()
+    }
+
+    /// Settles the bins data as they are. No memory is taken.
+    pub fn settle(&mut self)
+        ensures { self.new ≡ settled_as (spelled 0 self.old.bins) self.old }
+    {
+        self.cells.settle();
     }
 
     /// How many bytes the bins data have.

@@ -24,7 +24,7 @@ ghost use Rattle.hive_edit.specs.Hive.{cells_in};
 ghost use Rattle.hive_edit.specs.NewValue.{added_cells, added_size, CanAdd, IsNewIn, IsRelistedAt, LacksRoomForValue, ListsThese, NeverSets, PutsValue, set_tree};
 ghost use Rattle.hive_edit.specs.Places.{value_place};
 ghost use Rattle.hive_edit.specs.Runs.{IsPlace};
-ghost use Rattle.hive_edit.specs.Stepped.{IsStepped, LacksStepRoom};
+ghost use Rattle.hive_edit.specs.Stepped.{LacksStepRoom};
 ghost use Rattle.hive_edit.specs.Tells.{IsToldStep};
 ghost use Rattle.hive_model.specs.Valid.{longest_data, longest_value_name};
 
@@ -49,9 +49,9 @@ use std::alloc::{AllocError, Global};
 
 /// The bytes of the value list of that many; none where there is none.
 fn list_bytes(heap: &OpenHeap, list: u32, count: u32) -> &[u8]
-    requires { (offsets : List ℕ) × ListsThese heap.now list count offsets }
+    requires { (offsets : List ℕ) × ListsThese heap.now.bins list count offsets }
     ensures long { 4 * count ≤ length result.now }
-    ensures offsets { (offsets : List ℕ) → ListsThese heap.now list count offsets → numbers_in 4 count result.now ≡ offsets }
+    ensures offsets { (offsets : List ℕ) → ListsThese heap.now.bins list count offsets → numbers_in 4 count result.now ≡ offsets }
 {
     if count == 0 {
         return &[];
@@ -207,10 +207,11 @@ fn added_len(version: HiveVersion, count: u32, name: &[u16], size: u32) -> u64
 
 /// Frees the value list of that many, if there is one.
 fn free_list(heap: &mut OpenHeap, list: u32, count: u32)
-    requires { (count ≡ 0 → ⊥) → IsSome (held_at heap.old list) }
-    ensures freed { (count ≡ 0 → ⊥) → held_at heap.new list ≡ None }
-    ensures others { (o : ℕ) → ((count ≡ 0 → ⊥) → o ≡ list → ⊥) → held_at heap.new o ≡ held_at heap.old o }
-    ensures long { bins_size heap.new ≡ bins_size heap.old }
+    requires { (count ≡ 0 → ⊥) → IsSome (held_at heap.old.bins list) }
+    ensures freed { (count ≡ 0 → ⊥) → held_at heap.new.bins list ≡ None }
+    ensures others { (o : ℕ) → ((count ≡ 0 → ⊥) → o ≡ list → ⊥) → held_at heap.new.bins o ≡ held_at heap.old.bins o }
+    ensures long { bins_size heap.new.bins ≡ bins_size heap.old.bins }
+    ensures base { heap.new.base ≡ heap.old.base }
 {
     if count > 0 {
         heap.free(list);
@@ -227,13 +228,14 @@ fn relist(
     run: &[u8],
 ) -> Result<(), AllocError>
     requires few { count ≤ 4194304 }
-    requires place { IsPlace (length run.now) heap.old place }
+    requires place { IsPlace (length run.now) heap.old.bins place }
     requires run { IsRun run.now }
-    requires node { IsSomeAnd (held_at heap.old key) (λ p. 76 ≤ length p) }
-    requires list { (count ≡ 0 → ⊥) → IsSome (held_at heap.old list) }
+    requires node { IsSomeAnd (held_at heap.old.bins key) (λ p. 76 ≤ length p) }
+    requires list { (count ≡ 0 → ⊥) → IsSome (held_at heap.old.bins list) }
     requires apart { (count ≡ 0 → ⊥) → list ≡ key → ⊥ }
-    ensures put { OnOk result (IsRelistedAt key list count place run.now heap.old heap.new) }
+    ensures put { OnOk result (IsRelistedAt key list count place run.now heap.old.bins heap.new.bins) }
     ensures refused { OnErr result (heap.new ≡ heap.old) }
+    ensures base { heap.new.base ≡ heap.old.base }
 {
     put_run(heap, place, run)?;
     let fields = two_fields(count + 1, place);
@@ -253,13 +255,14 @@ fn add_at(
     kind: u32,
     bytes: &[u8],
 ) -> Result<(), AllocError>
-    requires can { CanAdd (look_up version heap.old) heap.old key }
-    requires place { (n : KeyNode) → reading key_node_at (look_up version heap.old) key ≡ Ok n
-        → IsPlace (added_size version n.value_count (item name.now kind bytes.now)) heap.old place }
+    requires can { CanAdd (look_up version heap.old.bins) heap.old.bins key }
+    requires place { (n : KeyNode) → reading key_node_at (look_up version heap.old.bins) key ≡ Ok n
+        → IsPlace (added_size version n.value_count (item name.now kind bytes.now)) heap.old.bins place }
     requires short { length name.now ≤ longest_value_name }
     requires few { length bytes.now ≤ longest_data }
-    ensures put { OnOk result (PutsValue version heap.old heap.new key (item name.now kind bytes.now)) }
+    ensures put { OnOk result (PutsValue version heap.old.bins heap.new.bins key (item name.now kind bytes.now)) }
     ensures refused { OnErr result (heap.new ≡ heap.old) }
+    ensures base { heap.new.base ≡ heap.old.base }
 {
     bins_fit(heap);
     let (count, list) = values_of(heap, version, key);
@@ -280,12 +283,13 @@ fn add_value(
     kind: u32,
     bytes: &[u8],
 ) -> Result<bool, AllocError>
-    requires can { CanAdd (look_up version heap.old) heap.old key }
+    requires can { CanAdd (look_up version heap.old.bins) heap.old.bins key }
     requires short { length name.now ≤ longest_value_name }
     requires few { length bytes.now ≤ longest_data }
-    ensures put { IfOk result (λ done. MatchBool done (PutsValue version heap.old heap.new key (item name.now kind bytes.now))
-        (LacksRoomForValue version heap.old key (item name.now kind bytes.now) × (heap.new ≡ heap.old))) }
+    ensures put { IfOk result (λ done. MatchBool done (PutsValue version heap.old.bins heap.new.bins key (item name.now kind bytes.now))
+        (LacksRoomForValue version heap.old.bins key (item name.now kind bytes.now) × (heap.new ≡ heap.old))) }
     ensures refused { OnErr result (heap.new ≡ heap.old) }
+    ensures base { heap.new.base ≡ heap.old.base }
 {
     let (count, _list) = values_of(heap, version, key);
     let size = added_len(version, count, name, bytes.len() as u32);
@@ -338,37 +342,10 @@ impl HiveBytes {
         self.bulk + more - list_len(count)
     }
 
-    /// Puts a value of a new name into a key, whatever the bulk then, which is reported. `false` where there is no room for it;
-    /// the hive is as before then, and where there is no memory.
+    /// Puts a value of a new name into a key, whatever the bulk then, which is reported; the key's node tells no less than the
+    /// lengths of the name and of the data. `false` where there is no room for it; the hive is as before then, and where
+    /// there is no memory.
     fn put_new(
-        &mut self,
-        alloc: Global,
-        path: &Names,
-        name: &[u16],
-        key: u32,
-        kind: u32,
-        bytes: &[u8],
-        bulk: u64,
-    ) -> Result<bool, AllocError>
-        requires new { IsNewIn self.old path.now name.now key }
-        requires few { length bytes.now ≤ longest_data }
-        requires bulk { bulk ≡ bulk_of self.old.version (set_tree path.now name.now kind bytes.now self.old.tree) }
-        ensures stepped { IfOk result (λ done. MatchBool done (IsStepped self.old (set_value path.now name.now kind bytes.now) self.new)
-            (LacksStepRoom self.old (set_value path.now name.now kind bytes.now) × (self.new ≡ self.old))) }
-        ensures bulk { result ≡ Ok true → bulk ≡ bulk_of self.old.version self.new.tree }
-        ensures refused { OnErr result (self.new ≡ self.old) }
-    {
-        let version = self.version;
-        if add_value(alloc, &mut self.cells, version, key, name, kind, bytes)? {
-            self.bulk = bulk;
-            are_bytes(&self.cells);
-            return Ok(true);
-        }
-        Ok(false)
-    }
-
-    /// The same, and the key's node tells no less than the lengths of the name and of the data.
-    fn put_told(
         &mut self,
         alloc: Global,
         path: &Names,
@@ -385,9 +362,13 @@ impl HiveBytes {
             (LacksStepRoom self.old (set_value path.now name.now kind bytes.now) × (self.new ≡ self.old))) }
         ensures bulk { result ≡ Ok true → bulk ≡ bulk_of self.old.version self.new.tree }
         ensures refused { OnErr result (self.new ≡ self.old) }
+        ensures base { self.new.base ≡ self.old.base }
     {
         self.stands();
-        if self.put_new(alloc, path, name, key, kind, bytes, bulk)? {
+        let version = self.version;
+        if add_value(alloc, &mut self.cells, version, key, name, kind, bytes)? {
+            self.bulk = bulk;
+            are_bytes(&self.cells);
             let wide = wide_len(name);
             self.tell(path, VALUES, wide, bytes.len() as u32);
             return Ok(true);
@@ -417,12 +398,13 @@ impl HiveBytes {
         ensures done { result ≡ Ok true → IsEditedInPlace self.old (set_value path.now name.now kind bytes.now ∷ []) self.new }
         ensures no_room { result ≡ Ok false → (u : Tree) → edited self.old.version self.old.tree (set_value path.now name.now kind bytes.now ∷ []) ≡ Ok u
             → 16777216 < strain_of self.old.version (bins_size self.old.bins) self.old.tree (set_value path.now name.now kind bytes.now ∷ []) }
+        ensures base { self.new.base ≡ self.old.base }
     {
         let bulk = self.bulk_with(path, name, key, kind, bytes);
         if bulk > MOST_BULK {
             return Err(EditStop::Full);
         }
-        if self.put_told(alloc, path, name, key, kind, bytes, bulk)? {
+        if self.put_new(alloc, path, name, key, kind, bytes, bulk)? {
             return Ok(true);
         }
         Ok(false)
@@ -450,6 +432,7 @@ impl HiveBytes {
         ensures no_room { result ≡ Ok false → place_in (cells_in self.old) path.now name.now self.old.root ≡ None
             → (u : Tree) → edited self.old.version self.old.tree (set_value path.now name.now kind bytes.now ∷ []) ≡ Ok u
             → 16777216 < strain_of self.old.version (bins_size self.old.bins) self.old.tree (set_value path.now name.now kind bytes.now ∷ []) }
+        ensures base { self.new.base ≡ self.old.base }
     {
         match self.new_in(path, name) {
             None => Ok(false),
@@ -508,17 +491,18 @@ impl HiveBytes {
         requires key { key_place (cells_in self.old) path.now self.old.root ≡ Some key }
         requires short { length name.now ≤ longest_value_name }
         requires few { length bytes.now ≤ longest_data }
-        ensures { IfOk result (λ done. MatchBool done (IsToldStep self.old (set_value path.now name.now kind bytes.now) self.new)
+        ensures set { IfOk result (λ done. MatchBool done (IsToldStep self.old (set_value path.now name.now kind bytes.now) self.new)
             (LacksStepRoom self.old (set_value path.now name.now kind bytes.now) × (self.new ≡ self.old))) }
+        ensures base { self.new.base ≡ self.old.base }
     {
         match self.value_in(path, name, key) {
             None => {
                 let bulk = self.bulk_with(path, name, key, kind, bytes);
-                self.put_told(alloc, path, name, key, kind, bytes, bulk)
+                self.put_new(alloc, path, name, key, kind, bytes, bulk)
             }
             Some(at) => {
                 let bulk = self.bulk_given(path, name, at, kind, bytes);
-                self.give_told(alloc, path, name, at, kind, bytes, bulk)
+                self.give_there(alloc, path, name, at, kind, bytes, bulk)
             }
         }
     }
@@ -537,6 +521,7 @@ impl HiveBytes {
             (λ done. MatchBool done (IsToldStep self.old (set_value path.now name.now kind bytes.now) self.new)
             (LacksStepRoom self.old (set_value path.now name.now kind bytes.now)))
             (IsRefused (after_step (set_value path.now name.now kind bytes.now) self.old.tree)) }
+        ensures base { self.new.base ≡ self.old.base }
     {
         match self.settable(path, name, bytes) {
             Err(stop) => Err(stop),

@@ -11,7 +11,7 @@ ghost use Rattle.hive_edit.specs.Hive.{cells_in};
 ghost use Rattle.hive_edit.specs.Edits.{IsEditedInPlace};
 ghost use Rattle.hive_edit.specs.Given.{place_in};
 ghost use Rattle.hive_edit.specs.NewValue.{set_tree};
-ghost use Rattle.hive_edit.specs.Stepped.{IsStepped, LacksStepRoom};
+ghost use Rattle.hive_edit.specs.Stepped.{LacksStepRoom};
 ghost use Rattle.hive_edit.specs.Tells.{IsToldStep};
 ghost use Rattle.hive_edit.specs.Freed.{FreesData};
 ghost use Rattle.hive_edit.specs.Places.{data_places};
@@ -70,51 +70,10 @@ impl HiveBytes {
         self.bulk + has as u64 - had as u64
     }
 
-    /// Gives the value that is there a type and data, whatever the bulk then, which is reported. `false` where there is no
-    /// room for the data; the hive is as before then, and where there is no memory.
-    fn give_there(
-        &mut self,
-        alloc: Global,
-        path: &Names,
-        name: &[u16],
-        at: u32,
-        kind: u32,
-        bytes: &[u8],
-        bulk: u64,
-    ) -> Result<bool, AllocError>
-        requires there { place_in (cells_in self.old) path.now name.now self.old.root ≡ Some at }
-        requires few { length bytes.now ≤ longest_data }
-        requires bulk { bulk ≡ bulk_of self.old.version (set_tree path.now name.now kind bytes.now self.old.tree) }
-        ensures stepped { IfOk result (λ done. MatchBool done (IsStepped self.old (set_value path.now name.now kind bytes.now) self.new)
-            (LacksStepRoom self.old (set_value path.now name.now kind bytes.now) × (self.new ≡ self.old))) }
-        ensures freed { result ≡ Ok true → (o : ℕ) → Contains (data_places (cells_in self.old) at) o → held_at self.new.bins o ≡ None }
-        ensures bulk { result ≡ Ok true → bulk ≡ bulk_of self.old.version self.new.tree }
-        ensures refused { OnErr result (self.new ≡ self.old) }
-    {
-        let source = Source {
-            heap: self.cells.cells(),
-            version: self.version,
-        };
-        let gone = data_places(alloc, &source, at)?;
-        let version = self.version;
-        if give(
-            alloc,
-            &mut self.cells,
-            version,
-            at,
-            kind,
-            bytes,
-            gone.as_slice(),
-        )? {
-            self.bulk = bulk;
-            are_bytes(&self.cells);
-            return Ok(true);
-        }
-        Ok(false)
-    }
-
-    /// The same, and the node of the key tells no less than the length of the data.
-    pub(crate) fn give_told(
+    /// Gives the value that is there a type and data, whatever the bulk then, which is reported; the node of the key tells no
+    /// less than their length. `false` where there is no room for the data; the hive is as before then, and where there is
+    /// no memory.
+    pub(crate) fn give_there(
         &mut self,
         alloc: Global,
         path: &Names,
@@ -132,9 +91,26 @@ impl HiveBytes {
         ensures freed { result ≡ Ok true → (o : ℕ) → Contains (data_places (cells_in self.old) at) o → held_at self.new.bins o ≡ None }
         ensures bulk { result ≡ Ok true → bulk ≡ bulk_of self.old.version self.new.tree }
         ensures refused { OnErr result (self.new ≡ self.old) }
+        ensures base { self.new.base ≡ self.old.base }
     {
         self.stands();
-        if self.give_there(alloc, path, name, at, kind, bytes, bulk)? {
+        let source = Source {
+            heap: self.cells.cells(),
+            version: self.version,
+        };
+        let gone = data_places(alloc, &source, at)?;
+        let version = self.version;
+        if give(
+            alloc,
+            &mut self.cells,
+            version,
+            at,
+            kind,
+            bytes,
+            gone.as_slice(),
+        )? {
+            self.bulk = bulk;
+            are_bytes(&self.cells);
             self.tell(path, VALUES, 0, bytes.len() as u32);
             return Ok(true);
         }
@@ -162,6 +138,7 @@ impl HiveBytes {
         ensures freed { result ≡ Ok true → FreesData self.old path.now name.now self.new }
         ensures no_room { result ≡ Ok false → (at : ℕ) → place_in (cells_in self.old) path.now name.now self.old.root ≡ Some at
             → 16777216 < strain_of self.old.version (bins_size self.old.bins) self.old.tree (set_value path.now name.now kind bytes.now ∷ []) }
+        ensures base { self.new.base ≡ self.old.base }
     {
         let Some(at) = self.value_there(path, name) else {
             return Ok(false);
@@ -170,7 +147,7 @@ impl HiveBytes {
         if bulk > MOST_BULK {
             return Err(EditStop::Full);
         }
-        if self.give_told(alloc, path, name, at, kind, bytes, bulk)? {
+        if self.give_there(alloc, path, name, at, kind, bytes, bulk)? {
             return Ok(true);
         }
         Ok(false)

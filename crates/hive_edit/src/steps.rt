@@ -1,6 +1,6 @@
 //! Steps in order, made on a draft of the cells.
 
-ghost use Rattle.std.specs.Prelude.{map, MatchBool, MatchResult};
+ghost use Rattle.std.specs.Prelude.{◌≡◌, map, MatchBool, MatchResult};
 ghost use Rattle.std.specs.List.{All};
 ghost use Rattle.hive_model.specs.Edit.{after_step, after_steps};
 ghost use Rattle.reg_tree.specs.Fitting.{Fits};
@@ -21,6 +21,7 @@ impl HiveBytes {
         requires fits { Fits (step_of step.now) }
         ensures made { MatchResult result (λ done. MatchBool done (IsToldStep self.old (step_of step.now) self.new) (LacksStepRoom self.old (step_of step.now)))
             (IsRefused (after_step (step_of step.now) self.old.tree)) }
+        ensures base { self.new.base ≡ self.old.base }
     {
         match step {
             TreeStep::SetValue {
@@ -50,6 +51,7 @@ impl HiveBytes {
         ensures made { MatchResult result
             (λ done. MatchBool done (AreStepped self.old (map step_of steps.now) self.new) (AreStrained self.old (map step_of steps.now)))
             (IsRefused (after_steps self.old.tree (map step_of steps.now))) }
+        ensures base { self.new.base ≡ self.old.base }
     {
         let mut room: u64 = 0;
         for step in steps {

@@ -23,8 +23,8 @@ pub(crate) const VALUES: u32 = 2;
 
 /// The number at a place of a cell.
 fn number_in(heap: &OpenHeap, at: u32, place: u32) -> u32
-    requires { IsSomeAnd (held_at heap.now at) (λ p. place + 4 ≤ length p) }
-    ensures { IsSomeAnd (held_at heap.now at) (λ p. result ≡ u32_in p place) }
+    requires { IsSomeAnd (held_at heap.now.bins at) (λ p. place + 4 ≤ length p) }
+    ensures { IsSomeAnd (held_at heap.now.bins at) (λ p. result ≡ u32_in p place) }
 {
     match heap.payload(at) {
         Ok(payload) => u32_at(payload, place as usize),
@@ -35,8 +35,9 @@ fn number_in(heap: &OpenHeap, at: u32, place: u32) -> u32
 /// Writes a number into a field of a node that has a smaller one.
 fn raise(heap: &mut OpenHeap, at: u32, field: u32, number: u32)
     requires field { field ≤ 3 }
-    requires node { IsSomeAnd (held_at heap.old at) (λ p. 76 ≤ length p) }
-    ensures { IsRaisedTo at field number heap.old heap.new }
+    requires node { IsSomeAnd (held_at heap.old.bins at) (λ p. 76 ≤ length p) }
+    ensures raised { IsRaisedTo at field number heap.old.bins heap.new.bins }
+    ensures base { heap.new.base ≡ heap.old.base }
 {
     let place = 52 + 4 * field;
     let told = number_in(heap, at, place);
@@ -49,8 +50,9 @@ fn raise(heap: &mut OpenHeap, at: u32, field: u32, number: u32)
 /// Writes two numbers into a field of a node and the next, where these have smaller ones.
 fn raise_both(heap: &mut OpenHeap, at: u32, field: u32, first: u32, second: u32)
     requires field { field ≤ 2 }
-    requires node { IsSomeAnd (held_at heap.old at) (λ p. 76 ≤ length p) }
-    ensures { AreRaisedTo at field first second heap.old heap.new }
+    requires node { IsSomeAnd (held_at heap.old.bins at) (λ p. 76 ≤ length p) }
+    ensures raised { AreRaisedTo at field first second heap.old.bins heap.new.bins }
+    ensures base { heap.new.base ≡ heap.old.base }
 {
     raise(heap, at, field, first);
     raise(heap, at, field + 1, second);
@@ -76,7 +78,8 @@ impl HiveBytes {
     /// Has the node of the key that a path leads to tell no less than two numbers, in a field and the next.
     pub(crate) fn tell(&mut self, path: &Names, field: u32, first: u32, second: u32)
         requires { field ≤ 2 }
-        ensures { IsTold self.old path.now field first second self.new }
+        ensures told { IsTold self.old path.now field first second self.new }
+        ensures base { self.new.base ≡ self.old.base }
     {
         let source = Source {
             heap: self.cells.cells(),
@@ -91,7 +94,8 @@ impl HiveBytes {
     /// Has the root's node tell no less than the lengths of a child's name and class.
     pub(crate) fn tell_child(&mut self, alloc: Global, name: &[u16], class: u32)
         requires { length name.now ≤ longest_key_name }
-        ensures { IsTold self.old [] 0 (2 * length name.now) class self.new }
+        ensures told { IsTold self.old [] 0 (2 * length name.now) class self.new }
+        ensures base { self.new.base ≡ self.old.base }
     {
         let path = Names::new(alloc);
         let wide = wide_len(name);

@@ -37,8 +37,8 @@ use reg_tree::{EditStop, MOST_BULK};
 
 /// A number of four bytes in the payload of a cell, each number after the one before.
 fn number_in(heap: &OpenHeap, at: u32, place: u32) -> u32
-    requires { IsSomeAnd (held_at heap.now at) (λ p. 4 * place + 4 ≤ length p) }
-    ensures { (p : List ℕ) → held_at heap.now at ≡ Some p → result ≡ u32_in p (4 * place) }
+    requires { IsSomeAnd (held_at heap.now.bins at) (λ p. 4 * place + 4 ≤ length p) }
+    ensures { (p : List ℕ) → held_at heap.now.bins at ≡ Some p → result ≡ u32_in p (4 * place) }
 {
     match heap.payload(at) {
         Ok(bytes) => u32_at(bytes, 4 * place as usize),
@@ -48,8 +48,9 @@ fn number_in(heap: &OpenHeap, at: u32, place: u32) -> u32
 
 /// Frees the cells that a list of that many offsets names, then the list.
 fn free_listed(heap: &mut OpenHeap, list: u32, count: u32)
-    requires { (offsets : List ℕ) × HasOffsets heap.old list count offsets × CanGo heap.old (list ∷ offsets) }
-    ensures { (offsets : List ℕ) → HasOffsets heap.old list count offsets → AreGone (list ∷ offsets) heap.old heap.new }
+    requires { (offsets : List ℕ) × HasOffsets heap.old.bins list count offsets × CanGo heap.old.bins (list ∷ offsets) }
+    ensures gone { (offsets : List ℕ) → HasOffsets heap.old.bins list count offsets → AreGone (list ∷ offsets) heap.old.bins heap.new.bins }
+    ensures base { heap.new.base ≡ heap.old.base }
 {
     for place in 0..count {
         let at = number_in(heap, list, place);
@@ -60,9 +61,9 @@ fn free_listed(heap: &mut OpenHeap, list: u32, count: u32)
 
 /// Fills these bytes with what is in the payload of a cell from a byte of it on.
 fn copy_part(heap: &OpenHeap, at: u32, from: usize, into: &mut [u8])
-    requires { IsSomeAnd (held_at heap.now at) (λ p. from + length into.old ≤ length p) }
+    requires { IsSomeAnd (held_at heap.now.bins at) (λ p. from + length into.old ≤ length p) }
     ensures long { length into.new ≡ length into.old }
-    ensures read { (p : List ℕ) → held_at heap.now at ≡ Some p → into.new ≡ slice_range p from (from + length into.old) }
+    ensures read { (p : List ℕ) → held_at heap.now.bins at ≡ Some p → into.new ≡ slice_range p from (from + length into.old) }
 {
     match heap.payload(at) {
         Ok(bytes) => {
@@ -77,8 +78,9 @@ fn copy_part(heap: &OpenHeap, at: u32, from: usize, into: &mut [u8])
 fn move_down(heap: &mut OpenHeap, list: u32, place: u32, numbers: u32)
     requires few { numbers ≤ 1024 }
     requires low { place ≤ 4194304 }
-    requires long { IsSomeAnd (held_at heap.old list) (λ p. 4 * (place + 1) + 4 * numbers ≤ length p) }
-    ensures { ClosesGap place (place + numbers) list heap.old heap.new }
+    requires long { IsSomeAnd (held_at heap.old.bins list) (λ p. 4 * (place + 1) + 4 * numbers ≤ length p) }
+    ensures closed { ClosesGap place (place + numbers) list heap.old.bins heap.new.bins }
+    ensures base { heap.new.base ≡ heap.old.base }
 {
     let mut room = [0; 4096];
     let part = &mut room[..4 * numbers as usize];
@@ -90,8 +92,9 @@ fn move_down(heap: &mut OpenHeap, list: u32, place: u32, numbers: u32)
 fn close_gap(heap: &mut OpenHeap, list: u32, from: u32, count: u32)
     requires some { from < count }
     requires few { count ≤ 4194304 }
-    requires long { IsSomeAnd (held_at heap.old list) (λ p. 4 * count ≤ length p) }
-    ensures { ClosesGap from (count - 1) list heap.old heap.new }
+    requires long { IsSomeAnd (held_at heap.old.bins list) (λ p. 4 * count ≤ length p) }
+    ensures closed { ClosesGap from (count - 1) list heap.old.bins heap.new.bins }
+    ensures base { heap.new.base ≡ heap.old.base }
 {
     let mut place = from;
     'parts: while place < count - 1 {
@@ -103,9 +106,9 @@ fn close_gap(heap: &mut OpenHeap, list: u32, from: u32, count: u32)
 
 /// The place of an offset in a list of that many.
 fn place_of(heap: &OpenHeap, list: u32, count: u32, offset: u32) -> u32
-    requires { (offsets : List ℕ) × HasOffsets heap.now list count offsets × In offsets offset }
+    requires { (offsets : List ℕ) × HasOffsets heap.now.bins list count offsets × In offsets offset }
     ensures within { result < count }
-    ensures here { (p : List ℕ) → held_at heap.now list ≡ Some p → u32_in p (4 * result) ≡ offset }
+    ensures here { (p : List ℕ) → held_at heap.now.bins list ≡ Some p → u32_in p (4 * result) ≡ offset }
 {
     for place in 0..count {
         if number_in(heap, list, place) == offset {
@@ -119,8 +122,8 @@ fn place_of(heap: &OpenHeap, list: u32, count: u32, offset: u32) -> u32
 
 /// Where the list of the segments of big data is, and how many it names.
 fn segments_of(heap: &OpenHeap, place: u32) -> (u32, u32)
-    requires { (list : ℕ) × (offsets : List ℕ) × HasSegments heap.now place list offsets }
-    ensures { (list : ℕ) (offsets : List ℕ) → HasSegments heap.now place list offsets → (result.0 ≡ list) × HasOffsets heap.now list result.1 offsets }
+    requires { (list : ℕ) × (offsets : List ℕ) × HasSegments heap.now.bins place list offsets }
+    ensures { (list : ℕ) (offsets : List ℕ) → HasSegments heap.now.bins place list offsets → (result.0 ≡ list) × HasOffsets heap.now.bins list result.1 offsets }
 {
     match heap.payload(place) {
         Ok(bytes) => {
@@ -134,8 +137,9 @@ fn segments_of(heap: &OpenHeap, place: u32) -> (u32, u32)
 
 /// Frees the cells of big data: each segment, their list, and the cell that names the list.
 fn free_big(heap: &mut OpenHeap, place: u32)
-    requires { (list : ℕ) × (offsets : List ℕ) × HasSegments heap.old place list offsets × CanGo heap.old (place ∷ list ∷ offsets) }
-    ensures { (list : ℕ) (offsets : List ℕ) → HasSegments heap.old place list offsets → AreGone (place ∷ list ∷ offsets) heap.old heap.new }
+    requires { (list : ℕ) × (offsets : List ℕ) × HasSegments heap.old.bins place list offsets × CanGo heap.old.bins (place ∷ list ∷ offsets) }
+    ensures gone { (list : ℕ) (offsets : List ℕ) → HasSegments heap.old.bins place list offsets → AreGone (place ∷ list ∷ offsets) heap.old.bins heap.new.bins }
+    ensures base { heap.new.base ≡ heap.old.base }
 {
     let (list, count) = segments_of(heap, place);
     free_listed(heap, list, count);
@@ -144,9 +148,10 @@ fn free_big(heap: &mut OpenHeap, place: u32)
 
 /// Frees the cells of that many data, where they have any.
 fn free_data(heap: &mut OpenHeap, version: HiveVersion, size: u32, place: u32)
-    requires data { HasData (look_up version heap.old) size place }
-    requires can { CanGo heap.old (data_cells (look_up version heap.old) size place) }
-    ensures { AreGone (data_cells (look_up version heap.old) size place) heap.old heap.new }
+    requires data { HasData (look_up version heap.old.bins) size place }
+    requires can { CanGo heap.old.bins (data_cells (look_up version heap.old.bins) size place) }
+    ensures gone { AreGone (data_cells (look_up version heap.old.bins) size place) heap.old.bins heap.new.bins }
+    ensures base { heap.new.base ≡ heap.old.base }
 {
     if size >= 0x8000_0000 {
         return;
@@ -163,9 +168,9 @@ fn free_data(heap: &mut OpenHeap, version: HiveVersion, size: u32, place: u32)
 
 /// Where the data of a value are, and how many.
 fn data_at(heap: &OpenHeap, version: HiveVersion, at: u32) -> (u32, u32)
-    requires { IsItemHere (look_up version heap.now) at }
-    ensures data { HasData (look_up version heap.now) result.0 result.1 }
-    ensures cells { used_in (value_checks (look_up version heap.now) [] at) ≡ at ∷ data_cells (look_up version heap.now) result.0 result.1 }
+    requires { IsItemHere (look_up version heap.now.bins) at }
+    ensures data { HasData (look_up version heap.now.bins) result.0 result.1 }
+    ensures cells { used_in (value_checks (look_up version heap.now.bins) [] at) ≡ at ∷ data_cells (look_up version heap.now.bins) result.0 result.1 }
 {
     let source = Source {
         heap: heap.cells(),
@@ -179,9 +184,10 @@ fn data_at(heap: &OpenHeap, version: HiveVersion, at: u32) -> (u32, u32)
 
 /// Frees the cells of a value: those of its data, and its own.
 pub(crate) fn free_value(heap: &mut OpenHeap, version: HiveVersion, at: u32)
-    requires item { IsItemHere (look_up version heap.old) at }
-    requires can { CanGo heap.old (used_in (value_checks (look_up version heap.old) [] at)) }
-    ensures { AreGone (used_in (value_checks (look_up version heap.old) [] at)) heap.old heap.new }
+    requires item { IsItemHere (look_up version heap.old.bins) at }
+    requires can { CanGo heap.old.bins (used_in (value_checks (look_up version heap.old.bins) [] at)) }
+    ensures gone { AreGone (used_in (value_checks (look_up version heap.old.bins) [] at)) heap.old.bins heap.new.bins }
+    ensures base { heap.new.base ≡ heap.old.base }
 {
     let (size, place) = data_at(heap, version, at);
     free_data(heap, version, size, place);
@@ -192,8 +198,9 @@ pub(crate) fn free_value(heap: &mut OpenHeap, version: HiveVersion, at: u32)
 
 /// Takes an offset out of a list of that many. The list goes where it names no other. Answers where it is then.
 fn unlist(heap: &mut OpenHeap, list: u32, count: u32, offset: u32) -> u32
-    requires { (offsets : List ℕ) × HasOffsets heap.old list count offsets × In offsets offset }
-    ensures { (offsets : List ℕ) → HasOffsets heap.old list count offsets → Unlists heap.old heap.new list result offsets offset }
+    requires { (offsets : List ℕ) × HasOffsets heap.old.bins list count offsets × In offsets offset }
+    ensures unlisted { (offsets : List ℕ) → HasOffsets heap.old.bins list count offsets → Unlists heap.old.bins heap.new.bins list result offsets offset }
+    ensures base { heap.new.base ≡ heap.old.base }
 {
     if count == 1 {
         heap.free(list);
@@ -207,8 +214,8 @@ fn unlist(heap: &mut OpenHeap, list: u32, count: u32, offset: u32) -> u32
 
 /// How many values a key has, and where their list is.
 pub(crate) fn values_of(heap: &OpenHeap, version: HiveVersion, key: u32) -> (u32, u32)
-    requires { IsOk (reading key_node_at (look_up version heap.now) key) }
-    ensures { (n : KeyNode) → reading key_node_at (look_up version heap.now) key ≡ Ok n → (result.0 ≡ n.value_count) × (result.1 ≡ n.value_list) }
+    requires { IsOk (reading key_node_at (look_up version heap.now.bins) key) }
+    ensures { (n : KeyNode) → reading key_node_at (look_up version heap.now.bins) key ≡ Ok n → (result.0 ≡ n.value_count) × (result.1 ≡ n.value_list) }
 {
     let source = Source {
         heap: heap.cells(),
@@ -230,8 +237,9 @@ pub(crate) fn two_fields(a: u32, b: u32) -> [u8; 8]
 
 /// Takes a value out of a key: its cells are freed, the list names the others, and the node counts them.
 fn take_out(heap: &mut OpenHeap, version: HiveVersion, key: u32, value: u32)
-    requires { CanTake (look_up version heap.old) heap.old key value }
-    ensures { TakesOut version heap.old heap.new key value }
+    requires { CanTake (look_up version heap.old.bins) heap.old.bins key value }
+    ensures taken { TakesOut version heap.old.bins heap.new.bins key value }
+    ensures base { heap.new.base ≡ heap.old.base }
 {
     let (count, list) = values_of(heap, version, key);
     free_value(heap, version, value);
@@ -301,6 +309,7 @@ impl HiveBytes {
         ensures freed { FreesValue self.old path.now name.now self.new }
         ensures bulk { bulk ≡ bulk_of self.old.version self.new.tree }
         ensures long { bins_size self.new.bins ≡ bins_size self.old.bins }
+        ensures base { self.new.base ≡ self.old.base }
     {
         take_out(&mut self.cells, self.version, key, value);
         self.bulk = bulk;
@@ -319,6 +328,7 @@ impl HiveBytes {
         ensures freed { OnOk result (FreesValue self.old path.now name.now self.new) }
         ensures long { bins_size self.new.bins ≡ bins_size self.old.bins }
         ensures no_memory { IfErr result (λ stop. stop ≡ Memory → ⊥) }
+        ensures base { self.new.base ≡ self.old.base }
     {
         let bulk = self.bulk_without(path, name, key, value);
         if bulk > MOST_BULK {
@@ -340,6 +350,7 @@ impl HiveBytes {
         ensures freed { OnOk result (FreesValue self.old path.now name.now self.new) }
         ensures long { bins_size self.new.bins ≡ bins_size self.old.bins }
         ensures no_memory { IfErr result (λ stop. stop ≡ Memory → ⊥) }
+        ensures base { self.new.base ≡ self.old.base }
     {
         match self.named(path, name) {
             Ok((key, value)) => self.unset(path, name, key, value),
@@ -352,6 +363,7 @@ impl HiveBytes {
         ensures made { MatchResult result
             (λ done. MatchBool done (IsStepped self.old (delete_value path.now name.now) self.new) (LacksStepRoom self.old (delete_value path.now name.now)))
             (IsRefused (after_step (delete_value path.now name.now) self.old.tree)) }
+        ensures base { self.new.base ≡ self.old.base }
     {
         match self.named(path, name) {
             Ok((key, value)) => {

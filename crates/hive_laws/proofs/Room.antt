@@ -1,18 +1,17 @@
 -- The sizes of cells add up, and what an edit may need only grows by further steps.
-use Rattle.std.specs.Prelude.{nat_lt, if◌then◌else◌, replicate, map, flat_map, Contains, Result, Ok, Err}
-use Rattle.std.proofs.Common.{◌≡◌, ◌≤◌, ◌+◌, ◌*◌, ◌/◌, ◌%◌, ◌==◌, sum, ℕ, Bool, true, false, List, [], ◌∷◌, ◌++◌, length, refl, sym, ap, subst, ◌∙◌, append_assoc, arith}
+use Rattle.std.specs.Prelude.{nat_lt, if◌then◌else◌, replicate, map, flat_map, ◌↔◌, ◌⊎◌, Result, Ok, Err}
+use Rattle.std.proofs.Common.{◌≡◌, ◌≤◌, ◌+◌, ◌*◌, ◌/◌, ◌%◌, ◌==◌, sum, ℕ, Bool, true, false, List, [], ◌∷◌, ◌++◌, length, refl, sym, ap, subst, ◌∙◌, inl, inr, ⊎_elim, arith}
 use Rattle.std.proofs.lemmas.Bool.{eqb-true, ne_eqb}
-use Rattle.std.proofs.lemmas.List.{append-nil}
 use Rattle.std.proofs.lemmas.List.Sums.{sum_by-append, sum_by-cons}
 use Rattle.std.proofs.lemmas.List.Folds.{sum_by-replicate}
-use Rattle.std.proofs.lemmas.List.Elements.{Contains-append_left}
 use Rattle.nt_bytes.specs.declared.version.HiveVersion.{HiveVersion}
 use Rattle.hive_model.specs.Tree.{Item, Head, Tree, Trees, key, none, more}
 use Rattle.hive_model.specs.Size.{cell, name_bytes, cells_sum, data_sizes, item_size, items_sum, items_size, class_size, security_size, node_size, head_size, part_count, list_size, count, size, size_of_all}
 use Rattle.hive_model.specs.Edit.{Step, Refusal, after_step, after_steps}
 use Rattle.hive_model.specs.Bins.{Cells}
 use Rattle.hive_model.specs.Packed.{rounded}
-use Rattle.hive_model.specs.Footprint.{unless_refused, step_cells, footprint_of, some_cell, item_sizes, value_list_sizes, head_sizes, list_sizes, sizes, sizes_of_all, room_of, needed_sizes, strain_of, list_strain_of}
+use Rattle.hive_model.specs.Owned.{IsInFootprint}
+use Rattle.hive_model.specs.Footprint.{unless_refused, some_cell, item_sizes, value_list_sizes, head_sizes, list_sizes, sizes, sizes_of_all, room_of, needed_sizes, strain_of, list_strain_of}
 use Rattle.hive_model.specs.Forms.{◌>>=◌}
 
 -- ---- sums of sizes
@@ -224,43 +223,62 @@ strain_stays version bytes t u why steps further step e refused =
 
 -- ---- the footprint
 
--- further steps add their own cells, and after a refusal none
-pub footprint_goes_on : (cells : Cells) (root : ℕ) (t u : Tree) (steps further : List Step) → after_steps t steps ≡ Ok u
-    → footprint_of cells root t (steps ++ further) ≡ footprint_of cells root t steps
-    ++ footprint_of cells root u further
-footprint_goes_on cells root t u [] further e = ap (λ v. footprint_of cells root v further) (ok_is t u e)
-footprint_goes_on cells root t u (step ∷ steps) further e =
-    let rest : List ℕ = footprint_of cells root u further in
-    ap (λ ns. step_cells cells root t step ++ ns)
-    (after_all (λ ms ns. ns ≡ ms ++ rest) (after_step step t) (λ v. after_steps v steps) u [] []
-    (λ v. footprint_of cells root v steps) (λ v. footprint_of cells root v (steps ++ further))
-    e (λ v so_far. footprint_goes_on cells root v u steps further so_far))
-    ∙ sym (append_assoc (step_cells cells root t step)
-    (unless_refused [] (after_step step t) (λ v. footprint_of cells root v steps)) rest)
-
-pub footprint_ends : (cells : Cells) (root : ℕ) (t : Tree) (why : Refusal) (steps further : List Step)
-    → after_steps t steps ≡ Err why
-    → footprint_of cells root t (steps ++ further) ≡ footprint_of cells root t steps
-footprint_ends cells root t why [] further e = absurd cc
-footprint_ends cells root t why (step ∷ steps) further e =
-    ap (λ ns. step_cells cells root t step ++ ns)
-    (after_none (after_step step t) (λ v. after_steps v steps) why []
-    (λ v. footprint_of cells root v (steps ++ further)) (λ v. footprint_of cells root v steps)
-    e (λ v rest. footprint_ends cells root v why steps further rest))
-
--- more cells after those of the steps
-more_behind : (cells : Cells) (root : ℕ) (t : Tree) (steps further : List Step) (r : Result Tree Refusal)
-    → after_steps t steps ≡ r
-    → (rest : List ℕ) × (footprint_of cells root t (steps ++ further) ≡ footprint_of cells root t steps ++ rest)
-more_behind cells root t steps further (Ok u) e =
-    (footprint_of cells root u further, footprint_goes_on cells root t u steps further e)
-more_behind cells root t steps further (Err why) e =
-    ([], footprint_ends cells root t why steps further e ∙ sym (append-nil (footprint_of cells root t steps)))
-
 pub footprint_grows : (cells : Cells) (root : ℕ) (t : Tree) (steps further : List Step) (offset : ℕ)
-    → Contains (footprint_of cells root t steps) offset
-    → Contains (footprint_of cells root t (steps ++ further)) offset
-footprint_grows cells root t steps further offset there =
-    let behind = more_behind cells root t steps further (after_steps t steps) refl in
-    subst (λ ns. Contains ns offset) (sym behind.1)
-    (Contains-append_left (footprint_of cells root t steps) behind.0 offset there)
+    → IsInFootprint cells root t steps offset → IsInFootprint cells root t (steps ++ further) offset
+footprint_grows cells root t [] further offset h = absurd h
+footprint_grows cells root t (step ∷ steps) further offset (u, ok, inl m) = (u, ok, inl m)
+footprint_grows cells root t (step ∷ steps) further offset (u, ok, inr h) =
+    (u, ok, inr (footprint_grows cells root u steps further offset h))
+
+-- where steps lead, seen from the tree after the first
+from_first : (t u : Tree) (step : Step) (steps : List Step) (outcome : Result Tree Refusal) → after_step step t ≡ Ok u
+    → after_steps t (step ∷ steps) ≡ outcome → after_steps u steps ≡ outcome
+from_first t u step steps outcome ok e = sym (ap (λ r. r >>= λ v. after_steps v steps) ok) ∙ e
+
+first_made : (r : Result Tree Refusal) (steps : Tree → Result Tree Refusal) (u : Tree) → (r >>= steps) ≡ Ok u
+    → (v : Tree) × (r ≡ Ok v)
+first_made (Ok v) steps u e = (v, refl)
+first_made (Err why) steps u e = absurd cc
+
+-- further steps have the cells that they would have alone, and after a refusal none
+further_there : (cells : Cells) (root : ℕ) (t u : Tree) (steps further : List Step) (offset : ℕ)
+    → after_steps t steps ≡ Ok u → IsInFootprint cells root u further offset
+    → IsInFootprint cells root t (steps ++ further) offset
+further_there cells root t u [] further offset e h =
+    subst (λ v. IsInFootprint cells root v further offset) (sym (ok_is t u e)) h
+further_there cells root t u (step ∷ steps) further offset e h =
+    let v = first_made (after_step step t) (λ w. after_steps w steps) u e in
+    (v.0, v.1, inr (further_there cells root v.0 u steps further offset (from_first t v.0 step steps (Ok u) v.1 e) h))
+
+first_or_further : (cells : Cells) (root : ℕ) (t u : Tree) (steps further : List Step) (offset : ℕ)
+    → after_steps t steps ≡ Ok u → IsInFootprint cells root t (steps ++ further) offset
+    → IsInFootprint cells root t steps offset ⊎ IsInFootprint cells root u further offset
+first_or_further cells root t u [] further offset e h =
+    inr (subst (λ v. IsInFootprint cells root v further offset) (ok_is t u e) h)
+first_or_further cells root t u (step ∷ steps) further offset e (v, ok, inl m) = inl (v, ok, inl m)
+first_or_further cells root t u (step ∷ steps) further offset e (v, ok, inr h) =
+    ⊎_elim (λ l. inl (v, ok, inr l)) (λ r. inr r)
+    (first_or_further cells root v u steps further offset (from_first t v step steps (Ok u) ok e) h)
+
+pub footprint_goes_on : (cells : Cells) (root : ℕ) (t u : Tree) (steps further : List Step) (offset : ℕ)
+    → after_steps t steps ≡ Ok u
+    → IsInFootprint cells root t (steps ++ further) offset
+    ↔ (IsInFootprint cells root t steps offset ⊎ IsInFootprint cells root u further offset)
+footprint_goes_on cells root t u steps further offset e = (
+  first_or_further cells root t u steps further offset e,
+  ⊎_elim (footprint_grows cells root t steps further offset) (further_there cells root t u steps further offset e),
+)
+
+none_further : (cells : Cells) (root : ℕ) (t : Tree) (why : Refusal) (steps further : List Step) (offset : ℕ)
+    → after_steps t steps ≡ Err why → IsInFootprint cells root t (steps ++ further) offset
+    → IsInFootprint cells root t steps offset
+none_further cells root t why [] further offset e h = absurd cc
+none_further cells root t why (step ∷ steps) further offset e (v, ok, inl m) = (v, ok, inl m)
+none_further cells root t why (step ∷ steps) further offset e (v, ok, inr h) =
+    (v, ok, inr (none_further cells root v why steps further offset (from_first t v step steps (Err why) ok e) h))
+
+pub footprint_ends : (cells : Cells) (root : ℕ) (t : Tree) (why : Refusal) (steps further : List Step) (offset : ℕ)
+    → after_steps t steps ≡ Err why
+    → IsInFootprint cells root t (steps ++ further) offset ↔ IsInFootprint cells root t steps offset
+footprint_ends cells root t why steps further offset e =
+    (none_further cells root t why steps further offset e, footprint_grows cells root t steps further offset)

@@ -1,10 +1,9 @@
--- Which cells may an edit in place change, and how long may the bins data become by it? (this project's own; the sizes of
+-- Where are the cells of a key, and how long may the bins data become by an edit in place? (this project's own; the sizes of
 -- cells: regf format 1.3 and 1.5)
 --
--- A path is looked up in the cells from before the edit: a node stays where it is, so the key of a later step is an old
--- node at the same path, or new. Whether a step adds a key, and which cells it needs, is judged by the trees before and
--- after it.
-use Rattle.std.specs.Prelude.{ℕ, ◌+◌, ◌-◌, ◌*◌, ◌/◌, ◌%◌, ◌==◌, nat_lt, Bool, false, if◌then◌else◌, List, [], ◌∷◌, ◌++◌, length, take, find, map, flat_map, sum_by, Contains, Option, Some, option_and_then, Result, Ok, Err}
+-- Which cells an edit may change (`IsInFootprint` of `Owned`) is said by these words. Which cells a step needs is judged by the trees
+-- before and after it.
+use Rattle.std.specs.Prelude.{ℕ, ◌+◌, ◌-◌, ◌*◌, ◌/◌, ◌%◌, ◌==◌, nat_lt, Bool, false, if◌then◌else◌, List, [], ◌∷◌, ◌++◌, length, take, find, map, flat_map, sum_by, Option, Some, option_and_then, Result, Ok, Err}
 use Rattle.std.specs.List.{list_any}
 use Rattle.std.specs.Option.{option_map_or}
 use lib.ListN.{replicate}
@@ -12,17 +11,15 @@ use Rattle.nt_bytes.specs.Folding.{folds_same}
 use Rattle.nt_bytes.specs.declared.version.HiveVersion.{HiveVersion}
 use Rattle.nt_bytes.specs.declared.fault.HiveFaultKind.{HiveFaultKind}
 use Rattle.hive_model.specs.Tree.{Item, Head, Tree, Trees, key, none, more, head, children, is_named, find_key, find_item}
-use Rattle.hive_model.specs.Valid.{deepest_level}
 use Rattle.hive_model.specs.Size.{cell, name_bytes, data_sizes, class_size, security_size, node_size, part_count, count}
 use Rattle.hive_model.specs.Edit.{Step, set_value, delete_value, make_key, delete_key, copy_child, add_child, Refusal, has_child, after_step}
 use Rattle.hive_model.specs.KeyNode.{KeyNode, key_node_at}
 use Rattle.hive_model.specs.KeyValue.{key_value_at}
-use Rattle.hive_model.specs.Lists.{offsets_in}
 use Rattle.hive_model.specs.Bins.{Cells}
-use Rattle.hive_model.specs.Walk.{reading, entries_at, Check, uses, tests, names_of, security_checks, value_checks, entries_checks, key_checks}
+use Rattle.hive_model.specs.Walk.{reading, entries_at, Check, uses, tests, names_of, security_checks, entries_checks}
 use Rattle.hive_model.specs.Packed.{rounded}
 
--- ---- both
+-- ---- steps
 
 -- what is made of the tree after a step, or of its refusal
 abbrev pub unless_refused : {A : Type 0} → A → Result Tree Refusal → (Tree → A) → A
@@ -37,7 +34,7 @@ parent_of path = take (length path - 1) path
 abbrev pub has_key : List (List ℕ) → List ℕ → Tree → Bool
 has_key parent name t = option_map_or (has_child name) (find_key parent t) false
 
--- ---- cells from before the edit
+-- ---- the cells of a key
 
 -- what is listed of something that was read; nothing where it was not
 abbrev pub of_read : {F : Type 0} → Result F HiveFaultKind → (F → List ℕ) → List ℕ
@@ -86,69 +83,9 @@ of_key cells root path listing = option_map_or listing (key_place cells path roo
 unfoldable pub list_cells_at : Cells → ℕ → List ℕ
 list_cells_at cells at = of_node cells at (λ node. if node.child_count == 0 then [] else used_in (entries_checks cells node.child_list))
 
--- the cell of the value of this name among those at these offsets, and the cells of its data
-unfoldable pub named_value_cells : Cells → List ℕ → List ℕ → List ℕ
-named_value_cells cells name offsets = option_map_or (λ at. used_in (value_checks cells [] at)) (find (is_value_named cells name) offsets) []
-
--- a key's value list, and the cells of its value of this name
-unfoldable pub value_cells_at : Cells → List ℕ → ℕ → List ℕ
-value_cells_at cells name at =
-    of_node cells at (λ node. if node.value_count == 0 then [] else
-    node.value_list ∷ of_read (reading (offsets_in node.value_count) cells node.value_list) (named_value_cells cells name))
-
 -- the security cell that a key uses
 unfoldable pub security_cell_at : Cells → ℕ → List ℕ
 security_cell_at cells at = of_node cells at (λ node. used_in (security_checks cells node))
-
--- what the walk checks of the key at a path and of all below it
-unfoldable pub checks_below : Cells → ℕ → List (List ℕ) → List Check
-checks_below cells root path = option_map_or (key_checks (deepest_level - length path) cells false []) (key_place cells path root) []
-
--- ---- the footprint
-
--- the paths of the keys that a step names
-abbrev pub named_keys : Step → List (List (List ℕ))
-named_keys (set_value path name kind bytes) = path ∷ []
-named_keys (delete_value path name) = path ∷ []
-named_keys (make_key parent name) = (parent ++ name ∷ []) ∷ []
-named_keys (delete_key path) = path ∷ []
-named_keys (copy_child from to) = (from ∷ []) ∷ (to ∷ []) ∷ []
-named_keys (add_child name k) = (name ∷ []) ∷ []
-
--- the nodes of the named keys and of their parents
-unfoldable pub named_nodes : Cells → ℕ → Step → List ℕ
-named_nodes cells root step =
-    flat_map (λ path. of_key cells root path (λ at. at ∷ []) ++ of_key cells root (parent_of path) (λ at. at ∷ [])) (named_keys step)
-
--- where a key is added: the lists of its parent, and the security cell that the parent uses
-abbrev pub adding_cells : Cells → ℕ → List ℕ
-adding_cells cells at = list_cells_at cells at ++ security_cell_at cells at
-
--- The other cells of a step: of a value that is set or deleted the value list, its cell and those of its data; of a key that
--- is added, copied or deleted the lists of its parent; for an added key the security cell that its parent uses, for a copied
--- one those that it and the keys below it use; of a deleted key all cells, its own and below it. A key that is made where
--- one of its name is changes nothing.
-abbrev pub changed_cells : Cells → ℕ → Tree → Step → List ℕ
-changed_cells cells root t (set_value path name kind bytes) = of_key cells root path (value_cells_at cells name)
-changed_cells cells root t (delete_value path name) = of_key cells root path (value_cells_at cells name)
-changed_cells cells root t (make_key parent name) = if has_key parent name t then [] else of_key cells root parent (adding_cells cells)
-changed_cells cells root t (delete_key path) = of_key cells root (parent_of path) (list_cells_at cells) ++ used_in (checks_below cells root path)
-changed_cells cells root t (copy_child from to) = list_cells_at cells root ++ security_used_in (checks_below cells root (from ∷ []))
-changed_cells cells root t (add_child name k) = adding_cells cells root
-
--- the cells of a step on this tree
-abbrev pub step_cells : Cells → ℕ → Tree → Step → List ℕ
-step_cells cells root t step = named_nodes cells root step ++ changed_cells cells root t step
-
--- the cells of steps in order, the first on this tree; a refused step ends them
-abbrev pub footprint_of : Cells → ℕ → Tree → List Step → List ℕ
-footprint_of cells root t [] = []
-footprint_of cells root t (step ∷ steps) =
-    step_cells cells root t step ++ unless_refused [] (after_step step t) (λ u. footprint_of cells root u steps)
-
--- some step has the offset among its cells, where this tree is at the root of these cells before the edit
-abbrev pub IsInFootprint : Cells → ℕ → Tree → List Step → ℕ → Type 0
-IsInFootprint cells root t steps offset = Contains (footprint_of cells root t steps) offset
 
 -- ---- the sizes of packed cells, one by one
 

@@ -13,6 +13,7 @@ pub mod Stands
 pub mod Packed
 pub mod Edit
 pub mod Footprint
+pub mod Owned
 pub mod InPlace
 pub mod Image
 pub mod Base

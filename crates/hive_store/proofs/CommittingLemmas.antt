@@ -8,15 +8,16 @@ use Rattle.hive_model.specs.State.{HiveState}
 use Rattle.hive_model.specs.Load.{Loads, Holds, state_of}
 use Rattle.hive_model.specs.Tree.{Tree}
 use Rattle.nt_bytes.specs.declared.version.HiveVersion.{HiveVersion}
-use Rattle.hive_model.specs.Bins.{IsHeap, spelled}
+use Rattle.hive_model.specs.Bins.{Bin, IsHeap, spelled}
 use Rattle.hive_model.specs.Stands.{IsWellFormed}
-use Rattle.hive_edit.specs.Hive.{HiveCells, cells_in}
+use Rattle.hive_edit.specs.Hive.{HiveCells, cells_in, settled_as}
 use Rattle.nt_edge.specs.Disk.{DiskState}
 use Rattle.nt_edge.specs.Crash.{EachCrash}
 use Rattle.hive_commit.specs.Stages.{closed_of, IsBeforeOrAfter, LoadsAsEither}
 use Rattle.hive_commit.specs.Stops.{IsCommitOn}
 use Rattle.hive_commit.specs.declared.stops.CommitStop.{CommitStop}
 use Rattle.hive_commit.specs.declared.stops.CommitStop.TheVariants as commit
+use Rattle.saved_pages.specs.Overlay.{before}
 use Rattle.hive_store.specs.Session.{Session, HasTree, IsSession, session_of, next_bins, next_root}
 use Rattle.hive_store.specs.Commits.{next_base, committed, committed_state}
 use Rattle.hive_store.proofs.SizedLemmas.{has_bytes}
@@ -59,29 +60,42 @@ commit_crash s has size held state carries each before dirty loads c crash =
 
 -- ---- the session after the commit
 
+-- the base block that closes the commit, by the data and the root that were written
+closed_as : (s : Session) (closed : Base) (new : List ℕ) (root : ℕ) → closed ≡ closed_of s.base new root → new ≡ next_bins s
+    → root ≡ next_root s → closed ≡ next_base s
+closed_as s closed new root closed_is written at =
+    closed_is ∙ ap (λ (b : List ℕ). closed_of s.base b root) written
+    ∙ ap (λ (n : ℕ). closed_of s.base (next_bins s) n) at
+
 -- the cells are what the next session's disk carries, and the tree is in them
 pub next_session : (s : Session) → IsReady s → s.cells.version ≡ version_of s.base.minor
-    → (closed : Base) (bins new : List ℕ) (root : ℕ) → closed ≡ closed_of s.base new root
-    → bins ≡ next_bins s → new ≡ next_bins s → root ≡ next_root s → IsSession closed bins s.cells false
-next_session s has version closed bins new root closed_is bins_are written at =
-    let same : closed ≡ next_base s =
-    closed_is ∙ ap (λ (b : List ℕ). closed_of s.base b root) written
-    ∙ ap (λ (n : ℕ). closed_of s.base (next_bins s) n) at in
-    subst (λ (b : Base). IsSession b bins s.cells false) (sym same)
-    (subst (λ (b : List ℕ). IsSession (next_base s) b s.cells false) (sym bins_are)
+    → (closed : Base) (after : HiveCells) (new : List ℕ) (root : ℕ) → closed ≡ closed_of s.base new root
+    → after ≡ settled_as (next_bins s) s.cells → new ≡ next_bins s → root ≡ next_root s
+    → IsSession closed after.base after false
+next_session s has version closed after new root closed_is settled written at =
+    subst (λ (b : Base). IsSession b after.base after false) (sym (closed_as s closed new root closed_is written at))
+    (subst (λ (h : HiveCells). IsSession (next_base s) h.base h false) (sym settled)
     (record { committed = s.tree; carried = has; version = version; kept = λ e. record { bytes = refl; root = refl } }))
 
 -- it is the session that the book of hives says
-pub next_is : (s : Session) → s.tree ≡ s.cells.tree → (closed : Base) (bins new : List ℕ) (root : ℕ)
-    → closed ≡ closed_of s.base new root → bins ≡ next_bins s → new ≡ next_bins s → root ≡ next_root s
-    → session_of closed bins s.cells false ≡ committed s
-next_is s tree closed bins new root closed_is bins_are written at =
-    ap (λ (b : Base). session_of b bins s.cells false)
-    (closed_is ∙ ap (λ (b : List ℕ). closed_of s.base b root) written
-    ∙ ap (λ (n : ℕ). closed_of s.base (next_bins s) n) at)
-    ∙ ap (λ (b : List ℕ). session_of (next_base s) b s.cells false) bins_are
-    ∙ ap (λ (t : Tree). record { base = next_base s; bins = next_bins s; cells = s.cells; tree = t; changed = false })
-    (sym tree)
+pub next_is : (s : Session) → s.tree ≡ s.cells.tree → (closed : Base) (after : HiveCells) (new : List ℕ) (root : ℕ)
+    → closed ≡ closed_of s.base new root → after ≡ settled_as (next_bins s) s.cells → new ≡ next_bins s
+    → root ≡ next_root s → session_of closed after.base after false ≡ committed s
+next_is s tree closed after new root closed_is settled written at =
+    ap (λ (b : Base). session_of b after.base after false) (closed_as s closed new root closed_is written at)
+    ∙ ap (λ (h : HiveCells). session_of (next_base s) h.base h false) settled
+    ∙ ap (λ (t : Tree). record {
+      base = next_base s;
+      bins = next_bins s;
+      cells = settled_as (next_bins s) s.cells;
+      tree = t;
+      changed = false;
+    }) (sym tree)
+
+-- the old data are those to which the cells were settled, by the pages that were kept
+pub old_is : (pages : List (List ℕ)) (bins : List Bin) {new base : List ℕ} → new ≡ spelled 0 bins
+    → before pages (spelled 0 bins) ≡ base → before pages new ≡ base
+old_is pages bins written kept = ap (before pages) written ∙ kept
 
 -- what is said of the data and the root that were written is said of those that were given
 pub as_written : (P : List ℕ → List ℕ → ℕ → Type 0) {old bins written new : List ℕ} {root at : ℕ} → old ≡ bins

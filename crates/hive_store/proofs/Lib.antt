@@ -5,4 +5,3 @@ pub mod LoadingCalls
 pub mod SizedLemmas
 pub mod KeepLemmas
 pub mod LastLemmas
-pub mod RoomLemmas

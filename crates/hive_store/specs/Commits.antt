@@ -5,15 +5,16 @@ use Rattle.hive_model.specs.Log.{dirty, log_of}
 use Rattle.hive_model.specs.State.{HiveState}
 use Rattle.hive_model.specs.Load.{state_of}
 use Rattle.hive_commit.specs.Stages.{next_number, closed_of}
+use Rattle.hive_edit.specs.Hive.{settled_as}
 use Rattle.hive_store.specs.Session.{Session, next_bins, next_root}
 
 -- the base block that the session's commit closes with; its minor version is the one from before
 abbrev pub next_base : Session → Base
 next_base s = closed_of s.base (next_bins s) (next_root s)
 
--- the session after its commit: its cells and their tree stay, the disk carries their bytes, and nothing is changed any more
+-- the session after its commit: its cells and their tree stay, settled as the disk carries them now, and nothing is changed any more
 abbrev pub committed : Session → Session
-committed s = record { base = next_base s; bins = next_bins s; cells = s.cells; tree = s.tree; changed = false }
+committed s = record { base = next_base s; bins = next_bins s; cells = settled_as (next_bins s) s.cells; tree = s.tree; changed = false }
 
 -- what the session's commit leads to: its tree under the next number
 abbrev pub committed_state : Session → HiveState

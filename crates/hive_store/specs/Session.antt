@@ -1,5 +1,5 @@
 -- What is a session on a hive, and what does it keep? (This project's own.)
-use Rattle.std.specs.Prelude.{◌≡◌, Bool, true, false, ℕ, List, Option, None, Some, length, refl}
+use Rattle.std.specs.Prelude.{◌≡◌, Bool, true, false, ℕ, List, length, refl}
 use Rattle.std.specs.Coded.{Coded, code_by, coded×, coded_ℕ, coded_bool, coded_list}
 use Rattle.nt_bytes.specs.declared.version.HiveVersion.{HiveVersion}
 use Rattle.hive_model.specs.Base.{Base, is_bins_size, version_of}
@@ -32,11 +32,6 @@ next_bins s = spelled 0 s.cells.bins
 -- where the root is of what the next commit writes
 abbrev pub next_root : Session → ℕ
 next_root s = s.cells.root
-
--- the bins data that the disk carries: those that are kept, or where none are, the bytes of the cells
-abbrev pub carried_bins : Option (List ℕ) → HiveCells → List ℕ
-carried_bins None cells = spelled 0 cells.bins
-carried_bins (Some bins) cells = bins
 
 -- the cells are those that the disk carries
 pub record AreCarried (base : Base) (bins : List ℕ) (cells : HiveCells) : Type 0 where

@@ -14,7 +14,7 @@ ghost use Rattle.hive_store.specs.Session.{next_bins, next_root};
 ghost use Rattle.hive_store.specs.Commits.{next_base, committed, committed_state, session_log};
 
 use crate::Hive;
-use hive_commit::{CommitStop, commit};
+use hive_commit::{CommitStop, commit_kept};
 use nt_edge::Disk;
 
 impl Hive {
@@ -49,21 +49,20 @@ impl Hive {
             → (Rises (D.state disk.old).faults (D.state disk.new).faults → ⊥)
             → (Rises (D.state disk.old).lacks (D.state disk.new).lacks → ⊥) → IsOk result }
     {
-        let (base, mut kept, cells) = (self.base, self.kept, self.cells);
+        let (base, mut cells) = (self.base, self.cells);
         let new = cells.bytes();
         let mut marks = [0; 4096];
-        let closed = commit(
+        let closed = commit_kept(
             disk,
             &base,
-            kept.carried(&cells),
+            cells.pages(),
             new,
             cells.root(),
             &mut marks,
         )?;
-        kept.keep(&cells, &marks);
+        cells.settle();
         let hive = Hive {
             base: closed,
-            kept,
             cells,
             changed: false,
         };

@@ -38,7 +38,6 @@ impl Hive {
         if !self.changed && keeps(alloc, &self.cells, &steps)? {
             return Ok(());
         }
-        self.kept.hold(&self.cells)?;
         self.cells.apply(alloc, steps)?;
         self.changed = true;
         Ok(())

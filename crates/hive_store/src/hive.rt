@@ -6,7 +6,6 @@ ghost use Rattle.hive_model.specs.Tree.{Tree, find_key};
 ghost use Rattle.hive_store.specs.Found.{found_dword, found_names, FitsBelow};
 ghost use Rattle.hive_store.specs.Session.{AreCarried};
 
-use crate::room::Kept;
 use hive_edit::HiveBytes;
 use nt_bytes::{HiveVersion, Names};
 use reg_tree::Key;
@@ -14,27 +13,26 @@ use regf_base::BaseBlock;
 use std::alloc::{AllocError, Global};
 use std::marker::Model;
 
-/// A hive in memory: its base block, its bins data as the disk carries them, kept once its cells are edited, and its
-/// cells. A tree that a hive can hold is in them.
+/// A hive in memory: its base block, and its cells, with the bins data as the disk carries them, to which the cells were settled
+/// last. A tree that a hive can hold is in them.
 #[derive(Drop)]
 pub struct Hive {
     pub(crate) base: BaseBlock,
-    pub(crate) kept: Kept,
     pub(crate) cells: HiveBytes,
     /// Whether an edit gave another tree. A second edit may have undone it.
     pub(crate) changed: bool,
 }
 
 impl Model for Hive {
-    ghost use Rattle.hive_store.specs.Session.{Session, carried_bins, coded_session, session_of, IsSession};
+    ghost use Rattle.hive_store.specs.Session.{Session, coded_session, session_of, IsSession};
 
     ghost Value = { Session };
 
     ghost coded = { coded_session };
 
-    ghost view = { λ h. session_of h.base (carried_bins h.kept h.cells) h.cells h.changed };
+    ghost view = { λ h. session_of h.base h.cells.base h.cells h.changed };
 
-    ghost invariant = { λ h. IsSession h.base (carried_bins h.kept h.cells) h.cells h.changed };
+    ghost invariant = { λ h. IsSession h.base h.cells.base h.cells h.changed };
 }
 
 impl Hive {

@@ -1,7 +1,7 @@
 //! A session on a hive: loaded from a disk, looked into, edited, committed.
 //!
-//! `Hive::load` checks the whole hive before it writes, `apply` edits the cells and keeps what the disk carries
-//! before the first change, and `commit` takes no memory. Regardless of power loss, a start finds a state from before or after.
+//! `Hive::load` checks the whole hive before it writes, `apply` edits the cells, which keep what the disk carries of
+//! each page before its first change, and `commit` takes no memory. Regardless of power loss, a start finds a state from before or after.
 //! Rules: docs/format.md, "Commit and recovery".
 #![tactic(auto)]
 
@@ -10,7 +10,6 @@ mod committing;
 mod editing;
 mod hive;
 mod loading;
-mod room;
 mod same;
 
 pub use checking::{check_cells, check_images, judge_images, tree_in};

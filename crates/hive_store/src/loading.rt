@@ -21,7 +21,6 @@ ghost use Rattle.hive_store.specs.Loading.{loaded_state, LoadsFrom, StopsFrom, A
 
 use crate::Hive;
 use crate::checking::taken_in;
-use crate::room::Kept;
 use hive_commit::restore;
 use hive_edit::HiveBytes;
 use hive_log::{LoadStop, Reading, read_recovered};
@@ -59,16 +58,15 @@ fn look<D: Disk>(alloc: Global, disk: &mut D, judged: Option<HiveBytes>) -> Resu
 {
     let Reading { recovered, bitmap } = read_recovered(alloc, disk)?;
     let (base, dirty) = (recovered.base, recovered.dirty);
-    let cells = match taken_in(alloc, judged, recovered) {
+    let mut cells = match taken_in(alloc, judged, recovered) {
         Ok(cells) => cells,
         Err(ReadStop::Fault(fault)) => return Err(LoadStop::Fault(fault)),
         Err(ReadStop::Memory) => return Err(LoadStop::Memory),
     };
-    let kept = Kept::none(alloc, cells.size())?;
+    cells.settle();
     Ok(Looked {
         hive: Hive {
             base,
-            kept,
             cells,
             changed: false,
         },
@@ -148,7 +146,7 @@ impl Hive {
             bitmap,
         } = look(alloc, disk, judged)?;
         if dirty {
-            let bins = hive.kept.carried(&hive.cells);
+            let bins = hive.cells.bytes();
             restore(disk, &hive.base, bitmap.as_slice(), bins)?;
         }
         Ok((hive, dirty))

@@ -1,19 +1,17 @@
 //! The tree of a small hive, and the first fault of hives with one field broken.
 
-use crate::small::small_hive;
+use crate::small::{path_of, small_cells, small_hive};
 use hive_cells::{CellHeap, read_cells};
 use hive_read::{judge, read_tree};
-use nt_bytes::{Bytes, HiveFault, HiveFaultKind, HiveVersion, Names, ReadStop, narrow};
+use nt_bytes::{Bytes, HiveFault, HiveFaultKind, HiveVersion, ReadStop, narrow};
+use reg_tree::Key;
 use std::alloc::{AllocError, Global};
 use std::process::Abort;
 use std::test::Fail;
 
 /// What reading a tree in these cells stops at.
 fn tree_stop(alloc: Global, cells: &CellHeap, root: u32, version: HiveVersion) -> Option<ReadStop> {
-    match read_tree(alloc, cells, root, version) {
-        Err(stop) => Some(stop),
-        Ok(_) => None,
-    }
+    read_tree(alloc, cells, root, version).err()
 }
 
 /// What judging such a tree stops at.
@@ -23,10 +21,7 @@ fn judge_stop(
     root: u32,
     version: HiveVersion,
 ) -> Option<ReadStop> {
-    match judge(alloc, cells, root, version) {
-        Err(stop) => Some(stop),
-        Ok(_) => None,
-    }
+    judge(alloc, cells, root, version).err()
 }
 
 /// What both stop at.
@@ -57,27 +52,26 @@ pub(crate) fn stop_in(
     }
 }
 
-fn path_of(alloc: Global, names: &[&str]) -> Result<Names, AllocError> {
-    let mut path = Names::new(alloc);
-    for name in names {
-        path.push(narrow(alloc, name.as_bytes())?)?;
-    }
-    Ok(path)
+fn is_driver(rt: &impl Abort, alloc: Global, disk: &Key) -> Result<(), Fail> {
+    let kind = narrow(alloc, b"Type")?;
+    let name = [0x44, 0x69, 0x73, 0x6b];
+    let found = (disk.name.as_slice(), disk.dword(kind.as_slice()));
+    assert_eq!(rt; found, (name.as_slice(), Some(1)));
+    Ok(())
+}
+
+fn has_driver(rt: &impl Abort, alloc: Global, root: &Key) -> Result<(), Fail> {
+    let path = path_of(alloc, &["ControlSet001", "Services", "disk"])?;
+    let disk = root.find(&path).ok_or("the driver is there")?;
+    is_driver(rt, alloc, disk)
 }
 
 fn driver_is_read(rt: &impl Abort, alloc: Global) -> Result<(), Fail> {
-    let bins = small_hive(alloc)?;
-    assert_eq!(rt; bins.len(), 4096);
-    let cells = read_cells(alloc, bins)?;
-    let root = read_tree(alloc, &cells, 32, HiveVersion::V3)?;
-    let path = path_of(alloc, &["ControlSet001", "Services", "disk"])?;
-    let disk = root.find(&path).ok_or("the driver is there")?;
-    assert_eq!(rt; disk.name.as_slice(), [0x44, 0x69, 0x73, 0x6b].as_slice());
-    let kind = narrow(alloc, b"Type")?;
-    assert_eq!(rt; disk.dword(kind.as_slice()), Some(1));
+    let cells = small_cells(rt, alloc)?;
     // the free cell that fills the bin begins at 776
     assert_eq!(rt; judge(alloc, &cells, 32, HiveVersion::V3), Ok(776));
-    Ok(())
+    let root = read_tree(alloc, &cells, 32, HiveVersion::V3)?;
+    has_driver(rt, alloc, &root)
 }
 
 #[test]
@@ -88,6 +82,11 @@ fn a_small_hive_is_read(rt: HostRuntime) -> Result<(), Fail> {
 /// A place in the bins data, and what is written there.
 type Field = (usize, &'static [u8]);
 
+pub(crate) fn change(rt: &impl Abort, bins: &mut Bytes, place: usize, field: &[u8]) {
+    assert!(rt; place < 4096 && field.len() < 4096 && place + field.len() <= bins.len());
+    bins.overwrite(place, field);
+}
+
 /// What reading the small hive stops at, with these fields changed.
 fn stop_with(
     rt: &impl Abort,
@@ -97,8 +96,7 @@ fn stop_with(
 ) -> Result<Option<ReadStop>, Fail> {
     let mut bins = small_hive(alloc)?;
     for (place, field) in fields {
-        assert!(rt; *place < 4096 && field.len() < 4096 && *place + field.len() <= bins.len());
-        bins.overwrite(*place, field);
+        change(rt, &mut bins, *place, field);
     }
     Ok(stop_in(rt, alloc, bins, root, HiveVersion::V3))
 }
@@ -161,12 +159,15 @@ static HASHES: [Field; 1] = [(124, b"lh")];
 /// A list of lists in a list of lists.
 static NESTED: [Field; 3] = [(124, b"ri"), (244, b"ri"), (128, &[240, 0, 0, 0])];
 
-fn unlooked(rt: &impl Abort, alloc: Global) -> Result<(), Fail> {
-    let stop = stop_with(rt, alloc, &NO_CHILD, 32)?;
-    assert_eq!(rt; stop, None);
-    let stop = stop_with(rt, alloc, &HASHES, 32)?;
+fn is_read_with(rt: &impl Abort, alloc: Global, fields: &[Field]) -> Result<(), Fail> {
+    let stop = stop_with(rt, alloc, fields, 32)?;
     assert_eq!(rt; stop, None);
     Ok(())
+}
+
+fn unlooked(rt: &impl Abort, alloc: Global) -> Result<(), Fail> {
+    is_read_with(rt, alloc, &NO_CHILD)?;
+    is_read_with(rt, alloc, &HASHES)
 }
 
 #[test]
@@ -186,6 +187,19 @@ fn structure(rt: &impl Abort, alloc: Global) -> Result<(), Fail> {
 #[test]
 fn lists_nest_once_and_a_root_is_a_cell(rt: HostRuntime) -> Result<(), Fail> {
     structure(&rt, rt.alloc())
+}
+
+pub(crate) fn append_words(bins: &mut Bytes, words: &[u32]) -> Result<(), AllocError> {
+    for word in words {
+        bins.put_u32(*word)?;
+    }
+    Ok(())
+}
+
+/// A free cell of that many bytes.
+pub(crate) fn append_free(bins: &mut Bytes, size: u32) -> Result<(), AllocError> {
+    bins.put_u32(size)?;
+    bins.append_zeros(size.saturating_sub(4) as usize)
 }
 
 /// A key named `K` and a list with one entry, the key after them.
@@ -215,38 +229,40 @@ fn append_level(bins: &mut Bytes, at: u32, children: u32) -> Result<(), AllocErr
         0x4b,
         0,
     ];
-    for word in node {
-        bins.put_u32(word)?;
+    append_words(bins, &node)?;
+    let next = at.saturating_add(104);
+    append_words(bins, &[0xffff_fff0, 0x0001_666c, next, 0x4b])
+}
+
+/// The key of each level, from offset 32 on. Answers where they end.
+fn append_levels(bins: &mut Bytes, levels: u32) -> Result<u32, AllocError> {
+    let mut at: u32 = 32;
+    for level in 0..levels {
+        append_level(bins, at, if level + 1 < levels { 1 } else { 0 })?;
+        at = at.saturating_add(104);
     }
-    for word in [0xffff_fff0, 0x0001_666c, at.saturating_add(104), 0x4b] {
-        bins.put_u32(word)?;
-    }
-    Ok(())
+    Ok(at)
 }
 
 /// One key below another, that many levels, from offset 32 on.
 fn chain(alloc: Global, levels: u32, size: u32) -> Result<Bytes, AllocError> {
     let mut bins = Bytes::new(alloc);
-    for word in [0x6e69_6268, 0, size, 0, 0, 0, 0, 0] {
-        bins.put_u32(word)?;
-    }
-    let mut at: u32 = 32;
-    for level in 0..levels {
-        append_level(&mut bins, at, if level + 1 < levels { 1 } else { 0 })?;
-        at = at.saturating_add(104);
-    }
-    let rest = size.saturating_sub(at);
-    bins.put_u32(rest)?;
-    bins.append_zeros(rest.saturating_sub(4) as usize)?;
+    append_words(&mut bins, &[0x6e69_6268, 0, size, 0, 0, 0, 0, 0])?;
+    let at = append_levels(&mut bins, levels)?;
+    append_free(&mut bins, size.saturating_sub(at))?;
     Ok(bins)
 }
 
+/// What reading a chain of that many levels stops at.
+fn chain_stop(rt: &impl Abort, alloc: Global, levels: u32) -> Result<Option<ReadStop>, Fail> {
+    let bins = chain(alloc, levels, 57_344)?;
+    Ok(stop_in(rt, alloc, bins, 32, HiveVersion::V3))
+}
+
 fn deep(rt: &impl Abort, alloc: Global) -> Result<(), Fail> {
-    let bins = chain(alloc, 512, 57_344)?;
-    let stop = stop_in(rt, alloc, bins, 32, HiveVersion::V3);
+    let stop = chain_stop(rt, alloc, 512)?;
     assert_eq!(rt; stop, None);
-    let bins = chain(alloc, 513, 57_344)?;
-    let stop = stop_in(rt, alloc, bins, 32, HiveVersion::V3);
+    let stop = chain_stop(rt, alloc, 513)?;
     is_fault(rt, stop, HiveFaultKind::TooDeep, 53_280);
     Ok(())
 }

@@ -1,61 +1,62 @@
 //! Data of more bytes than a segment holds, in both versions, and the first fault of big data with one field broken.
 
-use crate::faults::stop_in;
+use crate::faults::{append_free, append_words, change, stop_in};
 use hive_cells::read_cells;
 use hive_read::{judge, read_tree};
 use nt_bytes::{Bytes, HiveFault, HiveFaultKind, HiveVersion, ReadStop};
+use reg_tree::Key;
 use std::alloc::{AllocError, Global};
 use std::process::Abort;
 use std::test::Fail;
 
 /// A bin of 20,480 bytes with a key named `R` at 32, and its value `A` of type 3 with data of 16,345 bytes at 160.
+static FRONT: [u32; 40] = [
+    0x6e69_6268,
+    0,
+    0x5000,
+    0,
+    0,
+    0,
+    0,
+    0,
+    0xffff_ffa8,
+    0x0020_6b6e,
+    0,
+    0,
+    0,
+    0xffff_ffff,
+    0,
+    0,
+    0xffff_ffff,
+    0xffff_ffff,
+    1,
+    120,
+    0xffff_ffff,
+    0xffff_ffff,
+    0,
+    0,
+    2,
+    16_345,
+    0,
+    1,
+    0x52,
+    0,
+    0xffff_fff8,
+    128,
+    0xffff_ffe0,
+    0x0001_6b76,
+    16_345,
+    160,
+    3,
+    1,
+    0x41,
+    0,
+];
+
+/// The bin up to the data.
 fn front(alloc: Global) -> Result<Bytes, AllocError> {
-    let words = [
-        0x6e69_6268,
-        0,
-        0x5000,
-        0,
-        0,
-        0,
-        0,
-        0,
-        0xffff_ffa8,
-        0x0020_6b6e,
-        0,
-        0,
-        0,
-        0xffff_ffff,
-        0,
-        0,
-        0xffff_ffff,
-        0xffff_ffff,
-        1,
-        120,
-        0xffff_ffff,
-        0xffff_ffff,
-        0,
-        0,
-        2,
-        16_345,
-        0,
-        1,
-        0x52,
-        0,
-        0xffff_fff8,
-        128,
-        0xffff_ffe0,
-        0x0001_6b76,
-        16_345,
-        160,
-        3,
-        1,
-        0x41,
-        0,
-    ];
     let mut bins = Bytes::new(alloc);
-    for word in words {
-        bins.put_u32(word)?;
-    }
+    append_words(&mut bins, &FRONT)?;
     Ok(bins)
 }
 
@@ -67,12 +68,6 @@ fn append_segment(bins: &mut Bytes) -> Result<(), AllocError> {
     bins.push(2)
 }
 
-/// A free cell of that many bytes.
-fn append_free(bins: &mut Bytes, size: u32) -> Result<(), AllocError> {
-    bins.put_u32(size)?;
-    bins.append_zeros(size.saturating_sub(4) as usize)
-}
-
 /// The data in one cell, their last byte a 3.
 fn in_one_cell(alloc: Global) -> Result<Bytes, AllocError> {
     let mut bins = front(alloc)?;
@@ -82,27 +77,38 @@ fn in_one_cell(alloc: Global) -> Result<Bytes, AllocError> {
     Ok(bins)
 }
 
+/// `db` and its list.
+static LISTED: [u32; 8] = [
+    0xffff_fff0,
+    0x0002_6264,
+    176,
+    0,
+    0xffff_fff0,
+    192,
+    16_544,
+    0,
+];
+
 /// The same as big data: `db` at 160, its list at 176, a full segment at 192 and the last byte at 16,544.
 fn in_segments(alloc: Global) -> Result<Bytes, AllocError> {
     let mut bins = front(alloc)?;
-    for word in [
-        0xffff_fff0,
-        0x0002_6264,
-        176,
-        0,
-        0xffff_fff0,
-        192,
-        16_544,
-        0,
-    ] {
-        bins.put_u32(word)?;
-    }
+    append_words(&mut bins, &LISTED)?;
     append_segment(&mut bins)?;
-    for word in [0, 0xffff_fff8, 3] {
-        bins.put_u32(word)?;
-    }
+    append_words(&mut bins, &[0, 0xffff_fff8, 3])?;
     append_free(&mut bins, 3928)?;
     Ok(bins)
+}
+
+/// The ends of the segments.
+fn are_data(rt: &impl Abort, data: &[u8]) {
+    assert_eq!(rt; data.len(), 16_345);
+    assert_eq!(rt; (data[0], data[16_343], data[16_344]), (1, 2, 3));
+}
+
+fn has_data(rt: &impl Abort, root: &Key) -> Result<(), Fail> {
+    let value = root.value(&[0x41]).ok_or("the value is there")?;
+    are_data(rt, value.bytes.as_slice());
+    Ok(())
 }
 
 /// Reads the value, and looks at the ends of its segments. The bulk is where the free cell begins.
@@ -115,13 +121,9 @@ fn check_data(
 ) -> Result<(), Fail> {
     assert_eq!(rt; bins.len(), 20_480);
     let cells = read_cells(alloc, bins)?;
-    let root = read_tree(alloc, &cells, 32, version)?;
-    let value = root.value(&[0x41]).ok_or("the value is there")?;
-    let data = value.bytes.as_slice();
-    assert_eq!(rt; data.len(), 16_345);
-    assert_eq!(rt; (data[0], data[16_343], data[16_344]), (1, 2, 3));
     assert_eq!(rt; judge(alloc, &cells, 32, version), Ok(bulk));
-    Ok(())
+    let root = read_tree(alloc, &cells, 32, version)?;
+    has_data(rt, &root)
 }
 
 fn data_are_read(rt: &impl Abort, alloc: Global) -> Result<(), Fail> {
@@ -138,8 +140,7 @@ fn long_data_are_read_in_both_versions(rt: HostRuntime) -> Result<(), Fail> {
 
 fn is_no_big_data(rt: &impl Abort, alloc: Global, version: HiveVersion) -> Result<(), Fail> {
     let mut bins = in_one_cell(alloc)?;
-    assert_eq!(rt; bins.len(), 20_480);
-    bins.overwrite(136, &[0xd8, 0x3f]);
+    change(rt, &mut bins, 136, &[0xd8, 0x3f]);
     let stop = stop_in(rt, alloc, bins, 32, version);
     assert_eq!(rt; stop, None);
     Ok(())
@@ -156,10 +157,14 @@ fn is_fault(rt: &impl Abort, stop: Option<ReadStop>, kind: HiveFaultKind) {
     assert_eq!(rt; stop, Some(ReadStop::Fault(HiveFault { kind, at: 160 })));
 }
 
-fn other_layouts(rt: &impl Abort, alloc: Global) -> Result<(), Fail> {
+fn one_cell_in_5(rt: &impl Abort, alloc: Global) -> Result<(), Fail> {
     let bins = in_one_cell(alloc)?;
     let stop = stop_in(rt, alloc, bins, 32, HiveVersion::V5);
     is_fault(rt, stop, HiveFaultKind::FormSign);
+    Ok(())
+}
+
+fn segments_in_3(rt: &impl Abort, alloc: Global) -> Result<(), Fail> {
     let bins = in_segments(alloc)?;
     let stop = stop_in(rt, alloc, bins, 32, HiveVersion::V3);
     is_fault(rt, stop, HiveFaultKind::FormShort);
@@ -168,7 +173,8 @@ fn other_layouts(rt: &impl Abort, alloc: Global) -> Result<(), Fail> {
 
 #[test]
 fn each_layout_is_faulty_in_the_other_version(rt: HostRuntime) -> Result<(), Fail> {
-    other_layouts(&rt, rt.alloc())
+    one_cell_in_5(&rt, rt.alloc())?;
+    segments_in_3(&rt, rt.alloc())
 }
 
 /// A field that is broken, and the first fault.
@@ -195,8 +201,7 @@ fn stop_with(
     field: &[u8],
 ) -> Result<Option<ReadStop>, Fail> {
     let mut bins = in_segments(alloc)?;
-    assert!(rt; place < 4096 && field.len() < 4096 && place + field.len() <= bins.len());
-    bins.overwrite(place, field);
+    change(rt, &mut bins, place, field);
     Ok(stop_in(rt, alloc, bins, 32, HiveVersion::V5))
 }
 

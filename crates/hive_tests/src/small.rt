@@ -1,7 +1,10 @@
 //! A small hive, packed: a control set with one driver, and `Select`.
 
-use nt_bytes::Bytes;
+use hive_cells::{CellHeap, read_cells};
+use nt_bytes::{Bytes, Names, narrow};
 use std::alloc::{AllocError, Global};
+use std::process::Abort;
+use std::test::Fail;
 
 // The cells of a hive with one driver, in hexadecimal, up to the free cell that fills the bin.
 const CELLS: &[u8] =
@@ -44,4 +47,18 @@ pub(crate) fn small_hive(alloc: Global) -> Result<Bytes, AllocError> {
     }
     bins.append_zeros(3316)?;
     Ok(bins)
+}
+
+pub(crate) fn small_cells(rt: &impl Abort, alloc: Global) -> Result<CellHeap, Fail> {
+    let bins = small_hive(alloc)?;
+    assert_eq!(rt; bins.len(), 4096);
+    Ok(read_cells(alloc, bins)?)
+}
+
+pub(crate) fn path_of(alloc: Global, names: &[&str]) -> Result<Names, AllocError> {
+    let mut path = Names::new(alloc);
+    for name in names {
+        path.push(narrow(alloc, name.as_bytes())?)?;
+    }
+    Ok(path)
 }

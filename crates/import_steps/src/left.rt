@@ -1,6 +1,6 @@
 //! Steps without those that delete what isn't there.
 
-ghost use Rattle.std.specs.Prelude.{◌≡◌, ◌++◌, ◌∷◌, map, IfOk, OnOk};
+ghost use Rattle.std.specs.Prelude.{◌≡◌, ◌++◌, ◌∷◌, [], map, IfOk, OnOk};
 ghost use Rattle.std.specs.List.{All};
 ghost use Rattle.std.specs.Vec.Iter.{into_iter_items};
 ghost use Rattle.hive_model.specs.Valid.{HoldsKeys};
@@ -8,6 +8,7 @@ ghost use Rattle.reg_tree.specs.Fitting.{Fits};
 ghost use Rattle.reg_tree.specs.Makes.{step_of};
 ghost use Rattle.import_steps.specs.Left.{left_of};
 ghost use Rattle.import_steps.specs.Made.{left_seen};
+ghost use Rattle.import_steps.specs.Verdict.{IsMarkedBy};
 
 use crate::marks::{Life, Marks};
 use crate::verdict::{Verdict, judged, marked_by, seen_with};
@@ -33,19 +34,55 @@ fn push_rest(steps: &mut Steps, rest: IntoIter<TreeStep>) -> Result<(), AllocErr
     Ok(())
 }
 
-/// The steps that are left where none after this one is judged.
-fn ended(
-    left: Steps,
-    passed: usize,
-    step: TreeStep,
-    rest: IntoIter<TreeStep>,
-) -> Result<LeftSteps, AllocError>
-    ensures { IfOk result (λ l. left_seen l ≡ record { steps = map step_of left ++ step_of step ∷ map step_of (into_iter_items rest); passed = passed }) }
+/// Puts a step after those that are left, and then the rest, none of which is judged.
+fn ended(left: &mut Steps, step: TreeStep, rest: IntoIter<TreeStep>) -> Result<(), AllocError>
+    ensures { OnOk result (map step_of left.new ≡ map step_of left.old ++ step_of step ∷ map step_of (into_iter_items rest)) }
 {
-    let mut steps = left;
-    steps.push(step)?;
-    push_rest(&mut steps, rest)?;
-    Ok(LeftSteps { steps, passed })
+    left.push(step)?;
+    push_rest(left, rest)
+}
+
+/// Marks a step, and puts it after those that are left.
+fn made(
+    alloc: Global,
+    marks: Marks,
+    tree: &Key,
+    step: TreeStep,
+    left: &mut Steps,
+) -> Result<Marks, AllocError>
+    ensures marked { IfOk result (IsMarkedBy (step_of step) tree.now marks) }
+    ensures left { OnOk result (left.new ≡ left.old ++ step ∷ []) }
+{
+    let marks = marked_by(alloc, marks, tree, &step)?;
+    left.push(step)?;
+    Ok(marks)
+}
+
+/// Puts the steps that are left into a list without any, and answers how many were passed over.
+fn judge_each(
+    alloc: Global,
+    tree: &Key,
+    steps: Steps,
+    left: &mut Steps,
+) -> Result<usize, AllocError>
+    requires held { HoldsKeys tree.now }
+    requires none { left.old ≡ [] }
+    ensures { IfOk result (λ passed. left_seen (record { steps = left.new; passed = passed }) ≡ left_of tree.now (map step_of steps)) }
+{
+    let mut passed: usize = 0;
+    let mut marks = Marks::new(alloc, Life::Kept);
+    let mut rest = steps.into_vec().into_iter();
+    'steps: while let Some(step) = rest.next() {
+        match judged(alloc, seen_with(&marks, tree), &step)? {
+            Verdict::Void => passed += 1,
+            Verdict::Ends => {
+                ended(left, step, rest)?;
+                return Ok(passed);
+            }
+            Verdict::Made => marks = made(alloc, marks, tree, step, left)?,
+        }
+    }
+    Ok(passed)
 }
 
 fn judge_all(alloc: Global, tree: &Key, steps: Steps) -> Result<LeftSteps, AllocError>
@@ -53,19 +90,7 @@ fn judge_all(alloc: Global, tree: &Key, steps: Steps) -> Result<LeftSteps, Alloc
     ensures { IfOk result (λ left. left_seen left ≡ left_of tree.now (map step_of steps)) }
 {
     let mut left = Row::new(alloc);
-    let mut passed: usize = 0;
-    let mut marks = Marks::new(alloc, Life::Kept);
-    let mut rest = steps.into_vec().into_iter();
-    'steps: while let Some(step) = rest.next() {
-        match judged(alloc, seen_with(&marks, tree), &step)? {
-            Verdict::Void => passed += 1,
-            Verdict::Ends => return ended(left, passed, step, rest),
-            Verdict::Made => {
-                marks = marked_by(alloc, marks, tree, &step)?;
-                left.push(step)?;
-            }
-        }
-    }
+    let passed = judge_each(alloc, tree, steps, &mut left)?;
     Ok(LeftSteps {
         steps: left,
         passed,

@@ -15,7 +15,7 @@ const LH: u16 = 0x686c;
 const RI: u16 = 0x6972;
 
 /// The lengths of the lists of that many children.
-const LENGTHS: [(u32, &[u16]); 7] = [
+static LENGTHS: [(u32, &[u16]); 7] = [
     (1, &[1]),
     (2, &[2]),
     (499, &[499]),
@@ -91,7 +91,52 @@ fn child(rt: &impl Abort, cells: &OpenHeap, at: u32, lists: &[u16], place: usize
     )
 }
 
-/// One child more makes these lists, with the root after the children `K00000` to `K00499` that there are.
+/// The lists of a root with one child more than that many.
+fn with_more(
+    rt: &impl Abort,
+    alloc: Global,
+    version: HiveVersion,
+    before: u32,
+) -> Result<Option<Changed>, Fail> {
+    let tree = family(alloc, before)?;
+    assert!(rt; packing_tests::is_valid(&tree) && tree.bulk(version) <= 16_773_120);
+    Ok(with_one_more(alloc, &tree, version)?)
+}
+
+/// The lists of a root without the first one of that many children, which has this name.
+fn without_first(
+    rt: &impl Abort,
+    alloc: Global,
+    version: HiveVersion,
+    before: u32,
+    first: &[u8],
+) -> Result<Option<Changed>, Fail> {
+    let tree = family(alloc, before)?;
+    assert!(rt; packing_tests::is_valid(&tree) && tree.bulk(version) <= 16_773_120);
+    let first = nt_bytes::narrow(alloc, first)?;
+    Ok(with_one_less(alloc, &tree, version, first.as_slice())?)
+}
+
+/// Where the root's list is after the change: there is one.
+fn list_of(rt: &impl Abort, changed: &Changed) -> u32 {
+    match changed.list {
+        Some(list) => list,
+        None => {
+            assert!(rt; false, "no list");
+            0
+        }
+    }
+}
+
+/// These lists, with the root after the children `K00000` to `K00499` that there are.
+fn has_grown(rt: &impl Abort, changed: &Changed, version: HiveVersion, before: u32, lists: &[u16]) {
+    let list = list_of(rt, changed);
+    are_lists(rt, &changed.cells, list, version, lists);
+    let place = (before as usize).min(500);
+    assert_eq!(rt; child(rt, &changed.cells, list, lists, place), 32);
+}
+
+/// One child more makes these lists.
 fn grows(
     rt: &impl Abort,
     alloc: Global,
@@ -100,23 +145,14 @@ fn grows(
     lists: &[u16],
 ) -> Result<(), Fail> {
     let before = count.saturating_sub(1);
-    let tree = family(alloc, before)?;
-    assert!(rt; packing_tests::is_valid(&tree) && tree.bulk(version) <= 16_773_120);
-    let Some(changed) = with_one_more(alloc, &tree, version)? else {
-        assert!(rt; false, "no root");
-        return Ok(());
-    };
-    let Some(list) = changed.list else {
-        assert!(rt; false, "no room");
-        return Ok(());
-    };
-    are_lists(rt, &changed.cells, list, version, lists);
-    let place = (before as usize).min(500);
-    assert_eq!(rt; child(rt, &changed.cells, list, lists, place), 32);
+    match with_more(rt, alloc, version, before)? {
+        Some(changed) => has_grown(rt, &changed, version, before, lists),
+        None => assert!(rt; false, "no root"),
+    }
     Ok(())
 }
 
-/// One child less leaves these lists, and the child after it in its place.
+/// One child less leaves these lists.
 fn shrinks(
     rt: &impl Abort,
     alloc: Global,
@@ -124,25 +160,20 @@ fn shrinks(
     count: u32,
     lists: &[u16],
 ) -> Result<(), Fail> {
-    let tree = family(alloc, count.saturating_add(1))?;
-    assert!(rt; packing_tests::is_valid(&tree) && tree.bulk(version) <= 16_773_120);
-    let first = nt_bytes::narrow(alloc, b"k00000")?;
-    let Some(changed) = with_one_less(alloc, &tree, version, first.as_slice())? else {
-        assert!(rt; false, "no child");
-        return Ok(());
-    };
-    let Some(list) = changed.list else {
-        assert!(rt; false, "no list");
-        return Ok(());
-    };
-    are_lists(rt, &changed.cells, list, version, lists);
+    match without_first(rt, alloc, version, count.saturating_add(1), b"k00000")? {
+        Some(changed) => {
+            let list = list_of(rt, &changed);
+            are_lists(rt, &changed.cells, list, version, lists);
+        }
+        None => assert!(rt; false, "no child"),
+    }
     Ok(())
 }
 
 fn each_length(rt: &impl Abort, alloc: Global, version: HiveVersion) -> Result<(), Fail> {
-    for (count, lists) in LENGTHS {
-        grows(rt, alloc, version, count, lists)?;
-        shrinks(rt, alloc, version, count, lists)?;
+    for (count, lists) in LENGTHS.iter() {
+        grows(rt, alloc, version, *count, lists)?;
+        shrinks(rt, alloc, version, *count, lists)?;
     }
     Ok(())
 }
@@ -157,14 +188,16 @@ fn lists_of_version_5_grow_and_shrink(rt: HostRuntime) -> Result<(), Fail> {
     each_length(&rt, rt.alloc(), HiveVersion::V5)
 }
 
+fn only_child(rt: &impl Abort, alloc: Global) -> Result<(), Fail> {
+    match without_first(rt, alloc, HiveVersion::V3, 1, b"K00000")? {
+        Some(changed) => assert!(rt; changed.list.is_none()),
+        None => assert!(rt; false, "no child"),
+    }
+    Ok(())
+}
+
 /// No list is left of an only child.
 #[test]
 fn no_list_is_left_of_an_only_child(rt: HostRuntime) -> Result<(), Fail> {
-    let alloc = rt.alloc();
-    let tree = family(alloc, 1)?;
-    assert!(rt; packing_tests::is_valid(&tree) && tree.bulk(HiveVersion::V3) <= 16_773_120);
-    let first = nt_bytes::narrow(alloc, b"K00000")?;
-    let changed = with_one_less(alloc, &tree, HiveVersion::V3, first.as_slice())?;
-    assert!(rt; changed.is_some_and(|c| c.list.is_none()));
-    Ok(())
+    only_child(&rt, rt.alloc())
 }

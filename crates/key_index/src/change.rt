@@ -28,18 +28,19 @@ fn offsets_fit(offsets: &[u32])
 
 /// The bins data have at most 16,777,216 bytes.
 pub fn bins_fit(heap: &OpenHeap)
-    ensures { bins_size heap.now ≤ 16777216 }
+    ensures { bins_size heap.now.bins ≤ 16777216 }
 {
     let _bins = heap.bytes();
 }
 
 /// Frees the cells at these offsets in bytes.
 pub fn free_all(heap: &mut OpenHeap, cells: &[u32])
-    requires held { All (λ o. IsSome (held_at heap.old o)) cells.now }
+    requires held { All (λ o. IsSome (held_at heap.old.bins o)) cells.now }
     requires apart { AreApart cells.now }
-    ensures gone { (o : ℕ) → Contains cells.now o → held_at heap.new o ≡ None }
-    ensures others { (o : ℕ) → (Contains cells.now o → ⊥) → held_at heap.new o ≡ held_at heap.old o }
-    ensures long { bins_size heap.new ≡ bins_size heap.old }
+    ensures gone { (o : ℕ) → Contains cells.now o → held_at heap.new.bins o ≡ None }
+    ensures others { (o : ℕ) → (Contains cells.now o → ⊥) → held_at heap.new.bins o ≡ held_at heap.old.bins o }
+    ensures long { bins_size heap.new.bins ≡ bins_size heap.old.bins }
+    ensures base { heap.new.base ≡ heap.old.base }
 {
     for at in cells {
         heap.free(*at);
@@ -101,15 +102,16 @@ fn put(
     at: u32,
     run: &[u8],
 )
-    requires held { All (λ o. IsSome (held_at heap.old o)) gone.now }
+    requires held { All (λ o. IsSome (held_at heap.old.bins o)) gone.now }
     requires apart { AreApart gone.now }
     requires some { 0 < length offsets.now }
     requires same { length offsets.now ≡ length hints.now }
     requires four { AreHints hints.now }
     requires room { at + list_size (length offsets.now) ≤ 16777216 }
-    requires hole { IsHole (list_size (length offsets.now)) heap.old at }
+    requires hole { IsHole (list_size (length offsets.now)) heap.old.bins at }
     requires run { run.now ≡ text (list_cells version at offsets.now hints.now) }
-    ensures { IsPut version gone.now offsets.now hints.now heap.old heap.new at }
+    ensures put { IsPut version gone.now offsets.now hints.now heap.old.bins heap.new.bins at }
+    ensures base { heap.new.base ≡ heap.old.base }
 {
     offsets_fit(offsets);
     heap.fill(at, run);
@@ -127,13 +129,14 @@ fn relist(
     offsets: &[u32],
     hints: &[[u8; 4]],
 ) -> Result<Option<u32>, AllocError>
-    requires held { All (λ o. IsSome (held_at heap.old o)) gone.now }
+    requires held { All (λ o. IsSome (held_at heap.old.bins o)) gone.now }
     requires apart { AreApart gone.now }
     requires some { 0 < length offsets.now }
     requires same { length offsets.now ≡ length hints.now }
     requires four { AreHints hints.now }
-    ensures exact { IfOk result (Relists version gone.now offsets.now hints.now heap.old heap.new) }
+    ensures exact { IfOk result (Relists version gone.now offsets.now hints.now heap.old.bins heap.new.bins) }
     ensures refused { OnErr result (heap.new ≡ heap.old) }
+    ensures base { heap.new.base ≡ heap.old.base }
 {
     let n = offsets.len();
     if n > 2097152 {
@@ -201,12 +204,13 @@ pub fn insert_child(
     count: u32,
     child: u32,
 ) -> Result<Option<u32>, AllocError>
-    requires siblings { ListsSiblings (look_up version cells.old) list count }
-    requires apart { AreApart (lists_at (look_up version cells.old) list count) }
-    requires child { IsNode (look_up version cells.old) child }
-    ensures exact { let old = look_up version cells.old in let children = with_child old child (children_at old list count) in
-        IfOk result (Relists version (lists_at old list count) children (hints_in old children) cells.old cells.new) }
+    requires siblings { ListsSiblings (look_up version cells.old.bins) list count }
+    requires apart { AreApart (lists_at (look_up version cells.old.bins) list count) }
+    requires child { IsNode (look_up version cells.old.bins) child }
+    ensures exact { let old = look_up version cells.old.bins in let children = with_child old child (children_at old list count) in
+        IfOk result (Relists version (lists_at old list count) children (hints_in old children) cells.old.bins cells.new.bins) }
     ensures refused { OnErr result (cells.new ≡ cells.old) }
+    ensures base { cells.new.base ≡ cells.old.base }
 {
     let source = Source {
         heap: cells.cells(),
@@ -232,12 +236,13 @@ fn shorten(
     offsets: &[u32],
     hints: &[[u8; 4]],
 ) -> Result<Removal, AllocError>
-    requires held { All (λ o. IsSome (held_at heap.old o)) gone.now }
+    requires held { All (λ o. IsSome (held_at heap.old.bins o)) gone.now }
     requires apart { AreApart gone.now }
     requires same { length offsets.now ≡ length hints.now }
     requires four { AreHints hints.now }
-    ensures exact { IfOk result (Shortens version gone.now offsets.now hints.now heap.old heap.new) }
+    ensures exact { IfOk result (Shortens version gone.now offsets.now hints.now heap.old.bins heap.new.bins) }
     ensures refused { OnErr result (heap.new ≡ heap.old) }
+    ensures base { heap.new.base ≡ heap.old.base }
 {
     if offsets.len() == 0 {
         free_all(heap, gone);
@@ -285,11 +290,12 @@ pub fn remove_child(
     count: u32,
     child: u32,
 ) -> Result<Removal, AllocError>
-    requires siblings { ListsSiblings (look_up version cells.old) list count }
-    requires apart { AreApart (lists_at (look_up version cells.old) list count) }
-    ensures exact { let old = look_up version cells.old in let children = without_child child (children_at old list count) in
-        IfOk result (Shortens version (lists_at old list count) children (hints_in old children) cells.old cells.new) }
+    requires siblings { ListsSiblings (look_up version cells.old.bins) list count }
+    requires apart { AreApart (lists_at (look_up version cells.old.bins) list count) }
+    ensures exact { let old = look_up version cells.old.bins in let children = without_child child (children_at old list count) in
+        IfOk result (Shortens version (lists_at old list count) children (hints_in old children) cells.old.bins cells.new.bins) }
     ensures refused { OnErr result (cells.new ≡ cells.old) }
+    ensures base { cells.new.base ≡ cells.old.base }
 {
     let source = Source {
         heap: cells.cells(),

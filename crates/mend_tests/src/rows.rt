@@ -34,44 +34,44 @@ fn says(
     Ok(())
 }
 
+fn packed(rt: &impl Abort, alloc: Global) -> Result<(), Fail> {
+    let file = hive(alloc, false)?;
+    let mut disk = started(rt, alloc, &file)?;
+    let clean = b"clean 5 4096\n";
+    says(rt, alloc, &mut disk, MendStatus::Done, clean, 0)
+}
+
 #[test]
 fn a_packed_hive_is_not_written(rt: HostRuntime) -> Result<(), Fail> {
-    let file = hive(rt.alloc(), false)?;
-    let mut disk = started(&rt, rt.alloc(), &file)?;
-    says(
-        &rt,
-        rt.alloc(),
-        &mut disk,
-        MendStatus::Done,
-        b"clean 5 4096\n",
-        0,
-    )
+    packed(&rt, rt.alloc())
+}
+
+fn grown(rt: &impl Abort, alloc: Global) -> Result<(), Fail> {
+    let file = hive(alloc, true)?;
+    let mut disk = started(rt, alloc, &file)?;
+    let packed = b"clean 5 8192\npacked 6 8192 4096\n";
+    says(rt, alloc, &mut disk, MendStatus::Done, packed, 4)?;
+    let clean = b"clean 6 4096\n";
+    says(rt, alloc, &mut disk, MendStatus::Done, clean, 4)
 }
 
 /// The log has its base block, its bits and eight sectors at most; the rest of the writes go to the primary.
 #[test]
 fn a_hive_that_has_grown_is_packed_once(rt: HostRuntime) -> Result<(), Fail> {
-    let file = hive(rt.alloc(), true)?;
-    let mut disk = started(&rt, rt.alloc(), &file)?;
-    let packed = b"clean 5 8192\npacked 6 8192 4096\n";
-    says(&rt, rt.alloc(), &mut disk, MendStatus::Done, packed, 4)?;
-    says(
-        &rt,
-        rt.alloc(),
-        &mut disk,
-        MendStatus::Done,
-        b"clean 6 4096\n",
-        4,
-    )
+    grown(&rt, rt.alloc())
+}
+
+fn faulty(rt: &impl Abort, alloc: Global) -> Result<(), Fail> {
+    let mut file = hive(alloc, true)?;
+    assert!(rt; file.len() > 4_128);
+    file.overwrite(4_096, b"hbad");
+    let mut disk = started(rt, alloc, &file)?;
+    let fault = b"hive fault bin-sign at 0\n";
+    says(rt, alloc, &mut disk, MendStatus::HiveFault, fault, 0)
 }
 
 /// The cell of the root is marked as free.
 #[test]
 fn a_hive_with_a_fault_is_not_written(rt: HostRuntime) -> Result<(), Fail> {
-    let mut file = hive(rt.alloc(), true)?;
-    assert!(rt; file.len() > 4_128);
-    file.overwrite(4_096, b"hbad");
-    let mut disk = started(&rt, rt.alloc(), &file)?;
-    let fault = b"hive fault bin-sign at 0\n";
-    says(&rt, rt.alloc(), &mut disk, MendStatus::HiveFault, fault, 0)
+    faulty(&rt, rt.alloc())
 }

@@ -11,7 +11,7 @@ use std::process::Abort;
 use std::test::Fail;
 
 /// What a stop leaves: a cut with each way of leaving what is in flight, and a fault.
-const KEEPS: [Option<Keep>; 5] = [
+static KEEPS: [Option<Keep>; 5] = [
     Some(Keep::Nothing),
     Some(Keep::Everything),
     Some(Keep::OddOnes),
@@ -34,6 +34,24 @@ fn goes_on(said: &[u8]) -> bool {
         || said == b"clean 6 4096\n".as_slice()
 }
 
+/// The repair after a stop ends its work.
+fn is_ended(rt: &impl Abort, alloc: Global, disk: &mut MemDisk, order: Order) -> Result<(), Fail> {
+    let (after, said) = again(alloc, disk)?;
+    assert!(rt;
+        after == MendStatus::Done && goes_on(said.as_slice()),
+        "{order:?}"
+    );
+    Ok(())
+}
+
+/// The one after that has nothing to do.
+fn is_clean(rt: &impl Abort, alloc: Global, disk: &mut MemDisk, order: Order) -> Result<(), Fail> {
+    let (last, said) = again(alloc, disk)?;
+    assert_eq!(rt; last, MendStatus::Done, "{order:?}");
+    assert_eq!(rt; said.as_slice(), b"clean 6 4096\n".as_slice(), "{order:?}");
+    Ok(())
+}
+
 /// Repairs a hive that has grown with a stop at this call. Answers whether it came. The repair after it ends its work.
 fn stop_at(rt: &impl Abort, alloc: Global, file: &Bytes, order: Order) -> Result<bool, Fail> {
     let mut disk = MemDisk::new(alloc);
@@ -43,14 +61,12 @@ fn stop_at(rt: &impl Abort, alloc: Global, file: &Bytes, order: Order) -> Result
     if status == MendStatus::Done {
         return Ok(false);
     }
-    assert_eq!(rt; status, stop, "{order:?}");
-    assert!(rt; said.as_slice().ends_with(line), "{order:?}");
-    let (after, said) = again(alloc, &mut disk)?;
-    assert_eq!(rt; after, MendStatus::Done, "{order:?}");
-    assert!(rt; goes_on(said.as_slice()), "{order:?}");
-    let (last, said) = again(alloc, &mut disk)?;
-    assert_eq!(rt; last, MendStatus::Done, "{order:?}");
-    assert_eq!(rt; said.as_slice(), b"clean 6 4096\n".as_slice(), "{order:?}");
+    assert!(rt;
+        status == stop && said.as_slice().ends_with(line),
+        "{order:?}"
+    );
+    is_ended(rt, alloc, &mut disk, order)?;
+    is_clean(rt, alloc, &mut disk, order)?;
     Ok(true)
 }
 
@@ -65,17 +81,30 @@ fn stops(rt: &impl Abort, alloc: Global, call: DiskCall, keep: Option<Keep>) -> 
     Ok(40)
 }
 
-/// Sixteen sectors of bins data and the base block are read; four are written, and each of the four stages is synced.
-#[test]
-fn a_stop_at_each_call_leaves_the_tree(rt: HostRuntime) -> Result<(), Fail> {
-    for keep in KEEPS {
-        for (call, count) in [
-            (DiskCall::Read, 17),
-            (DiskCall::Write, 4),
-            (DiskCall::Sync, 4),
-        ] {
-            assert_eq!(rt; stops(&rt, rt.alloc(), call, keep)?, count, "{keep:?}");
-        }
+/// How many stops come at calls of a kind: sixteen sectors of bins data and the base block are read; four are written, and each
+/// of the four stages is synced.
+static COUNTS: [(DiskCall, u32); 3] = [
+    (DiskCall::Read, 17),
+    (DiskCall::Write, 4),
+    (DiskCall::Sync, 4),
+];
+
+fn each_kind(rt: &impl Abort, alloc: Global, keep: Option<Keep>) -> Result<(), Fail> {
+    for (call, count) in COUNTS.iter() {
+        let come = stops(rt, alloc, *call, keep)?;
+        assert_eq!(rt; come, *count, "{keep:?}");
     }
     Ok(())
+}
+
+fn each_keep(rt: &impl Abort, alloc: Global) -> Result<(), Fail> {
+    for keep in KEEPS.iter() {
+        each_kind(rt, alloc, *keep)?;
+    }
+    Ok(())
+}
+
+#[test]
+fn a_stop_at_each_call_leaves_the_tree(rt: HostRuntime) -> Result<(), Fail> {
+    each_keep(&rt, rt.alloc())
 }

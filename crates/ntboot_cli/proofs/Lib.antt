@@ -1,4 +1,3 @@
-pub mod AskLemmas
 pub mod RunLemmas
 pub mod MakeLemmas
 pub mod UsualLemmas

@@ -3,8 +3,8 @@
 -- The command line comes first. Of `run` then: the system's path, without a reading; the script, absent or without a reading; boot.ini,
 -- absent, too long or with too many entries; the hive, absent; its log, absent. Of `show`: the hive and its log. What is in hive
 -- and log is judged after all of them.
-use Rattle.std.specs.Prelude.{◌≡◌, ◌+◌, ℕ, true, List, Result, Ok, Err}
-use Rattle.nt_edge.specs.Host.{Files, HostState}
+use Rattle.std.specs.Prelude.{ℕ, List, Result, Ok, Err}
+use Rattle.nt_edge.specs.Host.{Files}
 use Rattle.arc_path.specs.Reading.{arc_of}
 use Rattle.boot_script.specs.declared.event.Event.{Event}
 use Rattle.boot_script.specs.declared.stop.ScriptFault.{ScriptFault}
@@ -12,9 +12,8 @@ use Rattle.boot_script.specs.Script.{script_of}
 use Rattle.command_words.specs.Words.{Reading, asks, help, refused, version, sweep, graph, why, diff, salvage, whatif, check, key, replay, export, import, twin, control, safe, run, show, make, RunAsked, ShowAsked}
 use Rattle.command_parts.specs.declared.refusal.Refusal.{Refusal}
 use Rattle.command_parts.specs.declared.refusal.Refusal.TheVariants.{Usage, ScriptFault as BadScript}
-use Rattle.command_parts.specs.declared.refusal.Obstacle.{Obstacle}
-use Rattle.command_parts.specs.Inputs.{◌>>=◌, system_in, file_in, bytes_in, ini_in, hive_in, behind_step, asks_hive}
-use Rattle.command_parts.specs.Leaves.{AsksUntil, named}
+use Rattle.command_parts.specs.Inputs.{◌>>=◌ as ok_then, system_in, asks_hive}
+use Rattle.input_search.specs.Search.{Search, ◌>>=◌, reads, finds, file, boot_files}
 use Rattle.safe_command.specs.Inputs.{asks_safe, arguments_in as safe_arguments_in}
 use Rattle.control_command.specs.Inputs.{asks_control}
 use Rattle.twin_command.specs.Twinned.{asks_twin}
@@ -34,24 +33,23 @@ events_in (Err fault) = Err (BadScript fault)
 events_in (Ok events) = Ok events
 
 -- what options and files have for a run, or the first obstacle
+abbrev pub run_search : RunAsked → Search Inputs
+run_search words = do
+  system ← reads (system_in (arc_of words.system))
+  text ← file words.script
+  events ← reads (events_in (script_of text))
+  boot ← boot_files words.boot_ini words.system words.hive words.log
+  finds (record { system = system; ini = boot.ini; script = events; hive = boot.hive })
+
 abbrev pub inputs_in : RunAsked → Files → Result Inputs Refusal
-inputs_in words files = do
-  system ← system_in (arc_of words.system)
-  script ← file_in words.script (files words.script)
-  events ← events_in (script_of script)
-  text ← bytes_in files words.boot_ini
-  ini ← ini_in text words.system
-  hive ← hive_in files words.hive words.log
-  Ok (record { system = system; ini = ini; script = events; hive = hive })
+inputs_in words files = (run_search words).found files
 
 -- whether the command line has a reading, and the system's path, where they have one
 abbrev pub arguments_in : Reading → Result (Unit {0}) Refusal
 arguments_in (refused reason) = Err Usage
 arguments_in (help page) = Ok tt
 arguments_in version = Ok tt
-arguments_in (asks (run words) json) = do
-  system ← system_in (arc_of words.system)
-  Ok tt
+arguments_in (asks (run words) json) = ok_then (system_in (arc_of words.system)) (λ system. Ok tt)
 arguments_in (asks (show words) json) = Ok tt
 arguments_in (asks (make words) json) = Ok tt
 arguments_in (asks (safe words) json) = safe_arguments_in words
@@ -73,13 +71,7 @@ arguments_in (asks (sweep words) json) = sweep_arguments_in words
 
 -- for a run
 abbrev pub asks_run : RunAsked → Files → ℕ
-asks_run words files =
-    behind_step (system_in (arc_of words.system)) (λ system.
-    1 + behind_step (file_in words.script (files words.script)) (λ script.
-    behind_step (events_in (script_of script)) (λ events.
-    named words.boot_ini + behind_step (bytes_in files words.boot_ini) (λ text.
-    behind_step (ini_in text words.system) (λ ini.
-    asks_hive files words.hive words.log)))))
+asks_run words files = (run_search words).asked files
 
 -- for what is shown
 abbrev pub asks_show : ShowAsked → Files → ℕ
@@ -107,7 +99,3 @@ asks_in (asks (diff words) json) files = asks_hive files words.hive words.log
 asks_in (asks (why words) json) files = asks_why words files
 asks_in (asks (graph words) json) files = asks_graph words files
 asks_in (asks (sweep words) json) files = asks_sweep words files
-
--- a search for the inputs of a run asked for these files, each once and in their order, up to the first obstacle or stop
-abbrev pub AsksRun : {A : Type 0} → RunAsked → Result A Obstacle → HostState → HostState → Type 0
-AsksRun words result old new = old.tells ≡ true → AsksUntil (asks_run words old.files) result old.gets new.gets

@@ -6,15 +6,16 @@ ghost use Rattle.boot_script.specs.Script.{script_of, HasCounts};
 ghost use Rattle.command_parts.specs.Leaves.{Looks, Reads, IsBadUsage};
 ghost use Rattle.command_words.specs.Words as book;
 ghost use Rattle.command_words.specs.Views.{run_seen};
-ghost use Rattle.ntboot_cli.specs.Inputs.{arguments_in, inputs_in, events_in, AsksRun};
+ghost use Rattle.input_search.specs.Search.{AsksFor};
+ghost use Rattle.ntboot_cli.specs.Inputs.{arguments_in, inputs_in, events_in, run_search};
 
 use arc_path::Arc;
 use boot_ini::BootIni;
 use boot_script::{Script, ScriptStop, read_script};
-use command_parts::{
-    HiveFiles, Obstacle, Refusal, bytes_in, file_in, hive_in, ini_in, no_memory, system_in,
-};
+use command_parts::{HiveFiles, Obstacle, Refusal, file_in, no_memory};
 use command_words::RunWords;
+use input_search::{boot_files, system_at};
+use nt_bytes::Bytes;
 use nt_edge::Host;
 use std::alloc::Global;
 
@@ -28,11 +29,11 @@ pub struct Inputs {
 }
 
 /// The events of a script's text.
-fn events_in(alloc: Global, text: &[u8]) -> Result<Script, Obstacle>
+fn events_in(alloc: Global, text: &Bytes) -> Result<Script, Obstacle>
     ensures read { Reads (events_in (script_of text.now)) result }
     ensures counts { IfOk result (λ script. All HasCounts script) }
 {
-    match read_script(alloc, text) {
+    match read_script(alloc, text.as_slice()) {
         Ok(script) => Ok(script),
         Err(ScriptStop::Fault(fault)) => Err(Obstacle::Refused(Refusal::ScriptFault(fault))),
         Err(ScriptStop::Memory) => Err(no_memory()),
@@ -40,27 +41,33 @@ fn events_in(alloc: Global, text: &[u8]) -> Result<Script, Obstacle>
 }
 
 /// What options and files have for a run, or the first obstacle. Nothing is printed.
+#[tactic(auto, unfolding(input_search::specs::Search::searched))]
 pub(crate) fn inputs_in<H: Host>(
     alloc: Global,
     words: RunWords<'_>,
     host: &mut H,
 ) -> Result<Inputs, Obstacle>
     ensures looks { Looks (inputs_in (run_seen words.entry) (H.state host.old).files) result (H.state host.old) (H.state host.new) }
-    ensures asks { AsksRun (run_seen words.entry) result (H.state host.old) (H.state host.new) }
+    ensures asks { AsksFor (run_search (run_seen words.entry)) result (H.state host.old) (H.state host.new) }
     ensures counts { IfOk result (λ inputs. All HasCounts inputs.script) }
     ensures usage { result ≡ Err (Obstacle.Refused Refusal.Usage) → arguments_in (book.asks (book.run (run_seen words.entry)) false) ≡ Err Refusal.Usage }
     ensures refused { arguments_in (book.asks (book.run (run_seen words.entry)) false) ≡ Err Refusal.Usage → IsBadUsage result }
 {
-    let system = system_in(alloc, words.system.as_bytes())?;
+    let system = system_at(alloc, words.system)?;
     let script = file_in(alloc, host, words.script)?;
-    let script = events_in(alloc, script.as_slice())?;
-    let text = bytes_in(alloc, host, words.boot_ini)?;
-    let ini = ini_in(alloc, text.as_slice(), words.system.as_bytes())?;
-    let hive = hive_in(alloc, host, words.hive, words.log)?;
+    let script = events_in(alloc, &script)?;
+    let boot = boot_files(
+        alloc,
+        host,
+        words.boot_ini,
+        words.system,
+        words.hive,
+        words.log,
+    )?;
     Ok(Inputs {
         system,
-        ini,
+        ini: boot.ini,
         script,
-        hive,
+        hive: boot.hive,
     })
 }

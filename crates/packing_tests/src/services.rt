@@ -30,7 +30,7 @@ fn string(alloc: Global, name: &[u8], text: &[u8]) -> Result<Value, AllocError> 
 }
 
 /// A key without class and descriptor.
-fn key(
+pub(crate) fn key(
     alloc: Global,
     name: &[u8],
     flags: u16,

@@ -1,8 +1,9 @@
 //! What is packed is read back as the same tree, from one driver up to the limit.
 
-ghost use Rattle.std.specs.Prelude.{◌≡◌, ◌≤◌, length};
+ghost use Rattle.std.specs.Prelude.{◌≤◌};
 
 use super::*;
+use crate::services::key;
 use hive_cells::{CellHeap, read_cells};
 use hive_pack::pack;
 use hive_read::read_tree;
@@ -19,11 +20,20 @@ fn there_and_back(
     tree: &Key,
     version: HiveVersion,
 ) -> Result<Bytes, Fail> {
-    assert!(rt; is_valid(tree));
-    assert!(rt; tree.bulk(version) <= 16_773_120);
+    assert!(rt; is_valid(tree) && tree.bulk(version) <= 16_773_120);
     let back = packed_and_read(alloc, tree, version)?;
     assert!(rt; back.same(tree));
     Ok(pack(alloc, tree, version)?)
+}
+
+fn has_bulk(rt: &impl Abort, tree: &Key, version: HiveVersion, bulk: u64) {
+    assert_eq!(rt; tree.bulk(version), bulk);
+}
+
+/// These bytes are at this place.
+fn has(rt: &impl Abort, bytes: &[u8], at: usize, wanted: &[u8]) {
+    assert!(rt; at <= bytes.len() && wanted.len() <= bytes.len() - at);
+    assert_eq!(rt; bytes[at..at + wanted.len()], *wanted, "at {at}");
 }
 
 // How the first list of services begins, which has 500 of them, and the entry of `Svc00000` at 8,376.
@@ -45,18 +55,22 @@ fn a_thousand(
     version: HiveVersion,
     list: &[u8],
 ) -> Result<(), Fail> {
-    assert_eq!(rt; tree.bulk(version), 272_624);
+    has_bulk(rt, tree, version, 272_624);
     let bins = there_and_back(rt, alloc, tree, version)?;
     assert_eq!(rt; bins.len(), 274_432);
-    assert_eq!(rt; bins.as_slice()[360..376], *list);
+    has(rt, bins.as_slice(), 360, list);
     Ok(())
+}
+
+fn thousands(rt: &impl Abort, alloc: Global) -> Result<(), Fail> {
+    let tree = system_tree(alloc, 1_000)?;
+    a_thousand(rt, alloc, &tree, HiveVersion::V3, &FIRST_LF)?;
+    a_thousand(rt, alloc, &tree, HiveVersion::V5, &FIRST_LH)
 }
 
 #[test]
 fn a_thousand_services_are_read_back(rt: HostRuntime) -> Result<(), Fail> {
-    let tree = system_tree(rt.alloc(), 1_000)?;
-    a_thousand(&rt, rt.alloc(), &tree, HiveVersion::V3, &FIRST_LF)?;
-    a_thousand(&rt, rt.alloc(), &tree, HiveVersion::V5, &FIRST_LH)
+    thousands(&rt, rt.alloc())
 }
 
 fn zeros(alloc: Global, count: usize) -> Result<Bytes, AllocError> {
@@ -65,41 +79,35 @@ fn zeros(alloc: Global, count: usize) -> Result<Bytes, AllocError> {
     Ok(bytes)
 }
 
+/// A value of type 3 with this name.
+fn binary(alloc: Global, name: &[u8], bytes: Bytes) -> Result<Value, AllocError> {
+    Ok(Value {
+        name: narrow(alloc, name)?,
+        kind: 3,
+        bytes,
+    })
+}
+
 /// Fifteen values of the greatest length that an edit sets.
 fn fifteen_values(alloc: Global) -> Result<Values, AllocError> {
     let mut values = Values::new(alloc);
     for letter in b"ABCDEFGHIJKLMNO" {
-        values.push(Value {
-            name: narrow(alloc, &[*letter])?,
-            kind: 3,
-            bytes: zeros(alloc, 1_048_576)?,
-        })?;
+        let bytes = zeros(alloc, 1_048_576)?;
+        values.push(binary(alloc, &[*letter], bytes)?)?;
     }
     Ok(values)
 }
 
 /// A root alone with these values.
 fn root_with(alloc: Global, values: Values) -> Result<Key, AllocError> {
-    Ok(Key {
-        name: narrow(alloc, b"R")?,
-        flags: 0x000c,
-        stamp: 0,
-        class: Bytes::new(alloc),
-        security: Bytes::new(alloc),
-        values,
-        children: Keys::new(alloc),
-    })
+    key(alloc, b"R", 0x000c, values, Keys::new(alloc))
 }
 
 /// One value of 16,345 bytes, one more than a segment holds.
 fn big_value(alloc: Global) -> Result<Value, AllocError> {
     let mut bytes = zeros(alloc, 16_344)?;
     bytes.push(9)?;
-    Ok(Value {
-        name: narrow(alloc, b"P")?,
-        kind: 3,
-        bytes,
-    })
+    binary(alloc, b"P", bytes)
 }
 
 /// A root with this value.
@@ -112,12 +120,16 @@ fn root_with_big_data(alloc: Global) -> Result<Key, AllocError> {
 /// In version 1.3 its data have one cell of 16,352 bytes at 160, after the header of 32, 88 for the root, 8 for its value
 /// list and 32 for the value.
 fn one_cell(rt: &impl Abort, alloc: Global, tree: &Key) -> Result<(), Fail> {
-    assert_eq!(rt; tree.bulk(HiveVersion::V3), 16_512);
+    has_bulk(rt, tree, HiveVersion::V3, 16_512);
     let bins = there_and_back(rt, alloc, tree, HiveVersion::V3)?;
-    let bytes = bins.as_slice();
-    assert!(rt; bytes.len() == 20_480);
-    assert_eq!(rt; bytes[160..168], [0x20, 0xc0, 0xff, 0xff, 0, 0, 0, 0][..]);
-    assert_eq!(rt; bytes[16_508..16_512], [9, 0, 0, 0][..]);
+    assert_eq!(rt; bins.len(), 20_480);
+    has(
+        rt,
+        bins.as_slice(),
+        160,
+        &[0x20, 0xc0, 0xff, 0xff, 0, 0, 0, 0],
+    );
+    has(rt, bins.as_slice(), 16_508, &[9, 0, 0, 0]);
     Ok(())
 }
 
@@ -131,23 +143,28 @@ const BIG_DATA: [u8; 36] = [
 
 /// In version 1.5 `db` and the list have 16 bytes each, the segments 16,352 and 8.
 fn two_segments(rt: &impl Abort, alloc: Global, tree: &Key) -> Result<(), Fail> {
-    assert_eq!(rt; tree.bulk(HiveVersion::V5), 16_552);
+    has_bulk(rt, tree, HiveVersion::V5, 16_552);
     let bins = there_and_back(rt, alloc, tree, HiveVersion::V5)?;
-    let bytes = bins.as_slice();
-    assert!(rt; bytes.len() == 20_480);
-    assert_eq!(rt; bytes[160..196], BIG_DATA[..]);
-    assert_eq!(rt;
-        bytes[16_544..16_552],
-        [0xf8, 0xff, 0xff, 0xff, 9, 0, 0, 0][..]
+    assert_eq!(rt; bins.len(), 20_480);
+    has(rt, bins.as_slice(), 160, &BIG_DATA);
+    has(
+        rt,
+        bins.as_slice(),
+        16_544,
+        &[0xf8, 0xff, 0xff, 0xff, 9, 0, 0, 0],
     );
     Ok(())
 }
 
+fn big_data(rt: &impl Abort, alloc: Global) -> Result<(), Fail> {
+    let tree = root_with_big_data(alloc)?;
+    one_cell(rt, alloc, &tree)?;
+    two_segments(rt, alloc, &tree)
+}
+
 #[test]
 fn data_that_fill_more_than_a_segment_are_read_back(rt: HostRuntime) -> Result<(), Fail> {
-    let tree = root_with_big_data(rt.alloc())?;
-    one_cell(&rt, rt.alloc(), &tree)?;
-    two_segments(&rt, rt.alloc(), &tree)
+    big_data(&rt, rt.alloc())
 }
 
 /// One more value of the root, with that many bytes: zeros, and 1 to 4 at the end.
@@ -181,6 +198,11 @@ const FULL_NODE: [u8; 88] = [
     0x52, 0x00, 0x00, 0x00, 0x00, 0x00, 0x00, 0x00,
 ];
 
+// How the list of values begins.
+const FULL_LIST: [u8; 12] = [
+    0xb8, 0xff, 0xff, 0xff, 0xc0, 0, 0, 0, 0xe8, 0x00, 0x10, 0x00,
+];
+
 // The last value's cell at 15,729,432: 1,043,652 bytes of data at 15,729,464, and how their cell of 1,043,656 begins.
 const LAST_VALUE: [u8; 36] = [
     0xe0, 0xff, 0xff, 0xff, 0x76, 0x6b, 0x01, 0x00, 0xc4, 0xec, 0x0f, 0x00, 0x38, 0x03, 0xf0, 0x00,
@@ -190,20 +212,13 @@ const LAST_VALUE: [u8; 36] = [
 
 /// The bytes of the tree at the limit, from the sizes of its cells: 88 for the root, 72 for the list of 16 values, and for
 /// each 32 with 1,048,584 for its data. No free cell is after the last data.
-fn full_bytes(rt: &impl Abort, bytes: &[u8])
-    requires { length bytes.now ≡ 16773120 }
-{
-    assert_eq!(rt; bytes[..12], FULL_HEADER[..]);
-    assert_eq!(rt; bytes[32..120], FULL_NODE[..]);
-    assert_eq!(rt;
-        bytes[120..132],
-        [
-            0xb8, 0xff, 0xff, 0xff, 0xc0, 0, 0, 0, 0xe8, 0x00, 0x10, 0x00
-        ][..]
-    );
-    assert_eq!(rt; bytes[184..192], [0x18, 0x03, 0xf0, 0x00, 0, 0, 0, 0][..]);
-    assert_eq!(rt; bytes[15_729_432..15_729_468], LAST_VALUE[..]);
-    assert_eq!(rt; bytes[16_773_112..], [0, 0, 0, 0, 1, 2, 3, 4][..]);
+fn full_bytes(rt: &impl Abort, bytes: &[u8]) {
+    has(rt, bytes, 0, &FULL_HEADER);
+    has(rt, bytes, 32, &FULL_NODE);
+    has(rt, bytes, 120, &FULL_LIST);
+    has(rt, bytes, 184, &[0x18, 0x03, 0xf0, 0x00, 0, 0, 0, 0]);
+    has(rt, bytes, 15_729_432, &LAST_VALUE);
+    has(rt, bytes, 16_773_112, &[0, 0, 0, 0, 1, 2, 3, 4]);
 }
 
 /// A value of 1,043,653 bytes is one byte too long.
@@ -222,11 +237,11 @@ fn is_set(rt: &impl Abort, alloc: Global, tree: &mut Key) -> Result<(), Fail> {
 }
 
 fn grows(rt: &impl Abort, alloc: Global, tree: &mut Key) -> Result<(), Fail> {
-    assert_eq!(rt; tree.bulk(HiveVersion::V3), 15_729_424);
+    has_bulk(rt, tree, HiveVersion::V3, 15_729_424);
     is_refused(rt, alloc, tree)?;
-    assert_eq!(rt; tree.bulk(HiveVersion::V3), 15_729_424);
+    has_bulk(rt, tree, HiveVersion::V3, 15_729_424);
     is_set(rt, alloc, tree)?;
-    assert_eq!(rt; tree.bulk(HiveVersion::V3), 16_773_120);
+    has_bulk(rt, tree, HiveVersion::V3, 16_773_120);
     Ok(())
 }
 
@@ -300,7 +315,7 @@ fn packed_again(
     bytes: &[u8],
 ) -> Result<(), Fail> {
     let tree = read_tree(alloc, cells, 32, HiveVersion::V3)?;
-    assert_eq!(rt; tree.bulk(HiveVersion::V3), 776);
+    has_bulk(rt, &tree, HiveVersion::V3, 776);
     let packed = there_and_back(rt, alloc, &tree, HiveVersion::V3)?;
     assert_eq!(rt; packed.as_slice(), bytes);
     Ok(())

@@ -1,5 +1,8 @@
 //! One call of the program with each call of its host failing in turn.
 
+ghost use Rattle.std.specs.Prelude.{◌≡◌, false, IfOk};
+ghost use Rattle.mem_edge.specs.State.{state_of};
+
 use mem_edge::{MemDisk, MemHost};
 use nt_edge::{Bench, HiveFile, Host, HostStop};
 use ntboot_cli::{Status, ntboot};
@@ -28,7 +31,7 @@ pub(crate) struct Case<'a> {
     pub puts: u8,
 }
 
-pub(crate) fn owned(alloc: Global, words: &[&str]) -> Result<Vec<String>, AllocError> {
+fn owned(alloc: Global, words: &[&str]) -> Result<Vec<String>, AllocError> {
     let mut owned = Vec::new(alloc);
     for word in words {
         owned.push(String::from_str(alloc, word)?)?;
@@ -36,14 +39,40 @@ pub(crate) fn owned(alloc: Global, words: &[&str]) -> Result<Vec<String>, AllocE
     Ok(owned)
 }
 
-pub(crate) fn host(alloc: Global, case: &Case<'_>) -> Result<MemHost, AllocError> {
+/// A host with these files.
+pub(crate) fn host_of(alloc: Global, files: &[(&str, &[u8])]) -> Result<MemHost, AllocError> {
     let mut host = MemHost::new(alloc);
-    host.add("h", case.hive)?;
-    host.add("l", b"")?;
-    host.add("s", case.script)?;
-    host.add("x", BEFORE)?;
-    host.add("y", BEFORE)?;
+    for (name, bytes) in files {
+        host.add(name, bytes)?;
+    }
     Ok(host)
+}
+
+pub(crate) fn host(alloc: Global, case: &Case<'_>) -> Result<MemHost, AllocError> {
+    let files: [(&str, &[u8]); 5] = [
+        ("h", case.hive),
+        ("l", b""),
+        ("s", case.script),
+        ("x", BEFORE),
+        ("y", BEFORE),
+    ];
+    host_of(alloc, &files)
+}
+
+/// Makes the call on this host and a new disk, and answers the disk.
+pub(crate) fn called(
+    rt: &impl Abort,
+    alloc: Global,
+    words: &[&str],
+    host: &mut MemHost,
+    status: Status,
+) -> Result<MemDisk, Fail>
+    ensures off { IfOk result (λ disk. (state_of disk).on ≡ false) }
+{
+    let words = owned(alloc, words)?;
+    let mut disk = MemDisk::new(alloc);
+    assert_eq!(rt; ntboot(alloc, &words, host, &mut disk), status);
+    Ok(disk)
 }
 
 /// The first lines of a text, that many.
@@ -65,6 +94,21 @@ fn holds(rt: &impl Abort, host: &MemHost, name: &str, bytes: &[u8]) {
     assert!(rt; host.file(name) == Some(bytes), "the file {name}");
 }
 
+/// The files of the host after a call that saved that many.
+fn holds_all(
+    rt: &impl Abort,
+    case: &Case<'_>,
+    host: &MemHost,
+    (hive, log): (&[u8], &[u8]),
+    puts: u8,
+) {
+    holds(rt, host, "h", case.hive);
+    holds(rt, host, "l", b"");
+    holds(rt, host, "s", case.script);
+    holds(rt, host, "x", saved(hive, puts > 0));
+    holds(rt, host, "y", saved(log, puts > 1));
+}
+
 /// Makes the call on this host and a new disk. It answers this status and says this, and that many files are saved; no other file
 /// changes. The disk is off, since its files are taken.
 fn ends(
@@ -74,17 +118,11 @@ fn ends(
     host: &mut MemHost,
     (status, said, puts): (Status, &str, u8),
 ) -> Result<(), Fail> {
-    let words = owned(alloc, case.words)?;
-    let mut disk = MemDisk::new(alloc);
-    assert_eq!(rt; ntboot(alloc, &words, host, &mut disk), status);
+    let mut disk = called(rt, alloc, case.words, host, status)?;
+    assert_eq!(rt; host.said(), said.as_bytes());
     let hive = disk.take(HiveFile::Primary)?;
     let log = disk.take(HiveFile::Log)?;
-    assert_eq!(rt; host.said(), said.as_bytes());
-    holds(rt, host, "h", case.hive);
-    holds(rt, host, "l", b"");
-    holds(rt, host, "s", case.script);
-    holds(rt, host, "x", saved(hive.as_slice(), puts > 0));
-    holds(rt, host, "y", saved(log.as_slice(), puts > 1));
+    holds_all(rt, case, host, (hive.as_slice(), log.as_slice()), puts);
     Ok(())
 }
 
@@ -125,6 +163,12 @@ fn each_put(rt: &impl Abort, alloc: Global, case: &Case<'_>) -> Result<(), Fail>
     Ok(())
 }
 
+/// The next read fails, and the next write.
+fn fails_next(rt: &impl Abort, host: &mut MemHost) {
+    assert_eq!(rt; host.get("h").err(), Some(HostStop::Read));
+    assert_eq!(rt; host.say(b"").err(), Some(HostStop::Write));
+}
+
 /// The host after the call without a failure, which made the same number of calls as the case says: the first one after them is the one
 /// that was to fail.
 pub(crate) fn whole(rt: &impl Abort, alloc: Global, case: &Case<'_>) -> Result<MemHost, Fail> {
@@ -138,8 +182,7 @@ pub(crate) fn whole(rt: &impl Abort, alloc: Global, case: &Case<'_>) -> Result<M
         &mut host,
         (case.status, case.said, case.puts),
     )?;
-    assert_eq!(rt; host.get("h").err(), Some(HostStop::Read));
-    assert_eq!(rt; host.say(b"").err(), Some(HostStop::Write));
+    fails_next(rt, &mut host);
     Ok(host)
 }
 

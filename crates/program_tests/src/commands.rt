@@ -1,17 +1,17 @@
 //! Tables of the commands on one hive: of each row every call of the host fails in turn.
 
-use crate::cases::{BEFORE, Case, each_call, host, owned};
+use crate::cases::{BEFORE, Case, called, each_call, host};
 use crate::hive::{Sets, hive};
-use crate::tables::{AGAIN, loaded, starts};
-use mem_edge::{MemDisk, MemHost};
+use crate::tables::{AGAIN, loads};
+use mem_edge::MemHost;
 use nt_bytes::Bytes;
-use ntboot_cli::{Status, ntboot};
+use ntboot_cli::Status;
 use std::alloc::{AllocError, Global};
 use std::process::Abort;
 use std::test::Fail;
 
 /// The hive: a driver of the boot phase, a service that starts by itself, and one that waits for a demand.
-const SETS: Sets<'static> = Sets {
+static SETS: Sets<'static> = Sets {
     shared: &[
         (b"Disk", &[0, 1, 1]),
         (b"Late", &[2, 16, 1]),
@@ -63,8 +63,7 @@ fn saving(
     let hive = hive(rt, alloc, &SETS)?;
     let (_, _, said, _, _) = one;
     let host = row(rt, alloc, hive.as_slice(), one)?;
-    let first = loaded(alloc, load)?;
-    starts(rt, alloc, host, words, (said, Status::Done, &first))
+    loads(rt, alloc, host, words, (said, load))
 }
 
 /// Words that are refused, the file `s`, the status, the line that is printed, and how many files were asked for.
@@ -76,27 +75,33 @@ type Refused = (
     u8,
 );
 
+fn is_refused(rt: &impl Abort, alloc: Global, hive: &[u8], row: &Refused) -> Result<(), Fail> {
+    let (words, text, status, said, gets) = row;
+    let case = Case {
+        words,
+        hive,
+        script: text,
+        status: *status,
+        said,
+        gets: *gets,
+        says: 1,
+        puts: 0,
+    };
+    let _host = each_call(rt, alloc, &case)?;
+    Ok(())
+}
+
 fn refused(rt: &impl Abort, alloc: Global, rows: &[Refused]) -> Result<(), Fail> {
     let hive = hive(rt, alloc, &SETS)?;
-    for (words, text, status, said, gets) in rows {
-        let case = Case {
-            words,
-            hive: hive.as_slice(),
-            script: text,
-            status: *status,
-            said,
-            gets: *gets,
-            says: 1,
-            puts: 0,
-        };
-        let _host = each_call(rt, alloc, &case)?;
+    for row in rows {
+        is_refused(rt, alloc, hive.as_slice(), row)?;
     }
     Ok(())
 }
 
 // ---- safe
 
-const SAFE: [Row; 2] = [
+static SAFE: [Row; 2] = [
     (
         &["safe", "--hive", "h", "--log", "l"],
         b"",
@@ -132,7 +137,7 @@ end
     ),
 ];
 
-const UNSAFE: [Refused; 4] = [
+static UNSAFE: [Refused; 4] = [
     (
         &["safe", "--hive", "h", "--system", "C:\\"],
         b"",
@@ -175,7 +180,7 @@ fn safe_names_the_first_obstacle(rt: HostRuntime) -> Result<(), Fail> {
 
 // ---- control
 
-const CONTROL: [Row; 2] = [
+static CONTROL: [Row; 2] = [
     (
         &["control", "--hive", "h", "--log", "l", "--commands", "s"],
         b"start Extra\nlist\nstop Late\nstop Late\nstart disk\n",
@@ -200,7 +205,7 @@ end
     ),
 ];
 
-const UNCONTROLLED: [Refused; 4] = [
+static UNCONTROLLED: [Refused; 4] = [
     (
         &["control", "--hive", "h"],
         b"",
@@ -266,7 +271,7 @@ const FIRST: [&str; 5] = ["run", "--hive", "x", "--script", "t"];
 
 const SECOND: [&str; 5] = ["run", "--hive", "y", "--script", "t"];
 
-const TWINS: [Row; 3] = [
+static TWINS: [Row; 3] = [
     (
         &["twin", "--hive", "h"],
         b"",
@@ -302,7 +307,7 @@ const TWINS: [Row; 3] = [
     ),
 ];
 
-const UNTWINNED: [Refused; 3] = [
+static UNTWINNED: [Refused; 3] = [
     (
         &["twin", "--hive", "h", "--default", "1000"],
         b"",
@@ -370,6 +375,41 @@ fn wide(alloc: Global, text: &str) -> Result<Bytes, AllocError> {
     Ok(bytes)
 }
 
+/// An import of the text `s` that saves both files of the disk.
+const IMPORT: [&str; 11] = [
+    "import",
+    "--hive",
+    "h",
+    "--log",
+    "l",
+    "--reg",
+    "s",
+    "--save-hive",
+    "x",
+    "--save-log",
+    "y",
+];
+
+fn imports(
+    rt: &impl Abort,
+    alloc: Global,
+    (hive, text): (&[u8], &[u8]),
+    status: Status,
+    (said, puts): (&str, u8),
+) -> Result<MemHost, Fail> {
+    let case = Case {
+        words: &IMPORT,
+        hive,
+        script: text,
+        status,
+        said,
+        gets: 3,
+        says: 1,
+        puts,
+    };
+    each_call(rt, alloc, &case)
+}
+
 fn imported(
     rt: &impl Abort,
     alloc: Global,
@@ -379,35 +419,23 @@ fn imported(
 ) -> Result<(), Fail> {
     let hive = hive(rt, alloc, &SETS)?;
     let text = wide(alloc, text)?;
-    let case = Case {
-        words: &[
-            "import",
-            "--hive",
-            "h",
-            "--log",
-            "l",
-            "--reg",
-            "s",
-            "--save-hive",
-            "x",
-            "--save-log",
-            "y",
-        ],
-        hive: hive.as_slice(),
-        script: text.as_slice(),
-        status,
-        said,
-        gets: 3,
-        says: 1,
-        puts,
-    };
-    let host = each_call(rt, alloc, &case)?;
-    if puts == 2 {
-        let first = loaded(alloc, "6 clean")?;
-        starts(rt, alloc, host, &AGAIN, (said, Status::Done, &first))?;
+    let files = (hive.as_slice(), text.as_slice());
+    let host = imports(rt, alloc, files, status, (said, puts))?;
+    if puts == 0 {
+        return Ok(());
     }
-    Ok(())
+    loads(rt, alloc, host, &AGAIN, (said, "6 clean"))
 }
+
+const EXPORT: [&str; 7] = [
+    "export",
+    "--hive",
+    "h",
+    "--reg",
+    "x",
+    "--key",
+    "ControlSet001\\Services\\Disk",
+];
 
 /// The export of the driver to the file `x`, which is put before the line is printed: what comes of it.
 fn exported(
@@ -416,21 +444,43 @@ fn exported(
     host: &mut MemHost,
     (status, said, x): (Status, &str, &[u8]),
 ) -> Result<(), Fail> {
-    let words = [
-        "export",
-        "--hive",
-        "h",
-        "--reg",
-        "x",
-        "--key",
-        "ControlSet001\\Services\\Disk",
-    ];
-    let words = owned(alloc, &words)?;
-    let mut disk = MemDisk::new(alloc);
-    assert_eq!(rt; ntboot(alloc, &words, host, &mut disk), status);
+    let _disk = called(rt, alloc, &EXPORT, host, status)?;
     assert_eq!(rt; host.said(), said.as_bytes());
     assert!(rt; host.file("x") == Some(x), "the file x");
     Ok(())
+}
+
+/// The same where a read of the host fails, or the n-th write.
+fn export_stops(
+    rt: &impl Abort,
+    alloc: Global,
+    case: &Case<'_>,
+    (read, n): (bool, u64),
+    wanted: (Status, &str, &[u8]),
+) -> Result<(), Fail> {
+    let mut host = host(alloc, case)?;
+    if read {
+        host.fail_read(n);
+    } else {
+        host.fail_write(n);
+    }
+    exported(rt, alloc, &mut host, wanted)
+}
+
+fn export_ends(rt: &impl Abort, alloc: Global, case: &Case<'_>, x: &[u8]) -> Result<(), Fail> {
+    let mut host = host(alloc, case)?;
+    let said = "exported 1 keys 3 values\n";
+    exported(rt, alloc, &mut host, (Status::Done, said, x))
+}
+
+/// Each call of the host fails in turn, and then none does.
+fn exports(rt: &impl Abort, alloc: Global, case: &Case<'_>, x: &[u8]) -> Result<(), Fail> {
+    let unread = (Status::ReadFault, "", BEFORE);
+    export_stops(rt, alloc, case, (true, 1), unread)?;
+    let unwritten = (Status::WriteFault, "", BEFORE);
+    export_stops(rt, alloc, case, (false, 1), unwritten)?;
+    export_stops(rt, alloc, case, (false, 2), (Status::WriteFault, "", x))?;
+    export_ends(rt, alloc, case, x)
 }
 
 fn export(rt: &impl Abort, alloc: Global) -> Result<(), Fail> {
@@ -446,22 +496,10 @@ fn export(rt: &impl Abort, alloc: Global) -> Result<(), Fail> {
         says: 1,
         puts: 1,
     };
-    let mut at_get = host(alloc, &case)?;
-    at_get.fail_read(1);
-    exported(rt, alloc, &mut at_get, (Status::ReadFault, "", BEFORE))?;
-    let mut at_put = host(alloc, &case)?;
-    at_put.fail_write(1);
-    exported(rt, alloc, &mut at_put, (Status::WriteFault, "", BEFORE))?;
-    let mut at_say = host(alloc, &case)?;
-    at_say.fail_write(2);
-    let x = text.as_slice();
-    exported(rt, alloc, &mut at_say, (Status::WriteFault, "", x))?;
-    let mut whole = host(alloc, &case)?;
-    let said = "exported 1 keys 3 values\n";
-    exported(rt, alloc, &mut whole, (Status::Done, said, x))
+    exports(rt, alloc, &case, text.as_slice())
 }
 
-const UNTOLD: [Refused; 4] = [
+static UNTOLD: [Refused; 4] = [
     (
         &["export", "--hive", "h", "--reg", "x", "--key", "None"],
         b"",

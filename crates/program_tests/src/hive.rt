@@ -80,17 +80,27 @@ fn number(alloc: Global, path: Names, name: &[u8], number: u32) -> Result<TreeSt
     })
 }
 
+/// The step that makes the key of a service of set 1.
+fn key(alloc: Global, name: &[u8]) -> Result<TreeStep, AllocError> {
+    Ok(TreeStep::MakeKey {
+        parent: parent(alloc)?,
+        name: narrow(alloc, name)?,
+    })
+}
+
+/// The step that sets a number of a service of set 1.
+fn number_of(alloc: Global, name: &[u8], value: &[u8], n: u32) -> Result<TreeStep, AllocError> {
+    let mut path = parent(alloc)?;
+    path.push(narrow(alloc, name)?)?;
+    number(alloc, path, value, n)
+}
+
 /// The steps that make a service of set 1.
 fn service(alloc: Global, steps: &mut Steps, service: &Service<'_>) -> Result<(), AllocError> {
     let (name, numbers) = *service;
-    steps.push(TreeStep::MakeKey {
-        parent: parent(alloc)?,
-        name: narrow(alloc, name)?,
-    })?;
+    steps.push(key(alloc, name)?)?;
     for (value, n) in NUMBERS.iter().zip(numbers.iter()) {
-        let mut path = parent(alloc)?;
-        path.push(narrow(alloc, name)?)?;
-        steps.push(number(alloc, path, value, *n)?)?;
+        steps.push(number_of(alloc, name, value, *n)?)?;
     }
     Ok(())
 }
@@ -110,6 +120,13 @@ fn copy(alloc: Global) -> Result<TreeStep, AllocError> {
     })
 }
 
+/// The step that sets LastKnownGood.
+fn good(alloc: Global, good: u32) -> Result<TreeStep, AllocError> {
+    let mut select = Names::new(alloc);
+    select.push(narrow(alloc, b"Select")?)?;
+    number(alloc, select, b"LastKnownGood", good)
+}
+
 /// The steps from one set without services.
 fn steps(alloc: Global, sets: &Sets<'_>) -> Result<Steps, AllocError> {
     let mut steps = Row::new(alloc);
@@ -118,16 +135,24 @@ fn steps(alloc: Global, sets: &Sets<'_>) -> Result<Steps, AllocError> {
         steps.push(copy(alloc)?)?;
     }
     services(alloc, &mut steps, sets.more)?;
-    let mut select = Names::new(alloc);
-    select.push(narrow(alloc, b"Select")?)?;
-    steps.push(number(alloc, select, b"LastKnownGood", sets.good)?)?;
+    steps.push(good(alloc, sets.good)?)?;
     Ok(steps)
+}
+
+fn edit(alloc: Global, tree: &mut Key, sets: &Sets<'_>) -> Result<(), Fail> {
+    let steps = steps(alloc, sets)?;
+    tree.apply(alloc, steps, HiveVersion::V3)?;
+    Ok(())
+}
+
+fn packed(rt: &impl Abort, alloc: Global, tree: &Key) -> Result<Bytes, Fail> {
+    assert!(rt; is_valid(tree) && tree.bulk(HiveVersion::V3) <= 16_773_120);
+    Ok(primary(alloc, tree)?)
 }
 
 /// The primary file of a hive with these sets.
 pub(crate) fn hive(rt: &impl Abort, alloc: Global, sets: &Sets<'_>) -> Result<Bytes, Fail> {
     let mut tree = system_tree(alloc, 0)?;
-    tree.apply(alloc, steps(alloc, sets)?, HiveVersion::V3)?;
-    assert!(rt; is_valid(&tree) && tree.bulk(HiveVersion::V3) <= 16_773_120);
-    Ok(primary(alloc, &tree)?)
+    edit(alloc, &mut tree, sets)?;
+    packed(rt, alloc, &tree)
 }

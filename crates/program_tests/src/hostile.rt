@@ -1,16 +1,15 @@
 //! Hives, logs, scripts and boot.inis that no machine would write, and what is printed for each.
 
-use crate::cases::owned;
+use crate::cases::{called, host_of};
 use crate::hive::{Sets, hive};
-use mem_edge::{MemDisk, MemHost};
-use ntboot_cli::{Status, ntboot};
+use ntboot_cli::Status;
 use regf_base::checksum;
 use std::alloc::{AllocError, Global};
 use std::process::Abort;
 use std::test::Fail;
 
 /// A system with one driver.
-const ONE_DRIVER: Sets<'static> = Sets {
+static ONE_DRIVER: Sets<'static> = Sets {
     shared: &[(b"Disk", &[0, 1])],
     more: &[],
     good: 0,
@@ -26,7 +25,7 @@ type Change = (usize, &'static [u8]);
 type Hostile = (&'static [Change], &'static str);
 
 /// Changes of the primary file, which has one bin of 4096 bytes and the sequence number 5.
-const FILES: [Hostile; 8] = [
+static FILES: [Hostile; 8] = [
     (&[(0, b"x")], "not-regf at 0"),
     (&[(20, &[2])], "version at 20"),
     (&[(24, &[6])], "version at 24"),
@@ -38,7 +37,7 @@ const FILES: [Hostile; 8] = [
 ];
 
 /// Changes of the bin and its cells.
-const CELLS: [Hostile; 8] = [
+static CELLS: [Hostile; 8] = [
     (&[(BINS, b"x")], "bin-sign at 0"),
     (&[(BINS + 4, &[0, 0x10])], "bin-offset at 0"),
     (&[(BINS + 8, &[0, 0x20])], "bin-size at 0"),
@@ -53,7 +52,7 @@ const CELLS: [Hostile; 8] = [
 ];
 
 /// Changes of what is in the cells.
-const FORMS: [Hostile; 13] = [
+static FORMS: [Hostile; 13] = [
     (&[(BINS + 348, b"x")], "form-sign at 344"),
     (&[(BINS + 436, &[100, 0])], "form-short at 360"),
     (&[(BINS + 436, &[0, 0])], "form-name at 360"),
@@ -120,14 +119,9 @@ fn says(
     (hive, log, ini, script): (&[u8], &[u8], &[u8], &[u8]),
     (status, said): (Status, &str),
 ) -> Result<(), Fail> {
-    let mut host = MemHost::new(alloc);
-    host.add("h", hive)?;
-    host.add("l", log)?;
-    host.add("i", ini)?;
-    host.add("s", script)?;
-    let words = owned(alloc, &WORDS)?;
-    let mut disk = MemDisk::new(alloc);
-    assert_eq!(rt; ntboot(alloc, &words, &mut host, &mut disk), status);
+    let files = [("h", hive), ("l", log), ("i", ini), ("s", script)];
+    let mut host = host_of(alloc, &files)?;
+    let _disk = called(rt, alloc, &WORDS, &mut host, status)?;
     assert!(rt; host.said().ends_with(said.as_bytes()), "{said}");
     Ok(())
 }
@@ -146,14 +140,23 @@ const WORDS: [&str; 9] = [
 
 const BOOT: &[u8] = b"boot\n";
 
+fn change(
+    rt: &impl Abort,
+    alloc: Global,
+    file: &[u8],
+    minor: u8,
+    (changes, said): &Hostile,
+) -> Result<(), Fail> {
+    let hive = changed(alloc, file, minor, changes)?;
+    hostile(rt, alloc, &hive, b"", said)
+}
+
 /// A hive with one change after the other, in both versions.
 fn each_change(rt: &impl Abort, alloc: Global, rows: &[Hostile]) -> Result<(), Fail> {
     let file = hive(rt, alloc, &ONE_DRIVER)?;
-    for (changes, said) in rows {
-        for minor in [3, 5] {
-            let hive = changed(alloc, file.as_slice(), minor, changes)?;
-            hostile(rt, alloc, &hive, b"", said)?;
-        }
+    for row in rows {
+        change(rt, alloc, file.as_slice(), 3, row)?;
+        change(rt, alloc, file.as_slice(), 5, row)?;
     }
     Ok(())
 }
@@ -191,7 +194,7 @@ type HostileLog = (&'static [Change], usize, &'static str);
 /// How long the log of the eight sectors of one bin is, in bytes.
 const WHOLE: usize = 5120;
 
-const LOGS: [HostileLog; 8] = [
+static LOGS: [HostileLog; 8] = [
     (&[(28, &[0])], WHOLE, "log-base at 28"),
     (&[(0, b"x")], WHOLE, "log-base at 0"),
     (&[], 512, "log-short at 512"),
@@ -202,13 +205,8 @@ const LOGS: [HostileLog; 8] = [
     (&[(516, &[0])], 1024, "run"),
 ];
 
-/// The log that has all sectors of the file's one bin, under the number 6.
-fn log_of(
-    alloc: Global,
-    file: &[u8],
-    minor: u8,
-    changes: &[Change],
-) -> Result<Vec<u8>, AllocError> {
+/// The base block of the file, a sector of zeros, and its bins data.
+fn log_sectors(alloc: Global, file: &[u8]) -> Result<Vec<u8>, AllocError> {
     let mut log = Vec::new(alloc);
     for byte in file.iter().take(512) {
         log.push(*byte)?;
@@ -219,6 +217,17 @@ fn log_of(
     for byte in file.iter().skip(BINS) {
         log.push(*byte)?;
     }
+    Ok(log)
+}
+
+/// The log that has all sectors of the file's one bin, under the number 6.
+fn log_of(
+    alloc: Global,
+    file: &[u8],
+    minor: u8,
+    changes: &[Change],
+) -> Result<Vec<u8>, AllocError> {
+    let mut log = log_sectors(alloc, file)?;
     put(&mut log, 4, &[6, 0, 0, 0, 6]);
     put(&mut log, 24, &[minor, 0, 0, 0, 1]);
     put(&mut log, 512, b"DIRT\xff");
@@ -229,16 +238,25 @@ fn log_of(
     Ok(log)
 }
 
+fn log_is(
+    rt: &impl Abort,
+    alloc: Global,
+    file: &[u8],
+    minor: u8,
+    (changes, length, said): &HostileLog,
+) -> Result<(), Fail> {
+    let hive = changed(alloc, file, minor, &[(4, &[6])])?;
+    let log = log_of(alloc, file, minor, changes)?;
+    let front = &log[..(*length).min(log.len())];
+    hostile(rt, alloc, &hive, front, said)
+}
+
 /// A dirty hive with one log after the other, in both versions.
 fn each_log(rt: &impl Abort, alloc: Global) -> Result<(), Fail> {
     let file = hive(rt, alloc, &ONE_DRIVER)?;
-    for (changes, length, said) in LOGS {
-        for minor in [3, 5] {
-            let hive = changed(alloc, file.as_slice(), minor, &[(4, &[6])])?;
-            let log = log_of(alloc, file.as_slice(), minor, changes)?;
-            let front = &log[..length.min(log.len())];
-            hostile(rt, alloc, &hive, front, said)?;
-        }
+    for row in LOGS.iter() {
+        log_is(rt, alloc, file.as_slice(), 3, row)?;
+        log_is(rt, alloc, file.as_slice(), 5, row)?;
     }
     Ok(())
 }
@@ -246,7 +264,7 @@ fn each_log(rt: &impl Abort, alloc: Global) -> Result<(), Fail> {
 // ---- texts
 
 /// Scripts with a fault in line 1, and its word.
-const SCRIPTS: [(&[u8], &str); 10] = [
+static SCRIPTS: [(&[u8], &str); 10] = [
     (b"go\t\n", "line"),
     (b"fail \"X 1\n", "line"),
     (b"BOOT\n", "word"),
@@ -260,11 +278,16 @@ const SCRIPTS: [(&[u8], &str); 10] = [
 ];
 
 /// That many times a line.
-fn repeated(alloc: Global, line: &[u8], count: u32) -> Result<Vec<u8>, AllocError> {
-    let mut text = Vec::new(alloc);
+fn repeat(text: &mut Vec<u8>, line: &[u8], count: u32) -> Result<(), AllocError> {
     for _ in 0..count {
         text.extend_from_slice(line)?;
     }
+    Ok(())
+}
+
+fn repeated(alloc: Global, line: &[u8], count: u32) -> Result<Vec<u8>, AllocError> {
+    let mut text = Vec::new(alloc);
+    repeat(&mut text, line, count)?;
     Ok(text)
 }
 
@@ -279,18 +302,29 @@ fn bad_script(rt: &impl Abort, alloc: Global, script: &[u8], fault: &str) -> Res
     )
 }
 
-fn each_script(rt: &impl Abort, alloc: Global) -> Result<(), Fail> {
-    for (script, word) in SCRIPTS {
+/// A script of that many times a line.
+fn long_script(
+    rt: &impl Abort,
+    alloc: Global,
+    (line, count): (&[u8], u32),
+    fault: &str,
+) -> Result<(), Fail> {
+    let script = repeated(alloc, line, count)?;
+    bad_script(rt, alloc, &script, fault)
+}
+
+fn each_line(rt: &impl Abort, alloc: Global) -> Result<(), Fail> {
+    for (script, word) in SCRIPTS.iter() {
         let fault = format!(in alloc; "1 {word}")?;
         bad_script(rt, alloc, script, &fault)?;
     }
-    bad_script(rt, alloc, &repeated(alloc, b"#", 65_537)?, "0 too-long")?;
-    bad_script(
-        rt,
-        alloc,
-        &repeated(alloc, b"boot\n", 65)?,
-        "65 too-many-starts",
-    )
+    Ok(())
+}
+
+fn each_script(rt: &impl Abort, alloc: Global) -> Result<(), Fail> {
+    each_line(rt, alloc)?;
+    long_script(rt, alloc, (b"#", 65_537), "0 too-long")?;
+    long_script(rt, alloc, (b"boot\n", 65), "65 too-many-starts")
 }
 
 /// A boot.ini with this fault is judged before the hive.
@@ -307,16 +341,31 @@ fn bad_ini(rt: &impl Abort, alloc: Global, ini: &[u8], fault: &str) -> Result<()
 /// The section of that many entries, and that many bytes after them.
 fn ini_of(alloc: Global, entries: u32, more: u32) -> Result<Vec<u8>, AllocError> {
     let mut ini = Vec::from_slice(alloc, b"[operating systems]\n")?;
-    ini.extend_from_slice(&repeated(alloc, b"a=b\n", entries)?)?;
-    ini.extend_from_slice(&repeated(alloc, b"#", more)?)?;
+    repeat(&mut ini, b"a=b\n", entries)?;
+    repeat(&mut ini, b"#", more)?;
     Ok(ini)
 }
 
+fn long_ini(
+    rt: &impl Abort,
+    alloc: Global,
+    (entries, more): (u32, u32),
+    fault: &str,
+) -> Result<(), Fail> {
+    let ini = ini_of(alloc, entries, more)?;
+    bad_ini(rt, alloc, &ini, fault)
+}
+
 fn each_ini(rt: &impl Abort, alloc: Global) -> Result<(), Fail> {
+    long_ini(rt, alloc, (65, 0), "too-many-entries")?;
+    long_ini(rt, alloc, (65, 65_537), "too-long")?;
+    long_ini(rt, alloc, (0, 65_537), "too-long")?;
+    open_ini(rt, alloc)
+}
+
+/// A section that does not end its line is none.
+fn open_ini(rt: &impl Abort, alloc: Global) -> Result<(), Fail> {
     let hive = hive(rt, alloc, &ONE_DRIVER)?;
-    bad_ini(rt, alloc, &ini_of(alloc, 65, 0)?, "too-many-entries")?;
-    bad_ini(rt, alloc, &ini_of(alloc, 65, 65_537)?, "too-long")?;
-    bad_ini(rt, alloc, &ini_of(alloc, 0, 65_537)?, "too-long")?;
     let open = b"[operating systems\n=x\n";
     says(
         rt,

@@ -1,10 +1,9 @@
 //! A cut and a fault before each call of the disk in turn, until a run meets none.
 
-use crate::cases::owned;
+use crate::cases::{called, host_of};
 use crate::hive::{Service, Sets, hive};
-use mem_edge::{MemDisk, MemHost};
 use nt_edge::DiskCall;
-use ntboot_cli::{Status, ntboot};
+use ntboot_cli::Status;
 use std::alloc::{AllocError, Global};
 use std::process::Abort;
 use std::str::from_utf8;
@@ -27,7 +26,7 @@ struct Stopped<'a> {
     states: &'a [&'a str],
 }
 
-const FALL_BACK: Stopped<'static> = Stopped {
+static FALL_BACK: Stopped<'static> = Stopped {
     sets: Sets {
         shared: &[DISK],
         more: &[NEW],
@@ -37,7 +36,7 @@ const FALL_BACK: Stopped<'static> = Stopped {
     states: &["1 1 0 2", "2 2 1 3", "2 2 1 4"],
 };
 
-const SAVE: Stopped<'static> = Stopped {
+static SAVE: Stopped<'static> = Stopped {
     sets: Sets {
         shared: &[DISK],
         more: &[],
@@ -47,7 +46,7 @@ const SAVE: Stopped<'static> = Stopped {
     states: &["1 1 0 2", "1 1 0 3"],
 };
 
-const EDITS: Stopped<'static> = Stopped {
+static EDITS: Stopped<'static> = Stopped {
     sets: Sets {
         shared: &[DISK],
         more: &[],
@@ -64,7 +63,7 @@ off
 };
 
 /// The stops that a script can order: the order's words before and after the number of the call.
-const READS: [(&str, &str); 5] = [
+static READS: [(&str, &str); 5] = [
     ("cut read", "none"),
     ("cut read", "all"),
     ("cut read", "odd"),
@@ -72,7 +71,7 @@ const READS: [(&str, &str); 5] = [
     ("fault read", ""),
 ];
 
-const WRITES: [(&str, &str); 5] = [
+static WRITES: [(&str, &str); 5] = [
     ("cut write", "none"),
     ("cut write", "all"),
     ("cut write", "odd"),
@@ -80,7 +79,7 @@ const WRITES: [(&str, &str); 5] = [
     ("fault write", ""),
 ];
 
-const SYNCS: [(&str, &str); 5] = [
+static SYNCS: [(&str, &str); 5] = [
     ("cut sync", "none"),
     ("cut sync", "all"),
     ("cut sync", "odd"),
@@ -95,6 +94,15 @@ struct Played {
     calls: u64,
 }
 
+fn text_of(rt: &impl Abort, alloc: Global, bytes: &[u8]) -> Result<String, Fail> {
+    let mut text = String::new(alloc);
+    if let Ok(part) = from_utf8(bytes) {
+        text.push_str(part)?;
+    }
+    assert_eq!(rt; bytes, text.as_bytes());
+    Ok(text)
+}
+
 /// Runs a script on this hive, and a start after it.
 fn play(
     rt: &impl Abort,
@@ -103,19 +111,10 @@ fn play(
     script: &str,
     call: DiskCall,
 ) -> Result<Played, Fail> {
-    let mut host = MemHost::new(alloc);
-    host.add("h", hive)?;
-    host.add("s", script.as_bytes())?;
-    let mut disk = MemDisk::new(alloc);
-    let words = owned(alloc, &RUN)?;
-    assert_eq!(rt; ntboot(alloc, &words, &mut host, &mut disk), Status::Done);
-    let mut said = String::new(alloc);
-    if let Ok(text) = from_utf8(host.said()) {
-        said.push_str(text)?;
-    }
-    assert_eq!(rt; host.said(), said.as_bytes());
+    let mut host = host_of(alloc, &[("h", hive), ("s", script.as_bytes())])?;
+    let disk = called(rt, alloc, &RUN, &mut host, Status::Done)?;
     Ok(Played {
-        said,
+        said: text_of(rt, alloc, host.said())?,
         calls: disk.calls(call),
     })
 }
@@ -125,13 +124,36 @@ fn is_stopped(line: &str) -> bool {
     line == "verdict cut\n" || line == "verdict device\n"
 }
 
-/// What a run said after its first stop.
+/// What a run said up to its first stop and after it.
 #[derive(Drop)]
 struct Behind {
-    /// How many commits were said before it.
+    front: String,
+    /// How many commits were said before the stop.
     commits: usize,
     /// From the verdict on.
     text: String,
+}
+
+fn add_line(behind: &mut Behind, line: &str) -> Result<(), AllocError> {
+    if is_stopped(line) || !behind.text.is_empty() {
+        return behind.text.push_str(line);
+    }
+    if line.starts_with("commit ") {
+        behind.commits = behind.commits.saturating_add(1);
+    }
+    behind.front.push_str(line)
+}
+
+fn parted(alloc: Global, said: &str) -> Result<Behind, AllocError> {
+    let mut behind = Behind {
+        front: String::new(alloc),
+        commits: 0,
+        text: String::new(alloc),
+    };
+    for line in said.split_inclusive('\n') {
+        add_line(&mut behind, line)?;
+    }
+    Ok(behind)
 }
 
 /// Up to the first stop, what was printed is what is printed without one. None where nothing was stopped.
@@ -141,24 +163,12 @@ fn behind_stop(
     said: &str,
     quiet: &str,
 ) -> Result<Option<Behind>, Fail> {
-    let mut front = String::new(alloc);
-    let mut text = String::new(alloc);
-    let mut commits: usize = 0;
-    for line in said.split_inclusive('\n') {
-        if is_stopped(line) || !text.is_empty() {
-            text.push_str(line)?;
-            continue;
-        }
-        if line.starts_with("commit ") {
-            commits = commits.saturating_add(1);
-        }
-        front.push_str(line)?;
-    }
-    assert!(rt; quiet.starts_with(front.as_str()), "{said}");
-    if text.is_empty() {
+    let behind = parted(alloc, said)?;
+    assert!(rt; quiet.starts_with(behind.front.as_str()), "{said}");
+    if behind.text.is_empty() {
         return Ok(None);
     }
-    Ok(Some(Behind { commits, text }))
+    Ok(Some(behind))
 }
 
 /// The rest of the first line that begins so.
@@ -171,6 +181,36 @@ fn line_of<'a>(text: &'a str, start: &str) -> Option<&'a str> {
     None
 }
 
+/// Does it load the sequence number of the state at this place?
+fn is_state(alloc: Global, load: &str, place: usize) -> Result<bool, AllocError> {
+    let sequence = format!(in alloc; "{} ", place.saturating_add(5))?;
+    Ok(load.starts_with(sequence.as_str()))
+}
+
+fn selects(rt: &impl Abort, alloc: Global, select: &str, numbers: &str) -> Result<(), Fail> {
+    let line = format!(in alloc; "{numbers}\n")?;
+    assert_eq!(rt; select, line.as_str());
+    Ok(())
+}
+
+/// This load is of a state, and of which one.
+fn loads_state(
+    rt: &impl Abort,
+    alloc: Global,
+    states: &[&str],
+    commits: usize,
+    (load, select): (&str, &str),
+) -> Result<(), Fail> {
+    for (i, numbers) in states.iter().enumerate() {
+        if is_state(alloc, load, i)? {
+            assert!(rt; i == commits || i == commits.saturating_add(1), "{load}");
+            return selects(rt, alloc, select, numbers);
+        }
+    }
+    assert!(rt; false, "{load}");
+    Ok(())
+}
+
 /// The next start after a stop loads the state that was settled last, or the one of the change that was stopped.
 fn loads_one(
     rt: &impl Abort,
@@ -179,22 +219,108 @@ fn loads_one(
     commits: usize,
     text: &str,
 ) -> Result<(), Fail> {
-    let (Some(load), Some(select)) = (line_of(text, "load "), line_of(text, "select ")) else {
-        // The stop came in the last start of all.
-        assert!(rt; line_of(text, "start ").is_none(), "{text}");
-        return Ok(());
-    };
-    for (i, numbers) in case.states.iter().enumerate() {
-        let sequence = format!(in alloc; "{} ", i + 5)?;
-        if load.starts_with(sequence.as_str()) {
-            let line = format!(in alloc; "{numbers}\n")?;
-            assert!(rt; i == commits || i == commits.saturating_add(1), "{text}");
-            assert_eq!(rt; select, line.as_str());
-            return Ok(());
+    match (line_of(text, "load "), line_of(text, "select ")) {
+        (Some(load), Some(select)) => loads_state(rt, alloc, case.states, commits, (load, select)),
+        _ => {
+            // The stop came in the last start of all.
+            assert!(rt; line_of(text, "start ").is_none(), "{text}");
+            Ok(())
         }
     }
-    assert!(rt; false, "{text}");
+}
+
+/// A run that no stop was ordered in.
+fn unstopped(
+    rt: &impl Abort,
+    alloc: Global,
+    hive: &[u8],
+    case: &Stopped<'_>,
+    call: DiskCall,
+) -> Result<Played, Fail> {
+    let script = case.script;
+    let text = format!(in alloc; "{script}boot\n")?;
+    let quiet = play(rt, alloc, hive, &text, call)?;
+    assert!(rt; behind_stop(rt, alloc, &quiet.said, &quiet.said)?.is_none());
+    Ok(quiet)
+}
+
+/// An order: its words before the number of the call, the number, and the words after it.
+type Order<'a> = (&'a str, u64, &'a str);
+
+fn ordered(
+    rt: &impl Abort,
+    alloc: Global,
+    hive: &[u8],
+    case: &Stopped<'_>,
+    call: DiskCall,
+    (order, n, keep): Order<'_>,
+) -> Result<Played, Fail> {
+    let script = case.script;
+    let text = format!(in alloc; "{order} {n} {keep}\n{script}boot\n")?;
+    play(rt, alloc, hive, &text, call)
+}
+
+/// What was said after a stop goes on from a state.
+fn goes_on(
+    rt: &impl Abort,
+    alloc: Global,
+    case: &Stopped<'_>,
+    (said, quiet): (&str, &str),
+    (order, n, _): Order<'_>,
+) -> Result<(), Fail> {
+    match behind_stop(rt, alloc, said, quiet)? {
+        Some(behind) => loads_one(rt, alloc, case, behind.commits, &behind.text),
+        None => {
+            assert!(rt; false, "no stop at {order} {n}");
+            Ok(())
+        }
+    }
+}
+
+fn is_stopped_at(
+    rt: &impl Abort,
+    alloc: Global,
+    hive: &[u8],
+    case: &Stopped<'_>,
+    call: DiskCall,
+    quiet: &str,
+    order: Order<'_>,
+) -> Result<(), Fail> {
+    let played = ordered(rt, alloc, hive, case, call, order)?;
+    goes_on(rt, alloc, case, (&played.said, quiet), order)
+}
+
+/// The order comes after all calls of the run.
+fn meets_none(
+    rt: &impl Abort,
+    alloc: Global,
+    hive: &[u8],
+    case: &Stopped<'_>,
+    call: DiskCall,
+    quiet: &str,
+    order: Order<'_>,
+) -> Result<(), Fail> {
+    let played = ordered(rt, alloc, hive, case, call, order)?;
+    assert_eq!(rt; played.said.as_str(), quiet);
     Ok(())
+}
+
+/// One order for each call of the run, and one after them.
+fn each_order(
+    rt: &impl Abort,
+    alloc: Global,
+    hive: &[u8],
+    case: &Stopped<'_>,
+    call: DiskCall,
+    quiet: &Played,
+    (order, keep): (&str, &str),
+) -> Result<(), Fail> {
+    let said = quiet.said.as_str();
+    let last = quiet.calls.saturating_add(1);
+    for n in 1..last {
+        is_stopped_at(rt, alloc, hive, case, call, said, (order, n, keep))?;
+    }
+    meets_none(rt, alloc, hive, case, call, said, (order, last, keep))
 }
 
 /// One order for each call of a kind, until a run meets no stop: that is the first order after all calls of the run.
@@ -203,26 +329,11 @@ fn each_call(
     alloc: Global,
     case: &Stopped<'_>,
     call: DiskCall,
-    (order, keep): (&str, &str),
+    order: (&str, &str),
 ) -> Result<(), Fail> {
     let hive = hive(rt, alloc, &case.sets)?;
-    let script = case.script;
-    let plain = format!(in alloc; "{script}boot\n")?;
-    let quiet = play(rt, alloc, hive.as_slice(), &plain, call)?;
-    assert!(rt; behind_stop(rt, alloc, &quiet.said, &quiet.said)?.is_none());
-    for n in 1..quiet.calls.saturating_add(1) {
-        let ordered = format!(in alloc; "{order} {n} {keep}\n{script}boot\n")?;
-        let played = play(rt, alloc, hive.as_slice(), &ordered, call)?;
-        match behind_stop(rt, alloc, &played.said, &quiet.said)? {
-            Some(behind) => loads_one(rt, alloc, case, behind.commits, &behind.text)?,
-            None => assert!(rt; false, "no stop at {order} {n}"),
-        }
-    }
-    let last = quiet.calls.saturating_add(1);
-    let ordered = format!(in alloc; "{order} {last} {keep}\n{script}boot\n")?;
-    let played = play(rt, alloc, hive.as_slice(), &ordered, call)?;
-    assert_eq!(rt; played.said.as_str(), quiet.said.as_str());
-    Ok(())
+    let quiet = unstopped(rt, alloc, hive.as_slice(), case, call)?;
+    each_order(rt, alloc, hive.as_slice(), case, call, &quiet, order)
 }
 
 /// Each stop of a table.
@@ -239,24 +350,57 @@ fn each_stop(
     Ok(())
 }
 
+/// What was said after two cuts ends with a start from a state.
+fn ends_with_one(
+    rt: &impl Abort,
+    alloc: Global,
+    case: &Stopped<'_>,
+    said: &str,
+) -> Result<(), Fail> {
+    match behind_stop(rt, alloc, said, said)? {
+        Some(behind) => loads_last(rt, alloc, case, behind.commits, &behind.text),
+        None => {
+            assert!(rt; false, "no stop: {said}");
+            Ok(())
+        }
+    }
+}
+
+fn pair(
+    rt: &impl Abort,
+    alloc: Global,
+    hive: &[u8],
+    case: &Stopped<'_>,
+    (first, second, keep): (u32, u32, &str),
+) -> Result<(), Fail> {
+    let script = case.script;
+    let text = format!(in alloc;
+        "cut sync {first} {keep}\n{script}cut sync {second} {keep}\nboot\noff\nboot\n"
+    )?;
+    let played = play(rt, alloc, hive, &text, DiskCall::Sync)?;
+    ends_with_one(rt, alloc, case, &played.said)
+}
+
 /// Two cuts, each at a sync, the second one in the start after the first: the start after both loads what the first left.
 fn each_pair(rt: &impl Abort, alloc: Global, case: &Stopped<'_>, keep: &str) -> Result<(), Fail> {
     let hive = hive(rt, alloc, &case.sets)?;
-    let script = case.script;
     for first in 1..5_u32 {
         for second in 1..4_u32 {
-            let orders = format!(in alloc;
-                "cut sync {first} {keep}\n{script}cut sync {second} {keep}\n"
-            )?;
-            let text = format!(in alloc; "{orders}boot\noff\nboot\n")?;
-            let played = play(rt, alloc, hive.as_slice(), &text, DiskCall::Sync)?;
-            match behind_stop(rt, alloc, &played.said, &played.said)? {
-                Some(behind) => loads_last(rt, alloc, case, behind.commits, &behind.text)?,
-                None => assert!(rt; false, "no stop at {first}"),
-            }
+            pair(rt, alloc, hive.as_slice(), case, (first, second, keep))?;
         }
     }
     Ok(())
+}
+
+fn last_start(alloc: Global, text: &str) -> Result<String, AllocError> {
+    let mut last = String::new(alloc);
+    for line in text.split_inclusive('\n') {
+        if line.starts_with("start ") {
+            last = String::new(alloc);
+        }
+        last.push_str(line)?;
+    }
+    Ok(last)
 }
 
 /// The last start loads the state that was settled last, or the one of the change that was stopped first.
@@ -267,13 +411,7 @@ fn loads_last(
     commits: usize,
     text: &str,
 ) -> Result<(), Fail> {
-    let mut last = String::new(alloc);
-    for line in text.split_inclusive('\n') {
-        if line.starts_with("start ") {
-            last = String::new(alloc);
-        }
-        last.push_str(line)?;
-    }
+    let last = last_start(alloc, text)?;
     loads_one(rt, alloc, case, commits, &last)
 }
 

@@ -1,10 +1,10 @@
 //! Tables: of each row every call of the host fails in turn, and what is saved is started again.
 
-use crate::cases::{Case, each_call, owned, whole};
+use crate::cases::{Case, called, each_call, whole};
 use crate::hive::{Service, Sets, hive};
-use mem_edge::{MemDisk, MemHost};
+use mem_edge::MemHost;
 use nt_bytes::Bytes;
-use ntboot_cli::{Status, ntboot};
+use ntboot_cli::Status;
 use std::alloc::{AllocError, Global};
 use std::process::Abort;
 use std::test::Fail;
@@ -119,8 +119,19 @@ fn run<'a>(hive: &'a [u8], script: &'a str, said: &'a str, says: u8) -> Case<'a>
     }
 }
 
+fn begins_so(
+    rt: &impl Abort,
+    alloc: Global,
+    said: &[u8],
+    (before, first): (&str, &str),
+) -> Result<(), Fail> {
+    let front = format!(in alloc; "{before}{first}")?;
+    assert!(rt; said.starts_with(front.as_bytes()), "{front}");
+    Ok(())
+}
+
 /// Starts what was saved: it answers this, and says this first, after what was printed before.
-pub(crate) fn starts(
+fn starts(
     rt: &impl Abort,
     alloc: Global,
     mut host: MemHost,
@@ -128,16 +139,24 @@ pub(crate) fn starts(
     (said, status, first): (&str, Status, &str),
 ) -> Result<(), Fail> {
     host.add("t", b"boot\n")?;
-    let words = owned(alloc, words)?;
-    let mut disk = MemDisk::new(alloc);
-    assert_eq!(rt; ntboot(alloc, &words, &mut host, &mut disk), status);
-    let front = format!(in alloc; "{said}{first}")?;
-    assert!(rt; host.said().starts_with(front.as_bytes()));
-    Ok(())
+    let _disk = called(rt, alloc, words, &mut host, status)?;
+    begins_so(rt, alloc, host.said(), (said, first))
+}
+
+/// Starts what was saved, which loads so.
+pub(crate) fn loads(
+    rt: &impl Abort,
+    alloc: Global,
+    host: MemHost,
+    words: &[&str],
+    (said, load): (&str, &str),
+) -> Result<(), Fail> {
+    let first = loaded(alloc, load)?;
+    starts(rt, alloc, host, words, (said, Status::Done, &first))
 }
 
 /// The first lines of a start that loads so.
-pub(crate) fn loaded(alloc: Global, load: &str) -> Result<String, AllocError> {
+fn loaded(alloc: Global, load: &str) -> Result<String, AllocError> {
     format!(in alloc; "start 1\n{ENTRY}load {load}\n")
 }
 
@@ -161,8 +180,7 @@ fn settled(
 ) -> Result<(), Fail> {
     let hive = hive(rt, alloc, sets)?;
     let host = each_call(rt, alloc, &run(hive.as_slice(), script, said, says))?;
-    let first = loaded(alloc, load)?;
-    starts(rt, alloc, host, &AGAIN, (said, Status::Done, &first))
+    loads(rt, alloc, host, &AGAIN, (said, load))
 }
 
 /// A driver fails critically, and the next start falls back to set 2.
@@ -190,33 +208,68 @@ fn guard(rt: &impl Abort, alloc: Global) -> Result<(), Fail> {
 /// of the hive can't be read.
 type Cut = (&'static str, &'static str, u8, bool);
 
-const SYNC_1: [Cut; 4] = [
+static SYNC_1: [Cut; 4] = [
     ("1 none", "5 clean", 2, false),
     ("1 odd", "5 clean", 2, false),
     ("1 all", "5 clean", 2, false),
     ("1 torn", "5 clean", 2, false),
 ];
 
-const SYNC_2: [Cut; 4] = [
+static SYNC_2: [Cut; 4] = [
     ("2 none", "5 clean", 2, false),
     ("2 odd", "6 recovered", 3, false),
     ("2 all", "6 recovered", 3, false),
     ("2 torn", "6 recovered", 3, true),
 ];
 
-const SYNC_3: [Cut; 4] = [
+static SYNC_3: [Cut; 4] = [
     ("3 none", "6 recovered", 3, false),
     ("3 odd", "6 recovered", 3, false),
     ("3 all", "6 recovered", 3, false),
     ("3 torn", "6 recovered", 3, false),
 ];
 
-const SYNC_4: [Cut; 4] = [
+static SYNC_4: [Cut; 4] = [
     ("4 none", "6 recovered", 3, false),
     ("4 odd", "6 clean", 3, false),
     ("4 all", "6 clean", 3, false),
     ("4 torn", "6 recovered", 3, true),
 ];
+
+/// What is printed where a start comes after the cut.
+fn goes_on_text(alloc: Global, load: &str, good: u8) -> Result<String, AllocError> {
+    let woken = format!(in alloc; "start 2\n{ENTRY}load {load}\nset 1 default\n")?;
+    let begun = format!(in alloc; "select 1 1 0 {good}\nphase boot\nverdict running\nend\n")?;
+    format!(in alloc; "{CUT}{woken}{begun}")
+}
+
+/// A start comes after the cut.
+fn goes_on(
+    rt: &impl Abort,
+    alloc: Global,
+    hive: &[u8],
+    script: &str,
+    (load, good): (&str, u8),
+) -> Result<(), Fail> {
+    let again = format!(in alloc; "{script}boot\n")?;
+    let said = goes_on_text(alloc, load, good)?;
+    let _host = each_call(rt, alloc, &run(hive, &again, &said, 21))?;
+    Ok(())
+}
+
+/// What is saved within the cut is started.
+fn is_saved(
+    rt: &impl Abort,
+    alloc: Global,
+    hive: &[u8],
+    script: &str,
+    (load, is_torn): (&str, bool),
+) -> Result<(), Fail> {
+    let said = format!(in alloc; "{CUT}end\n")?;
+    let host = whole(rt, alloc, &run(hive, script, &said, 14))?;
+    let (status, first) = reload(alloc, load, is_torn)?;
+    starts(rt, alloc, host, &AGAIN, (&said, status, &first))
+}
 
 fn cut(
     rt: &impl Abort,
@@ -225,15 +278,8 @@ fn cut(
     (at, load, good, is_torn): Cut,
 ) -> Result<(), Fail> {
     let script = format!(in alloc; "boot\ngo\ncut sync {at}\nlogon\n")?;
-    let again = format!(in alloc; "{script}boot\n")?;
-    let woken = format!(in alloc; "start 2\n{ENTRY}load {load}\nset 1 default\n")?;
-    let begun = format!(in alloc; "select 1 1 0 {good}\nphase boot\nverdict running\nend\n")?;
-    let said = format!(in alloc; "{CUT}{woken}{begun}")?;
-    let _host = each_call(rt, alloc, &run(hive, &again, &said, 21))?;
-    let said = format!(in alloc; "{CUT}end\n")?;
-    let host = whole(rt, alloc, &run(hive, &script, &said, 14))?;
-    let (status, first) = reload(alloc, load, is_torn)?;
-    starts(rt, alloc, host, &AGAIN, (&said, status, &first))
+    goes_on(rt, alloc, hive, &script, (load, good))?;
+    is_saved(rt, alloc, hive, &script, (load, is_torn))
 }
 
 fn cuts(rt: &impl Abort, alloc: Global, rows: &[Cut]) -> Result<(), Fail> {
@@ -283,12 +329,19 @@ fn made(rt: &impl Abort, alloc: Global) -> Result<(), Fail> {
         puts: 1,
     };
     let host = each_call(rt, alloc, &case)?;
-    let first = loaded(alloc, "3 clean")?;
-    starts(rt, alloc, host, &ALONE, (said, Status::Done, &first))
+    loads(rt, alloc, host, &ALONE, (said, "3 clean"))
 }
 
-/// Calls that are refused: the command line, the script, the status, the line that is printed, and how many files were asked for before.
-const REFUSED: [(&[&str], &str, Status, &str, u8); 14] = [
+/// A call that is refused: the command line, the script, the status, the line that is printed, and how many files were asked for before.
+type Refused = (
+    &'static [&'static str],
+    &'static str,
+    Status,
+    &'static str,
+    u8,
+);
+
+static REFUSED: [Refused; 14] = [
     (
         &["run", "--hive", "h", "--save-hive", "x", "--save-log", "y"],
         "",
@@ -419,22 +472,28 @@ const REFUSED: [(&[&str], &str, Status, &str, u8); 14] = [
     ),
 ];
 
+fn is_refused(rt: &impl Abort, alloc: Global, hive: &[u8], row: &Refused) -> Result<(), Fail> {
+    let (words, script, status, said, gets) = row;
+    let case = Case {
+        words,
+        hive,
+        script: script.as_bytes(),
+        status: *status,
+        said,
+        gets: *gets,
+        says: 1,
+        puts: 0,
+    };
+    let _host = each_call(rt, alloc, &case)?;
+    Ok(())
+}
+
 /// On a hive that is none, and is too long to be a boot.ini.
 fn refusals(rt: &impl Abort, alloc: Global) -> Result<(), Fail> {
     let mut hive = Bytes::new(alloc);
     hive.append_zeros(65_537)?;
-    for (words, script, status, said, gets) in REFUSED {
-        let case = Case {
-            words,
-            hive: hive.as_slice(),
-            script: script.as_bytes(),
-            status,
-            said,
-            gets,
-            says: 1,
-            puts: 0,
-        };
-        let _host = each_call(rt, alloc, &case)?;
+    for row in REFUSED.iter() {
+        is_refused(rt, alloc, hive.as_slice(), row)?;
     }
     Ok(())
 }

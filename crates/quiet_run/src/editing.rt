@@ -1,6 +1,7 @@
 //! Edits of the live tree, flush and off.
 
-ghost use Rattle.std.specs.Prelude.{◌≡◌, ◌∷◌, [], ◌||◌, true, false, not, IfOk, OnOk, Some};
+ghost use Rattle.std.specs.Prelude.{◌≡◌, ◌∷◌, [], ◌||◌, true, false, map, not, IfOk, OnOk, Some};
+ghost use Rattle.std.specs.List.{All};
 ghost use Rattle.boot_machine.specs.Steps.{is_there};
 ghost use Rattle.hive_model.specs.Tree.{same_tree};
 ghost use Rattle.hive_model.specs.Edit.{edited};
@@ -53,12 +54,24 @@ pub(crate) fn edit(alloc: Global, step: TreeStep, play: &mut Play) -> Result<(),
         ≡ watch (edit_done e (state_in play.old) (edited play.old.version play.old.live (step_of step ∷ []))) play.old.last) }
     ensures sound { OnOk result (IsSound play.new) }
 {
-    let before = play.live.copy(alloc)?;
     let steps = one_step(alloc, step)?;
+    let before = play.live.copy(alloc)?;
+    make(alloc, steps, &before, play)
+}
+
+/// Makes the steps on the tree, which was this before, unless they are refused.
+fn make(alloc: Global, steps: Steps, before: &Key, play: &mut Play) -> Result<(), AllocError>
+    requires sound { IsSound play.old }
+    requires fits { All Fits (map step_of steps) }
+    requires before { before.now ≡ play.old.live }
+    ensures watched { OnOk result ((e : Event) → watched_in play.new
+        ≡ watch (edit_done e (state_in play.old) (edited play.old.version play.old.live (map step_of steps))) play.old.last) }
+    ensures sound { OnOk result (IsSound play.new) }
+{
     if !apply(alloc, steps, play.version, &mut play.live)? {
         return Ok(());
     }
-    play.changed = is_changed(play.changed, &before, &play.live);
+    play.changed = is_changed(play.changed, before, &play.live);
     Ok(())
 }
 

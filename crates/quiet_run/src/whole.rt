@@ -6,7 +6,7 @@ ghost use Rattle.boot_machine.specs.Views.{event_in};
 ghost use Rattle.start_model.specs.Run.{closing_act};
 ghost use Rattle.quiet_run.specs.Choices.{choices};
 ghost use Rattle.quiet_run.specs.Play.{state_in, watched_in, AreHeld, IsSound};
-ghost use Rattle.quiet_run.specs.Watch.{watch, watched_from, unplayed, last_set, quiet_run_of};
+ghost use Rattle.quiet_run.specs.Watch.{watch, watched_from, unplayed, last_set, left_of, quiet_run_of};
 
 use crate::last::{QuietRun, fresh_start};
 use crate::play::Play;
@@ -19,6 +19,7 @@ use boot_script::Event;
 use nt_bytes::HiveVersion;
 use reg_tree::Key;
 use std::alloc::{AllocError, Global};
+use std::mem::replace;
 
 /// A run before its first event.
 fn unplayed(alloc: Global, version: HiveVersion, root: Key) -> Result<Play, AllocError>
@@ -88,6 +89,27 @@ fn last_set(alloc: Global, play: &Play) -> Result<Key, AllocError>
     }
 }
 
+/// What the events leave of the last start. The run is of no use then.
+fn played(
+    alloc: Global,
+    ini: &BootIni,
+    system: &Arc,
+    script: &[Event],
+    play: &mut Play,
+) -> Result<QuietRun, AllocError>
+    requires sound { IsSound play.old }
+    ensures exact { IfOk result (λ run. run
+        ≡ left_of (watched_from (choices ini.now system.now) (map event_in script.now) (watched_in play.old))) }
+    ensures phases { IfOk result (λ run. AreHeld run.start.phases) }
+    ensures set { IfOk result (λ run. HoldsKeys run.set) }
+{
+    events(alloc, ini, system, script, play)?;
+    close(play);
+    let set = last_set(alloc, play)?;
+    let start = replace(&mut play.last, fresh_start(alloc, 0));
+    Ok(QuietRun { start, set })
+}
+
 /// What a script leaves of its last start on a tree that a hive of this version loads as, by boot.ini and the system's path. The
 /// tree must be one that a hive can hold. Each edit copies the tree once, and each phase the set.
 #[tactic(auto, unfolding(crate::specs::Watch::quiet_run_of))]
@@ -105,11 +127,5 @@ pub fn quiet_run(
     ensures set { IfOk result (λ run. HoldsKeys run.set) }
 {
     let mut play = unplayed(alloc, version, root)?;
-    events(alloc, ini, system, script, &mut play)?;
-    close(&mut play);
-    let set = last_set(alloc, &play)?;
-    Ok(QuietRun {
-        start: play.last,
-        set,
-    })
+    played(alloc, ini, system, script, &mut play)
 }

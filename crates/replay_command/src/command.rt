@@ -5,8 +5,9 @@ ghost use Rattle.command_parts.specs.Inputs.{AsksSoMany};
 ghost use Rattle.command_parts.specs.Leaves.{Looks, Reads};
 ghost use Rattle.command_parts.specs.Reporting.{DecidesReport};
 ghost use Rattle.command_words.specs.Views.{replay_seen};
+ghost use Rattle.input_search.specs.Search.{AsksFor};
 ghost use Rattle.log_replay.specs.Replay.{replay_of};
-ghost use Rattle.replay_command.specs.Inputs.{logs_in, asks_replay, AsksReplay};
+ghost use Rattle.replay_command.specs.Inputs.{logs_in, asks_replay, replay_search};
 ghost use Rattle.replay_command.specs.Answer.{file_report, report_by, report_in};
 
 use crate::inputs::{ReplayInputs, inputs_in, logs_in};
@@ -88,7 +89,7 @@ fn seek<H: Host>(
     host: &mut H,
 ) -> Result<FileReport, Obstacle>
     ensures looks { Looks (report_in form (replay_seen words.entry) (H.state host.old).files) result (H.state host.old) (H.state host.new) }
-    ensures asks { AsksReplay (replay_seen words.entry) result (H.state host.old) (H.state host.new) }
+    ensures asks { AsksFor (replay_search (replay_seen words.entry)) result (H.state host.old) (H.state host.new) }
     ensures kept { result ≡ Err (Obstacle.Refused Refusal.Usage) → ⊥ }
 {
     match inputs_in(alloc, words, host) {

@@ -1,13 +1,14 @@
 //! What `replay` reads: one file after the other, up to the first obstacle.
 
-ghost use Rattle.std.specs.Prelude.{◌≡◌, ◌++◌, Err, IfOk, OnOk, option_map};
-ghost use Rattle.command_parts.specs.Inputs.{log_in};
-ghost use Rattle.command_parts.specs.Leaves.{Looks, more, named};
+ghost use Rattle.std.specs.Prelude.{◌≡◌, ◌++◌, Err, IfOk, OnOk};
+ghost use Rattle.command_parts.specs.Leaves.{Looks};
 ghost use Rattle.command_words.specs.Views.{replay_seen};
-ghost use Rattle.replay_command.specs.Inputs.{inputs_in, given, AsksReplay};
+ghost use Rattle.input_search.specs.Search.{AsksFor};
+ghost use Rattle.replay_command.specs.Inputs.{inputs_in, given, replay_search};
 
-use command_parts::{Obstacle, Refusal, file_in};
+use command_parts::{Obstacle, Refusal, hive_in};
 use command_words::ReplayWords;
+use input_search::file_if_named;
 use log_replay::{LogFile, LogName};
 use nt_bytes::{Bytes, Row};
 use nt_edge::Host;
@@ -22,39 +23,23 @@ pub struct ReplayInputs {
     pub log2: Option<Bytes>,
 }
 
-/// The bytes of a log, where the command line names one.
-fn log_in<H: Host>(
-    alloc: Global,
-    host: &mut H,
-    name: Option<&str>,
-) -> Result<Option<Bytes>, Obstacle>
-    ensures looks { Looks (log_in (H.state host.old).files (option_map (λ v. v.now) name.entry)) result (H.state host.old) (H.state host.new) }
-    ensures asks { (H.state host.new).gets ≡ more (named (option_map (λ v. v.now) name.entry)) (H.state host.old).gets }
-    ensures kept { result ≡ Err (Obstacle.Refused Refusal.Usage) → ⊥ }
-{
-    match name {
-        Some(name) => Ok(Some(file_in(alloc, host, name)?)),
-        None => Ok(None),
-    }
-}
-
 /// What the files have, or the first obstacle. Nothing is printed.
+#[tactic(auto, unfolding(input_search::specs::Search::searched))]
 pub(crate) fn inputs_in<H: Host>(
     alloc: Global,
     words: ReplayWords<'_>,
     host: &mut H,
 ) -> Result<ReplayInputs, Obstacle>
     ensures looks { Looks (inputs_in (replay_seen words.entry) (H.state host.old).files) result (H.state host.old) (H.state host.new) }
-    ensures asks { AsksReplay (replay_seen words.entry) result (H.state host.old) (H.state host.new) }
+    ensures asks { AsksFor (replay_search (replay_seen words.entry)) result (H.state host.old) (H.state host.new) }
     ensures kept { result ≡ Err (Obstacle.Refused Refusal.Usage) → ⊥ }
 {
-    let hive = file_in(alloc, host, words.hive)?;
-    let log = log_in(alloc, host, words.log)?;
-    let log1 = log_in(alloc, host, words.log1)?;
-    let log2 = log_in(alloc, host, words.log2)?;
+    let files = hive_in(alloc, host, words.hive, words.log)?;
+    let log1 = file_if_named(alloc, host, words.log1)?;
+    let log2 = file_if_named(alloc, host, words.log2)?;
     Ok(ReplayInputs {
-        hive,
-        log,
+        hive: files.primary,
+        log: files.log,
         log1,
         log2,
     })

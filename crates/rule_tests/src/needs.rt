@@ -55,6 +55,22 @@ fn needs(alloc: Global, entries: &[Entry]) -> Result<Needs, AllocError> {
     Ok(needs)
 }
 
+fn are_pulled(rt: &impl Abort, alloc: Global, table: &Needs, wanted: &[u32]) -> Result<(), Fail>
+    requires { length table.now < 2 ^ 32 }
+{
+    let found = pulled(alloc, table)?;
+    assert_eq!(rt; found.as_slice(), wanted);
+    Ok(())
+}
+
+fn are_taken(rt: &impl Abort, alloc: Global, table: &Needs, wanted: &[u32]) -> Result<(), Fail>
+    requires { length table.now < 2 ^ 32 }
+{
+    let found = automatic(alloc, table)?;
+    assert_eq!(rt; found.as_slice(), wanted);
+    Ok(())
+}
+
 /// The places of those that are taken on demand, and of all that the automatic phase takes.
 fn takes(
     rt: &impl Abort,
@@ -65,11 +81,8 @@ fn takes(
 ) -> Result<(), Fail> {
     let table = needs(alloc, entries)?;
     assert!(rt; table.len() < 0x1_0000_0000);
-    let found = pulled(alloc, &table)?;
-    assert_eq!(rt; found.as_slice(), on_demand);
-    let found = automatic(alloc, &table)?;
-    assert_eq!(rt; found.as_slice(), all);
-    Ok(())
+    are_pulled(rt, alloc, &table, on_demand)?;
+    are_taken(rt, alloc, &table, all)
 }
 
 /// `S` names `D`, which names `E`: both start on demand. `X` is disabled, and nobody names `F`.
@@ -118,17 +131,32 @@ fn goes_first(rt: &impl Abort, waiting: &Needs, so_far: &Started, place: Option<
 
 static WAITING: [Entry; 2] = [(b"A", 0, b"", b"B", b""), (b"D", 0, b"", b"", b"G")];
 
+/// Both wait until what each needs is started.
+fn both_wait(
+    rt: &impl Abort,
+    alloc: Global,
+    waiting: &Needs,
+    so_far: &mut Started,
+) -> Result<(), Fail> {
+    goes_first(rt, waiting, so_far, None);
+    start(alloc, so_far, b"M", b"g")?;
+    goes_first(rt, waiting, so_far, Some(1));
+    start(alloc, so_far, b"b", b"H")?;
+    goes_first(rt, waiting, so_far, Some(0));
+    Ok(())
+}
+
+fn needs_nothing(rt: &impl Abort, alloc: Global, so_far: &Started) -> Result<(), Fail> {
+    let alone = need(alloc, (b"C", 0, b"", b"", b""))?;
+    assert!(rt; ready(&alone, so_far));
+    Ok(())
+}
+
 fn go_in_turn(rt: &impl Abort, alloc: Global) -> Result<(), Fail> {
     let waiting = needs(alloc, &WAITING)?;
     let mut so_far = Started::new(alloc);
-    goes_first(rt, &waiting, &so_far, None);
-    start(alloc, &mut so_far, b"M", b"g")?;
-    goes_first(rt, &waiting, &so_far, Some(1));
-    start(alloc, &mut so_far, b"b", b"H")?;
-    goes_first(rt, &waiting, &so_far, Some(0));
-    let alone = need(alloc, (b"C", 0, b"", b"", b""))?;
-    assert!(rt; ready(&alone, &so_far));
-    Ok(())
+    both_wait(rt, alloc, &waiting, &mut so_far)?;
+    needs_nothing(rt, alloc, &so_far)
 }
 
 #[test]

@@ -84,16 +84,23 @@ fn read(alloc: Global, root: &Key) -> Result<SelectNumbers, AllocError> {
     Ok(read_select(root.child(name.as_slice())))
 }
 
-fn has_state(rt: &impl Abort, alloc: Global, root: &Key, wanted: State) -> Result<(), Fail> {
-    assert_eq!(rt; read(alloc, root)?, numbers(wanted.0));
+fn are_numbers(rt: &impl Abort, found: SelectNumbers, four: [u32; 4]) {
+    assert_eq!(rt; found, numbers(four));
+}
+
+fn has_sets(rt: &impl Abort, root: &Key, wanted: &[u8]) {
     let taken = sets_in(root);
     for number in 0..10 {
-        assert_eq!(rt;
-            taken.has(u32::from(number)),
-            wanted.1.contains(&number),
+        assert!(rt;
+            taken.has(u32::from(number)) == wanted.contains(&number),
             "{number}"
         );
     }
+}
+
+fn has_state(rt: &impl Abort, alloc: Global, root: &Key, wanted: State) -> Result<(), Fail> {
+    are_numbers(rt, read(alloc, root)?, wanted.0);
+    has_sets(rt, root, wanted.1);
     Ok(())
 }
 
@@ -101,87 +108,105 @@ fn has_state(rt: &impl Abort, alloc: Global, root: &Key, wanted: State) -> Resul
 fn leads_to(
     rt: &impl Abort,
     alloc: Global,
-    root: Key,
+    root: &mut Key,
     plan: SetPlan,
     wanted: (u32, State, usize),
 ) -> Result<(), Fail> {
-    let mut root = root;
     let (chosen, state, steps) = wanted;
-    assert_eq!(rt; plan.chosen, chosen);
-    assert_eq!(rt; plan.numbers, numbers(state.0));
-    assert_eq!(rt; plan.steps.len(), steps);
+    assert!(rt;
+        plan.chosen == chosen && plan.steps.len() == steps,
+        "{chosen} {steps}"
+    );
+    are_numbers(rt, plan.numbers, state.0);
     root.apply(alloc, plan.steps, HiveVersion::V3)?;
-    has_state(rt, alloc, &root, state)
+    has_state(rt, alloc, root, state)
+}
+
+fn begin_plan(alloc: Global, root: &Key, last_known_good: bool) -> Result<SetPlan, Fail> {
+    let numbers = read(alloc, root)?;
+    let plan = plan_begin(alloc, numbers, &sets_in(root), last_known_good)?;
+    Ok(plan)
 }
 
 fn begins(rt: &impl Abort, alloc: Global, case: Case) -> Result<(), Fail> {
     let (before, last_known_good, chosen, after, steps) = case;
-    let root = root(alloc, before)?;
-    let numbers = read(alloc, &root)?;
-    let plan = plan_begin(alloc, numbers, &sets_in(&root), last_known_good)?;
-    leads_to(rt, alloc, root, plan, (chosen, after, steps))
+    let mut root = root(alloc, before)?;
+    let plan = begin_plan(alloc, &root, last_known_good)?;
+    leads_to(rt, alloc, &mut root, plan, (chosen, after, steps))
 }
 
-#[test]
-fn a_beginning_leads_there(rt: HostRuntime) -> Result<(), Fail> {
-    let cases: [Case; 6] = [
-        // Nothing to change.
-        (
-            ([1, 1, 0, 2], &[1, 2]),
-            false,
-            1,
-            ([1, 1, 0, 2], &[1, 2]),
-            0,
-        ),
-        // The guard: set 1 is LastKnownGood's too, so that gets a copy.
-        (([1, 1, 0, 1], &[1]), false, 1, ([1, 1, 0, 2], &[1, 2]), 2),
-        // Current was another one, which retires.
-        (
-            ([1, 2, 0, 3], &[1, 2, 3]),
-            false,
-            2,
-            ([2, 2, 0, 3], &[2, 3]),
-            2,
-        ),
-        // Default has failed, and is kept as the failed one.
-        (
-            ([1, 1, 0, 2], &[1, 2]),
-            true,
-            2,
-            ([2, 2, 1, 3], &[1, 2, 3]),
-            5,
-        ),
-        // The one that failed before retires; its number isn't free before the change.
-        (
-            ([1, 1, 3, 2], &[1, 2, 3]),
-            true,
-            2,
-            ([2, 2, 1, 4], &[1, 2, 4]),
-            6,
-        ),
-        // LastKnownGood is Default: nothing has failed.
-        (
-            ([2, 2, 9, 2], &[2, 9]),
-            true,
-            2,
-            ([2, 2, 9, 1], &[1, 2, 9]),
-            2,
-        ),
-    ];
-    for case in cases {
-        begins(&rt, rt.alloc(), case)?;
+static BEGINNINGS: [Case<'static>; 6] = [
+    // Nothing to change.
+    (
+        ([1, 1, 0, 2], &[1, 2]),
+        false,
+        1,
+        ([1, 1, 0, 2], &[1, 2]),
+        0,
+    ),
+    // The guard: set 1 is LastKnownGood's too, so that gets a copy.
+    (([1, 1, 0, 1], &[1]), false, 1, ([1, 1, 0, 2], &[1, 2]), 2),
+    // Current was another one, which retires.
+    (
+        ([1, 2, 0, 3], &[1, 2, 3]),
+        false,
+        2,
+        ([2, 2, 0, 3], &[2, 3]),
+        2,
+    ),
+    // Default has failed, and is kept as the failed one.
+    (
+        ([1, 1, 0, 2], &[1, 2]),
+        true,
+        2,
+        ([2, 2, 1, 3], &[1, 2, 3]),
+        5,
+    ),
+    // The one that failed before retires; its number isn't free before the change.
+    (
+        ([1, 1, 3, 2], &[1, 2, 3]),
+        true,
+        2,
+        ([2, 2, 1, 4], &[1, 2, 4]),
+        6,
+    ),
+    // LastKnownGood is Default: nothing has failed.
+    (
+        ([2, 2, 9, 2], &[2, 9]),
+        true,
+        2,
+        ([2, 2, 9, 1], &[1, 2, 9]),
+        2,
+    ),
+];
+
+fn all_begin(rt: &impl Abort, alloc: Global) -> Result<(), Fail> {
+    for case in BEGINNINGS.iter() {
+        begins(rt, alloc, *case)?;
     }
     Ok(())
 }
 
 #[test]
+fn a_beginning_leads_there(rt: HostRuntime) -> Result<(), Fail> {
+    all_begin(&rt, rt.alloc())
+}
+
+fn save_plan(alloc: Global, root: &Key) -> Result<SetPlan, Fail> {
+    let numbers = read(alloc, root)?;
+    let plan = plan_save(alloc, numbers, &sets_in(root), set(alloc, 1)?)?;
+    Ok(plan)
+}
+
+fn saves(rt: &impl Abort, alloc: Global) -> Result<(), Fail> {
+    let mut root = root(alloc, ([1, 1, 0, 2], &[1, 2]))?;
+    let plan = save_plan(alloc, &root)?;
+    leads_to(rt, alloc, &mut root, plan, (3, ([1, 1, 0, 3], &[1, 3]), 3))
+}
+
+#[test]
 fn a_save_leads_there(rt: HostRuntime) -> Result<(), Fail> {
-    let before: State = ([1, 1, 0, 2], &[1, 2]);
-    let after: State = ([1, 1, 0, 3], &[1, 3]);
-    let root = root(rt.alloc(), before)?;
-    let numbers = read(rt.alloc(), &root)?;
-    let plan = plan_save(rt.alloc(), numbers, &sets_in(&root), set(rt.alloc(), 1)?)?;
-    leads_to(&rt, rt.alloc(), root, plan, (3, after, 3))
+    saves(&rt, rt.alloc())
 }
 
 /// Why there is no plan of a beginning.
@@ -197,35 +222,61 @@ fn stop_of(
     }
 }
 
-#[test]
-fn a_number_names_no_set(rt: HostRuntime) -> Result<(), Fail> {
+/// The four numbers, whether LastKnownGood is taken, and why there is no plan.
+type Stop = ([u32; 4], bool, Option<SelectStop>);
+
+fn stops(rt: &impl Abort, alloc: Global, taken: &TakenNumbers, rows: &[Stop]) {
+    for (four, last_known_good, stop) in rows {
+        assert_eq!(rt;
+            stop_of(alloc, *four, taken, *last_known_good),
+            *stop,
+            "{four:?}"
+        );
+    }
+}
+
+static ONE_SET: [Stop; 5] = [
+    ([1, 1, 0, 2], false, None),
+    ([1, 2, 0, 1], false, Some(SelectStop::NoControlSet)),
+    ([1, 1000, 0, 1], false, Some(SelectStop::NoControlSet)),
+    ([1, 1, 0, 2], true, Some(SelectStop::NoLastKnownGood)),
+    ([1, 1, 0, 0], true, Some(SelectStop::NoLastKnownGood)),
+];
+
+fn one_set(rt: &impl Abort, alloc: Global) {
     let mut taken = TakenNumbers::new();
     taken.add(1);
-    let cases = [
-        ([1, 1, 0, 2], false, None),
-        ([1, 2, 0, 1], false, Some(SelectStop::NoControlSet)),
-        ([1, 1000, 0, 1], false, Some(SelectStop::NoControlSet)),
-        ([1, 1, 0, 2], true, Some(SelectStop::NoLastKnownGood)),
-        ([1, 1, 0, 0], true, Some(SelectStop::NoLastKnownGood)),
-    ];
-    for (four, last_known_good, stop) in cases {
-        assert_eq!(rt; stop_of(rt.alloc(), four, &taken, last_known_good), stop);
-    }
-    Ok(())
+    stops(rt, alloc, &taken, &ONE_SET);
 }
 
 #[test]
-fn no_number_is_free(rt: HostRuntime) -> Result<(), Fail> {
+fn a_number_names_no_set(rt: HostRuntime) {
+    one_set(&rt, rt.alloc());
+}
+
+static ALL_SETS: [Stop; 3] = [
+    ([1, 1, 0, 2], false, None),
+    ([1, 1, 0, 1], false, Some(SelectStop::NoFreeNumber)),
+    ([1, 1, 0, 999], true, Some(SelectStop::NoFreeNumber)),
+];
+
+fn no_save(rt: &impl Abort, alloc: Global, taken: &TakenNumbers) -> Result<(), Fail> {
+    let clone = set(alloc, 1)?;
+    let saved = plan_save(alloc, numbers([1, 1, 0, 2]), taken, clone);
+    assert!(rt; matches!(saved, Err(SelectStop::NoFreeNumber)));
+    Ok(())
+}
+
+fn all_sets(rt: &impl Abort, alloc: Global) -> Result<(), Fail> {
     let mut taken = TakenNumbers::new();
     for number in 1..1000 {
         taken.add(number);
     }
-    let no_free = Some(SelectStop::NoFreeNumber);
-    assert_eq!(rt; stop_of(rt.alloc(), [1, 1, 0, 2], &taken, false), None);
-    assert_eq!(rt; stop_of(rt.alloc(), [1, 1, 0, 1], &taken, false), no_free);
-    assert_eq!(rt; stop_of(rt.alloc(), [1, 1, 0, 999], &taken, true), no_free);
-    let clone = set(rt.alloc(), 1)?;
-    let saved = plan_save(rt.alloc(), numbers([1, 1, 0, 2]), &taken, clone);
-    assert!(rt; matches!(saved, Err(SelectStop::NoFreeNumber)));
-    Ok(())
+    stops(rt, alloc, &taken, &ALL_SETS);
+    no_save(rt, alloc, &taken)
+}
+
+#[test]
+fn no_number_is_free(rt: HostRuntime) -> Result<(), Fail> {
+    all_sets(&rt, rt.alloc())
 }

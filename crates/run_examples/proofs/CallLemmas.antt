@@ -27,6 +27,8 @@ use Rattle.command_parts.specs.Leaves.{Leaves, CountsBy, stop_in}
 use Rattle.command_parts.specs.Placed.{placed_disk}
 use Rattle.command_parts.specs.Saves.{no_saves}
 use Rattle.line_text.specs.declared.form.ReportForm.TheVariants.{Text}
+use Rattle.input_search.specs.declared.searching.BootFiles.{BootFiles}
+use Rattle.input_search.specs.Search.{searched}
 use Rattle.ntboot_cli.specs.declared.inputs.Inputs.{Inputs}
 use Rattle.ntboot_cli.specs.Answer.{RunsWhole, EndsInputs, EndsWords}
 use Rattle.ntboot_cli.specs.Inputs.{events_in, inputs_in}
@@ -55,12 +57,19 @@ system_read : arc_of usual_system ≡ Ok system
 unfolding word_at number_at item_at kind_at partition_at numbers_at directory_at parts_at arc_of
 system_read = refl
 
+-- what is read of boot.ini and of the hive, where the files are
+abbrev with_boot : (ini hive : Option (List ℕ)) → Result BootFiles Refusal
+with_boot ini hive = do
+  ini ← ◌>>=◌ (file_in (codes "boot.ini") ini) (λ text. ini_in text usual_system)
+  files ← ◌>>=◌ (file_in (codes "hive") hive) (λ primary. Ok (files_of primary))
+  Ok (record { ini = ini; hive = files })
+
 -- what is read where the events are known
 abbrev with_events : List ℕ → Result (List Event) ScriptFault → Result Inputs Refusal
 with_events hive events = do
   events ← events_in events
-  ini ← ini_in ini_text usual_system
-  Ok (record { system = system; ini = ini; script = events; hive = files_of hive })
+  boot ← with_boot (Some ini_text) (Some hive)
+  Ok (record { system = system; ini = boot.ini; script = events; hive = boot.hive })
 
 -- what is read where the files are
 abbrev with_files : Result Arc ArcFault → (script ini hive : Option (List ℕ)) → Result Inputs Refusal
@@ -68,13 +77,12 @@ with_files arc script ini hive = do
   system ← system_in arc
   script ← file_in (codes "script") script
   events ← events_in (script_of script)
-  text ← file_in (codes "boot.ini") ini
-  ini ← ini_in text usual_system
-  files ← ◌>>=◌ (file_in (codes "hive") hive) (λ primary. Ok (files_of primary))
-  Ok (record { system = system; ini = ini; script = events; hive = files })
+  boot ← with_boot ini hive
+  Ok (record { system = system; ini = boot.ini; script = events; hive = boot.hive })
 
 by_files : (files : Files) → inputs_in asked files
     ≡ with_files (arc_of usual_system) (files (codes "script")) (files (codes "boot.ini")) (files (codes "hive"))
+unfolding searched
 by_files files = refl
 
 by_events : (hive script : List ℕ)

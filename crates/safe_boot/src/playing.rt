@@ -66,8 +66,16 @@ fn start_lines(alloc: Global, set: &Key) -> Result<SafeLines, AllocError>
 {
     let lists = SetLists::read(alloc, set)?;
     let mut machine = Machine::new(alloc);
+    lines_on(alloc, &lists, &mut machine)
+}
+
+/// The same of these lists, on a machine that is off and has nothing noted.
+fn lines_on(alloc: Global, lists: &SetLists, machine: &mut Machine) -> Result<SafeLines, AllocError>
+    requires { machine.old ≡ off_machine }
+    ensures { (set : Tree) → lists.now ≡ lists_of set → IfOk result (λ lines. map line_of lines ≡ start_lines_of set) }
+{
     let mut lines = SafeLines::new(alloc);
-    play_start(alloc, &lists, &mut machine, &mut lines)?;
+    play_start(alloc, lists, machine, &mut lines)?;
     Ok(lines)
 }
 

@@ -7,7 +7,8 @@ ghost use Rattle.command_parts.specs.Leaves.{IsBadUsage};
 ghost use Rattle.command_parts.specs.OnHive.{AnswersOnHive, DecidesOnHive, SeeksAnswer};
 ghost use Rattle.command_parts.specs.Refusals.{IsToldAs};
 ghost use Rattle.safe_command.specs.Answer.{question_in, question_on};
-ghost use Rattle.safe_command.specs.Inputs.{AsksSafe, arguments_in, asks_safe};
+ghost use Rattle.input_search.specs.Search.{AsksFor};
+ghost use Rattle.safe_command.specs.Inputs.{arguments_in, asks_safe, safe_search};
 
 use crate::inputs::{SafeInputs, inputs_in};
 use crate::report::report_text;
@@ -41,7 +42,7 @@ fn seek<H: Host>(
     host: &mut H,
 ) -> Result<Told, Obstacle>
     ensures seeks { SeeksAnswer (question_in form (safe_seen words.entry) (H.state host.old).files) result (H.state host.old) (H.state host.new) }
-    ensures asks { AsksSafe (safe_seen words.entry) result (H.state host.old) (H.state host.new) }
+    ensures asks { AsksFor (safe_search (safe_seen words.entry)) result (H.state host.old) (H.state host.new) }
     ensures usage { result ≡ Err (Obstacle.Refused Refusal.Usage) → arguments_in (safe_seen words.entry) ≡ Err Refusal.Usage }
     ensures refused { arguments_in (safe_seen words.entry) ≡ Err Refusal.Usage → IsBadUsage result }
 {

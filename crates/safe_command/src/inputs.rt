@@ -1,16 +1,16 @@
 //! What `safe` reads: one step after the other, up to the first obstacle.
 
 ghost use Rattle.std.specs.Prelude.{◌≡◌, Err};
-ghost use Rattle.command_parts.specs.Inputs.{bytes_in};
 ghost use Rattle.command_parts.specs.Leaves.{Looks, IsBadUsage};
 ghost use Rattle.command_words.specs.Views.{safe_seen};
-ghost use Rattle.safe_command.specs.Inputs.{arguments_in, inputs_in, named_mode, AsksSafe};
+ghost use Rattle.input_search.specs.Search.{AsksFor};
+ghost use Rattle.safe_command.specs.Inputs.{arguments_in, inputs_in, named_mode, safe_search};
 
 use arc_path::Arc;
 use boot_ini::BootIni;
-use command_parts::{HiveFiles, Obstacle, Refusal, bytes_in, hive_in, ini_in, system_in};
+use command_parts::{HiveFiles, Obstacle, Refusal};
 use command_words::{AskedMode, SafeWords};
-use nt_bytes::Bytes;
+use input_search::{boot_files, system_at};
 use nt_edge::Host;
 use safe_boot::SafeMode;
 use std::alloc::Global;
@@ -37,24 +37,30 @@ fn named_mode(asked: Option<AskedMode>) -> Option<SafeMode>
 }
 
 /// What options and files have, or the first obstacle. Nothing is printed.
+#[tactic(auto, unfolding(input_search::specs::Search::searched))]
 pub(crate) fn inputs_in<H: Host>(
     alloc: Global,
     words: SafeWords<'_>,
     host: &mut H,
 ) -> Result<SafeInputs, Obstacle>
     ensures looks { Looks (inputs_in (safe_seen words.entry) (H.state host.old).files) result (H.state host.old) (H.state host.new) }
-    ensures asks { AsksSafe (safe_seen words.entry) result (H.state host.old) (H.state host.new) }
+    ensures asks { AsksFor (safe_search (safe_seen words.entry)) result (H.state host.old) (H.state host.new) }
     ensures usage { result ≡ Err (Obstacle.Refused Refusal.Usage) → arguments_in (safe_seen words.entry) ≡ Err Refusal.Usage }
     ensures refused { arguments_in (safe_seen words.entry) ≡ Err Refusal.Usage → IsBadUsage result }
 {
-    let system = system_in(alloc, words.system.as_bytes())?;
-    let text = bytes_in(alloc, host, words.boot_ini)?;
-    let ini = ini_in(alloc, text.as_slice(), words.system.as_bytes())?;
-    let hive = hive_in(alloc, host, words.hive, words.log)?;
+    let system = system_at(alloc, words.system)?;
+    let boot = boot_files(
+        alloc,
+        host,
+        words.boot_ini,
+        words.system,
+        words.hive,
+        words.log,
+    )?;
     Ok(SafeInputs {
         system,
-        ini,
-        hive,
+        ini: boot.ini,
+        hive: boot.hive,
         mode: named_mode(words.mode),
         images: words.images,
     })

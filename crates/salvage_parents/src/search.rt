@@ -139,6 +139,27 @@ fn search(
     Ok(())
 }
 
+// Goes through them by an index of the cells.
+fn search_all(
+    alloc: Global,
+    cells: &DamagedCells<'_>,
+    searching: &mut Searching,
+) -> Result<(), AllocError>
+    requires { length cells.now.bytes.now ≤ 268435456 }
+    ensures { OnOk result (search_seen searching.new ≡ searched (ground_of cells.now) (ground_of cells.now).slots 0 (search_seen searching.old)) }
+{
+    let index = index_of(alloc, cells)?;
+    let mut lists = Lists::new(alloc, &searching.walk);
+    search(alloc, cells, &index, searching, &mut lists)
+}
+
+// The tree so far, and what was printed.
+fn tree_and_said(alloc: Global, searching: Searching) -> Result<(Key, Row<ParentLine>), AllocError>
+    ensures { IfOk result (λ r. (r.0, r.1) ≡ tree_and_said (search_seen searching)) }
+{
+    Ok((searching.draft.closed(alloc)?, searching.said))
+}
+
 // The search below a tree.
 fn search_below(
     alloc: Global,
@@ -151,7 +172,6 @@ fn search_below(
     ensures { IfOk result (λ r. (r.0, r.1)
         ≡ tree_and_said (searched (ground_of cells.now) (ground_of cells.now).slots 0 (search_from tree (state_of walk) notes))) }
 {
-    let index = index_of(alloc, cells)?;
     let draft = Draft::of(alloc, tree)?;
     let said = Row::new(alloc);
     let mut searching = Searching {
@@ -160,9 +180,8 @@ fn search_below(
         said,
         notes,
     };
-    let mut lists = Lists::new(alloc, &searching.walk);
-    search(alloc, cells, &index, &mut searching, &mut lists)?;
-    Ok((searching.draft.closed(alloc)?, searching.said))
+    search_all(alloc, cells, &mut searching)?;
+    tree_and_said(alloc, searching)
 }
 
 // What is salvaged of a tree that was walked.

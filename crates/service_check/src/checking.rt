@@ -273,10 +273,21 @@ fn put_judged(
     ensures { OnOk result (lines.new ≡ lines.old ++ services_lines (scope_of in_order set.now keys.now) keys.now) }
 {
     let scope = scope(alloc, in_order, set, keys)?;
-    put_list(&scope, lines)?;
-    put_children(alloc, &scope, keys, lines)?;
-    put_groups(alloc, &scope, lines)?;
-    put_cycles(alloc, &scope, lines)
+    put_scoped(alloc, &scope, keys, lines)
+}
+
+fn put_scoped(
+    alloc: Global,
+    scope: &Scope,
+    keys: &[Key],
+    lines: &mut CheckLines,
+) -> Result<(), AllocError>
+    ensures { OnOk result (lines.new ≡ lines.old ++ services_lines scope.now keys.now) }
+{
+    put_list(scope, lines)?;
+    put_children(alloc, scope, keys, lines)?;
+    put_groups(alloc, scope, lines)?;
+    put_cycles(alloc, scope, lines)
 }
 
 /// What the children of a set are judged by.
@@ -284,10 +295,13 @@ fn scope(alloc: Global, in_order: bool, set: &Key, keys: &[Key]) -> Result<Scope
     requires { HoldsKeys set.now }
     ensures { IfOk result (λ s. s ≡ scope_of in_order set.now keys.now) }
 {
+    let has_images = has_images(alloc, keys)?;
+    let orders = read_orders(alloc, set)?;
+    let table = Table::of(alloc, set)?;
     Ok(Scope {
-        table: Table::of(alloc, set)?,
-        orders: read_orders(alloc, set)?,
-        has_images: has_images(alloc, keys)?,
+        table,
+        orders,
+        has_images,
         in_order,
     })
 }

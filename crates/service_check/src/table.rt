@@ -5,6 +5,7 @@ ghost use Rattle.std.specs.List.{list_any};
 ghost use Rattle.std.specs.Option.{option_copied, option_to_list};
 ghost use Rattle.nt_bytes.specs.Folding.{folds_same};
 ghost use Rattle.hive_model.specs.Valid.{HoldsKeys};
+ghost use Rattle.start_model.specs.Entries.{entries_of};
 ghost use Rattle.service_check.specs.Stages.{staged_in, rows_of};
 ghost use Rattle.service_check.specs.Needs.{names_of, named, group_upto, groups_upto};
 
@@ -46,18 +47,7 @@ impl Table {
         ensures { IfOk result (λ t. t ≡ rows_of set.now) }
     {
         let rows = rows(alloc, set)?;
-        let items = rows.as_slice();
-        let names = NamePlaces::new(alloc, names_of(alloc, items)?)?;
-        let boot_groups = NamePlaces::new(alloc, groups_upto(alloc, Stage::Boot, items)?)?;
-        let system_groups = NamePlaces::new(alloc, groups_upto(alloc, Stage::System, items)?)?;
-        let taken_groups = NamePlaces::new(alloc, groups_upto(alloc, Stage::Automatic, items)?)?;
-        Ok(Table {
-            rows,
-            names,
-            boot_groups,
-            system_groups,
-            taken_groups,
-        })
+        indexed(alloc, rows)
     }
 
     /// How many entries there are.
@@ -122,6 +112,44 @@ impl Table {
     }
 }
 
+/// The entries, found by name and by group.
+fn indexed(alloc: Global, rows: Vec<Staged>) -> Result<Table, AllocError>
+    requires { length rows.items < 2 ^ 32 }
+    ensures { IfOk result (λ t. t ≡ rows.items) }
+{
+    let names = NamePlaces::new(alloc, names_of(alloc, rows.as_slice())?)?;
+    let (boot_groups, system_groups, taken_groups) = stage_groups(alloc, rows.as_slice())?;
+    Ok(Table {
+        rows,
+        names,
+        boot_groups,
+        system_groups,
+        taken_groups,
+    })
+}
+
+/// The groups of the entries that the boot phase takes, and then those of the next two.
+fn stage_groups(
+    alloc: Global,
+    rows: &[Staged],
+) -> Result<(NamePlaces, NamePlaces, NamePlaces), AllocError>
+    ensures boot { IfOk result (λ r. r.0 ≡ groups_upto Stage.Boot rows.now) }
+    ensures system { IfOk result (λ r. r.1 ≡ groups_upto Stage.System rows.now) }
+    ensures taken { IfOk result (λ r. r.2 ≡ groups_upto Stage.Automatic rows.now) }
+{
+    let boot = stage_group(alloc, Stage::Boot, rows)?;
+    let system = stage_group(alloc, Stage::System, rows)?;
+    let taken = stage_group(alloc, Stage::Automatic, rows)?;
+    Ok((boot, system, taken))
+}
+
+/// The groups of the entries that are taken by this stage, found without a scan.
+fn stage_group(alloc: Global, stage: Stage, rows: &[Staged]) -> Result<NamePlaces, AllocError>
+    ensures { IfOk result (λ g. g ≡ groups_upto stage rows.now) }
+{
+    NamePlaces::new(alloc, groups_upto(alloc, stage, rows)?)
+}
+
 /// The entries with their stages.
 fn rows(alloc: Global, set: &Key) -> Result<Vec<Staged>, AllocError>
     requires { HoldsKeys set.now }
@@ -129,10 +157,19 @@ fn rows(alloc: Global, set: &Key) -> Result<Vec<Staged>, AllocError>
     ensures few { IfOk result (λ r. length r.items < 2 ^ 32) }
 {
     let taken = TakenNames::of(alloc, set)?;
+    taken_rows(alloc, &taken, set)
+}
+
+/// The same by the names that each phase takes.
+fn taken_rows(alloc: Global, taken: &TakenNames, set: &Key) -> Result<Vec<Staged>, AllocError>
+    requires { HoldsKeys set.now }
+    ensures rows { IfOk result (λ r. r.items ≡ map (staged_in taken.now) (entries_of set.now)) }
+    ensures few { IfOk result (λ r. length r.items < 2 ^ 32) }
+{
     let table = entries(alloc, set)?;
     let count = table.len();
     let entries = table.into_entries(alloc)?;
-    few_staged(alloc, &taken, entries.into_vec(), count)
+    few_staged(alloc, taken, entries.into_vec(), count)
 }
 
 /// The same of that many entries.

@@ -1,13 +1,14 @@
 //! The services after the boot.
 
-ghost use Rattle.std.specs.Prelude.{◌≡◌, true, IfOk, OnOk, OnErr};
+ghost use Rattle.std.specs.Prelude.{◌≡◌, ◌<◌, ◌^◌, true, length, IfOk, OnOk, OnErr};
 ghost use Rattle.std.specs.Option.{option_copied};
 ghost use Rattle.hive_model.specs.Valid.{HoldsKeys};
+ghost use Rattle.start_model.specs.Order.{orders_of};
 ghost use Rattle.start_model.specs.Ready.{has_name};
 ghost use Rattle.dependencies.specs.Work.{names_of};
 ghost use Rattle.service_control.specs.State.{labels_of, named};
 ghost use Rattle.service_control.specs.Calls.{Answers, KnowsRefusal, known_refusal, entry_refusal, start_refusal, start_refusal_at, needs_refusal, turns_refusal_at, started_by, new_of, after_start, off_refusal, stop_refusal, after_stop, after_stop_all, stopped_by};
-ghost use Rattle.service_control.specs.First.{control_of};
+ghost use Rattle.service_control.specs.First.{table_of, by_group_of, first_running, control_of};
 
 use crate::first::{first_running, table_of};
 use crate::judge::{all_start, are_there, is_on, may_start, not_in_use};
@@ -52,14 +53,8 @@ impl Control {
         requires { HoldsKeys set.now }
         ensures { IfOk result (λ c. c ≡ control_of set.now) }
     {
-        let table = table_of(alloc, set)?;
-        few(table.len())?;
-        let orders = read_orders(alloc, set)?;
-        let by_group = by_group(alloc, &orders, table.as_slice())?;
-        few(by_group.len())?;
-        let running = first_running(alloc, set)?;
-        let index = NamePlaces::new(alloc, names(alloc, table.as_slice())?)?;
-        let started = started(alloc, running.as_slice())?;
+        let (running, started) = begun(alloc, set)?;
+        let (table, by_group, index) = tables(alloc, set)?;
         Ok(Control {
             table,
             by_group,
@@ -211,4 +206,44 @@ impl Control {
         self.started = started;
         Ok(())
     }
+}
+
+/// Those that a start of a set starts, and who they are.
+fn begun(alloc: Global, set: &Key) -> Result<(Needs, Started), AllocError>
+    requires { HoldsKeys set.now }
+    ensures running { IfOk result (λ r. r.0 ≡ first_running set.now) }
+    ensures started { IfOk result (λ r. r.1 ≡ labels_of r.0) }
+{
+    let running = first_running(alloc, set)?;
+    let started = started(alloc, running.as_slice())?;
+    Ok((running, started))
+}
+
+/// The drivers and services of a set, the same by their groups, and where their names are.
+fn tables(alloc: Global, set: &Key) -> Result<(Needs, Needs, NamePlaces), AllocError>
+    requires { HoldsKeys set.now }
+    ensures table { IfOk result (λ r. r.0 ≡ table_of set.now) }
+    ensures few { IfOk result (λ r. length r.0 < 2 ^ 32) }
+    ensures by_group { IfOk result (λ r. r.1 ≡ by_group_of (orders_of set.now) r.0) }
+    ensures as_few { IfOk result (λ r. length r.1 < 2 ^ 32) }
+    ensures index { IfOk result (λ r. r.2 ≡ names_of r.0) }
+{
+    let table = table_of(alloc, set)?;
+    few(table.len())?;
+    let by_group = grouped(alloc, set, table.as_slice())?;
+    let index = NamePlaces::new(alloc, names(alloc, table.as_slice())?)?;
+    Ok((table, by_group, index))
+}
+
+/// The entries by their groups, in the orders of the set.
+fn grouped(alloc: Global, set: &Key, table: &[Need]) -> Result<Needs, AllocError>
+    requires held { HoldsKeys set.now }
+    requires few { length table.now < 2 ^ 32 }
+    ensures order { IfOk result (λ n. n ≡ by_group_of (orders_of set.now) table.now) }
+    ensures few { IfOk result (λ n. length n < 2 ^ 32) }
+{
+    let orders = read_orders(alloc, set)?;
+    let by_group = by_group(alloc, &orders, table)?;
+    few(by_group.len())?;
+    Ok(by_group)
 }

@@ -1,11 +1,12 @@
 //! Two sets, compared.
 
-ghost use Rattle.std.specs.Prelude.{◌≡◌, ◌++◌, IfOk, OnOk, IfSome};
+ghost use Rattle.std.specs.Prelude.{◌≡◌, ◌∷◌, ◌++◌, IfOk, OnOk, IfSome};
 ghost use Rattle.std.specs.Option.{option_copied};
 ghost use Rattle.hive_model.specs.Valid.{HoldsKeys};
-ghost use Rattle.set_diff.specs.Boots.{attempt_names, lone_names, common_attempts, boots_lines, or_same};
+ghost use Rattle.start_model.specs.Order.{orders_of};
+ghost use Rattle.set_diff.specs.Boots.{boot_of, attempt_names, lone_names, common_attempts, boots_lines, or_same};
 ghost use Rattle.set_diff.specs.Listed.{both_lone};
-ghost use Rattle.set_diff.specs.Services.{service_names, apart_lines, common_lines, services_lines};
+ghost use Rattle.set_diff.specs.Services.{services_in, service_names, apart_lines, common_lines, services_lines};
 ghost use Rattle.set_diff.specs.Sets.{group_names, compared_of, orders_lines, groups_lines, compared_lines, both_lines, absent_lines, sets_lines};
 
 use crate::boot::{Attempt, QuietBoot, attempt_names, boot_of, put_phases};
@@ -48,17 +49,13 @@ impl Compared {
         requires { HoldsKeys set.now }
         ensures { IfOk result (λ c. c ≡ compared_of set.now) }
     {
-        let services = services_in(alloc, set)?;
-        let by_service = NamePlaces::new(alloc, service_names(alloc, services.as_slice())?)?;
-        let listed = listed_groups(alloc, set)?;
-        let groups = groups_of(alloc, set)?;
-        let by_group = NamePlaces::new(alloc, group_names(alloc, groups.as_slice())?)?;
-        let boot = boot_of(alloc, set)?;
-        let by_attempt = NamePlaces::new(alloc, attempt_names(alloc, boot.attempts.as_slice())?)?;
+        let (services, by_service) = read_services(alloc, set)?;
+        let (groups, by_group) = read_groups(alloc, set)?;
+        let (boot, by_attempt) = read_boot(alloc, set)?;
         Ok(Compared {
             services,
             by_service,
-            listed,
+            listed: listed_groups(alloc, set)?,
             groups,
             by_group,
             boot,
@@ -101,6 +98,39 @@ impl Compared {
     {
         &self.by_attempt
     }
+}
+
+/// The services of a set, with the places of their names.
+fn read_services(alloc: Global, set: &Key) -> Result<(Vec<Service>, NamePlaces), AllocError>
+    requires { HoldsKeys set.now }
+    ensures services { IfOk result (λ r. r.0.items ≡ services_in set.now) }
+    ensures places { IfOk result (λ r. r.1 ≡ service_names r.0.items) }
+{
+    let services = services_in(alloc, set)?;
+    let places = NamePlaces::new(alloc, service_names(alloc, services.as_slice())?)?;
+    Ok((services, places))
+}
+
+/// Its listed groups, with the places of their names.
+fn read_groups(alloc: Global, set: &Key) -> Result<(Vec<TaggedGroup>, NamePlaces), AllocError>
+    requires { HoldsKeys set.now }
+    ensures groups { IfOk result (λ r. r.0.items ≡ orders_of set.now) }
+    ensures places { IfOk result (λ r. r.1 ≡ group_names r.0.items) }
+{
+    let groups = groups_of(alloc, set)?;
+    let places = NamePlaces::new(alloc, group_names(alloc, groups.as_slice())?)?;
+    Ok((groups, places))
+}
+
+/// Its boot, with the places of the names that are attempted.
+fn read_boot(alloc: Global, set: &Key) -> Result<(QuietBoot, NamePlaces), AllocError>
+    requires { HoldsKeys set.now }
+    ensures boot { IfOk result (λ r. r.0 ≡ boot_of set.now) }
+    ensures places { IfOk result (λ r. r.1 ≡ attempt_names r.0.attempts) }
+{
+    let boot = boot_of(alloc, set)?;
+    let places = NamePlaces::new(alloc, attempt_names(alloc, boot.attempts.as_slice())?)?;
+    Ok((boot, places))
 }
 
 // ---- services
@@ -298,12 +328,41 @@ fn put_both(
     ensures { OnOk result (lines.new ≡ lines.old ++ both_lines n first.now m second.now) }
 {
     let a = Compared::of(alloc, first)?;
+    put_second(alloc, n, &a, m, second, lines)
+}
+
+/// The same of the first set as it was read.
+fn put_second(
+    alloc: Global,
+    n: u32,
+    a: &Compared,
+    m: u32,
+    second: &Key,
+    lines: &mut DiffLines,
+) -> Result<(), AllocError>
+    requires { HoldsKeys second.now }
+    ensures { OnOk result (lines.new ≡ lines.old ++ DiffLine.Sets n m ∷ compared_lines a.now (compared_of second.now)) }
+{
     let b = Compared::of(alloc, second)?;
+    put_numbered(alloc, n, a, m, &b, lines)
+}
+
+/// The same of both sets as they were read.
+fn put_numbered(
+    alloc: Global,
+    n: u32,
+    a: &Compared,
+    m: u32,
+    b: &Compared,
+    lines: &mut DiffLines,
+) -> Result<(), AllocError>
+    ensures { OnOk result (lines.new ≡ lines.old ++ DiffLine.Sets n m ∷ compared_lines a.now b.now) }
+{
     lines.push(DiffLine::Sets {
         first: n,
         second: m,
     })?;
-    put_compared(alloc, &a, &b, lines)
+    put_compared(alloc, a, b, lines)
 }
 
 fn put_absent(

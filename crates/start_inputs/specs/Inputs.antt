@@ -2,7 +2,7 @@
 --
 -- The system's path, without a reading; the script, absent or without a reading, where one is named; boot.ini, absent, too long or with too
 -- many entries; the hive, absent; its log, absent. What is in hive and log is judged after all of them.
-use Rattle.std.specs.Prelude.{◌≡◌, ◌+◌, ℕ, true, false, List, [], ◌∷◌, Option, Some, None, Result, Ok, Err, option_map}
+use Rattle.std.specs.Prelude.{ℕ, false, List, [], ◌∷◌, Option, Some, None, Result, Ok, Err, option_map}
 use Rattle.nt_edge.specs.Host.{Files, HostState}
 use Rattle.arc_path.specs.Reading.{arc_of}
 use Rattle.boot_script.specs.declared.event.Event.{Event}
@@ -13,8 +13,8 @@ use Rattle.command_words.specs.Words.{Text}
 use Rattle.command_parts.specs.declared.refusal.Refusal.{Refusal}
 use Rattle.command_parts.specs.declared.refusal.Refusal.TheVariants.{ScriptFault as BadScript}
 use Rattle.command_parts.specs.declared.refusal.Obstacle.{Obstacle}
-use Rattle.command_parts.specs.Inputs.{◌>>=◌, system_in, file_in, bytes_in, ini_in, hive_in, behind_step, asks_hive}
-use Rattle.command_parts.specs.Leaves.{AsksUntil, named}
+use Rattle.command_parts.specs.Inputs.{◌>>=◌ as ok_then, system_in}
+use Rattle.input_search.specs.Search.{Search, ◌>>=◌, reads, finds, file, boot_files, AsksFor}
 use Rattle.start_inputs.specs.declared.inputs.StartFiles.{StartFiles}
 use Rattle.start_inputs.specs.declared.inputs.StartInputs.{StartInputs}
 
@@ -47,43 +47,37 @@ events_in (Err fault) = Err (BadScript fault)
 events_in (Ok events) = Ok events
 
 -- the events of the script of this name
-abbrev pub read_in : Files → Text → Result (List Event) Refusal
-read_in files name = do
-  text ← file_in name (files name)
-  events_in (quiet_script_of text)
+abbrev pub read_script : Text → Search (List Event)
+read_script name = do
+  text ← file name
+  reads (events_in (quiet_script_of text))
 
 -- the events of the script that is named, if there is one
-abbrev pub script_in : Files → Option Text → Result (List Event) Refusal
-script_in files None = Ok usual_events
-script_in files (Some name) = read_in files name
+abbrev pub script : Option Text → Search (List Event)
+script None = finds usual_events
+script (Some name) = read_script name
 
 -- ---- all of them
 
 -- what options and files have, or the first obstacle
-abbrev pub inputs_in : StartAsked → Files → Result StartInputs Refusal
-inputs_in asked files = do
-  system ← system_in (arc_of asked.system)
-  events ← script_in files asked.script
-  text ← bytes_in files asked.boot_ini
-  ini ← ini_in text asked.system
-  hive ← hive_in files asked.hive asked.log
-  Ok (record { system = system; script = events; ini = ini; hive = hive })
+abbrev pub start_search : StartAsked → Search StartInputs
+start_search asked = do
+  system ← reads (system_in (arc_of asked.system))
+  events ← script asked.script
+  boot ← boot_files asked.boot_ini asked.system asked.hive asked.log
+  finds (record { system = system; script = events; ini = boot.ini; hive = boot.hive })
 
--- whether the system's path has a reading
-abbrev pub arguments_in : StartAsked → Result (Unit {0}) Refusal
-arguments_in asked = do
-  system ← system_in (arc_of asked.system)
-  Ok tt
+abbrev pub inputs_in : StartAsked → Files → Result StartInputs Refusal
+inputs_in asked files = (start_search asked).found files
 
 -- how many files are asked for, up to the first obstacle
 abbrev pub asks_start : StartAsked → Files → ℕ
-asks_start asked files =
-    behind_step (system_in (arc_of asked.system)) (λ system.
-    named asked.script + behind_step (script_in files asked.script) (λ events.
-    named asked.boot_ini + behind_step (bytes_in files asked.boot_ini) (λ text.
-    behind_step (ini_in text asked.system) (λ ini.
-    asks_hive files asked.hive asked.log))))
+asks_start asked files = (start_search asked).asked files
 
--- a search for the inputs asked for these files, each once and in their order, up to the first obstacle or stop
+-- a search for the inputs asked for these files
 abbrev pub AsksStart : {A : Type 0} → StartAsked → Result A Obstacle → HostState → HostState → Type 0
-AsksStart asked result old new = old.tells ≡ true → AsksUntil (asks_start asked old.files) result old.gets new.gets
+AsksStart asked result old new = AsksFor (start_search asked) result old new
+
+-- whether the system's path has a reading
+abbrev pub arguments_in : StartAsked → Result (Unit {0}) Refusal
+arguments_in asked = ok_then (system_in (arc_of asked.system)) (λ system. Ok tt)

@@ -8,7 +8,8 @@ use crate::script::script_in;
 use arc_path::Arc;
 use boot_ini::BootIni;
 use boot_script::Script;
-use command_parts::{HiveFiles, Obstacle, Refusal, bytes_in, hive_in, ini_in, system_in};
+use command_parts::{HiveFiles, Obstacle, Refusal};
+use input_search::{boot_files, system_at};
 use nt_edge::Host;
 use std::alloc::Global;
 
@@ -32,6 +33,7 @@ pub struct StartInputs {
 }
 
 /// What the files have, or the first obstacle. Nothing is printed.
+#[tactic(auto, unfolding(input_search::specs::Search::searched))]
 pub fn start_inputs<H: Host>(
     alloc: Global,
     files: StartFiles<'_>,
@@ -42,15 +44,20 @@ pub fn start_inputs<H: Host>(
     ensures usage { result ≡ Err (Obstacle.Refused Refusal.Usage) → arguments_in (files_seen files.entry) ≡ Err Refusal.Usage }
     ensures refused { arguments_in (files_seen files.entry) ≡ Err Refusal.Usage → IsBadUsage result }
 {
-    let system = system_in(alloc, files.system.as_bytes())?;
+    let system = system_at(alloc, files.system)?;
     let script = script_in(alloc, host, files.script)?;
-    let text = bytes_in(alloc, host, files.boot_ini)?;
-    let ini = ini_in(alloc, text.as_slice(), files.system.as_bytes())?;
-    let hive = hive_in(alloc, host, files.hive, files.log)?;
+    let boot = boot_files(
+        alloc,
+        host,
+        files.boot_ini,
+        files.system,
+        files.hive,
+        files.log,
+    )?;
     Ok(StartInputs {
         system,
         script,
-        ini,
-        hive,
+        ini: boot.ini,
+        hive: boot.hive,
     })
 }

@@ -1,13 +1,14 @@
 //! The events of a script, of which one may be named.
 
 ghost use Rattle.std.specs.Prelude.{◌≡◌, Err, IfOk, option_map};
-ghost use Rattle.command_parts.specs.Leaves.{AsksUntil, Looks, Reads, more, named};
+ghost use Rattle.command_parts.specs.Leaves.{Reads};
 ghost use Rattle.quiet_script.specs.Quiet.{quiet_script_of};
-ghost use Rattle.start_inputs.specs.Inputs.{events_in, read_in, script_in, usual_events};
+ghost use Rattle.input_search.specs.Search.{Seeks};
+ghost use Rattle.start_inputs.specs.Inputs.{events_in, read_script, script, usual_events};
 
 use boot_script::{Event, Script, ScriptStop};
 use command_parts::{Obstacle, Refusal, file_in, no_memory};
-use nt_bytes::Row;
+use nt_bytes::{Bytes, Row};
 use nt_edge::Host;
 use quiet_script::read_quiet_script;
 use std::alloc::{AllocError, Global};
@@ -37,11 +38,11 @@ fn unnamed_script(alloc: Global) -> Result<Script, Obstacle>
 }
 
 /// The events of a script's text.
-fn events_in(alloc: Global, text: &[u8]) -> Result<Script, Obstacle>
+fn events_in(alloc: Global, text: &Bytes) -> Result<Script, Obstacle>
     ensures read { Reads (events_in (quiet_script_of text.now)) result }
     ensures kept { result ≡ Err (Obstacle.Refused Refusal.Usage) → ⊥ }
 {
-    match read_quiet_script(alloc, text) {
+    match read_quiet_script(alloc, text.as_slice()) {
         Ok(script) => Ok(script),
         Err(ScriptStop::Fault(fault)) => Err(Obstacle::Refused(Refusal::ScriptFault(fault))),
         Err(ScriptStop::Memory) => Err(no_memory()),
@@ -50,12 +51,11 @@ fn events_in(alloc: Global, text: &[u8]) -> Result<Script, Obstacle>
 
 /// The events of the script of this name.
 fn read_script_in<H: Host>(alloc: Global, host: &mut H, name: &str) -> Result<Script, Obstacle>
-    ensures looks { Looks (read_in (H.state host.old).files name.now) result (H.state host.old) (H.state host.new) }
-    ensures asks { (H.state host.new).gets ≡ more 1 (H.state host.old).gets }
+    ensures seeks { Seeks (read_script name.now) result (H.state host.old) (H.state host.new) }
     ensures kept { result ≡ Err (Obstacle.Refused Refusal.Usage) → ⊥ }
 {
     let text = file_in(alloc, host, name)?;
-    events_in(alloc, text.as_slice())
+    events_in(alloc, &text)
 }
 
 /// The events of the script, where one is named; else `boot` and `go`. Nothing is printed.
@@ -64,9 +64,7 @@ pub(crate) fn script_in<H: Host>(
     host: &mut H,
     name: Option<&str>,
 ) -> Result<Script, Obstacle>
-    ensures looks { Looks (script_in (H.state host.old).files (option_map (λ v. v.now) name.entry)) result (H.state host.old) (H.state host.new) }
-    ensures asks { (H.state host.new).gets ≡ more (named (option_map (λ v. v.now) name.entry)) (H.state host.old).gets }
-    ensures until { AsksUntil (named (option_map (λ v. v.now) name.entry)) result (H.state host.old).gets (H.state host.new).gets }
+    ensures seeks { Seeks (script (option_map (λ v. v.now) name.entry)) result (H.state host.old) (H.state host.new) }
     ensures kept { result ≡ Err (Obstacle.Refused Refusal.Usage) → ⊥ }
 {
     match name {

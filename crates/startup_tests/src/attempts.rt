@@ -2,7 +2,7 @@
 
 use super::*;
 use crate::plans::{is_text, put};
-use boot_machine::{Judgement, Machine, Phase};
+use boot_machine::{Judgement, Machine, Phase, Tried};
 use boot_report::Verdict;
 use nt_bytes::{Units, narrow};
 use reg_tree::Key;
@@ -17,15 +17,26 @@ fn fails(alloc: Global, machine: &mut Machine) -> Result<(), AllocError> {
 
 /// Begins a start on set 1.
 fn begins(rt: &impl Abort, alloc: Global, machine: &mut Machine, set: &Key) -> Result<(), Fail> {
-    assert!(rt; can_be_held(set));
-    assert!(rt; !machine.is_on());
+    assert!(rt; can_be_held(set) && !machine.is_on());
     machine.begin(alloc, set, 1, false)?;
     Ok(())
 }
 
 fn is_begun(rt: &impl Abort, machine: &Machine) {
-    assert_eq!(rt; machine.running(), Some((1, false)));
-    assert_eq!(rt; machine.phase(), Phase::Boot);
+    let begun = (machine.running(), machine.phase());
+    assert_eq!(rt; begun, (Some((1, false)), Phase::Boot));
+}
+
+fn is_attempt(
+    rt: &impl Abort,
+    alloc: Global,
+    tried: &Tried,
+    name: &[u8],
+    wanted: (bool, Judgement),
+) -> Result<(), Fail> {
+    assert_eq!(rt; (tried.ok, tried.judgement), wanted);
+    is_text(rt, alloc, tried.name.as_slice(), name)?;
+    Ok(())
 }
 
 /// The next attempt is of this name, and this comes of it. LastKnownGood can be used where `usable`.
@@ -39,9 +50,7 @@ fn tries(
 ) -> Result<(), Fail> {
     assert!(rt; !machine.at_phase_end());
     let tried = machine.attempt(alloc, usable)?;
-    assert_eq!(rt; (tried.ok, tried.judgement), wanted);
-    is_text(rt, alloc, tried.name.as_slice(), name)?;
-    Ok(())
+    is_attempt(rt, alloc, &tried, name, wanted)
 }
 
 fn starts(rt: &impl Abort, alloc: Global, machine: &mut Machine, name: &[u8]) -> Result<(), Fail> {
@@ -57,20 +66,24 @@ fn line_of(alloc: Global, names: &[Units]) -> Result<Units, AllocError> {
     Ok(line)
 }
 
-/// Goes on to the next phase. The names are those of the entries that were never ready.
+fn are_names(rt: &impl Abort, alloc: Global, names: &[Units], wanted: &[u8]) -> Result<(), Fail> {
+    let line = line_of(alloc, names)?;
+    is_text(rt, alloc, line.as_slice(), wanted)?;
+    Ok(())
+}
+
+/// Goes on to the next phase, which is this one. The names are those of the entries that were never ready.
 fn goes_on(
     rt: &impl Abort,
     alloc: Global,
     machine: &mut Machine,
     set: &Key,
-    unmet: &[u8],
+    (unmet, phase): (&[u8], Phase),
 ) -> Result<(), Fail> {
-    assert!(rt; machine.at_phase_end());
-    assert!(rt; can_be_held(set));
+    assert!(rt; machine.at_phase_end() && can_be_held(set));
     let names = machine.next_phase(alloc, set)?;
-    let line = line_of(alloc, names.as_slice())?;
-    is_text(rt, alloc, line.as_slice(), unmet)?;
-    Ok(())
+    assert_eq!(rt; machine.phase(), phase);
+    are_names(rt, alloc, names.as_slice(), unmet)
 }
 
 /// The severe driver is to fail, and its failure is logged, since there is no LastKnownGood.
@@ -87,8 +100,7 @@ fn system_goes(
     machine: &mut Machine,
     set: &Key,
 ) -> Result<(), Fail> {
-    goes_on(rt, alloc, machine, set, b"D ")?;
-    assert_eq!(rt; machine.phase(), Phase::System);
+    goes_on(rt, alloc, machine, set, (b"D ", Phase::System))?;
     starts(rt, alloc, machine, b"Null")?;
     starts(rt, alloc, machine, b"Beep")
 }
@@ -100,28 +112,30 @@ fn services_go(
     machine: &mut Machine,
     set: &Key,
 ) -> Result<(), Fail> {
-    goes_on(rt, alloc, machine, set, b"")?;
-    assert_eq!(rt; machine.phase(), Phase::Automatic);
+    goes_on(rt, alloc, machine, set, (b"", Phase::Automatic))?;
     starts(rt, alloc, machine, b"Tcpip")?;
     starts(rt, alloc, machine, b"LanmanWorkstation")?;
-    goes_on(rt, alloc, machine, set, b"")
+    goes_on(rt, alloc, machine, set, (b"", Phase::Done))
 }
 
 /// A logon and a save make the start good.
 fn is_saved(rt: &impl Abort, machine: &mut Machine) {
-    assert_eq!(rt; machine.phase(), Phase::Done);
     assert!(rt; !machine.save_due());
     machine.log_on();
     assert!(rt; machine.save_due());
     machine.saved(true);
 }
 
+/// The next start falls back where that is due.
+fn is_off(rt: &impl Abort, machine: &mut Machine, due: bool) {
+    assert_eq!(rt; (machine.is_on(), machine.take_fallback()), (false, due));
+}
+
 fn ends_good(rt: &impl Abort, machine: &mut Machine) {
     assert!(rt; machine.is_on());
     assert_eq!(rt; machine.ending(), Verdict::Good);
     machine.end(Verdict::Good);
-    assert!(rt; !machine.is_on());
-    assert!(rt; !machine.take_fallback());
+    is_off(rt, machine, false);
 }
 
 fn phases_go(rt: &impl Abort, alloc: Global, machine: &mut Machine, set: &Key) -> Result<(), Fail> {
@@ -141,10 +155,14 @@ fn whole_start(rt: &impl Abort, alloc: Global, set: &Key) -> Result<(), Fail> {
     Ok(())
 }
 
+fn small_start(rt: &impl Abort, alloc: Global) -> Result<(), Fail> {
+    let set = small_system(alloc)?;
+    whole_start(rt, alloc, &set)
+}
+
 #[test]
 fn a_start_goes_through_its_phases(rt: HostRuntime) -> Result<(), Fail> {
-    let set = small_system(rt.alloc())?;
-    whole_start(&rt, rt.alloc(), &set)
+    small_start(&rt, rt.alloc())
 }
 
 /// LastKnownGood can be used, so the severe failure is to end the start.
@@ -165,9 +183,8 @@ fn falls_back(rt: &impl Abort, alloc: Global, machine: &mut Machine) -> Result<(
 /// The next start falls back, once.
 fn is_due_once(rt: &impl Abort, machine: &mut Machine) {
     machine.end(Verdict::FallBack);
-    assert!(rt; !machine.is_on());
-    assert!(rt; machine.take_fallback());
-    assert!(rt; !machine.take_fallback());
+    is_off(rt, machine, true);
+    is_off(rt, machine, false);
 }
 
 fn fallen_start(rt: &impl Abort, alloc: Global, set: &Key) -> Result<(), Fail> {
@@ -179,8 +196,12 @@ fn fallen_start(rt: &impl Abort, alloc: Global, set: &Key) -> Result<(), Fail> {
     Ok(())
 }
 
+fn small_fall(rt: &impl Abort, alloc: Global) -> Result<(), Fail> {
+    let set = small_system(alloc)?;
+    fallen_start(rt, alloc, &set)
+}
+
 #[test]
 fn a_severe_failure_falls_back(rt: HostRuntime) -> Result<(), Fail> {
-    let set = small_system(rt.alloc())?;
-    fallen_start(&rt, rt.alloc(), &set)
+    small_fall(&rt, rt.alloc())
 }

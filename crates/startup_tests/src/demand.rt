@@ -60,8 +60,12 @@ fn four_services(rt: &impl Abort, alloc: Global, set: &Key) -> Result<(), Fail> 
     go_in_turn(rt, alloc, &needs)
 }
 
+fn named_services(rt: &impl Abort, alloc: Global) -> Result<(), Fail> {
+    let set = named(alloc)?;
+    four_services(rt, alloc, &set)
+}
+
 #[test]
 fn what_is_named_is_taken_and_goes_first(rt: HostRuntime) -> Result<(), Fail> {
-    let set = named(rt.alloc())?;
-    four_services(&rt, rt.alloc(), &set)
+    named_services(&rt, rt.alloc())
 }

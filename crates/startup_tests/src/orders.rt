@@ -43,9 +43,13 @@ fn ranked(rt: &impl Abort, alloc: Global, set: &Key) -> Result<(), Fail> {
     all_stand(rt, alloc, &orders)
 }
 
+fn small_ranks(rt: &impl Abort, alloc: Global) -> Result<(), Fail> {
+    let set = small_system(alloc)?;
+    ranked(rt, alloc, &set)
+}
+
 /// A group by its place in the list, a tag by its place among the group's.
 #[test]
 fn a_rank_is_by_group_and_tag(rt: HostRuntime) -> Result<(), Fail> {
-    let set = small_system(rt.alloc())?;
-    ranked(&rt, rt.alloc(), &set)
+    small_ranks(&rt, rt.alloc())
 }

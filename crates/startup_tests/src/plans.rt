@@ -47,6 +47,17 @@ fn planned(alloc: Global, set: &Key, phase: Phase, before: &[u8]) -> Result<Entr
     plan(alloc, set, phase, tried.as_slice())
 }
 
+fn are_entries(
+    rt: &impl Abort,
+    alloc: Global,
+    entries: &[Entry],
+    wanted: &[u8],
+) -> Result<(), Fail> {
+    let line = names_of(alloc, entries)?;
+    is_text(rt, alloc, line.as_slice(), wanted)?;
+    Ok(())
+}
+
 /// Sees that the phase takes the entries of these names, where one name was tried, or none.
 fn takes(
     rt: &impl Abort,
@@ -58,9 +69,7 @@ fn takes(
 ) -> Result<(), Fail> {
     assert!(rt; can_be_held(set));
     let entries = planned(alloc, set, phase, before)?;
-    let line = names_of(alloc, entries.as_slice())?;
-    is_text(rt, alloc, line.as_slice(), wanted)?;
-    Ok(())
+    are_entries(rt, alloc, entries.as_slice(), wanted)
 }
 
 fn drivers_are_taken(rt: &impl Abort, alloc: Global, set: &Key) -> Result<(), Fail> {
@@ -75,14 +84,22 @@ fn services_are_taken(rt: &impl Abort, alloc: Global, set: &Key) -> Result<(), F
     takes(rt, alloc, set, Phase::Done, b"", b"")
 }
 
+fn small_drivers(rt: &impl Abort, alloc: Global) -> Result<(), Fail> {
+    let set = small_system(alloc)?;
+    drivers_are_taken(rt, alloc, &set)
+}
+
 #[test]
 fn drivers_are_taken_by_their_start(rt: HostRuntime) -> Result<(), Fail> {
-    let set = small_system(rt.alloc())?;
-    drivers_are_taken(&rt, rt.alloc(), &set)
+    small_drivers(&rt, rt.alloc())
+}
+
+fn small_services(rt: &impl Abort, alloc: Global) -> Result<(), Fail> {
+    let set = small_system(alloc)?;
+    services_are_taken(rt, alloc, &set)
 }
 
 #[test]
 fn services_are_taken_with_what_they_name(rt: HostRuntime) -> Result<(), Fail> {
-    let set = small_system(rt.alloc())?;
-    services_are_taken(&rt, rt.alloc(), &set)
+    small_services(&rt, rt.alloc())
 }

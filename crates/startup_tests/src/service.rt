@@ -54,14 +54,19 @@ impl<'a> Service<'a> {
         service
     }
 
-    pub(crate) fn key(self, alloc: Global) -> Result<Key, AllocError> {
+    fn numbers(self, alloc: Global) -> Result<Values, AllocError> {
         let mut values = Values::new(alloc);
-        values.push(dword(alloc, b"Start", self.start)?)?;
-        values.push(dword(alloc, b"Type", self.kind)?)?;
-        values.push(dword(alloc, b"ErrorControl", self.control)?)?;
+        push_number(alloc, &mut values, b"Start", self.start)?;
+        push_number(alloc, &mut values, b"Type", self.kind)?;
+        push_number(alloc, &mut values, b"ErrorControl", self.control)?;
         if let Some(tag) = self.tag {
-            values.push(dword(alloc, b"Tag", tag)?)?;
+            push_number(alloc, &mut values, b"Tag", tag)?;
         }
+        Ok(values)
+    }
+
+    pub(crate) fn key(self, alloc: Global) -> Result<Key, AllocError> {
+        let mut values = self.numbers(alloc)?;
         push_texts(alloc, &mut values, 1, b"Group", self.group)?;
         push_texts(alloc, &mut values, 7, b"DependOnService", self.needs)?;
         push_texts(alloc, &mut values, 7, b"DependOnGroup", self.needs_group)?;
@@ -70,10 +75,15 @@ impl<'a> Service<'a> {
 }
 
 /// A value of type 4.
-fn dword(alloc: Global, name: &[u8], number: u32) -> Result<Value, AllocError> {
+fn push_number(
+    alloc: Global,
+    values: &mut Values,
+    name: &[u8],
+    number: u32,
+) -> Result<(), AllocError> {
     let mut bytes = Bytes::new(alloc);
     bytes.put_u32(number)?;
-    Ok(Value {
+    values.push(Value {
         name: narrow(alloc, name)?,
         kind: 4,
         bytes,

@@ -29,33 +29,49 @@ fn stands(
     Ok(())
 }
 
+/// The start, the type, the error control and the tag.
+type Numbers = (u32, u32, u32, Option<u32>);
+
+fn is_entry(
+    rt: &impl Abort,
+    alloc: Global,
+    entry: &Entry,
+    numbers: Numbers,
+    group: &[u8],
+) -> Result<(), Fail> {
+    let found = (entry.start, entry.kind, entry.control, entry.tag);
+    assert_eq!(rt; found, numbers);
+    is_text(rt, alloc, group_of(entry), group)?;
+    Ok(())
+}
+
 /// What a copy of the entry at this place says.
 fn says(
     rt: &impl Abort,
     alloc: Global,
     table: &ServiceTable,
     place: u32,
-    numbers: (u32, u32, u32),
+    numbers: Numbers,
     group: &[u8],
-    tag: Option<u32>,
 ) -> Result<(), Fail> {
     let entry = table.get(place).ok_or("an entry")?.copy(alloc)?;
-    assert_eq!(rt; (entry.start, entry.kind, entry.control), numbers);
-    assert_eq!(rt; entry.tag, tag);
-    is_text(rt, alloc, group_of(&entry), group)?;
-    Ok(())
+    is_entry(rt, alloc, &entry, numbers, group)
 }
 
 fn first_stands(rt: &impl Abort, alloc: Global, set: &Key) -> Result<(), Fail> {
     assert!(rt; can_be_held(set));
     let table = entries(alloc, set)?;
     stands(rt, alloc, &table, 3, b"FTDISK")?;
-    says(rt, alloc, &table, 3, (0, 1, 3), b"System Reserved", None)
+    says(rt, alloc, &table, 3, (0, 1, 3, None), b"System Reserved")
+}
+
+fn small_table(rt: &impl Abort, alloc: Global) -> Result<(), Fail> {
+    let set = small_system(alloc)?;
+    first_stands(rt, alloc, &set)
 }
 
 /// A service is at its place with what its key says, and is found by its name in any case.
 #[test]
 fn a_service_is_an_entry(rt: HostRuntime) -> Result<(), Fail> {
-    let set = small_system(rt.alloc())?;
-    first_stands(&rt, rt.alloc(), &set)
+    small_table(&rt, rt.alloc())
 }

@@ -1,9 +1,9 @@
 //! A commit is cut, and a load finishes it.
 
-ghost use Rattle.std.specs.Prelude.{◌≡◌, ◌<◌, ◌≤◌, false, [], length};
+ghost use Rattle.std.specs.Prelude.{◌≡◌, ◌<◌, ◌≤◌, true, false, [], length, OnOk};
 
 use super::*;
-use crate::sessions::edited;
+use crate::sessions::{edited, set_two};
 use hive_store::{CommitStop, Hive};
 use mem_edge::MemDisk;
 use nt_bytes::HiveVersion;
@@ -28,21 +28,35 @@ pub fn cut<B: Bench>(
 {
     start(bench, edit.file.as_slice())?;
     let (mut hive, _) = Hive::load(alloc, bench)?;
-    hive.apply(alloc, set_start(alloc, b"Disk", 2)?)?;
+    set_two(alloc, &mut hive, b"Disk")?;
     bench.arm_cut(DiskCall::Sync, sync, keep)?;
     let stop = hive.commit(bench).err();
     assert_eq!(rt; stop, Some(CommitStop::PowerLost));
     Ok(())
 }
 
-/// Two loads after the cut: what is seen, and whether the primary was dirty.
+/// A load after the cut: what is seen, and whether the primary was dirty.
+fn first_load<B: Bench>(alloc: Global, bench: &mut B, edit: &Edited) -> Result<(Seen, bool), Fail>
+    ensures on { OnOk result ((B.state bench.new).on ≡ true) }
+    ensures still { OnOk result ((B.state bench.new).flight ≡ []) }
+{
+    let (hive, dirty) = reload(alloc, bench)?;
+    Ok((edit.see(alloc, &hive)?, dirty))
+}
+
+/// A load of the disk as it is.
+fn next_load<B: Bench>(alloc: Global, bench: &mut B, edit: &Edited) -> Result<(Seen, bool), Fail>
+    requires on { (B.state bench.old).on ≡ true }
+    requires still { (B.state bench.old).flight ≡ [] }
+{
+    let (hive, dirty) = Hive::load(alloc, bench)?;
+    Ok((edit.see(alloc, &hive)?, dirty))
+}
+
 fn loads<B: Bench>(alloc: Global, bench: &mut B, edit: &Edited) -> Result<[(Seen, bool); 2], Fail> {
-    let (first, dirty) = reload(alloc, bench)?;
-    let (second, dirty_again) = Hive::load(alloc, bench)?;
-    Ok([
-        (edit.see(alloc, &first)?, dirty),
-        (edit.see(alloc, &second)?, dirty_again),
-    ])
+    let first = first_load(alloc, bench, edit)?;
+    let second = next_load(alloc, bench, edit)?;
+    Ok([first, second])
 }
 
 fn loaded(rt: &impl Abort, alloc: Global, sync: u32, keep: Keep) -> Result<[(Seen, bool); 2], Fail>
@@ -54,14 +68,19 @@ fn loaded(rt: &impl Abort, alloc: Global, sync: u32, keep: Keep) -> Result<[(See
     loads(alloc, &mut disk, &edit)
 }
 
+fn is_finished(rt: &impl Abort, alloc: Global, sync: u32, keep: Keep) -> Result<(), Fail>
+    requires { 0 < sync }
+{
+    let new = (6, Which::New, false);
+    let seen = loaded(rt, alloc, sync, keep)?;
+    assert_eq!(rt; seen, [(new, true), (new, false)]);
+    Ok(())
+}
+
 /// At the third sync the log is whole, the base block open and no bins sector kept; at the second the base block that
 /// was in flight cannot be read.
 #[test]
 fn a_load_finishes_a_commit_that_was_cut(rt: HostRuntime) -> Result<(), Fail> {
-    let new = (6, Which::New, false);
-    let seen = loaded(&rt, rt.alloc(), 3, Keep::Nothing)?;
-    assert_eq!(rt; seen, [(new, true), (new, false)]);
-    let torn = loaded(&rt, rt.alloc(), 2, Keep::Torn)?;
-    assert_eq!(rt; torn, [(new, true), (new, false)]);
-    Ok(())
+    is_finished(&rt, rt.alloc(), 3, Keep::Nothing)?;
+    is_finished(&rt, rt.alloc(), 2, Keep::Torn)
 }

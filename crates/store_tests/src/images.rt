@@ -1,5 +1,7 @@
 //! The files of a hive are checked, without a disk.
 
+ghost use Rattle.std.specs.Prelude.{◌≤◌, length};
+
 use super::*;
 use crate::cuts::cut;
 use crate::sessions::edited;
@@ -26,69 +28,83 @@ fn stub(alloc: Global) -> Result<Bytes, AllocError> {
     Ok(bytes)
 }
 
-fn clean_and_short(rt: &impl Abort, alloc: Global) -> Result<[Held; 2], Fail> {
-    let edit = edited(rt, alloc, HiveVersion::V5)?;
-    let clean = held(alloc, &edit, edit.file.as_slice(), &[]);
-    let short = held(alloc, &edit, stub(alloc)?.as_slice(), &[]);
-    Ok([clean, short])
+fn are_held(rt: &impl Abort, held: Held, wanted: Held) {
+    assert_eq!(rt; held, wanted);
 }
 
-/// The files that a cut commit leaves.
-fn left(rt: &impl Abort, alloc: Global) -> Result<Held, Fail> {
-    let edit = edited(rt, alloc, HiveVersion::V3)?;
+/// The fault of a short file.
+const SHORT: HiveFault = HiveFault {
+    kind: HiveFaultKind::Checksum,
+    at: 508,
+};
+
+fn short_held(alloc: Global, edit: &Edited) -> Result<Held, Fail> {
+    let stub = stub(alloc)?;
+    Ok(held(alloc, edit, stub.as_slice(), &[]))
+}
+
+fn clean_and_short(rt: &impl Abort, alloc: Global) -> Result<(), Fail> {
+    let edit = edited(rt, alloc, HiveVersion::V5)?;
+    let clean = held(alloc, &edit, edit.file.as_slice(), &[]);
+    are_held(rt, clean, Ok((Which::Old, 5, HiveVersion::V5)));
+    let short = short_held(alloc, &edit)?;
+    are_held(rt, short, Err(ReadStop::Fault(SHORT)));
+    Ok(())
+}
+
+/// The primary file and the log that a cut commit leaves.
+fn cut_files(rt: &impl Abort, alloc: Global, edit: &Edited) -> Result<(Bytes, Bytes), Fail>
+    requires { length edit.now.file ≤ 33554432 }
+{
     let mut disk = MemDisk::new(alloc);
-    cut(rt, alloc, &mut disk, &edit, 3, Keep::Nothing)?;
+    cut(rt, alloc, &mut disk, edit, 3, Keep::Nothing)?;
     disk.power_off();
     let primary = disk.take(HiveFile::Primary)?;
     let log = disk.take(HiveFile::Log)?;
-    Ok(held(alloc, &edit, primary.as_slice(), log.as_slice()))
+    Ok((primary, log))
+}
+
+fn cut_and_held(rt: &impl Abort, alloc: Global) -> Result<(), Fail> {
+    let edit = edited(rt, alloc, HiveVersion::V3)?;
+    let (primary, log) = cut_files(rt, alloc, &edit)?;
+    let left = held(alloc, &edit, primary.as_slice(), log.as_slice());
+    are_held(rt, left, Ok((Which::New, 6, HiveVersion::V3)));
+    Ok(())
 }
 
 /// A file of 100 bytes is filled with zeros to a sector, and zero is no checksum.
 #[test]
 fn a_clean_file_holds_its_tree_and_a_short_one_none(rt: HostRuntime) -> Result<(), Fail> {
-    let fault = HiveFault {
-        kind: HiveFaultKind::Checksum,
-        at: 508,
-    };
-    let seen = clean_and_short(&rt, rt.alloc())?;
-    assert_eq!(rt;
-        seen,
-        [
-            Ok((Which::Old, 5, HiveVersion::V5)),
-            Err(ReadStop::Fault(fault))
-        ]
-    );
-    Ok(())
+    clean_and_short(&rt, rt.alloc())
 }
 
 #[test]
 fn the_files_of_a_cut_commit_hold_the_new_tree(rt: HostRuntime) -> Result<(), Fail> {
-    let seen = left(&rt, rt.alloc())?;
-    assert_eq!(rt; seen, Ok((Which::New, 6, HiveVersion::V3)));
-    Ok(())
+    cut_and_held(&rt, rt.alloc())
 }
 
 /// What two files are judged as: the sequence number and the version.
 type Judged = Result<(u32, HiveVersion), ReadStop>;
 
-fn judged(rt: &impl Abort, alloc: Global) -> Result<[Judged; 2], Fail> {
+fn are_judged(rt: &impl Abort, judged: Judged, wanted: Judged) {
+    assert_eq!(rt; judged, wanted);
+}
+
+fn short_judged(alloc: Global) -> Result<Judged, Fail> {
+    let stub = stub(alloc)?;
+    Ok(judge_images(alloc, stub.as_slice(), &[]))
+}
+
+fn judged(rt: &impl Abort, alloc: Global) -> Result<(), Fail> {
     let edit = edited(rt, alloc, HiveVersion::V5)?;
     let clean = judge_images(alloc, edit.file.as_slice(), &[]);
-    let short = judge_images(alloc, stub(alloc)?.as_slice(), &[]);
-    Ok([clean, short])
+    are_judged(rt, clean, Ok((5, HiveVersion::V5)));
+    let short = short_judged(alloc)?;
+    are_judged(rt, short, Err(ReadStop::Fault(SHORT)));
+    Ok(())
 }
 
 #[test]
 fn files_are_judged_as_they_are_checked(rt: HostRuntime) -> Result<(), Fail> {
-    let fault = HiveFault {
-        kind: HiveFaultKind::Checksum,
-        at: 508,
-    };
-    let seen = judged(&rt, rt.alloc())?;
-    assert_eq!(rt;
-        seen,
-        [Ok((5, HiveVersion::V5)), Err(ReadStop::Fault(fault))]
-    );
-    Ok(())
+    judged(&rt, rt.alloc())
 }

@@ -1,32 +1,98 @@
 //! An edit is committed, and loaded again.
 
-ghost use Rattle.std.specs.Prelude.{◌≡◌, ◌≤◌, false, [], length, IfOk};
+ghost use Rattle.std.specs.Prelude.{◌≡◌, ◌≤◌, true, false, [], length, IfOk};
+ghost use Rattle.hive_model.specs.Carries.{Carries};
 
 use super::*;
 use hive_store::Hive;
 use mem_edge::MemDisk;
-use nt_bytes::HiveVersion;
+use nt_bytes::{Bytes, HiveVersion};
 use nt_edge::Bench;
 use packing_tests::is_valid;
-use reg_tree::EditStop;
+use reg_tree::{EditStop, Key};
 use std::alloc::Global;
 use std::process::Abort;
 use std::test::Fail;
+
+/// A primary file of this version with this tree.
+fn file_of(rt: &impl Abort, alloc: Global, tree: &Key, version: HiveVersion) -> Result<Bytes, Fail>
+    ensures few { IfOk result (λ file. length file ≤ 33554432) }
+{
+    assert!(rt; is_valid(tree) && tree.bulk(version) <= 16_773_120);
+    let file = primary(alloc, tree, version)?;
+    assert!(rt; file.len() <= 33_554_432);
+    Ok(file)
+}
 
 /// The hive of all these tests, in a version: `Start` is 1, and the edit sets it to 2.
 pub fn edited(rt: &impl Abort, alloc: Global, version: HiveVersion) -> Result<Edited, Fail>
     ensures few { IfOk result (λ e. length e.file ≤ 33554432) }
 {
     let old = tree(alloc, 1)?;
-    assert!(rt; is_valid(&old) && old.bulk(version) <= 16_773_120);
-    let file = primary(alloc, &old, version)?;
-    assert!(rt; file.len() <= 33_554_432);
+    let file = file_of(rt, alloc, &old, version)?;
     let new = tree(alloc, 2)?;
     Ok(Edited { file, old, new })
 }
 
-/// What is seen of a load, of an edit that is refused, of one that is not, of a commit, and of the load after it. The
-/// session keeps the version.
+/// Sets the number `Start` of this key to 2.
+pub fn set_two(alloc: Global, hive: &mut Hive, key: &[u8]) -> Result<(), EditStop>
+    ensures base { hive.new.base ≡ hive.old.base }
+    ensures bins { hive.new.bins ≡ hive.old.bins }
+{
+    let steps = set_start(alloc, key, 2)?;
+    hive.apply(alloc, steps)
+}
+
+/// What is seen of an edit that is refused.
+fn refused(rt: &impl Abort, alloc: Global, hive: &mut Hive, edit: &Edited) -> Result<Seen, Fail>
+    ensures base { hive.new.base ≡ hive.old.base }
+    ensures bins { hive.new.bins ≡ hive.old.bins }
+{
+    let stop = set_two(alloc, hive, b"Tape");
+    assert_eq!(rt; stop, Err(EditStop::NoKey));
+    Ok(edit.see(alloc, hive)?)
+}
+
+/// What is seen of an edit that is not refused.
+fn made(alloc: Global, hive: &mut Hive, edit: &Edited) -> Result<Seen, Fail>
+    ensures base { hive.new.base ≡ hive.old.base }
+    ensures bins { hive.new.bins ≡ hive.old.bins }
+{
+    set_two(alloc, hive, b"Disk")?;
+    Ok(edit.see(alloc, hive)?)
+}
+
+/// What is seen of a commit.
+fn committed<B: Bench>(
+    rt: &impl Abort,
+    alloc: Global,
+    bench: &mut B,
+    hive: Hive,
+    edit: &Edited,
+) -> Result<Seen, Fail>
+    requires on { (B.state bench.old).on ≡ true }
+    requires still { B.tells ≡ true → (B.state bench.old).flight ≡ [] }
+    requires carries { B.tells ≡ true → Carries (B.state bench.old).held hive.base hive.bins }
+{
+    let (hive, number) = hive.commit(bench)?;
+    assert_eq!(rt; number, 6);
+    Ok(edit.see(alloc, &hive)?)
+}
+
+/// What is seen of the load after it. The session keeps the version.
+fn reloaded<B: Bench>(
+    rt: &impl Abort,
+    alloc: Global,
+    bench: &mut B,
+    edit: &Edited,
+    version: HiveVersion,
+) -> Result<Seen, Fail> {
+    let (hive, dirty) = reload(alloc, bench)?;
+    assert_eq!(rt; (dirty, hive.version()), (false, version));
+    Ok(edit.see(alloc, &hive)?)
+}
+
+/// What is seen of a load, of both edits, of the commit, and of the load after it.
 fn play<B: Bench>(
     rt: &impl Abort,
     alloc: Global,
@@ -42,18 +108,11 @@ fn play<B: Bench>(
     let (mut hive, dirty) = Hive::load(alloc, bench)?;
     assert!(rt; !dirty);
     let loaded = edit.see(alloc, &hive)?;
-    let stop = hive.apply(alloc, set_start(alloc, b"Tape", 2)?);
-    assert_eq!(rt; stop, Err(EditStop::NoKey));
-    let refused = edit.see(alloc, &hive)?;
-    hive.apply(alloc, set_start(alloc, b"Disk", 2)?)?;
-    let made = edit.see(alloc, &hive)?;
-    let (hive, number) = hive.commit(bench)?;
-    assert_eq!(rt; number, 6);
-    let committed = edit.see(alloc, &hive)?;
-    let (again, dirty) = reload(alloc, bench)?;
-    assert!(rt; !dirty);
-    assert_eq!(rt; again.version(), version);
-    Ok([loaded, refused, made, committed, edit.see(alloc, &again)?])
+    let refused = refused(rt, alloc, &mut hive, edit)?;
+    let made = made(alloc, &mut hive, edit)?;
+    let committed = committed(rt, alloc, bench, hive, edit)?;
+    let again = reloaded(rt, alloc, bench, edit, version)?;
+    Ok([loaded, refused, made, committed, again])
 }
 
 fn played(rt: &impl Abort, alloc: Global, version: HiveVersion) -> Result<[Seen; 5], Fail> {
@@ -62,8 +121,7 @@ fn played(rt: &impl Abort, alloc: Global, version: HiveVersion) -> Result<[Seen;
     play(rt, alloc, &mut disk, &edit, version)
 }
 
-#[test]
-fn an_edit_is_committed(rt: HostRuntime) -> Result<(), Fail> {
+fn is_committed(rt: &impl Abort, alloc: Global, version: HiveVersion) -> Result<(), Fail> {
     let expected = [
         (5, Which::Old, false),
         (5, Which::Old, false),
@@ -71,9 +129,13 @@ fn an_edit_is_committed(rt: HostRuntime) -> Result<(), Fail> {
         (6, Which::New, false),
         (6, Which::New, false),
     ];
-    for version in [HiveVersion::V3, HiveVersion::V5] {
-        let seen = played(&rt, rt.alloc(), version)?;
-        assert_eq!(rt; seen, expected);
-    }
+    let seen = played(rt, alloc, version)?;
+    assert_eq!(rt; seen, expected);
     Ok(())
+}
+
+#[test]
+fn an_edit_is_committed(rt: HostRuntime) -> Result<(), Fail> {
+    is_committed(&rt, rt.alloc(), HiveVersion::V3)?;
+    is_committed(&rt, rt.alloc(), HiveVersion::V5)
 }

@@ -5,12 +5,14 @@ ghost use Rattle.std.specs.List.{All};
 ghost use Rattle.boot_script.specs.Script.{HasCounts};
 ghost use Rattle.command_parts.specs.Leaves.{IsBadUsage, Looks};
 ghost use Rattle.sweep_script.specs.Sweep.{events_of, IsUnordered};
-ghost use Rattle.sweep_inputs.specs.Inputs.{AsksSweep, arguments_in, files_seen, inputs_in};
+ghost use Rattle.input_search.specs.Search.{AsksFor};
+ghost use Rattle.sweep_inputs.specs.Inputs.{arguments_in, files_seen, inputs_in, sweep_search};
 
 use crate::script::script_in;
 use arc_path::Arc;
 use boot_ini::BootIni;
-use command_parts::{HiveFiles, Obstacle, Refusal, bytes_in, file_in, hive_in, ini_in, system_in};
+use command_parts::{HiveFiles, Obstacle, Refusal, file_in};
+use input_search::{boot_files, system_at};
 use nt_edge::Host;
 use std::alloc::Global;
 use sweep_script::SweepScript;
@@ -35,28 +37,34 @@ pub struct SweepInputs {
 }
 
 /// What the files have, or the first obstacle. Nothing is printed.
+#[tactic(auto, unfolding(input_search::specs::Search::searched))]
 pub fn sweep_inputs<H: Host>(
     alloc: Global,
     files: SweepFiles<'_>,
     host: &mut H,
 ) -> Result<SweepInputs, Obstacle>
     ensures looks { Looks (inputs_in (files_seen files.entry) (H.state host.old).files) result (H.state host.old) (H.state host.new) }
-    ensures asks { AsksSweep (files_seen files.entry) result (H.state host.old) (H.state host.new) }
+    ensures asks { AsksFor (sweep_search (files_seen files.entry)) result (H.state host.old) (H.state host.new) }
     ensures counts { IfOk result (λ inputs. All HasCounts (events_of inputs.script)) }
     ensures unordered { IfOk result (λ inputs. All IsUnordered (events_of inputs.script)) }
     ensures usage { result ≡ Err (Obstacle.Refused Refusal.Usage) → arguments_in (files_seen files.entry) ≡ Err Refusal.Usage }
     ensures refused { arguments_in (files_seen files.entry) ≡ Err Refusal.Usage → IsBadUsage result }
 {
-    let system = system_in(alloc, files.system.as_bytes())?;
+    let system = system_at(alloc, files.system)?;
     let script = file_in(alloc, host, files.script)?;
-    let script = script_in(alloc, script.as_slice())?;
-    let text = bytes_in(alloc, host, files.boot_ini)?;
-    let ini = ini_in(alloc, text.as_slice(), files.system.as_bytes())?;
-    let hive = hive_in(alloc, host, files.hive, files.log)?;
+    let script = script_in(alloc, &script)?;
+    let boot = boot_files(
+        alloc,
+        host,
+        files.boot_ini,
+        files.system,
+        files.hive,
+        files.log,
+    )?;
     Ok(SweepInputs {
         system,
         script,
-        ini,
-        hive,
+        ini: boot.ini,
+        hive: boot.hive,
     })
 }

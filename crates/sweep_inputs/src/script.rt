@@ -8,17 +8,18 @@ ghost use Rattle.sweep_script.specs.Sweep.{events_of, IsUnordered, sweep_of};
 ghost use Rattle.sweep_inputs.specs.Inputs.{script_in};
 
 use command_parts::{Obstacle, Refusal, no_memory};
+use nt_bytes::Bytes;
 use std::alloc::Global;
 use sweep_script::{SweepFault, SweepScript, SweepStop, read_sweep};
 
 /// The script that a text is.
-pub(crate) fn script_in(alloc: Global, text: &[u8]) -> Result<SweepScript, Obstacle>
+pub(crate) fn script_in(alloc: Global, text: &Bytes) -> Result<SweepScript, Obstacle>
     ensures read { Reads (script_in (sweep_of text.now)) result }
     ensures counts { IfOk result (λ script. All HasCounts (events_of script)) }
     ensures unordered { IfOk result (λ script. All IsUnordered (events_of script)) }
     ensures kept { result ≡ Err (Obstacle.Refused Refusal.Usage) → ⊥ }
 {
-    match read_sweep(alloc, text) {
+    match read_sweep(alloc, text.as_slice()) {
         Ok(script) => Ok(script),
         Err(SweepStop::Fault(SweepFault::Script(fault))) => {
             Err(Obstacle::Refused(Refusal::ScriptFault(fault)))

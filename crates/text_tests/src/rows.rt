@@ -12,7 +12,7 @@ const HEADER: &[u8] = b"Windows Registry Editor Version 5.00\r\n";
 type Row = (&'static [u8], &'static [u8]);
 
 /// A whole text after its mark, in bytes, and the same.
-const WHOLE: [Row; 9] = [
+static WHOLE: [Row; 9] = [
     (b"", b"0 mark"),
     (b"\xff", b"0 mark"),
     (b"\xfe\xffW\0", b"0 mark"),
@@ -24,7 +24,7 @@ const WHOLE: [Row; 9] = [
     (b"\xff\xfe;\0\n\0", b"1 header"),
 ];
 
-const EDITS: [Row; 14] = [
+static EDITS: [Row; 14] = [
     (b"", b""),
     (
         b"\r\n[HKEY_LOCAL_MACHINE\\SYSTEM\\A\\B]\r\n\"V\"=dword:00000001\r\n",
@@ -74,7 +74,7 @@ const EDITS: [Row; 14] = [
     ),
 ];
 
-const FAULTS: [Row; 16] = [
+static FAULTS: [Row; 16] = [
     (b"[HKEY_CURRENT_USER\\X]\n", b"2 root"),
     (b"\n[HKEY_LOCAL_MACHINE\\SOFTWARE]\n", b"3 root"),
     (b"[HKEY_LOCAL_MACHINE\\SYSTEMX]\n", b"2 root"),
@@ -109,7 +109,7 @@ const FAULTS: [Row; 16] = [
 ];
 
 /// Lines of a value that are faulty where a key stands before them.
-const VALUES: [&[u8]; 24] = [
+static VALUES: [&[u8]; 24] = [
     b"V=\"x\"",
     b"\"V\"",
     b"\"V\"=",
@@ -137,7 +137,7 @@ const VALUES: [&[u8]; 24] = [
 ];
 
 /// Lines in the root, and the same written again.
-const AGAIN: [Row; 6] = [
+static AGAIN: [Row; 6] = [
     (b"\"B\"=dword:000000Ff\n", b"\"B\"=dword:000000ff\r\n"),
     (b"\"B\"=hex(4):01,00,00\n", b"\"B\"=hex(4):01,00,00\r\n"),
     (b"\"B\"=hex(4):01,00,00,00\n", b"\"B\"=dword:00000001\r\n"),
@@ -160,19 +160,35 @@ fn text_of(alloc: Global, front: &[u8], lines: &[u8]) -> Result<Bytes, Fail> {
     Ok(wide(alloc, text.as_slice())?)
 }
 
+fn says(rt: &impl Abort, alloc: Global, text: &[u8], wanted: &[u8]) -> Result<(), Fail> {
+    let said = told(alloc, text)?;
+    assert_eq!(rt; said.as_slice(), wanted);
+    Ok(())
+}
+
 fn whole(rt: &impl Abort, alloc: Global, rows: &[Row]) -> Result<(), Fail> {
     for (text, wanted) in rows {
-        let said = told(alloc, text)?;
-        assert_eq!(rt; said.as_slice(), *wanted);
+        says(rt, alloc, text, wanted)?;
     }
     Ok(())
 }
 
+/// After a header and this front, with these bytes at the end.
+fn says_behind(
+    rt: &impl Abort,
+    alloc: Global,
+    front: &[u8],
+    (lines, end): (&[u8], &[u8]),
+    wanted: &[u8],
+) -> Result<(), Fail> {
+    let mut text = text_of(alloc, front, lines)?;
+    text.append(end)?;
+    says(rt, alloc, text.as_slice(), wanted)
+}
+
 fn behind(rt: &impl Abort, alloc: Global, rows: &[Row]) -> Result<(), Fail> {
     for (lines, wanted) in rows {
-        let text = text_of(alloc, b"", lines)?;
-        let said = told(alloc, text.as_slice())?;
-        assert_eq!(rt; said.as_slice(), *wanted);
+        says_behind(rt, alloc, b"", (*lines, b""), wanted)?;
     }
     Ok(())
 }
@@ -180,40 +196,43 @@ fn behind(rt: &impl Abort, alloc: Global, rows: &[Row]) -> Result<(), Fail> {
 /// With half a unit at the end.
 fn odd(rt: &impl Abort, alloc: Global, rows: &[Row]) -> Result<(), Fail> {
     for (lines, wanted) in rows {
-        let mut text = text_of(alloc, b"", lines)?;
-        text.append(b"x")?;
-        let said = told(alloc, text.as_slice())?;
-        assert_eq!(rt; said.as_slice(), *wanted);
+        says_behind(rt, alloc, b"", (*lines, b"x"), wanted)?;
     }
     Ok(())
 }
 
 fn refused(rt: &impl Abort, alloc: Global, lines: &[&[u8]]) -> Result<(), Fail> {
     for line in lines {
-        let text = text_of(alloc, b"[HKEY_LOCAL_MACHINE\\SYSTEM\\A]\n", line)?;
-        let said = told(alloc, text.as_slice())?;
-        assert_eq!(rt; said.as_slice(), b"3 line".as_slice());
+        let front = b"[HKEY_LOCAL_MACHINE\\SYSTEM\\A]\n";
+        says_behind(rt, alloc, front, (*line, b""), b"3 line")?;
     }
+    Ok(())
+}
+
+/// The text of a root with these lines.
+fn written(alloc: Global, lines: &[u8]) -> Result<Bytes, Fail> {
+    let mut after = Bytes::from_slice(alloc, lines)?;
+    after.append(b"\r\n")?;
+    let front = b"\r\n[HKEY_LOCAL_MACHINE\\SYSTEM]\r\n";
+    text_of(alloc, front, after.as_slice())
+}
+
+fn is_written(rt: &impl Abort, alloc: Global, text: &[u8], lines: &[u8]) -> Result<(), Fail> {
+    let wanted = written(alloc, lines)?;
+    let said = rewritten(alloc, text)?;
+    assert_eq!(rt; said.as_slice(), wanted.as_slice());
     Ok(())
 }
 
 fn again(rt: &impl Abort, alloc: Global, rows: &[Row]) -> Result<(), Fail> {
     for (lines, wanted) in rows {
         let text = text_of(alloc, b"[HKEY_LOCAL_MACHINE\\SYSTEM]\n", lines)?;
-        let mut after = Bytes::from_slice(alloc, wanted)?;
-        after.append(b"\r\n")?;
-        let wanted = text_of(
-            alloc,
-            b"\r\n[HKEY_LOCAL_MACHINE\\SYSTEM]\r\n",
-            after.as_slice(),
-        )?;
-        let said = rewritten(alloc, text.as_slice())?;
-        assert_eq!(rt; said.as_slice(), wanted.as_slice());
+        is_written(rt, alloc, text.as_slice(), wanted)?;
     }
     Ok(())
 }
 
-const ODD: [Row; 4] = [
+static ODD: [Row; 4] = [
     (b"", b"2 line"),
     (b";c", b"2 line"),
     (b";c\n", b"3 line"),

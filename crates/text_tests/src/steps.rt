@@ -48,6 +48,30 @@ fn push_kind(alloc: Global, out: &mut Bytes, kind: u32) -> Result<(), AllocError
     out.append(text.as_bytes())
 }
 
+/// A word, a path and a name after it.
+fn push_item(
+    out: &mut Bytes,
+    word: &[u8],
+    path: &[Units],
+    between: u8,
+    name: &[u16],
+) -> Result<(), AllocError> {
+    out.append(word)?;
+    push_path(out, path)?;
+    out.push(between)?;
+    push_units(out, name)
+}
+
+fn push_delete(out: &mut Bytes, path: &[Units]) -> Result<(), AllocError> {
+    out.append(b"delete ")?;
+    push_path(out, path)
+}
+
+fn push_value(alloc: Global, out: &mut Bytes, kind: u32, bytes: &[u8]) -> Result<(), AllocError> {
+    push_kind(alloc, out, kind)?;
+    push_data(out, bytes)
+}
+
 fn push_step(alloc: Global, out: &mut Bytes, step: &TreeStep) -> Result<(), AllocError> {
     match step {
         TreeStep::SetValue {
@@ -56,29 +80,16 @@ fn push_step(alloc: Global, out: &mut Bytes, step: &TreeStep) -> Result<(), Allo
             kind,
             bytes,
         } => {
-            out.append(b"set ")?;
-            push_path(out, path.as_slice())?;
-            out.append(b" ")?;
-            push_units(out, name.as_slice())?;
-            push_kind(alloc, out, *kind)?;
-            push_data(out, bytes.as_slice())
+            push_item(out, b"set ", path.as_slice(), b' ', name.as_slice())?;
+            push_value(alloc, out, *kind, bytes.as_slice())
         }
         TreeStep::DeleteValue { path, name } => {
-            out.append(b"drop ")?;
-            push_path(out, path.as_slice())?;
-            out.append(b" ")?;
-            push_units(out, name.as_slice())
+            push_item(out, b"drop ", path.as_slice(), b' ', name.as_slice())
         }
         TreeStep::MakeKey { parent, name } => {
-            out.append(b"make ")?;
-            push_path(out, parent.as_slice())?;
-            out.append(b"\\")?;
-            push_units(out, name.as_slice())
+            push_item(out, b"make ", parent.as_slice(), b'\\', name.as_slice())
         }
-        TreeStep::DeleteKey { path } => {
-            out.append(b"delete ")?;
-            push_path(out, path.as_slice())
-        }
+        TreeStep::DeleteKey { path } => push_delete(out, path.as_slice()),
         _ => out.append(b"other"),
     }
 }

@@ -11,7 +11,8 @@ ghost use Rattle.command_words.specs.Views.{whatif_seen};
 ghost use Rattle.failure_effects.specs.Effects.{effects_of};
 ghost use Rattle.whatif_text.specs.Lines.{printed_lines};
 ghost use Rattle.whatif_command.specs.Answer.{choice_in, question_at, question_on, question_in};
-ghost use Rattle.whatif_command.specs.Inputs.{arguments_in, asks_whatif, AsksWhatif};
+ghost use Rattle.input_search.specs.Search.{AsksFor};
+ghost use Rattle.whatif_command.specs.Inputs.{arguments_in, asks_whatif, whatif_search};
 
 use crate::choice::choice_in;
 use crate::inputs::{WhatifInputs, inputs_in};
@@ -85,7 +86,7 @@ fn seek<H: Host>(
     host: &mut H,
 ) -> Result<Told, Obstacle>
     ensures seeks { SeeksAnswer (question_in form (whatif_seen words.entry) (H.state host.old).files) result (H.state host.old) (H.state host.new) }
-    ensures asks { AsksWhatif (whatif_seen words.entry) result (H.state host.old) (H.state host.new) }
+    ensures asks { AsksFor (whatif_search (whatif_seen words.entry)) result (H.state host.old) (H.state host.new) }
     ensures usage { result ≡ Err (Obstacle.Refused Refusal.Usage) → arguments_in (whatif_seen words.entry) ≡ Err Refusal.Usage }
     ensures refused { arguments_in (whatif_seen words.entry) ≡ Err Refusal.Usage → IsBadUsage result }
 {

@@ -3,12 +3,14 @@
 ghost use Rattle.std.specs.Prelude.{◌≡◌, Err};
 ghost use Rattle.command_parts.specs.Leaves.{Looks, IsBadUsage};
 ghost use Rattle.command_words.specs.Views.{whatif_seen};
-ghost use Rattle.whatif_command.specs.Inputs.{arguments_in, inputs_in, AsksWhatif};
+ghost use Rattle.input_search.specs.Search.{AsksFor};
+ghost use Rattle.whatif_command.specs.Inputs.{arguments_in, inputs_in, whatif_search};
 
 use arc_path::Arc;
 use boot_ini::BootIni;
-use command_parts::{HiveFiles, Obstacle, Refusal, bytes_in, hive_in, ini_in, system_in};
+use command_parts::{HiveFiles, Obstacle, Refusal};
 use command_words::WhatifWords;
+use input_search::{boot_files, system_at};
 use nt_edge::Host;
 use std::alloc::Global;
 
@@ -21,19 +23,29 @@ pub struct WhatifInputs {
 }
 
 /// What options and files have, or the first obstacle. Nothing is printed.
+#[tactic(auto, unfolding(input_search::specs::Search::searched))]
 pub(crate) fn inputs_in<H: Host>(
     alloc: Global,
     words: WhatifWords<'_>,
     host: &mut H,
 ) -> Result<WhatifInputs, Obstacle>
     ensures looks { Looks (inputs_in (whatif_seen words.entry) (H.state host.old).files) result (H.state host.old) (H.state host.new) }
-    ensures asks { AsksWhatif (whatif_seen words.entry) result (H.state host.old) (H.state host.new) }
+    ensures asks { AsksFor (whatif_search (whatif_seen words.entry)) result (H.state host.old) (H.state host.new) }
     ensures usage { result ≡ Err (Obstacle.Refused Refusal.Usage) → arguments_in (whatif_seen words.entry) ≡ Err Refusal.Usage }
     ensures refused { arguments_in (whatif_seen words.entry) ≡ Err Refusal.Usage → IsBadUsage result }
 {
-    let system = system_in(alloc, words.system.as_bytes())?;
-    let text = bytes_in(alloc, host, words.boot_ini)?;
-    let ini = ini_in(alloc, text.as_slice(), words.system.as_bytes())?;
-    let hive = hive_in(alloc, host, words.hive, words.log)?;
-    Ok(WhatifInputs { system, ini, hive })
+    let system = system_at(alloc, words.system)?;
+    let boot = boot_files(
+        alloc,
+        host,
+        words.boot_ini,
+        words.system,
+        words.hive,
+        words.log,
+    )?;
+    Ok(WhatifInputs {
+        system,
+        ini: boot.ini,
+        hive: boot.hive,
+    })
 }

@@ -4,6 +4,7 @@ ghost use Rattle.std.specs.Prelude.{◌≡◌, map, IfOk};
 ghost use Rattle.quiet_run.specs.declared.last.BegunPhase.{BegunPhase as Begun};
 ghost use Rattle.quiet_run.specs.Play.{AreHeld};
 ghost use Rattle.why_needs.specs.Members.{members_of};
+ghost use Rattle.why_needs.specs.Met.{starts_of};
 ghost use Rattle.why_items.specs.Items.{needs_run_of, lacks_services, lacks_groups, members_at};
 
 use nt_bytes::{Names, Row};
@@ -37,14 +38,24 @@ fn all_members(alloc: Global, phases: &[BegunPhase]) -> Result<Row<GroupMembers>
     Ok(members)
 }
 
+/// Which attempts of a run started members of groups, and the members in the set that each phase read.
+fn looked(alloc: Global, run: &ViewedRun) -> Result<(GroupStarts, Row<GroupMembers>), AllocError>
+    requires { AreHeld run.now.run.start.phases }
+    ensures starts { IfOk result (λ r. r.0 ≡ starts_of run.now) }
+    ensures members { IfOk result (λ r. r.1 ≡ map (λ (p : Begun). members_of p.set) run.now.run.start.phases) }
+{
+    let starts = starts_of(alloc, run)?;
+    let members = all_members(alloc, run.run.start.phases.as_slice())?;
+    Ok((starts, members))
+}
+
 /// A run with what its needs are looked up in. A hive must be able to hold the sets of its phases.
 #[tactic(auto, unfolding(crate::specs::Items::needs_run_of))]
 pub fn needs_run(alloc: Global, run: ViewedRun) -> Result<NeedsRun, AllocError>
     requires { AreHeld run.run.start.phases }
     ensures { IfOk result (λ needs. needs ≡ needs_run_of run) }
 {
-    let starts = starts_of(alloc, &run)?;
-    let members = all_members(alloc, run.run.start.phases.as_slice())?;
+    let (starts, members) = looked(alloc, &run)?;
     Ok(NeedsRun {
         run,
         starts,

@@ -217,6 +217,23 @@ fn views(alloc: Global, start: &LastStart) -> Result<PhaseViews, AllocError>
     Ok(views)
 }
 
+/// The phases of a run, the names of its attempts, and what phases would take after it.
+fn looked(
+    alloc: Global,
+    run: &QuietRun,
+) -> Result<(PhaseViews, NamePlaces, ComingNames), AllocError>
+    requires phases { AreHeld run.now.start.phases }
+    requires set { HoldsKeys run.now.set }
+    ensures views { IfOk result (λ r. r.0 ≡ views_of run.now.start) }
+    ensures tried { IfOk result (λ r. r.1 ≡ names_tried run.now.start.attempts) }
+    ensures coming { IfOk result (λ r. r.2 ≡ coming_of run.now.set (names_tried run.now.start.attempts)) }
+{
+    let views = views(alloc, &run.start)?;
+    let tried = names_tried(alloc, run.start.attempts.as_slice())?;
+    let coming = coming(alloc, &run.set, tried.as_slice())?;
+    Ok((views, NamePlaces::new(alloc, tried)?, coming))
+}
+
 /// The run with its phases as they are looked at. A hive must be able to hold its sets. Takes n log n time in their services.
 #[tactic(auto, unfolding(crate::specs::Views::viewed_of))]
 pub fn viewed(alloc: Global, run: QuietRun) -> Result<ViewedRun, AllocError>
@@ -224,10 +241,7 @@ pub fn viewed(alloc: Global, run: QuietRun) -> Result<ViewedRun, AllocError>
     requires set { HoldsKeys run.set }
     ensures { IfOk result (λ viewed. viewed ≡ viewed_of run) }
 {
-    let views = views(alloc, &run.start)?;
-    let tried = names_tried(alloc, run.start.attempts.as_slice())?;
-    let coming = coming(alloc, &run.set, tried.as_slice())?;
-    let tried = NamePlaces::new(alloc, tried)?;
+    let (views, tried, coming) = looked(alloc, &run)?;
     Ok(ViewedRun {
         run,
         views,

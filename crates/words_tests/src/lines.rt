@@ -127,13 +127,17 @@ fn an_end(rt: &impl Abort, alloc: Global) -> Result<(), Fail> {
     says(rt, alloc, Line::End, b"end\n")
 }
 
+fn a_report(rt: &impl Abort, alloc: Global) -> Result<(), Fail> {
+    a_start(rt, alloc)?;
+    select(rt, alloc)?;
+    phases(rt, alloc)?;
+    attempts(rt, alloc)?;
+    an_end(rt, alloc)
+}
+
 #[test]
 fn a_report_is_printed(rt: HostRuntime) -> Result<(), Fail> {
-    a_start(&rt, rt.alloc())?;
-    select(&rt, rt.alloc())?;
-    phases(&rt, rt.alloc())?;
-    attempts(&rt, rt.alloc())?;
-    an_end(&rt, rt.alloc())
+    a_report(&rt, rt.alloc())
 }
 
 fn other_starts(rt: &impl Abort, alloc: Global) -> Result<(), Fail> {

@@ -65,39 +65,46 @@ fn the_first_fault_is_named(rt: HostRuntime) {
 const TEXT: &[u8] =
     b"  # \xff\n boot 00002 lkg \r\ngo 4294967295\n\"fail\" \"a b\" 0\nset A\\\\B V dword 258\nset \"\" \"\" sz X\nset A V multi\nset A V multi X \"\"\nset A V binary 0aF\x30\ndelete A V\nmake A\nremove A\\\nflush\nlogon\noff\ncut now none\ncut read 1 all\nfault sync 3\ncut write 2 torn";
 
-/// What the lines of `TEXT` order at the beginning.
-fn first_are_read(rt: &impl Abort, events: &[Event]) {
-    let boot = matches!(
-        events.get(0),
+fn is_boot(event: Option<&Event>) -> bool {
+    matches!(
+        event,
         Some(Event::Boot {
             entry: Some(2),
             last_known_good: true
         })
-    );
-    assert!(rt; boot);
-    let go = matches!(
-        events.get(1),
+    )
+}
+
+fn is_go(event: Option<&Event>) -> bool {
+    matches!(
+        event,
         Some(Event::Go {
             steps: Some(4294967295)
         })
-    );
-    assert!(rt; go);
+    )
+}
+
+/// What the lines of `TEXT` order at the beginning.
+fn first_are_read(rt: &impl Abort, events: &[Event]) {
+    assert!(rt; is_boot(events.get(0)) && is_go(events.get(1)));
+}
+
+fn is_failure(rt: &impl Abort, name: &[u16], count: u32) {
+    assert_eq!(rt; name, [0x61, 0x20, 0x62].as_slice());
+    assert_eq!(rt; count, 0);
 }
 
 fn fail_is_read(rt: &impl Abort, event: Option<&Event>) {
     match event {
-        Some(Event::Fail { name, count }) => {
-            assert_eq!(rt; name.as_slice(), [0x61, 0x20, 0x62].as_slice());
-            assert_eq!(rt; *count, 0);
-        }
+        Some(Event::Fail { name, count }) => is_failure(rt, name.as_slice(), *count),
         _ => assert!(rt; false),
     }
 }
 
 /// The bytes, the type and how many names the path has.
-type Set = (&'static [u8], u32, usize);
+type Set<'a> = (&'a [u8], u32, usize);
 
-static SETS: [Set; 5] = [
+static SETS: [Set<'static>; 5] = [
     (&[2, 1, 0, 0], 4, 3),
     (b"X\0\0\0", 1, 1),
     (&[0, 0], 7, 1),
@@ -105,19 +112,19 @@ static SETS: [Set; 5] = [
     (&[0x0a, 0xf0], 3, 1),
 ];
 
-fn set_is_read(rt: &impl Abort, event: &Event, wanted: &Set) {
-    let (data, wanted_kind, names) = wanted;
+fn is_set(rt: &impl Abort, found: Set<'_>, wanted: Set<'_>) {
+    assert_eq!(rt; found.0, wanted.0);
+    assert_eq!(rt; (found.1, found.2), (wanted.1, wanted.2));
+}
+
+fn set_is_read(rt: &impl Abort, event: &Event, wanted: Set<'_>) {
     match event {
         Event::Set {
             path,
             name: _,
             kind,
             bytes,
-        } => {
-            assert_eq!(rt; bytes.as_slice(), *data);
-            assert_eq!(rt; *kind, *wanted_kind);
-            assert_eq!(rt; path.as_slice().len(), *names);
-        }
+        } => is_set(rt, (bytes.as_slice(), *kind, path.as_slice().len()), wanted),
         _ => assert!(rt; false),
     }
 }
@@ -125,7 +132,7 @@ fn set_is_read(rt: &impl Abort, event: &Event, wanted: &Set) {
 fn sets_are_read(rt: &impl Abort, events: &[Event]) {
     assert!(rt; events.len() == SETS.len());
     for (event, wanted) in events.iter().zip(SETS.iter()) {
-        set_is_read(rt, event, wanted);
+        set_is_read(rt, event, *wanted);
     }
 }
 
@@ -136,41 +143,51 @@ fn remove_is_read(rt: &impl Abort, event: Option<&Event>) {
     }
 }
 
-/// The cut and the orders at the end.
-fn last_are_read(rt: &impl Abort, events: &[Event]) {
-    let now = matches!(
-        events.get(14),
+fn is_cut_now(event: Option<&Event>) -> bool {
+    matches!(
+        event,
         Some(Event::CutNow {
             keep: Keep::Nothing
         })
-    );
-    assert!(rt; now);
-    let read = matches!(
-        events.get(15),
+    )
+}
+
+fn is_read_cut(event: Option<&Event>) -> bool {
+    matches!(
+        event,
         Some(Event::ArmCut {
             call: DiskCall::Read,
             n: 1,
             keep: Keep::Everything
         })
-    );
-    assert!(rt; read);
-    let sync = matches!(
-        events.get(16),
+    )
+}
+
+fn is_sync_fault(event: Option<&Event>) -> bool {
+    matches!(
+        event,
         Some(Event::ArmFault {
             call: DiskCall::Sync,
             n: 3
         })
-    );
-    assert!(rt; sync);
-    let write = matches!(
-        events.get(17),
+    )
+}
+
+fn is_write_cut(event: Option<&Event>) -> bool {
+    matches!(
+        event,
         Some(Event::ArmCut {
             call: DiskCall::Write,
             n: 2,
             keep: Keep::Torn
         })
-    );
-    assert!(rt; write);
+    )
+}
+
+/// The cut and the orders at the end.
+fn last_are_read(rt: &impl Abort, events: &[Event]) {
+    assert!(rt; is_cut_now(events.get(14)) && is_read_cut(events.get(15)));
+    assert!(rt; is_sync_fault(events.get(16)) && is_write_cut(events.get(17)));
 }
 
 fn are_read(rt: &impl Abort, events: &[Event]) {
@@ -202,18 +219,31 @@ fn starts(alloc: Global, count: u32) -> Result<Vec<u8>, Fail> {
     Ok(text)
 }
 
-fn starts_are_counted(rt: &impl Abort, alloc: Global) -> Result<(), Fail> {
-    let few = starts(alloc, 64)?;
-    assert!(rt; read_script(alloc, few.as_slice()).is_ok());
-    let many = starts(alloc, 65)?;
-    let row = (many.as_slice(), ScriptFaultKind::TooManyStarts, 65);
+fn is_script(rt: &impl Abort, alloc: Global, text: &[u8]) {
+    assert!(rt; read_script(alloc, text).is_ok());
+}
+
+fn most_starts(rt: &impl Abort, alloc: Global) -> Result<(), Fail> {
+    let text = starts(alloc, 64)?;
+    is_script(rt, alloc, text.as_slice());
+    Ok(())
+}
+
+fn too_many_starts(rt: &impl Abort, alloc: Global) -> Result<(), Fail> {
+    let text = starts(alloc, 65)?;
+    let row = (text.as_slice(), ScriptFaultKind::TooManyStarts, 65);
     check_faults(rt, alloc, &[row]);
     Ok(())
 }
 
-fn bytes_are_counted(rt: &impl Abort, alloc: Global) -> Result<(), Fail> {
+fn most_bytes(rt: &impl Abort, alloc: Global) -> Result<(), Fail> {
+    let comment = Vec::from_elem(alloc, b'#', 65536)?;
+    is_script(rt, alloc, comment.as_slice());
+    Ok(())
+}
+
+fn too_many_bytes(rt: &impl Abort, alloc: Global) -> Result<(), Fail> {
     let comment = Vec::from_elem(alloc, b'#', 65537)?;
-    assert!(rt; read_script(alloc, &comment[..65536]).is_ok());
     let row = (comment.as_slice(), ScriptFaultKind::TooLong, 0);
     check_faults(rt, alloc, &[row]);
     Ok(())
@@ -221,6 +251,8 @@ fn bytes_are_counted(rt: &impl Abort, alloc: Global) -> Result<(), Fail> {
 
 #[test]
 fn limits_are_exact(rt: HostRuntime) -> Result<(), Fail> {
-    starts_are_counted(&rt, rt.alloc())?;
-    bytes_are_counted(&rt, rt.alloc())
+    most_starts(&rt, rt.alloc())?;
+    too_many_starts(&rt, rt.alloc())?;
+    most_bytes(&rt, rt.alloc())?;
+    too_many_bytes(&rt, rt.alloc())
 }

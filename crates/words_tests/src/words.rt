@@ -565,20 +565,31 @@ fn help_and_version_are_read(rt: HostRuntime) {
     check(&rt, rt.alloc(), ABOUT.as_slice());
 }
 
-#[test]
-fn words_are_texts(rt: HostRuntime) -> Result<(), Fail> {
-    let alloc = rt.alloc();
+/// Whether the words are read as these texts are.
+fn read_as(
+    rt: &impl Abort,
+    alloc: Global,
+    words: &[String],
+    read: Reading<'_>,
+) -> Result<(), Fail> {
+    let texts = texts(alloc, words)?;
+    assert_eq!(rt; read_words(alloc, texts.as_slice()), read);
+    Ok(())
+}
+
+fn make_is_read(rt: &impl Abort, alloc: Global) -> Result<(), Fail> {
     let words = [
         String::from_str(alloc, "make")?,
         String::from_str(alloc, "7")?,
     ];
-    let texts = texts(alloc, words.as_slice())?;
-    assert_eq!(rt;
-        read_words(alloc, texts.as_slice()),
-        asks!(Command::Make(MakeWords {
-            count: 7,
-            save_hive: None
-        }))
-    );
-    Ok(())
+    let seven = MakeWords {
+        count: 7,
+        save_hive: None,
+    };
+    read_as(rt, alloc, &words, asks!(Command::Make(seven)))
+}
+
+#[test]
+fn words_are_texts(rt: HostRuntime) -> Result<(), Fail> {
+    make_is_read(&rt, rt.alloc())
 }

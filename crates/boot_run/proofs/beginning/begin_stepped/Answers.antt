@@ -1,25 +1,28 @@
-use Rattle.std.proofs.Common.{◌∙◌, false, refl, ap, sym, subst, List}
+use Rattle.std.proofs.Common.{◌≡◌, ◌∙◌, refl, ap, sym, subst}
+use Rattle.std.specs.Prelude.{Ok}
 use Rattle.std.specs.List.{All}
 use Rattle.hive_model.specs.Base.{version_of}
-use Rattle.hive_model.specs.Edit.{Step, edited}
+use Rattle.hive_model.specs.Edit.{edited}
 use Rattle.reg_tree.specs.Fitting.{Fits}
-use Rattle.start_model.specs.Lines as lines
 use Rattle.start_model.specs.Lines.{BeginCommit}
 use Rattle.start_model.specs.Sets.{SetPlan, stepped}
-use Rattle.start_model.specs.Act.{end_with}
 use Rattle.start_model.specs.Commit.{commit}
 use Rattle.start_model.specs.Boot.{begin_start}
-use Rattle.run_parts.proofs.CountLemmas.{still}
-use Rattle.printed_parts.proofs.BreakLemmas.{breaks-silent}
-use Rattle.printed_parts.specs.Parts.{PlaysOr}
-use Rattle.boot_run.specs.Agrees.{LoadsAny, TurnLeft}
-use Rattle.boot_run.specs.Begins.{begin_planned, IsTaken}
-use Rattle.boot_run.specs.Views.{told_in}
+use Rattle.boot_run.specs.Agrees.{LoadsAny}
+use Rattle.boot_run.specs.Begins.{IsTaken}
 use Rattle.boot_run.proofs.DiskLemmas.{still_leaves}
-use Rattle.boot_run.proofs.PlayLemmas.{plays-as, live_left}
-use Rattle.boot_run.proofs.SaveLemmas.{refused_why}
-use Rattle.boot_run.proofs.BeginLemmas.{none_open, planned_stays, apply_up, apply_stored, taken_made, begin_made, begin_full}
+use Rattle.boot_run.proofs.PlayLemmas.{plays-as, rests-silent, live_left}
+use Rattle.boot_run.proofs.SaveLemmas.{refused_why, up_by, stored_by}
+use Rattle.boot_run.proofs.BeginLemmas.{planned_stays, taken_made, begin_made, begin_full}
+use Rattle.boot_run.proofs.beginning.begin_stepped.Given.{Over}
 use Rattle.boot_run.proofs.beginning.begin_stepped.Goals as goal
+use Rattle.boot_run.proofs.beginning.begin_stepped.Goals.{In-Ok}
+
+-- the steps were made
+made : (g : Over) (c : In-Ok g)
+    → edited (version_of c.args.hive.base.minor) c.args.hive.tree c.args.plan.steps ≡ Ok c.apply.new.self.tree
+made g c = ap (edited (version_of c.args.hive.base.minor) c.args.hive.tree)
+    (sym (ap (λ (p : SetPlan). p.steps) c.plan.view_is)) ∙ c.in-Ok.ensures.made
 
 pub apply-requires : goal.apply-requires
 apply-requires g c = let P : SetPlan → Type 0 = λ p. All Fits p.steps in
@@ -27,18 +30,16 @@ apply-requires g c = let P : SetPlan → Type 0 = λ p. All Fits p.steps in
 
 pub begin_committed-requires-clause-up : goal.begin_committed-requires-clause-up
 begin_committed-requires-clause-up g c =
-    apply_up c.args.hive c.apply.new.self (g.B.Disk.state c.args.bench.now)
-    c.requires.up c.in-Ok.ensures.base c.in-Ok.ensures.bins
+    up_by c.args.hive c.apply.new.self (g.B.Disk.state c.args.bench.now) c.in-Ok.ensures.base c.in-Ok.ensures.bins
+    c.requires.up
 
 pub begin_committed-requires-clause-taken : goal.begin_committed-requires-clause-taken
 begin_committed-requires-clause-taken g c =
-    let steps = ap (λ (p : SetPlan). p.steps) c.plan.view_is in
-    let v = version_of c.args.hive.base.minor in
-    let t = c.args.hive.tree in
     let u = c.apply.new.self.tree in
-    let made = ap (λ (ss : List Step). edited v t ss) (sym steps) ∙ c.in-Ok.ensures.made in
     let P : SetPlan → Type 0 = λ p. IsTaken u p.chosen in
-    subst P (sym c.plan.view_is) (taken_made c.args.on_good c.args.plan v t u c.requires.some c.requires.plan made)
+    subst P (sym c.plan.view_is) (taken_made c.args.on_good c.args.plan (version_of c.args.hive.base.minor)
+    c.args.hive.tree u c.requires.some c.requires.plan
+    (made g (goal.at.begin_committed-requires-clause-taken g c).In-Ok))
 
 pub end_start-requires : goal.end_start-requires
 end_start-requires g c = record
@@ -46,50 +47,23 @@ end_start-requires g c = record
 
 pub returns-in-Ok-clause-plays : goal.returns-in-Ok-clause-plays
 returns-in-Ok-clause-plays g c = λ m tells counts live.
-    let x = told_in (g.H.Host.state c.args.host.now) c.args.runner.now in
-    let y = told_in (g.H.Host.state c.begin_committed.new.host) c.begin_committed.new.runner in
-    let d = g.B.Disk.state c.args.bench.now in
-    let e = g.B.Disk.state c.begin_committed.new.bench in
     let u = c.apply.new.self.tree in
-    let steps = ap (λ (p : SetPlan). p.steps) c.plan.view_is in
-    let v = version_of c.args.hive.base.minor in
-    let t = c.args.hive.tree in
-    let made = ap (λ (ss : List Step). edited v t ss) (sym steps) ∙ c.in-Ok.ensures.made in
-    let Left = TurnLeft c.begin_committed.new.runner e in
-    let P : SetPlan → Type 0 =
-    λ p. PlaysOr (commit BeginCommit u m (begin_start p.chosen c.args.on_good p.numbers))
-    x y d e c.begin_committed.result Left in
-    plays-as c.begin_committed.result Left Left
-    (commit BeginCommit u m (begin_start c.args.plan.chosen c.args.on_good c.args.plan.numbers))
-    (begin_planned c.args.on_good m c.args.plan (stepped m.version m.live c.args.plan.steps)) x y d e
-    (begin_made c.args.on_good m c.args.plan v t u c.requires.some live.version live.live made) (λ w rest k. k)
-    (subst P c.plan.view_is (c.begin_committed.ensures.plays m tells counts
-    (apply_stored m c.args.hive c.apply.new.self d live c.in-Ok.ensures.base)))
+    plays-as (ap (λ (p : SetPlan). commit BeginCommit u m (begin_start p.chosen c.args.on_good p.numbers)) c.plan.view_is
+    ∙ begin_made c.args.on_good m c.args.plan (version_of c.args.hive.base.minor) c.args.hive.tree u c.requires.some
+    live.version live.live (made g (goal.at.returns-in-Ok-clause-plays g c).In-Ok))
+    (c.begin_committed.ensures.plays m tells counts
+    (stored_by m c.args.hive c.apply.new.self (g.B.Disk.state c.args.bench.now) c.in-Ok.ensures.base live))
 
 pub returns-in-None-clause-plays : goal.returns-in-None-clause-plays
 returns-in-None-clause-plays g c = λ m tells counts live.
-    let d = g.B.Disk.state c.args.bench.now in
-    breaks-silent (begin_planned c.args.on_good m c.args.plan (stepped m.version m.live c.args.plan.steps))
-    (told_in (g.H.Host.state c.args.host.now) c.args.runner.now) d d (still d)
-    (λ image crash. planned_stays c.args.on_good m c.args.plan image (stepped m.version m.live c.args.plan.steps)
-    (none_open m c.args.hive d live) (live_left m c.args.hive d c.requires.up live image crash))
+    rests-silent refl (planned_stays c.args.on_good m c.args.plan (stepped m.version m.live c.args.plan.steps)) c.requires.up live
 
 pub returns-in-Some-clause-plays : goal.returns-in-Some-clause-plays
 returns-in-Some-clause-plays g c = λ m tells counts live.
-    let x = told_in (g.H.Host.state c.args.host.now) c.args.runner.now in
-    let y = told_in (g.H.Host.state c.end_start.new.host) c.end_start.new.runner in
-    let d = g.B.Disk.state c.args.bench.now in
-    let e = g.B.Disk.state c.end_start.new.bench in
-    let steps = ap (λ (p : SetPlan). p.steps) c.plan.view_is in
     let v = version_of c.args.hive.base.minor in
-    let t = c.args.hive.tree in
     let why = refused_why c.in-Err.stop _ c.edit_word.result _ c.edit_word.ensures c.in-Some.is
     c.in-Err.ensures.made.0 in
-    let made = ap (λ (ss : List Step). edited v t ss) (sym steps) ∙ why.1 in
-    let Left = TurnLeft c.end_start.new.runner e in
-    plays-as c.end_start.result Left Left (end_with lines.Full false m)
-    (begin_planned c.args.on_good m c.args.plan (stepped m.version m.live c.args.plan.steps)) x y d e
-    (begin_full c.args.on_good m c.args.plan v t why.0 c.requires.some live.version live.live made) (λ w rest k. k)
+    plays-as (begin_full c.args.on_good m c.args.plan v c.args.hive.tree why.0 c.requires.some live.version live.live
+    (ap (edited v c.args.hive.tree) (sym (ap (λ (p : SetPlan). p.steps) c.plan.view_is)) ∙ why.1))
     (c.end_start.ensures.plays m tells (record { machine = counts.machine; starts = counts.starts })
-    (live_left m c.args.hive d c.requires.up live)
-    (record { falls = refl; none = refl }))
+    (live_left c.requires.up live) (record { falls = refl; none = refl }))

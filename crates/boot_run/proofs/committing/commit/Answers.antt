@@ -7,253 +7,138 @@ use Rattle.hive_store.specs.Session.{Session}
 use Rattle.hive_store.specs.Commits as store
 use Rattle.start_model.specs.Lines as book
 use Rattle.start_model.specs.Possible.{PowerCut, DeviceFault}
-use Rattle.start_model.specs.Act.{done, start_over}
-use Rattle.start_model.specs.Commit.{commit, committed_state, opened_state}
-use Rattle.printed_parts.proofs.BreakLemmas.{or-breaks}
-use Rattle.boot_run.specs.Views.{told_in, told_by}
 use Rattle.boot_run.proofs.DiskLemmas.{marked-by, cut-cause, fault-cause, commit-done, commit-lacked, commit-failed}
-use Rattle.boot_run.proofs.CommitLemmas.{Committed, Logged, commit_down, commit_memory, commit_live, commit_goes, commit_breaks, stop_open, stop_goes, stop_breaks, counts_over}
+use Rattle.boot_run.proofs.CommitLemmas.{Committed, IsDone, IsStopped, commit_down, commit_memory, commit_plays, commit_breaks, stop_plays, stop_breaks}
+use Rattle.boot_run.proofs.committing.commit.Given.{Over}
 use Rattle.boot_run.proofs.committing.commit.Goals as goal
+use Rattle.boot_run.proofs.committing.commit.Goals.{After-commit, In-Ok, After-end_with, After-end_with-in-Err-Device}
+
+-- whatever came of it
+left : (g : Over) (c : After-commit g)
+    → Committed c.args.hive (g.B.Disk.state c.args.bench.now) (g.B.Disk.state c.commit.new.disk)
+left g c = record {
+  crash = c.commit.ensures.crash g.met.B.Bench.told;
+  history = c.commit.ensures.goes.goes_on.history;
+  counts = c.commit.ensures.goes.goes_on.counts;
+}
+
+done : (g : Over) (c : In-Ok g)
+    → IsDone c.args.hive (g.B.Disk.state c.args.bench.now) (g.B.Disk.state c.commit.new.disk) c.in-Ok.hive c.in-Ok.sequence
+done g c =
+    let told : g.B.Disk.tells ≡ true = g.met.B.Bench.told in
+    record {
+      left = left g (goal.at.In-Ok g c).After-commit;
+      after_is = c.in-Ok.ensures.answered;
+      raised = c.in-Ok.ensures.number;
+      none = c.in-Ok.ensures.still told;
+      loads = c.in-Ok.ensures.loads told;
+      opened = c.requires.up.carries;
+      closed = c.in-Ok.ensures.carries told;
+      log = c.in-Ok.ensures.logged told;
+      quiet = commit-done _ (g.B.Disk.state c.args.bench.now) (g.B.Disk.state c.commit.new.disk) c.in-Ok.ensures.goes;
+    }
+
+cut : (g : Over) (c : After-end_with g)
+    → IsStopped c.args.hive (g.B.Disk.state c.args.bench.now) (g.B.Disk.state c.commit.new.disk)
+    (g.B.Disk.state c.end_with.new.bench) PowerCut
+cut g c =
+    let stopped : IsErrOf c.commit.result stops.PowerLost = search rules in
+    let counted = c.commit.ensures.goes.goes_on.cut stopped in
+    record {
+      left = left g (goal.at.After-end_with g c).After-commit;
+      cause = cut-cause (g.B.Disk.state c.args.bench.now) (g.B.Disk.state c.commit.new.disk) c.requires.up.marked counted;
+      counted = counted;
+      off = c.end_with.ensures.off;
+    }
+
+fault : (g : Over) (c : After-end_with-in-Err-Device g)
+    → IsStopped c.args.hive (g.B.Disk.state c.args.bench.now) (g.B.Disk.state c.commit.new.disk)
+    (g.B.Disk.state c.end_with-in-Err-Device.new.bench) DeviceFault
+fault g c =
+    let d = g.B.Disk.state c.args.bench.now in
+    let e = g.B.Disk.state c.commit.new.disk in
+    let stopped : IsErrOf c.commit.result stops.Device = search rules in
+    record {
+      left = left g (goal.at.After-end_with-in-Err-Device g c).After-commit;
+      cause = fault-cause d e c.requires.up.marked (c.commit.ensures.goes.goes_on.fault stopped);
+      counted = commit-failed c.commit.result d e c.commit.ensures.goes stopped;
+      off = c.end_with-in-Err-Device.ensures.off;
+    }
 
 pub returns-in_err-say-in-Ok-clause-plays : goal.returns-in_err-say-in-Ok-clause-plays
 returns-in_err-say-in-Ok-clause-plays g c = λ m next tells counts live stays.
-    let d = g.B.Disk.state c.args.bench.now in
-    let e = g.B.Disk.state c.commit.new.disk in
-    let x = told_in (g.H.Host.state c.args.host.now) c.args.runner.now in
-    let y = told_by (g.H.Host.state c.say.new.host) c.say.new.summary in
-    let told : g.B.Disk.tells ≡ true = g.met.B.Bench.told in
-    let all : Committed c.args.hive d e =
-    record {
-      crash = c.in-Ok.ensures.crash told;
-      history = c.in-Ok.ensures.goes.goes_on.history;
-      counts = c.in-Ok.ensures.goes.goes_on.counts;
-    } in
-    let logged : Logged c.args.hive d e =
-    record {
-      opened = c.requires.up.carries;
-      closed = c.in-Ok.ensures.carries told;
-      log = c.in-Ok.ensures.logged told;
-    } in
-    or-breaks _ c.from_residual.result c.from_residual.ensures.0
-    (commit (commit_of c.args.what) c.args.hive.tree m next) x y d e
-    (commit_breaks m next (commit_of c.args.what)
-    c.args.hive d e live all c.in-Ok.hive c.in-Ok.sequence c.in-Ok.ensures.answered c.in-Ok.ensures.number
-    (c.in-Ok.ensures.still told) (c.in-Ok.ensures.loads told) logged
-    (commit-done _ d e c.in-Ok.ensures.goes) stays x y.said (c.in_err-say-in-Ok.ensures.tells tells))
+    commit_breaks m next (commit_of c.args.what) live (done g (goal.at.returns-in_err-say-in-Ok-clause-plays g c).In-Ok)
+    c.from_residual.ensures.0 stays (c.in_err-say-in-Ok.ensures.tells tells)
 
 pub returns-in_ok-say-in-Ok-clause-plays : goal.returns-in_ok-say-in-Ok-clause-plays
 returns-in_ok-say-in-Ok-clause-plays g c = λ m next tells counts live stays.
-    let d = g.B.Disk.state c.args.bench.now in
-    let e = g.B.Disk.state c.commit.new.disk in
-    let x = told_in (g.H.Host.state c.args.host.now) c.args.runner.now in
-    let y = told_by (g.H.Host.state c.say.new.host) c.say.new.summary in
-    let told : g.B.Disk.tells ≡ true = g.met.B.Bench.told in
-    let all : Committed c.args.hive d e =
-    record {
-      crash = c.in-Ok.ensures.crash told;
-      history = c.in-Ok.ensures.goes.goes_on.history;
-      counts = c.in-Ok.ensures.goes.goes_on.counts;
-    } in
-    let logged : Logged c.args.hive d e =
-    record {
-      opened = c.requires.up.carries;
-      closed = c.in-Ok.ensures.carries told;
-      log = c.in-Ok.ensures.logged told;
-    } in (
-      next (committed_state m c.args.hive.tree),
-      (
-        commit_goes m next (commit_of c.args.what)
-            c.args.hive d e live all c.in-Ok.hive c.in-Ok.sequence c.in-Ok.ensures.answered c.in-Ok.ensures.number
-            (c.in-Ok.ensures.still told) (c.in-Ok.ensures.loads told) logged
-            (commit-done _ d e c.in-Ok.ensures.goes) x y (c.in_ok-say-in-Ok.ensures.tells tells),
-        (
-          refl,
-          (
-            record { machine = counts.machine; starts = counts.starts },
-            commit_live m next (commit_of c.args.what)
-                c.args.hive d e live all c.in-Ok.hive c.in-Ok.sequence c.in-Ok.ensures.answered c.in-Ok.ensures.number
-                (c.in-Ok.ensures.still told) (c.in-Ok.ensures.loads told) logged,
-          ),
-        ),
-      ),
-    )
+    commit_plays m next (commit_of c.args.what) live (done g (goal.at.returns-in_ok-say-in-Ok-clause-plays g c).In-Ok)
+    (record c.args.runner.now { summary = c.say.new.summary }) (c.in_ok-say-in-Ok.ensures.tells tells)
+    (record { machine = counts.machine; starts = counts.starts })
 
 pub returns-in-Err-Memory-clause-plays : goal.returns-in-Err-Memory-clause-plays
 returns-in-Err-Memory-clause-plays g c = λ m next tells counts live stays.
-    let d = g.B.Disk.state c.args.bench.now in
-    let e = g.B.Disk.state c.commit.new.disk in
-    let told : g.B.Disk.tells ≡ true = g.met.B.Bench.told in
-    let all : Committed c.args.hive d e =
-    record {
-      crash = c.commit.ensures.crash told;
-      history = c.commit.ensures.goes.goes_on.history;
-      counts = c.commit.ensures.goes.goes_on.counts;
-    } in
     let lacked : IsErrOf c.commit.result stops.Memory = search rules in
-    commit_memory m next (commit_of c.args.what) c.args.hive d e live all
-    (commit-lacked c.commit.result d e c.commit.ensures.goes lacked)
-    (told_in (g.H.Host.state c.args.host.now) c.args.runner.now)
+    commit_memory m next (commit_of c.args.what) live refl
+    (left g (goal.at.returns-in-Err-Memory-clause-plays g c).After-commit)
+    (commit-lacked c.commit.result (g.B.Disk.state c.args.bench.now) (g.B.Disk.state c.commit.new.disk)
+    c.commit.ensures.goes lacked)
 
 pub returns-in_err-end_with-in-Err-PowerLost-clause-plays : goal.returns-in_err-end_with-in-Err-PowerLost-clause-plays
 returns-in_err-end_with-in-Err-PowerLost-clause-plays g c = λ m next tells counts live stays.
-    let d = g.B.Disk.state c.args.bench.now in
-    let e = g.B.Disk.state c.commit.new.disk in
-    let f = g.B.Disk.state c.end_with.new.bench in
-    let told : g.B.Disk.tells ≡ true = g.met.B.Bench.told in
-    let all : Committed c.args.hive d e =
-    record {
-      crash = c.commit.ensures.crash told;
-      history = c.commit.ensures.goes.goes_on.history;
-      counts = c.commit.ensures.goes.goes_on.counts;
-    } in
-    let x = told_in (g.H.Host.state c.args.host.now) c.args.runner.now in
-    let y = told_in (g.H.Host.state c.end_with.new.host) c.end_with.new.runner in
-    let stopped : IsErrOf c.commit.result stops.PowerLost = search rules in
-    let cause = cut-cause d e c.requires.up.marked (c.commit.ensures.goes.goes_on.cut stopped) in
-    or-breaks _ c.from_residual-in_err-end_with-in-Err-PowerLost.result
-    c.from_residual-in_err-end_with-in-Err-PowerLost.ensures.0
-    (commit (commit_of c.args.what) c.args.hive.tree m next) x y d f
-    (stop_breaks m next (commit_of c.args.what)
-    c.args.hive d e live all book.Cut PowerCut refl refl f c.end_with.ensures.off cause
-    (c.commit.ensures.goes.goes_on.cut stopped) x y.said
-    (c.in_err-end_with-in-Err-PowerLost.ensures.tells tells))
+    stop_breaks m next (commit_of c.args.what) live book.Cut refl refl
+    (cut g (goal.at.returns-in_err-end_with-in-Err-PowerLost-clause-plays g c).After-end_with)
+    c.from_residual-in_err-end_with-in-Err-PowerLost.ensures.0 (c.in_err-end_with-in-Err-PowerLost.ensures.tells tells)
 
 pub returns-in_ok-end_with-in-Err-PowerLost-clause-plays : goal.returns-in_ok-end_with-in-Err-PowerLost-clause-plays
 returns-in_ok-end_with-in-Err-PowerLost-clause-plays g c = λ m next tells counts live stays.
-    let d = g.B.Disk.state c.args.bench.now in
-    let e = g.B.Disk.state c.commit.new.disk in
-    let f = g.B.Disk.state c.end_with.new.bench in
-    let told : g.B.Disk.tells ≡ true = g.met.B.Bench.told in
-    let all : Committed c.args.hive d e =
-    record {
-      crash = c.commit.ensures.crash told;
-      history = c.commit.ensures.goes.goes_on.history;
-      counts = c.commit.ensures.goes.goes_on.counts;
-    } in
-    let x = told_in (g.H.Host.state c.args.host.now) c.args.runner.now in
-    let y = told_in (g.H.Host.state c.end_with.new.host) c.end_with.new.runner in
-    let stopped : IsErrOf c.commit.result stops.PowerLost = search rules in
-    let cause = cut-cause d e c.requires.up.marked (c.commit.ensures.goes.goes_on.cut stopped) in (
-      done (start_over false (opened_state m c.args.hive.tree)),
-      (
-        stop_goes m next (commit_of c.args.what)
-            c.args.hive d e live all book.Cut PowerCut refl refl f c.end_with.ensures.off cause
-            (c.commit.ensures.goes.goes_on.cut stopped) x y
-            (c.in_ok-end_with-in-Err-PowerLost.ensures.tells tells),
-        (
-          refl,
-          (
-            counts_over m (opened_state m c.args.hive.tree)
-                c.args.runner.now c.end_with.new.runner counts refl refl c.end_with.ensures.machine
-                c.end_with.ensures.starts,
-            stop_open m next (commit_of c.args.what)
-                c.args.hive d e live all book.Cut PowerCut refl refl f c.end_with.ensures.off cause,
-          ),
-        ),
-      ),
-    )
+    stop_plays m next (commit_of c.args.what) live book.Cut refl refl
+    (cut g (goal.at.returns-in_ok-end_with-in-Err-PowerLost-clause-plays g c).After-end_with)
+    c.end_with.new.runner (c.in_ok-end_with-in-Err-PowerLost.ensures.tells tells) counts c.end_with.ensures.machine
+    c.end_with.ensures.starts
 
 pub returns-in_ok-end_with-in-Err-PowerLost-clause-sound : goal.returns-in_ok-end_with-in-Err-PowerLost-clause-sound
-returns-in_ok-end_with-in-Err-PowerLost-clause-sound g c =
-    let d = g.B.Disk.state c.args.bench.now in
-    let e = g.B.Disk.state c.commit.new.disk in
-    let f = g.B.Disk.state c.end_with.new.bench in
-    let told : g.B.Disk.tells ≡ true = g.met.B.Bench.told in
-    let all : Committed c.args.hive d e =
-    record {
-      crash = c.commit.ensures.crash told;
-      history = c.commit.ensures.goes.goes_on.history;
-      counts = c.commit.ensures.goes.goes_on.counts;
-    } in
-    (commit_down c.args.hive d e f c.requires.up.loads all c.end_with.ensures.off, search rules)
+returns-in_ok-end_with-in-Err-PowerLost-clause-sound g c = (
+  commit_down c.requires.up.loads
+      (left g (goal.at.returns-in_ok-end_with-in-Err-PowerLost-clause-sound g c).After-commit) c.end_with.ensures.off,
+  search rules,
+)
 
 pub returns-in_err-end_with-in-Err-Device-clause-plays : goal.returns-in_err-end_with-in-Err-Device-clause-plays
 returns-in_err-end_with-in-Err-Device-clause-plays g c = λ m next tells counts live stays.
-    let d = g.B.Disk.state c.args.bench.now in
-    let e = g.B.Disk.state c.commit.new.disk in
-    let f = g.B.Disk.state c.end_with-in-Err-Device.new.bench in
-    let told : g.B.Disk.tells ≡ true = g.met.B.Bench.told in
-    let all : Committed c.args.hive d e =
-    record {
-      crash = c.commit.ensures.crash told;
-      history = c.commit.ensures.goes.goes_on.history;
-      counts = c.commit.ensures.goes.goes_on.counts;
-    } in
-    let x = told_in (g.H.Host.state c.args.host.now) c.args.runner.now in
-    let y = told_in (g.H.Host.state c.end_with-in-Err-Device.new.host) c.end_with-in-Err-Device.new.runner in
-    let stopped : IsErrOf c.commit.result stops.Device = search rules in
-    let cause = fault-cause d e c.requires.up.marked (c.commit.ensures.goes.goes_on.fault stopped) in
-    or-breaks _ c.from_residual-in_err-end_with-in-Err-Device.result
-    c.from_residual-in_err-end_with-in-Err-Device.ensures.0 (commit (commit_of c.args.what) c.args.hive.tree m next)
-    x y d f
-    (stop_breaks m next (commit_of c.args.what)
-    c.args.hive d e live all book.Device DeviceFault refl refl f c.end_with-in-Err-Device.ensures.off cause
-    (commit-failed c.commit.result d e c.commit.ensures.goes stopped) x y.said
-    (c.in_err-end_with-in-Err-Device.ensures.tells tells))
+    stop_breaks m next (commit_of c.args.what) live book.Device refl refl
+    (fault g (goal.at.returns-in_err-end_with-in-Err-Device-clause-plays g c).After-end_with-in-Err-Device)
+    c.from_residual-in_err-end_with-in-Err-Device.ensures.0 (c.in_err-end_with-in-Err-Device.ensures.tells tells)
 
 pub returns-in_ok-end_with-in-Err-Device-clause-plays : goal.returns-in_ok-end_with-in-Err-Device-clause-plays
 returns-in_ok-end_with-in-Err-Device-clause-plays g c = λ m next tells counts live stays.
-    let d = g.B.Disk.state c.args.bench.now in
-    let e = g.B.Disk.state c.commit.new.disk in
-    let f = g.B.Disk.state c.end_with-in-Err-Device.new.bench in
-    let told : g.B.Disk.tells ≡ true = g.met.B.Bench.told in
-    let all : Committed c.args.hive d e =
-    record {
-      crash = c.commit.ensures.crash told;
-      history = c.commit.ensures.goes.goes_on.history;
-      counts = c.commit.ensures.goes.goes_on.counts;
-    } in
-    let x = told_in (g.H.Host.state c.args.host.now) c.args.runner.now in
-    let y = told_in (g.H.Host.state c.end_with-in-Err-Device.new.host) c.end_with-in-Err-Device.new.runner in
-    let stopped : IsErrOf c.commit.result stops.Device = search rules in
-    let cause = fault-cause d e c.requires.up.marked (c.commit.ensures.goes.goes_on.fault stopped) in (
-      done (start_over false (opened_state m c.args.hive.tree)),
-      (
-        stop_goes m next (commit_of c.args.what)
-            c.args.hive d e live all book.Device DeviceFault refl refl f c.end_with-in-Err-Device.ensures.off cause
-            (commit-failed c.commit.result d e c.commit.ensures.goes stopped) x y
-            (c.in_ok-end_with-in-Err-Device.ensures.tells tells),
-        (
-          refl,
-          (
-            counts_over m (opened_state m c.args.hive.tree)
-                c.args.runner.now c.end_with-in-Err-Device.new.runner counts refl refl
-                c.end_with-in-Err-Device.ensures.machine c.end_with-in-Err-Device.ensures.starts,
-            stop_open m next (commit_of c.args.what)
-                c.args.hive d e live all book.Device DeviceFault refl refl f c.end_with-in-Err-Device.ensures.off cause,
-          ),
-        ),
-      ),
-    )
+    stop_plays m next (commit_of c.args.what) live book.Device refl refl
+    (fault g (goal.at.returns-in_ok-end_with-in-Err-Device-clause-plays g c).After-end_with-in-Err-Device)
+    c.end_with-in-Err-Device.new.runner (c.in_ok-end_with-in-Err-Device.ensures.tells tells) counts
+    c.end_with-in-Err-Device.ensures.machine c.end_with-in-Err-Device.ensures.starts
 
 pub returns-in_ok-end_with-in-Err-Device-clause-sound : goal.returns-in_ok-end_with-in-Err-Device-clause-sound
-returns-in_ok-end_with-in-Err-Device-clause-sound g c =
-    let d = g.B.Disk.state c.args.bench.now in
-    let e = g.B.Disk.state c.commit.new.disk in
-    let f = g.B.Disk.state c.end_with-in-Err-Device.new.bench in
-    let told : g.B.Disk.tells ≡ true = g.met.B.Bench.told in
-    let all : Committed c.args.hive d e =
-    record {
-      crash = c.commit.ensures.crash told;
-      history = c.commit.ensures.goes.goes_on.history;
-      counts = c.commit.ensures.goes.goes_on.counts;
-    } in
-    (commit_down c.args.hive d e f c.requires.up.loads all c.end_with-in-Err-Device.ensures.off, search rules)
+returns-in_ok-end_with-in-Err-Device-clause-sound g c = (
+  commit_down c.requires.up.loads
+      (left g (goal.at.returns-in_ok-end_with-in-Err-Device-clause-sound g c).After-commit)
+      c.end_with-in-Err-Device.ensures.off,
+  search rules,
+)
 
 pub returns-in_ok-say-in-Ok-clause-sound : goal.returns-in_ok-say-in-Ok-clause-sound
 returns-in_ok-say-in-Ok-clause-sound g c =
-    let told : g.B.Disk.tells ≡ true = g.met.B.Bench.told in
-    let d = g.B.Disk.state c.args.bench.now in
-    let e = g.B.Disk.state c.commit.new.disk in
-    let is = c.in-Ok.ensures.answered in (
+    let all = done g (goal.at.returns-in_ok-say-in-Ok-clause-sound g c).In-Ok in
+    let P : Session → Type 0 = λ t. Carries (g.B.Disk.state c.commit.new.disk).held t.base t.bins in (
       record {
         on = search rules;
-        still = c.in-Ok.ensures.still told;
-        carries = (let P : Session → Type 0 = λ t. Carries e.held t.base t.bins in
-            subst P (sym is) (c.in-Ok.ensures.carries told));
-        loads = (record { state = store.committed_state c.args.hive; dirty = false }, c.in-Ok.ensures.loads told);
-        marked = marked-by d e c.in-Ok.ensures.goes.goes_on.history c.in-Ok.ensures.goes.goes_on.counts
-            c.requires.up.marked;
+        still = all.none;
+        carries = subst P (sym all.after_is) all.closed;
+        loads = (record { state = store.committed_state c.args.hive; dirty = false }, all.loads);
+        marked = marked-by (g.B.Disk.state c.args.bench.now) (g.B.Disk.state c.commit.new.disk) all.left.history
+            all.left.counts c.requires.up.marked;
       },
-      (ap (λ (t : Session). t.tree) is, (ap (λ (t : Session). t.changed) is, record { machine = refl; starts = refl })),
+      (
+        ap (λ (t : Session). t.tree) all.after_is,
+        (ap (λ (t : Session). t.changed) all.after_is, record { machine = refl; starts = refl }),
+      ),
     )

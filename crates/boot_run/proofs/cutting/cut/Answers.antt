@@ -1,18 +1,13 @@
 use Rattle.std.proofs.Common.{ap}
 use Rattle.start_model.specs.Machine.{MachineState}
-use Rattle.boot_run.specs.Views.{told_in}
 use Rattle.boot_run.proofs.CutLemmas.{cut_plays, cut_sound}
 use Rattle.boot_run.proofs.cutting.cut.Goals as goal
 
 pub returns-clause-plays : goal.returns-clause-plays
 returns-clause-plays g c = λ m tells counts live.
-    let x = told_in (g.H.Host.state c.args.host.now) c.args.runner.now in
-    let y = told_in (g.H.Host.state c.end_with.new.host) c.end_with.new.runner in
-    let d = g.B.Disk.state c.args.bench.now in
-    cut_plays c.end_with.result m c.args.hive c.args.runner.now c.end_with.new.runner x y d
-    (g.B.Disk.state c.cut.new.self) (g.B.Disk.state c.end_with.new.bench)
-    (g.met.B.Disk.bounded c.args.bench.now) c.requires.up live counts c.cut.ensures.cut c.end_with.ensures.off
-    c.end_with.ensures.machine c.end_with.ensures.starts (c.end_with.ensures.tells tells)
+    cut_plays c.end_with.new.runner (g.met.B.Disk.bounded c.args.bench.now) c.requires.up live counts
+    c.cut.ensures.cut c.end_with.ensures.off c.end_with.ensures.machine c.end_with.ensures.starts
+    (c.end_with.ensures.tells tells)
 
 pub returns-clause-sound : goal.returns-clause-sound
 returns-clause-sound g c =

@@ -1,4 +1,4 @@
-use Rattle.std.proofs.Common.{◌≡◌, ◌≤◌, ◌∙◌, ℕ, ap, sym, subst, Option, None}
+use Rattle.std.proofs.Common.{◌≡◌, ◌≤◌, ◌∙◌, ℕ, ap, sym, subst, Option}
 use Rattle.start_model.specs.Machine.{MachineState}
 use Rattle.start_model.specs.Act.{RunState}
 use Rattle.start_model.specs.Starter.{go_steps, go_act, enough_steps}

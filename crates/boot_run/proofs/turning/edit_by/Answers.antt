@@ -1,21 +1,37 @@
-use Rattle.std.proofs.Common.{sym, subst, [], ◌∷◌, Some}
+use Rattle.std.proofs.Common.{◌≡◌, ℕ, [], ◌∷◌, refl, sym, ap, ◌∙◌}
 use Rattle.std.specs.Prelude.{Option}
 use Rattle.hive_model.specs.Edit.{edited}
+use Rattle.reg_tree.specs.Makes.{step_of}
 use Rattle.boot_machine.specs.Views.{event_in}
-use Rattle.start_model.specs.Events.{Edits}
 use Rattle.start_model.specs.Events as book
-use Rattle.start_model.specs.Machine.{Start}
-use Rattle.start_model.specs.Act.{Act}
-use Rattle.start_model.specs.EventActs.{edit_done, accepted_act}
-use Rattle.run_parts.proofs.CountLemmas.{still}
-use Rattle.printed_parts.proofs.BreakLemmas.{breaks-silent}
-use Rattle.boot_run.specs.Agrees.{RunsOnBy, TurnLeft}
-use Rattle.boot_run.specs.Views.{told_in}
+use Rattle.start_model.specs.Act.{RunState}
+use Rattle.start_model.specs.Boot.{Choice}
+use Rattle.start_model.specs.Machine as machine
+use Rattle.start_model.specs.EventActs.{accepted_act}
+use Rattle.boot_run.specs.Agrees.{Counts}
 use Rattle.boot_run.proofs.EditLemmas.{edit_may}
-use Rattle.boot_run.proofs.PlayLemmas.{live_left}
-use Rattle.boot_run.proofs.TurnLemmas.{goes_as, breaks_as, edit_of, edit_step, edit_act, edit_free, counted, running_number, running_most}
+use Rattle.boot_run.proofs.PlayLemmas.{plays-as, plays-ok, plays-err, rests-silent, counted}
+use Rattle.boot_run.proofs.TurnLemmas.{EditsOn, edits_on, edit_at, edit_step, edit_act, edit_free, running_most}
+use Rattle.boot_run.proofs.turning.edit_by.Given.{Over}
 use Rattle.boot_run.proofs.turning.edit_by.Goals as goal
+use Rattle.boot_run.proofs.turning.edit_by.Goals.{Start, In-Ok}
 use Rattle.boot_run.proofs.CloseLemmas.{runs_there}
+
+by : (g : Over) (c : Start g) → EditsOn c.args.runner.now.machine.start (event_in c.args.event.now)
+by g c = edits_on c.args.runner.now.machine.start c.args.hive.tree (event_in c.args.event.now) c.requires.edit
+    c.requires.sound.1
+
+act : (g : Over) (c : Start g) (m : RunState) (choice : Option ℕ → Choice) → Counts m c.args.runner.now
+    → edit_at c.args.runner.now.machine.start (by g c) m
+    ≡ accepted_act choice m.machine.start (event_in c.args.event.now) m
+act g c m choice counts =
+    edit_act choice c.args.runner.now.machine.start (by g c) m
+    ∙ ap (λ (s : Option machine.Start). accepted_act choice s (event_in c.args.event.now) m) (sym (counted m c.args.runner.now counts))
+
+step : (g : Over) (c : In-Ok g)
+    → step_of c.in-Ok.step
+    ≡ book.step_of (by g (goal.at.In-Ok g c).Start).number (by g (goal.at.In-Ok g c).Start).edit
+step g c = edit_step c.args.runner.now.machine.start (by g (goal.at.In-Ok g c).Start) c.in-Ok.step c.in-Ok.ensures.step
 
 pub next_step-requires : goal.next_step-requires
 next_step-requires g c =
@@ -28,66 +44,30 @@ next_step-requires g c =
 
 pub returns-in_default-clause-plays : goal.returns-in_default-clause-plays
 returns-in_default-clause-plays g c = λ m choice tells counts live.
-    let ev = event_in c.args.event.now in
-    let r = c.args.runner.now in
-    let h = c.args.hive in
-    let d = g.B.Disk.state c.args.bench.now in
-    let x = told_in (g.H.Host.state c.args.host.now) r in
-    let one = edit_of ev c.requires.edit in
-    let n = running_number r.machine.start h.tree c.requires.sound.1 in
-    let edit = edited m.version m.live (book.step_of n.0 one.0 ∷ []) in
-    let P : Option Start → Type 0 = λ o. RunsOnBy o n.0 in
-    let on : RunsOnBy m.machine.start n.0 = subst P (sym (counted m r counts)) n.1 in
-    breaks_as (edit_done (Edits one.0) m edit) (accepted_act choice m.machine.start ev m) x x.said d d
-    (edit_act choice m.machine.start n.0 ev one.0 m on one.1)
-    (breaks-silent (edit_done (Edits one.0) m edit) x d d (still d)
-    (λ image crash. edit_may one.0 m image edit (live_left m h d c.requires.sound.0 live image crash)))
+    let s = (goal.at.returns-in_default-clause-plays g c).Start in
+    plays-as (act g s m choice counts)
+    (rests-silent refl (edit_may (by g s).edit m
+    (edited m.version m.live (book.step_of (by g s).number (by g s).edit ∷ []))) c.requires.sound.0 live)
 
 pub returns-in-Err-clause-plays : goal.returns-in-Err-clause-plays
 returns-in-Err-clause-plays g c = λ m choice tells counts live.
-    let ev = event_in c.args.event.now in
-    let r = c.args.runner.now in
-    let h = c.args.hive in
-    let d = g.B.Disk.state c.args.bench.now in
-    let x = told_in (g.H.Host.state c.args.host.now) r in
-    let y = told_in (g.H.Host.state c.edit.new.host) c.edit.new.runner in
-    let one = edit_of ev c.requires.edit in
-    let n = running_number r.machine.start h.tree c.requires.sound.1 in
-    let step = edit_step r.machine.start n.0 ev one.0 c.in-Ok.step n.1 one.1 c.in-Ok.ensures.step in
-    let edit = edited m.version m.live (book.step_of n.0 one.0 ∷ []) in
-    let P : Option Start → Type 0 = λ o. RunsOnBy o n.0 in
-    let on : RunsOnBy m.machine.start n.0 = subst P (sym (counted m r counts)) n.1 in
-    breaks_as (edit_done (Edits one.0) m edit) (accepted_act choice m.machine.start ev m) x y.said d d
-    (edit_act choice m.machine.start n.0 ev one.0 m on one.1)
-    (c.in-Err.ensures.plays d m one.0 n.0 tells counts c.requires.sound live one.1 step)
+    let s = (goal.at.returns-in-Err-clause-plays g c).Start in
+    let k = by g s in
+    plays-as (act g s m choice counts)
+    (plays-err refl (c.in-Err.ensures.plays (g.B.Disk.state c.args.bench.now) m k.edit k.number tells counts
+    c.requires.sound live k.is (step g (goal.at.returns-in-Err-clause-plays g c).In-Ok)))
 
 pub returns-in-Ok-edit-clause-plays : goal.returns-in-Ok-edit-clause-plays
 returns-in-Ok-edit-clause-plays g c = λ m choice tells counts live.
-    let ev = event_in c.args.event.now in
-    let r = c.args.runner.now in
-    let h = c.args.hive in
-    let d = g.B.Disk.state c.args.bench.now in
-    let x = told_in (g.H.Host.state c.args.host.now) r in
-    let y = told_in (g.H.Host.state c.edit.new.host) c.edit.new.runner in
-    let one = edit_of ev c.requires.edit in
-    let n = running_number r.machine.start h.tree c.requires.sound.1 in
-    let step = edit_step r.machine.start n.0 ev one.0 c.in-Ok.step n.1 one.1 c.in-Ok.ensures.step in
-    let edit = edited m.version m.live (book.step_of n.0 one.0 ∷ []) in
-    let P : Option Start → Type 0 = λ o. RunsOnBy o n.0 in
-    let on : RunsOnBy m.machine.start n.0 = subst P (sym (counted m r counts)) n.1 in
-    let Left : Act → Type 0 = λ a. TurnLeft c.edit.new.runner d (Some c.in-Ok-edit.hive) a in
-    goes_as (edit_done (Edits one.0) m edit) (accepted_act choice m.machine.start ev m) x y d d Left
-    (edit_act choice m.machine.start n.0 ev one.0 m on one.1)
-    (c.in-Ok-edit.ensures.plays d m one.0 n.0 tells counts c.requires.sound live one.1 step)
+    let s = (goal.at.returns-in-Ok-edit-clause-plays g c).Start in
+    let k = by g s in
+    plays-as (act g s m choice counts)
+    (plays-ok (c.in-Ok-edit.ensures.plays (g.B.Disk.state c.args.bench.now) m k.edit k.number tells counts
+    c.requires.sound live k.is (step g (goal.at.returns-in-Ok-edit-clause-plays g c).In-Ok)) (λ rest h. h))
 
 pub returns-in-Ok-edit-clause-sound : goal.returns-in-Ok-edit-clause-sound
 returns-in-Ok-edit-clause-sound g c =
-    let ev = event_in c.args.event.now in
-    let r = c.args.runner.now in
-    let h = c.args.hive in
-    let d = g.B.Disk.state c.args.bench.now in
-    let one = edit_of ev c.requires.edit in
-    let n = running_number r.machine.start h.tree c.requires.sound.1 in
-    let step = edit_step r.machine.start n.0 ev one.0 c.in-Ok.step n.1 one.1 c.in-Ok.ensures.step in
-    c.in-Ok-edit.ensures.sound d one.0 n.0 c.requires.sound n.1 step
-    (edit_free r.machine.start h.tree ev one.0 c.requires.sound.1 one.1 c.requires.accepted)
+    let k = by g (goal.at.returns-in-Ok-edit-clause-sound g c).Start in
+    c.in-Ok-edit.ensures.sound (g.B.Disk.state c.args.bench.now) k.edit k.number c.requires.sound k.on
+    (step g (goal.at.returns-in-Ok-edit-clause-sound g c).In-Ok)
+    (edit_free c.args.runner.now.machine.start c.args.hive.tree k c.requires.sound.1 c.requires.accepted)

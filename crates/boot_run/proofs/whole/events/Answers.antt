@@ -1,5 +1,5 @@
 use Rattle.std.proofs.Common.{◌∙◌, map, length, ◌-◌, take, drop, refl}
-use Rattle.std.specs.Prelude.{Result, Ok, Err}
+use Rattle.std.specs.Prelude.{Result, Err}
 use Rattle.std.proofs.lemmas.List.Elements.{All-take, All-drop}
 use Rattle.boot_machine.specs.Views.{event_in}
 use Rattle.boot_script.specs.Script.{HasCounts}
@@ -34,7 +34,7 @@ returns-in_default-clause-runs g c = λ m tells counts left.
     e c.events.runner c.events.hive
     c.in_default.len_below (λ n by. agrees_left n c.events.runner e c.events.hive c.events.invariant.sound by)
     (c.events.invariant.progress m tells counts left)
-    (λ n stands may. c.close.ensures.plays n e (c.events.invariant.host.keeps.tells ∙ tells) stands may)
+    (λ n stands may. (c.close.ensures.plays n e (c.events.invariant.host.keeps.tells ∙ tells) stands may).is)
 
 pub returns-in_default-clause-host : goal.returns-in_default-clause-host
 returns-in_default-clause-host g c =
@@ -56,7 +56,7 @@ returns-in-Err-clause-runs g c = λ m tells counts left.
     gave_up choice whole (event_in c.event-item.result) (map event_in (take (length ws - 1) (drop 1 ws))) x y z.said d e
     (g.B.Disk.state c.turn.new.bench) c.events.runner c.events.hive
     p (agrees_closed p.state c.events.runner e c.events.hive c.events.invariant.sound p.agrees)
-    (c.in-Err.ensures.plays p.state (c.events.invariant.host.keeps.tells ∙ tells) p.agrees)
+    (c.in-Err.ensures.plays p.state (c.events.invariant.host.keeps.tells ∙ tells) p.agrees).is
 
 pub returns-in-Err-clause-host : goal.returns-in-Err-clause-host
 returns-in-Err-clause-host g c =
@@ -83,7 +83,7 @@ events-preserved g c =
           c.in-len1-up.len_at_least c.event-item.is (c.events.invariant.progress m tells counts left) in
           went_on choice whole (event_in c.event-item.result) (map event_in (take (length ws - 1) (drop 1 ws)))
           x y z d e (g.B.Disk.state c.turn.new.bench) c.events.runner c.turn.new.runner c.events.hive c.in-Ok.after
-          p (c.in-Ok.ensures.plays p.state (c.events.invariant.host.keeps.tells ∙ tells) p.agrees);
+          p (c.in-Ok.ensures.plays p.state (c.events.invariant.host.keeps.tells ∙ tells) p.agrees).is;
       host = still-then c.in-Ok.after (g.H.Host.state c.args.host.now) (g.H.Host.state c.events.host)
           (g.H.Host.state c.turn.new.host) c.events.invariant.host c.in-Ok.ensures.host;
     }

@@ -1,17 +1,20 @@
-use Rattle.std.proofs.Common.{◌∙◌, sym}
+use Rattle.std.proofs.Common.{◌∙◌, sym, refl, ap}
 use Rattle.boot_report.specs.Report.{verdict_of}
-use Rattle.boot_run.specs.Views.{told_in, told_by}
-use Rattle.boot_run.proofs.RunLemmas.{last_verdict, no_verdict}
+use Rattle.boot_machine.specs.Steps.{is_there}
+use Rattle.printed_parts.proofs.GoesLemmas.{idle}
+use Rattle.boot_run.proofs.PlayLemmas.{plays-as, plays-said, plays-here, counted}
+use Rattle.boot_run.proofs.CloseLemmas.{ending, word_at}
+use Rattle.boot_run.proofs.RunLemmas.{verdict_on, verdict_off}
 use Rattle.boot_run.proofs.whole.say_last.Goals as goal
 
 pub returns-then-is_on-clause-plays : goal.returns-then-is_on-clause-plays
 returns-then-is_on-clause-plays g c = λ m d rest tells counts left.
-    last_verdict c.say.result m c.args.runner.now (verdict_of c.ending-word.result) rest
-    (told_in (g.H.Host.state c.args.host.now) c.args.runner.now)
-    (told_by (g.H.Host.state c.say.new.host) c.say.new.summary)
-    d counts (sym c.is_on.ensures ∙ c.if-is_on.true) c.ending-word.ensures left (c.say.ensures.tells tells)
+    let word = verdict_of c.ending-word.result in
+    let is = word_at counts c.ending-word.ensures in
+    plays-as (verdict_on m.machine.start word rest is)
+    (plays-said (idle d) (ending m.machine.start word is).none (c.say.ensures.tells tells) left (λ v. refl))
 
 pub returns-clause-plays : goal.returns-clause-plays
 returns-clause-plays g c = λ m d rest tells counts left.
-    no_verdict m c.args.runner.now rest (told_in (g.H.Host.state c.args.host.now) c.args.runner.now) d counts
-    (sym c.is_on.ensures ∙ c.if-is_on.false)
+    plays-here (verdict_off m.machine.start rest
+    (ap is_there (counted m c.args.runner.now counts) ∙ sym c.is_on.ensures ∙ c.if-is_on.false)) refl

@@ -15,48 +15,48 @@ use Rattle.hive_alt.proofs.changing.change_loaded.Goals.{After-settled_is_clean,
 
 -- what was loaded stands with nothing to repair
 clean_here : (g : Over) (c : After-settled_is_clean g) → g.D.Disk.tells ≡ true
-    → IsCleanAs g.S.Scheme.stands c.args.loaded.found.base c.args.loaded.found.bins
+    → IsCleanAs g.S.Scheme.stands c.args.loaded.now.found.base c.args.loaded.now.found.bins
     (g.D.Disk.state c.args.disk.now).held
 clean_here g c tells =
-    c.settled_is_clean.ensures (g.D.Disk.state c.args.disk.now).held c.args.loaded.found.base c.args.loaded.found.bins
+    c.settled_is_clean.ensures (g.D.Disk.state c.args.disk.now).held c.args.loaded.now.found.base c.args.loaded.now.found.bins
     c.requires.sized (c.requires.settled tells)
 
 -- where nothing more is written a cut leaves it
 cut_here : (g : Over) (c : After-settled_is_clean g) → g.D.Disk.tells ≡ true
     → EachCrash (g.D.Disk.state c.args.disk.now)
-    (IsEitherOf g.S.Scheme.stands c.args.loaded.found c.args.loaded.tree c.args.number)
+    (IsEitherOf g.S.Scheme.stands c.args.loaded.now.found c.args.loaded.now.tree c.args.number)
 cut_here g c tells =
-    let found = c.args.loaded.found in
+    let found = c.args.loaded.now.found in
     let s = g.D.Disk.state c.args.disk.now in
-    kept_crash g.S.Scheme.stands found c.args.loaded.tree c.args.number (c.requires.holds tells) s
+    kept_crash g.S.Scheme.stands found c.args.loaded.now.tree c.args.number (c.requires.holds tells) s
     (kept_still g.S.Scheme.stands s s refl (c.requires.still tells) found.base found.bins
     (record { dirty = false; kept = clean_here g c tells }))
 
-version_is : (g : Over) (c : In_ok-next g) → c.version.result ≡ version_of c.args.loaded.found.base.minor
+version_is : (g : Over) (c : In_ok-next g) → c.version.result ≡ version_of c.args.loaded.now.found.base.minor
 version_is g c = c.version.ensures ∙ ap (λ (r : Recovered). version_of r.base.minor) c.found.view_is
 
 -- and that is the tree as it is to be, where the plan leaves the tree
 left_here : (g : Over) (c : In_ok-next g) → g.D.Disk.tells ≡ true → (change : Change)
-    → change_of c.version.result c.args.loaded.tree c.args.number ≡ change
-    → after_change c.args.loaded.found c.args.loaded.tree change ≡ held_state c.args.loaded.found c.args.loaded.tree
+    → change_of c.version.result c.args.loaded.now.tree c.args.number ≡ change
+    → after_change c.args.loaded.now.found c.args.loaded.now.tree change ≡ held_state c.args.loaded.now.found c.args.loaded.now.tree
     → EachCrash (g.D.Disk.state c.args.disk.now)
-    (StandsAfter g.S.Scheme.stands c.args.loaded.found c.args.loaded.tree c.args.number)
+    (StandsAfter g.S.Scheme.stands c.args.loaded.now.found c.args.loaded.now.tree c.args.number)
 left_here g c tells change is left =
-    left_mended g.S.Scheme.stands c.args.loaded.found c.args.loaded.tree c.args.number (c.requires.holds tells) change
+    left_mended g.S.Scheme.stands c.args.loaded.now.found c.args.loaded.now.tree c.args.number (c.requires.holds tells) change
     c.version.result (version_is g c) is left (g.D.Disk.state c.args.disk.now) (c.requires.still tells)
     (clean_here g (goal.at.In_ok-next g c).After-settled_is_clean tells)
 
 -- what is packed holds the changed tree
 packed : (g : Over) (c : In-Pack g) → IsPlanOf c.version.result
-    (change_of c.version.result c.args.loaded.tree c.args.number) (plans.Pack c.in-Pack.new)
-packed g c = subst (IsPlanOf c.version.result (change_of c.version.result c.args.loaded.tree c.args.number))
+    (change_of c.version.result c.args.loaded.now.tree c.args.number) (plans.Pack c.in-Pack.new)
+packed g c = subst (IsPlanOf c.version.result (change_of c.version.result c.args.loaded.now.tree c.args.number))
     c.in-Pack.is c.in_ok-next.ensures
 
 -- the commit is given what was loaded
-given_is : (g : Over) (c : In-Pack g) → c.found.inside.base ≡ c.args.loaded.found.base
+given_is : (g : Over) (c : In-Pack g) → c.found.inside.base ≡ c.args.loaded.now.found.base
 given_is g c = ap (λ (r : Recovered). r.base) c.found.view_is
 
-old_is : (g : Over) (c : In-Pack g) → c.as_slice-old.result.now ≡ c.args.loaded.found.bins
+old_is : (g : Over) (c : In-Pack g) → c.as_slice-old.result.now ≡ c.args.loaded.now.found.bins
 old_is g c = c.as_slice-old.ensures ∙ ap (λ (r : Recovered). r.bins) c.found.view_is
 
 pub returns-in_err-next-clause-crash : goal.returns-in_err-next-clause-crash
@@ -76,22 +76,22 @@ returns-in-Nothing-clause-answers g c = λ tells image read.
     let s = g.D.Disk.state c.args.disk.now in
     let loaded_is = ap (λ (b : Base). b.first) c.base.view_is ∙ ap (λ (r : Recovered). r.base.first) c.found.view_is in
     let mended_is = ap (λ (r : Recovered). r.dirty) c.found.view_is in
-    let plan = subst (IsPlanOf c.version.result (change_of c.version.result c.args.loaded.tree c.args.number))
+    let plan = subst (IsPlanOf c.version.result (change_of c.version.result c.args.loaded.now.tree c.args.number))
     c.in-Nothing.is c.in_ok-next.ensures in
-    nothing_done g.S.Scheme.stands c.args.loaded.found c.args.loaded.tree c.args.number (c.requires.holds tells)
+    nothing_done g.S.Scheme.stands c.args.loaded.now.found c.args.loaded.now.tree c.args.number (c.requires.holds tells)
     c.base.inside.first c.found.inside.dirty loaded_is mended_is image
     s.held c.version.result (version_is g (goal.at.returns-in-Nothing-clause-answers g c).In_ok-next) read plan
     (clean_here g (goal.at.returns-in-Nothing-clause-answers g c).After-settled_is_clean tells)
 
-pub returns-clause-answers : goal.returns-clause-answers
-returns-clause-answers g c = λ tells image read.
+pub returns-in-Pack-clause-answers : goal.returns-in-Pack-clause-answers
+returns-in-Pack-clause-answers g c = λ tells image read.
     let loaded_is = ap (λ (b : Base). b.first) c.base.view_is ∙ ap (λ (r : Recovered). r.base.first) c.found.view_is in
     let mended_is = ap (λ (r : Recovered). r.dirty) c.found.view_is in
-    let here = (goal.at.returns-clause-answers g c).In-Pack in
+    let here = (goal.at.returns-in-Pack-clause-answers g c).In-Pack in
     let x = packed g here in
     let t = g.D.Disk.state c.commit_change.new.disk in
-    change_answers g.S.Scheme.stands c.args.loaded.found c.args.loaded.tree c.args.number (c.requires.holds tells) x.0
-    c.in-Pack.new c.version.result (version_is g (goal.at.returns-clause-answers g c).In_ok-next) x.1 x.2
+    change_answers g.S.Scheme.stands c.args.loaded.now.found c.args.loaded.now.tree c.args.number (c.requires.holds tells) x.0
+    c.in-Pack.new c.version.result (version_is g (goal.at.returns-in-Pack-clause-answers g c).In_ok-next) x.1 x.2
     c.found.inside.base c.as_slice-old.result.now c.as_slice-packed.result.now (given_is g here) (old_is g here)
     c.as_slice-packed.ensures
     c.base.inside.first c.found.inside.dirty loaded_is mended_is image t.held read
@@ -105,28 +105,28 @@ returns-clause-answers g c = λ tells image read.
 pub returns-in-Nothing-clause-mended : goal.returns-in-Nothing-clause-mended
 returns-in-Nothing-clause-mended g c = λ tells decided.
     left_here g (goal.at.returns-in-Nothing-clause-mended g c).In_ok-next tells nothing
-    (subst (IsPlanOf c.version.result (change_of c.version.result c.args.loaded.tree c.args.number))
+    (subst (IsPlanOf c.version.result (change_of c.version.result c.args.loaded.now.tree c.args.number))
     c.in-Nothing.is c.in_ok-next.ensures) refl
 
 pub returns-in-NoSelect-clause-mended : goal.returns-in-NoSelect-clause-mended
 returns-in-NoSelect-clause-mended g c = λ tells decided.
     left_here g (goal.at.returns-in-NoSelect-clause-mended g c).In_ok-next tells no_select
-    (subst (IsPlanOf c.version.result (change_of c.version.result c.args.loaded.tree c.args.number))
+    (subst (IsPlanOf c.version.result (change_of c.version.result c.args.loaded.now.tree c.args.number))
     c.in-NoSelect.is c.in_ok-next.ensures) refl
 
 pub returns-in-Full-clause-mended : goal.returns-in-Full-clause-mended
 returns-in-Full-clause-mended g c = λ tells decided.
     left_here g (goal.at.returns-in-Full-clause-mended g c).In_ok-next tells too_large
-    (subst (IsPlanOf c.version.result (change_of c.version.result c.args.loaded.tree c.args.number))
+    (subst (IsPlanOf c.version.result (change_of c.version.result c.args.loaded.now.tree c.args.number))
     c.in-Full.is c.in_ok-next.ensures) refl
 
-pub returns-clause-mended : goal.returns-clause-mended
-returns-clause-mended g c = λ tells.
-    let here = (goal.at.returns-clause-mended g c).In-Pack in
+pub returns-in-Pack-clause-mended : goal.returns-in-Pack-clause-mended
+returns-in-Pack-clause-mended g c = λ tells.
+    let here = (goal.at.returns-in-Pack-clause-mended g c).In-Pack in
     let x = packed g here in
     let t = g.D.Disk.state c.commit_change.new.disk in
-    change_mended g.S.Scheme.stands c.args.loaded.found c.args.loaded.tree c.args.number (c.requires.holds tells) x.0
-    c.in-Pack.new c.version.result (version_is g (goal.at.returns-clause-mended g c).In_ok-next)
+    change_mended g.S.Scheme.stands c.args.loaded.now.found c.args.loaded.now.tree c.args.number (c.requires.holds tells) x.0
+    c.in-Pack.new c.version.result (version_is g (goal.at.returns-in-Pack-clause-mended g c).In_ok-next)
     x.1 x.2
     c.found.inside.base c.as_slice-old.result.now c.as_slice-packed.result.now (given_is g here) (old_is g here)
     c.as_slice-packed.ensures
@@ -138,12 +138,12 @@ returns-clause-mended g c = λ tells.
     c.commit_change.result c.commit_change.ensures.refused (c.commit_change.ensures.settled tells)
     (c.commit_change.ensures.still tells)
 
-pub returns-clause-crash : goal.returns-clause-crash
-returns-clause-crash g c = λ tells.
-    let here = (goal.at.returns-clause-crash g c).In-Pack in
+pub returns-in-Pack-clause-crash : goal.returns-in-Pack-clause-crash
+returns-in-Pack-clause-crash g c = λ tells.
+    let here = (goal.at.returns-in-Pack-clause-crash g c).In-Pack in
     let x = packed g here in
-    change_crash g.S.Scheme.stands c.args.loaded.found c.args.loaded.tree c.args.number (c.requires.holds tells) x.0
-    c.in-Pack.new c.version.result (version_is g (goal.at.returns-clause-crash g c).In_ok-next) x.1 x.2
+    change_crash g.S.Scheme.stands c.args.loaded.now.found c.args.loaded.now.tree c.args.number (c.requires.holds tells) x.0
+    c.in-Pack.new c.version.result (version_is g (goal.at.returns-in-Pack-clause-crash g c).In_ok-next) x.1 x.2
     c.found.inside.base c.as_slice-old.result.now c.as_slice-packed.result.now (given_is g here) (old_is g here)
     c.as_slice-packed.ensures
     (g.D.Disk.state c.commit_change.new.disk) (c.commit_change.ensures.crash tells)

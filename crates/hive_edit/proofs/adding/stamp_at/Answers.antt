@@ -9,6 +9,6 @@ u64_at-requires c = omega
     (arith, node_long (cells_of c.args.cells.now) c.args.at c.payload-node.result.now c.requires c.payload-node.ensures)
 
 pub returns : goal.returns
-returns c = λ n read.
+returns c = λ t well.
     stamp_is (cells_of c.args.cells.now)
-    c.args.at c.payload-node.result.now c.u64_at.result c.requires c.payload-node.ensures c.u64_at.ensures n read
+    c.args.at c.payload-node.result.now c.u64_at.result c.requires c.payload-node.ensures c.u64_at.ensures t well

@@ -7,9 +7,9 @@ overflow_cast-result c =
     omega (
       arith,
       ap length c.bytes.ensures.exact
-          ∙ length_spelled 0 c.args.heap.now c.bytes.ensures.sound.each,
+          ∙ length_spelled 0 c.args.heap.now.bins c.bytes.ensures.sound.each,
       c.bytes.ensures.sound.small,
     )
 
 pub returns-clause-long : goal.returns-clause-long
-returns-clause-long c = ap length c.bytes.ensures.exact ∙ length_spelled 0 c.args.heap.now c.bytes.ensures.sound.each
+returns-clause-long c = ap length c.bytes.ensures.exact ∙ length_spelled 0 c.args.heap.now.bins c.bytes.ensures.sound.each

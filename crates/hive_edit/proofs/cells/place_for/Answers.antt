@@ -5,16 +5,16 @@ use Rattle.hive_edit.proofs.cells.place_for.Goals as goal
 
 pub returns-in-Some : goal.returns-in-Some
 returns-in-Some c =
-    let found : IsLowestHole c.args.size c.args.heap.now c.in-Some.at = rw c.in-Some.is at c.fit.ensures in
-    hole_place c.args.size c.in-Some.at c.args.heap.now found c.long-long.ensures.fits
+    let found : IsLowestHole c.args.size c.args.heap.now.bins c.in-Some.at = rw c.in-Some.is at c.fit.ensures in
+    hole_place c.args.size c.in-Some.at c.args.heap.now.bins found c.long-long.ensures.fits
 
 pub returns-then-long-size-gt16777216 : goal.returns-then-long-size-gt16777216
 returns-then-long-size-gt16777216 c =
-    let none : NoneFits c.args.size c.args.heap.now = rw c.in-None.is at c.fit.ensures in
+    let none : NoneFits c.args.size c.args.heap.now.bins = rw c.in-None.is at c.fit.ensures in
     (none, omega (arith, c.long-long.ensures.long, c.if-long-size-gt16777216.true))
 
 pub returns-else-long-size-gt16777216 : goal.returns-else-long-size-gt16777216
 returns-else-long-size-gt16777216 c =
-    let none : NoneFits c.args.size c.args.heap.now = rw c.in-None.is at c.fit.ensures in
-    new_place c.args.size (c.long-long.result + 32) c.args.heap.now none
+    let none : NoneFits c.args.size c.args.heap.now.bins = rw c.in-None.is at c.fit.ensures in
+    new_place c.args.size (c.long-long.result + 32) c.args.heap.now.bins none
     (omega (arith, c.long-long.ensures.long, c.if-long-size-gt16777216.false)) (omega (arith, c.long-long.ensures.long))

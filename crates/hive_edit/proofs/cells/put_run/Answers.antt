@@ -8,12 +8,12 @@ put_behind-requires-clause-few c = omega (arith, c.requires.place.inside)
 
 pub put_behind-requires-clause-place : goal.put_behind-requires-clause-place
 put_behind-requires-clause-place c =
-    is_new (length c.args.run.now) c.args.at c.args.heap.now c.requires.place (omega arith)
+    is_new (length c.args.run.now) c.args.at c.args.heap.now.bins c.requires.place (omega arith)
 
 pub fill-requires-clause-hole : goal.fill-requires-clause-hole
-fill-requires-clause-hole c = is_hole (length c.args.run.now) c.args.at c.args.heap.now c.requires.place (omega arith)
+fill-requires-clause-hole c = is_hole (length c.args.run.now) c.args.at c.args.heap.now.bins c.requires.place (omega arith)
 
 pub returns-clause-put : goal.returns-clause-put
 returns-clause-put c =
     put_in_hole (length c.args.run.now) c.args.at (run_cells c.args.run.now)
-    c.args.heap.now c.fill.new.self c.fill.ensures.held c.fill.ensures.fresh c.fill.ensures.long
+    c.args.heap.now.bins c.fill.new.self.bins c.fill.ensures.held c.fill.ensures.fresh c.fill.ensures.long

@@ -13,7 +13,7 @@ use Rattle.hive_edit.proofs.deleting.take_pair.Goals as goal
 pub above_at-above-requires : goal.above_at-above-requires
 above_at-above-requires c =
     let version = c.args.version in
-    let b = look_up version c.args.heap.now in
+    let b = look_up version c.args.heap.now.bins in
     let h = pair_here b c.args.root c.requires.tree c.args.path.now c.args.pair c.requires.well c.requires.place in
     subst (λ (z : List Bin). IsKeyAt (look_up version z) c.args.pair.above) (sym c.cells.ensures)
     (above_stands b c.args.root c.requires.tree c.args.path.now c.args.pair h)
@@ -21,14 +21,14 @@ above_at-above-requires c =
 pub uses_of-requires-clause-here : goal.uses_of-requires-clause-here
 uses_of-requires-clause-here c =
     let version = c.args.version in
-    let b = look_up version c.args.heap.now in
+    let b = look_up version c.args.heap.now.bins in
     let h = pair_here b c.args.root c.requires.tree c.args.path.now c.args.pair c.requires.well c.requires.place in
     subst (λ (z : List Bin). IsKeyAt (look_up version z) c.args.pair.at) (sym c.cells.ensures)
     (kid_stands b c.args.root c.requires.tree c.args.path.now c.args.pair h)
 
 pub uses_of-requires-clause-shallow : goal.uses_of-requires-clause-shallow
 uses_of-requires-clause-shallow c =
-    let b = look_up c.args.version c.args.heap.now in
+    let b = look_up c.args.version c.args.heap.now.bins in
     let short = (pair_here b c.args.root c.requires.tree c.args.path.now c.args.pair c.requires.well
     c.requires.place).short in
     omega (arith, short)
@@ -36,7 +36,7 @@ uses_of-requires-clause-shallow c =
 pub take_child-requires : goal.take_child-requires
 take_child-requires c =
     let version = c.args.version in
-    let b = look_up version c.args.heap.now in
+    let b = look_up version c.args.heap.now.bins in
     let path = c.args.path.now in
     let p = c.args.pair in
     let h = pair_here b c.args.root c.requires.tree path p c.requires.well c.requires.place in
@@ -44,6 +44,6 @@ take_child-requires c =
     (sym c.cells.ensures) h.parent_is.read in
     let uses = c.as_slice.ensures.value ∙ c.in_ok-uses.ensures
     ∙ (λ i. tree_uses (levels_left path) (look_up version (c.cells.ensures i)) p.at) in
-    subst (λ (us : List (ℕ × Bool)). CanRemove version p.above c.above_at-above.result us c.args.heap.now) (sym uses)
-    (can_remove version c.args.heap.now c.args.root c.requires.tree path p c.above_at-above.result h
+    subst (λ (us : List (ℕ × Bool)). CanRemove version p.above c.above_at-above.result us c.args.heap.now.bins) (sym uses)
+    (can_remove version c.args.heap.now.bins c.args.root c.requires.tree path p c.above_at-above.result h
     (c.above_at-above.ensures h.node read))

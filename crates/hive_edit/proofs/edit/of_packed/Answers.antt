@@ -14,7 +14,7 @@ invariant_of-result c =
     let is = c.in_ok-packed.ensures in
     packed_hive c.args.version c.in_ok-heap.heap c.bulk-bulk.result c.args.tree.now
     (packed_here c.args.version c.in_ok-packed.packed c.in-Ok.cells c.in_ok-heap.heap c.args.tree.now is.bins
-    c.in-Ok.ensures is.well_formed c.in_ok-heap.ensures
+    c.in-Ok.ensures is.well_formed c.in_ok-heap.ensures.bins
     (packed_parents c.args.version c.args.tree.now c.requires.valid c.tree_fits.ensures c.requires.room))
     c.requires.valid c.bulk-bulk.ensures
 
@@ -22,12 +22,12 @@ pub returns-clause-tree : goal.returns-clause-tree
 returns-clause-tree c =
     let is = c.in_ok-packed.ensures in
     (packed_here c.args.version c.in_ok-packed.packed c.in-Ok.cells c.in_ok-heap.heap c.args.tree.now is.bins
-    c.in-Ok.ensures is.well_formed c.in_ok-heap.ensures
+    c.in-Ok.ensures is.well_formed c.in_ok-heap.ensures.bins
     (packed_parents c.args.version c.args.tree.now c.requires.valid c.tree_fits.ensures c.requires.room)).tree
 
 pub returns-clause-anew : goal.returns-clause-anew
 returns-clause-anew c =
     let is = c.in_ok-packed.ensures in
     (packed_here c.args.version c.in_ok-packed.packed c.in-Ok.cells c.in_ok-heap.heap c.args.tree.now is.bins
-    c.in-Ok.ensures is.well_formed c.in_ok-heap.ensures
+    c.in-Ok.ensures is.well_formed c.in_ok-heap.ensures.bins
     (packed_parents c.args.version c.args.tree.now c.requires.valid c.tree_fits.ensures c.requires.room)).anew

@@ -5,7 +5,7 @@ use Rattle.hive_edit.proofs.give.give.Goals as goal
 
 pub returns-then-bytes-le4-clause-given : goal.returns-then-bytes-le4-clause-given
 returns-then-bytes-le4-clause-given c =
-    given_inside c.args.version c.args.at c.args.kind c.args.bytes.now c.args.gone.now c.args.heap.now c.refer.new.heap
+    given_inside c.args.version c.args.at c.args.kind c.args.bytes.now c.args.gone.now c.args.heap.now.bins c.refer.new.heap.bins
     (omega arith) (λ k. omega (arith, c.type_inv.bytes k))
     (rw c.inside_fields-fields.ensures at c.refer.ensures.here)
     c.refer.ensures.freed c.refer.ensures.others c.refer.ensures.long

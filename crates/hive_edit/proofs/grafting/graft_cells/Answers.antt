@@ -1,5 +1,4 @@
-use Rattle.std.proofs.Common.{◌≡◌, ℕ, sym, subst, ◌∙◌, arith}
-use Rattle.hive_model.specs.Packed.{text, cells_of}
+use Rattle.std.proofs.Common.{ℕ, sym, subst, arith}
 use Rattle.hive_pack.specs.Below.{beside}
 use Rattle.hive_pack.proofs.Counts.{few_sharers}
 use Rattle.hive_edit.specs.Grafted.{IsRunPut}
@@ -17,53 +16,37 @@ pub put_run-requires-clause-place : goal.put_run-requires-clause-place
 put_run-requires-clause-place c =
     let inside = c.requires.can.place.inside in
     let up = beside c.args.version c.args.parent c.args.shared.now c.args.above.security c.args.at c.args.key.now in
-    let is : c.as_slice.result.now ≡ text (cells_of c.args.version up c.args.at c.args.key.now) =
-    c.as_slice.ensures ∙ c.in_ok-run.ensures in
-    let run : IsGraftRun c.args.version up c.args.at c.args.key.now c.as_slice.result.now =
-    graft_run c.args.version up c.args.at c.args.key.now c.as_slice.result.now is (omega (arith, inside)) in
-    subst (λ (n : ℕ). IsPlace n c.args.heap.now c.args.at) (sym run.long) c.requires.can.place
+    let run : IsGraftRun c.args.version up c.args.at c.args.key.now c.args.run.now =
+    graft_run c.args.version up c.args.at c.args.key.now c.args.run.now c.requires.run (omega (arith, inside)) in
+    subst (λ (n : ℕ). IsPlace n c.args.heap.now.bins c.args.at) (sym run.long) c.requires.can.place
 
 pub put_run-requires-clause-run : goal.put_run-requires-clause-run
 put_run-requires-clause-run c =
     let inside = c.requires.can.place.inside in
     let up = beside c.args.version c.args.parent c.args.shared.now c.args.above.security c.args.at c.args.key.now in
-    let is : c.as_slice.result.now ≡ text (cells_of c.args.version up c.args.at c.args.key.now) =
-    c.as_slice.ensures ∙ c.in_ok-run.ensures in
-    (graft_run c.args.version up c.args.at c.args.key.now c.as_slice.result.now is (omega (arith, inside))).sound
+    (graft_run c.args.version up c.args.at c.args.key.now c.args.run.now c.requires.run (omega (arith, inside))).sound
 
 pub link_by-requires : goal.link_by-requires
 link_by-requires c =
     let put : IsRunPut c.args.version c.args.parent c.args.above c.args.shared.now c.args.key.now c.args.at
-    c.args.heap.now c.put_run.new.heap =
-    record {
-      run = c.as_slice.result.now;
-      is = c.as_slice.ensures ∙ c.in_ok-run.ensures;
-      put = c.in_ok-put_run.ensures.put;
-    } in
-    record { linkable = c.requires.can.linkable c.put_run.new.heap c.tree_fits.ensures put }
+    c.args.heap.now.bins c.put_run.new.heap.bins =
+    record { run = c.args.run.now; is = c.requires.run; put = c.in_ok-put_run.ensures.put } in
+    record { linkable = c.requires.can.linkable c.put_run.new.heap.bins c.tree_fits.ensures put }
 
 pub returns-clause-grafted : goal.returns-clause-grafted
 returns-clause-grafted c =
     let put : IsRunPut c.args.version c.args.parent c.args.above c.args.shared.now c.args.key.now c.args.at
-    c.args.heap.now c.put_run.new.heap =
-    record {
-      run = c.as_slice.result.now;
-      is = c.as_slice.ensures ∙ c.in_ok-run.ensures;
-      put = c.in_ok-put_run.ensures.put;
-    } in
+    c.args.heap.now.bins c.put_run.new.heap.bins =
+    record { run = c.args.run.now; is = c.requires.run; put = c.in_ok-put_run.ensures.put } in
     graft_linked c.link_by.result c.args.version c.args.parent c.args.above c.args.shared.now c.args.key.now c.args.at
-    c.sharing-keys.result c.args.heap.now
-    c.put_run.new.heap c.link_by.new.heap c.sharing-keys.ensures c.tree_fits.ensures put c.link_by.ensures.linked
+    c.sharing-keys.result c.args.heap.now.bins
+    c.put_run.new.heap.bins c.link_by.new.heap.bins c.sharing-keys.ensures c.tree_fits.ensures put c.link_by.ensures.linked
 
 pub returns-clause-refused : goal.returns-clause-refused
 returns-clause-refused c =
     let put : IsRunPut c.args.version c.args.parent c.args.above c.args.shared.now c.args.key.now c.args.at
-    c.args.heap.now c.put_run.new.heap =
-    record {
-      run = c.as_slice.result.now;
-      is = c.as_slice.ensures ∙ c.in_ok-run.ensures;
-      put = c.in_ok-put_run.ensures.put;
-    } in
+    c.args.heap.now.bins c.put_run.new.heap.bins =
+    record { run = c.args.run.now; is = c.requires.run; put = c.in_ok-put_run.ensures.put } in
     graft_refused c.link_by.result c.args.version c.args.parent c.args.above c.args.shared.now c.args.key.now c.args.at
-    c.args.heap.now
+    c.args.heap.now.bins
     c.put_run.new.heap c.link_by.new.heap put c.link_by.ensures.refused

@@ -13,8 +13,8 @@ u32_at-place-requires c =
           c.args.at c.payload-node.result.now c.requires c.payload-node.ensures,
     )
 
-pub returns-then-place : goal.returns-then-place
-returns-then-place c = λ t well.
+pub returns-then-place-clause-is : goal.returns-then-place-clause-is
+returns-then-place-clause-is c = λ t well.
     no_descriptor (cells_of c.args.cells.now)
     c.args.at c.payload-node.result.now c.u32_at-place.result c.requires c.payload-node.ensures
     c.u32_at-place.ensures
@@ -36,8 +36,8 @@ slice_bounds-result-end-2 c =
     let size = c.u32_at.ensures in
     grind (arith, whole, size)
 
-pub returns : goal.returns
-returns c = λ t well.
+pub returns-clause-is : goal.returns-clause-is
+returns-clause-is c = λ t well.
     let q = c.payload-security.result.now in
     let d = descriptor_here (cells_of c.args.cells.now) c.args.at c.payload-node.result.now q c.u32_at-place.result
     c.requires c.payload-node.ensures c.u32_at-place.ensures c.if-place.false c.payload-security.ensures in

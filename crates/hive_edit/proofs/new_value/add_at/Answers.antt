@@ -15,7 +15,7 @@ use Rattle.key_index.proofs.Tests.{is_ok_of}
 
 pub values_of-count-requires : goal.values_of-count-requires
 values_of-count-requires c =
-    is_ok_of (reading key_node_at (look_up c.args.version c.args.heap.now) c.args.key)
+    is_ok_of (reading key_node_at (look_up c.args.version c.args.heap.now.bins) c.args.key)
     c.requires.can.node c.requires.can.read
 
 pub list_bytes-old-requires : goal.list_bytes-old-requires
@@ -23,7 +23,7 @@ list_bytes-old-requires c =
     let can = c.requires.can in
     let n = c.values_of-count.ensures can.node can.read in (
       can.offsets,
-      listed_here c.args.version c.args.heap.now c.args.key c.values_of-count.result.0
+      listed_here c.args.version c.args.heap.now.bins c.args.key c.values_of-count.result.0
           c.values_of-count.result.1 can n.0 n.1,
     )
 
@@ -41,8 +41,8 @@ relist-requires-clause-few c =
     let n = c.values_of-count.ensures can.node can.read in
     let count = c.values_of-count.result.0 in
     let list = c.values_of-count.result.1 in
-    listed_few c.args.heap.now list count can.offsets
-    (listed_here c.args.version c.args.heap.now c.args.key count list can n.0 n.1) c.bins_fit.ensures
+    listed_few c.args.heap.now.bins list count can.offsets
+    (listed_here c.args.version c.args.heap.now.bins c.args.key count list can n.0 n.1) c.bins_fit.ensures
 
 pub relist-requires-clause-place : goal.relist-requires-clause-place
 relist-requires-clause-place c =
@@ -50,7 +50,7 @@ relist-requires-clause-place c =
     let v = item c.args.name.now c.args.kind c.args.bytes.now in
     let n = c.values_of-count.ensures can.node can.read in
     let count = c.values_of-count.result.0 in
-    let listed = listed_here c.args.version c.args.heap.now c.args.key count c.values_of-count.result.1 can n.0 n.1 in
+    let listed = listed_here c.args.version c.args.heap.now.bins c.args.key count c.values_of-count.result.1 can n.0 n.1 in
     let room : c.args.place + added_size c.args.version count v ≤ 16777216 =
     subst (λ (k : ℕ). c.args.place + added_size c.args.version k v ≤ 16777216) (sym n.0)
     (c.requires.place can.node can.read).inside in
@@ -58,7 +58,7 @@ relist-requires-clause-place c =
     ∙ ap (λ (os : List ℕ). text (added_cells c.args.version c.args.place os v))
     (c.list_bytes-old.ensures.offsets can.offsets listed) in
     let r = added_run c.args.version c.args.place count can.offsets v c.as_slice.result.now listed.number is room in
-    subst (λ (m : ℕ). IsPlace m c.args.heap.now c.args.place)
+    subst (λ (m : ℕ). IsPlace m c.args.heap.now.bins c.args.place)
     (sym (r.long ∙ ap (λ (k : ℕ). added_size c.args.version k v) n.0)) (c.requires.place can.node can.read)
 
 pub relist-requires-clause-run : goal.relist-requires-clause-run
@@ -67,7 +67,7 @@ relist-requires-clause-run c =
     let v = item c.args.name.now c.args.kind c.args.bytes.now in
     let n = c.values_of-count.ensures can.node can.read in
     let count = c.values_of-count.result.0 in
-    let listed = listed_here c.args.version c.args.heap.now c.args.key count c.values_of-count.result.1 can n.0 n.1 in
+    let listed = listed_here c.args.version c.args.heap.now.bins c.args.key count c.values_of-count.result.1 can n.0 n.1 in
     let room : c.args.place + added_size c.args.version count v ≤ 16777216 =
     subst (λ (k : ℕ). c.args.place + added_size c.args.version k v ≤ 16777216) (sym n.0)
     (c.requires.place can.node can.read).inside in
@@ -78,7 +78,7 @@ relist-requires-clause-run c =
 
 pub relist-requires-clause-node : goal.relist-requires-clause-node
 relist-requires-clause-node c =
-    node_held c.args.version c.args.heap.now c.args.key c.requires.can.node c.requires.can.read
+    node_held c.args.version c.args.heap.now.bins c.args.key c.requires.can.node c.requires.can.read
 
 pub relist-requires-clause-list : goal.relist-requires-clause-list
 relist-requires-clause-list c = λ some_values.
@@ -86,14 +86,14 @@ relist-requires-clause-list c = λ some_values.
     let n = c.values_of-count.ensures can.node can.read in
     let count = c.values_of-count.result.0 in
     let list = c.values_of-count.result.1 in
-    list_held c.args.heap.now list count can.offsets
-    (listed_here c.args.version c.args.heap.now c.args.key count list can n.0 n.1) some_values
+    list_held c.args.heap.now.bins list count can.offsets
+    (listed_here c.args.version c.args.heap.now.bins c.args.key count list can n.0 n.1) some_values
 
 pub relist-requires-clause-apart : goal.relist-requires-clause-apart
 relist-requires-clause-apart c = λ some_values.
     let can = c.requires.can in
     let n = c.values_of-count.ensures can.node can.read in
-    apart_here c.args.version c.args.heap.now c.args.key c.values_of-count.result.0 c.values_of-count.result.1 can n.0
+    apart_here c.args.version c.args.heap.now.bins c.args.key c.values_of-count.result.0 c.values_of-count.result.1 can n.0
     n.1 some_values
 
 pub returns-clause-put : goal.returns-clause-put
@@ -103,7 +103,7 @@ returns-clause-put c =
     let n = c.values_of-count.ensures can.node can.read in
     let count = c.values_of-count.result.0 in
     let list = c.values_of-count.result.1 in
-    let listed = listed_here c.args.version c.args.heap.now c.args.key count list can n.0 n.1 in
+    let listed = listed_here c.args.version c.args.heap.now.bins c.args.key count list can n.0 n.1 in
     let room : c.args.place + added_size c.args.version count v ≤ 16777216 =
     subst (λ (k : ℕ). c.args.place + added_size c.args.version k v ≤ 16777216) (sym n.0)
     (c.requires.place can.node can.read).inside in
@@ -111,7 +111,7 @@ returns-clause-put c =
     let is = c.as_slice.ensures ∙ c.in_ok-run.ensures
     ∙ ap (λ (os : List ℕ). text (added_cells c.args.version c.args.place os v)) same in
     on_ok c.relist.result _ _
-    (λ r. adds_value c.args.version c.args.heap.now c.relist.new.heap c.args.key c.args.place count list v
+    (λ r. adds_value c.args.version c.args.heap.now.bins c.relist.new.heap.bins c.args.key c.args.place count list v
     c.as_slice.result.now can n.0 n.1 is room
     (subst AreOffsets same c.offsets_fit.ensures)
     (record { name = c.requires.short; bytes = omega (arith, c.requires.few) })
@@ -120,5 +120,5 @@ returns-clause-put c =
       kind = omega arith;
       bytes = λ k. omega (arith, c.type_inv.bytes k);
     })
-    (listed_few c.args.heap.now list count can.offsets listed c.bins_fit.ensures) c.requires.few r)
+    (listed_few c.args.heap.now.bins list count can.offsets listed c.bins_fit.ensures) c.requires.few r)
     c.relist.ensures.put

@@ -11,7 +11,7 @@ use Rattle.key_index.proofs.Tests.{is_ok_of}
 
 pub values_of-count-requires : goal.values_of-count-requires
 values_of-count-requires c =
-    is_ok_of (reading key_node_at (look_up c.args.version c.args.heap.now) c.args.key)
+    is_ok_of (reading key_node_at (look_up c.args.version c.args.heap.now.bins) c.args.key)
     c.requires.can.node c.requires.can.read
 
 pub returns-then-size-gt-MOST_BINS-clause-put : goal.returns-then-size-gt-MOST_BINS-clause-put
@@ -19,9 +19,9 @@ returns-then-size-gt-MOST_BINS-clause-put c =
     let can = c.requires.can in
     let v = item c.args.name.now c.args.kind c.args.bytes.now in
     let n = c.values_of-count.ensures can.node can.read in (
-      lacks_room c.args.version c.args.heap.now c.args.key c.values_of-count.result.0 c.added_len-size.result v can n.0
+      lacks_room c.args.version c.args.heap.now.bins c.args.key c.values_of-count.result.0 c.added_len-size.result v can n.0
           c.added_len-size.ensures.exact
-          (far_over (bins_size c.args.heap.now) c.added_len-size.result c.if-size-gt-MOST_BINS.true),
+          (far_over (bins_size c.args.heap.now.bins) c.added_len-size.result c.if-size-gt-MOST_BINS.true),
       refl,
     )
 
@@ -30,7 +30,7 @@ returns-in-None-clause-put c =
     let can = c.requires.can in
     let v = item c.args.name.now c.args.kind c.args.bytes.now in
     let n = c.values_of-count.ensures can.node can.read in (
-      lacks_room c.args.version c.args.heap.now c.args.key c.values_of-count.result.0 c.added_len-size.result v can n.0
+      lacks_room c.args.version c.args.heap.now.bins c.args.key c.values_of-count.result.0 c.added_len-size.result v can n.0
           c.added_len-size.ensures.exact c.in-None.ensures.1,
       refl,
     )
@@ -40,4 +40,4 @@ add_at-requires-clause-place c = λ n r.
     let v = item c.args.name.now c.args.kind c.args.bytes.now in
     let same = c.added_len-size.ensures.exact
     ∙ ap (λ (k : ℕ). added_size c.args.version k v) (c.values_of-count.ensures n r).0 in
-    subst (λ (m : ℕ). IsPlace m c.args.heap.now c.in-Some.place) same c.in-Some.ensures
+    subst (λ (m : ℕ). IsPlace m c.args.heap.now.bins c.in-Some.place) same c.in-Some.ensures

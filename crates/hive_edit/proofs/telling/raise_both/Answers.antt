@@ -4,5 +4,5 @@ use Rattle.hive_edit.proofs.telling.raise_both.Goals as goal
 
 pub raise-requires-2-clause-node : goal.raise-requires-2-clause-node
 raise-requires-2-clause-node c =
-    still_room c.args.heap.now c.raise.new.heap c.args.at c.args.field c.args.first (omega (arith, c.requires.field))
-    c.requires.node c.raise.ensures
+    still_room c.args.heap.now.bins c.raise.new.heap.bins c.args.at c.args.field c.args.first (omega (arith, c.requires.field))
+    c.requires.node c.raise.ensures.raised

@@ -12,7 +12,7 @@ u32_at-size-requires c =
     omega (
       arith,
       value_long c.payload-value.result.now
-          (value_is_there (look_up c.args.version c.args.heap.now) c.args.at c.payload-value.result.now c.requires e),
+          (value_is_there (look_up c.args.version c.args.heap.now.bins) c.args.at c.payload-value.result.now c.requires e),
     )
 
 pub u32_at-place-requires : goal.u32_at-place-requires
@@ -22,14 +22,14 @@ u32_at-place-requires c =
     omega (
       arith,
       value_long c.payload-value.result.now
-          (value_is_there (look_up c.args.version c.args.heap.now) c.args.at c.payload-value.result.now c.requires e),
+          (value_is_there (look_up c.args.version c.args.heap.now.bins) c.args.at c.payload-value.result.now c.requires e),
     )
 
 pub returns-clause-data : goal.returns-clause-data
 returns-clause-data c =
     let e = c.payload-value.ensures
     ∙ ap (λ (bs : List Bin). payload_in (look_up c.args.version bs) c.args.at) c.cells.ensures in
-    (data_here (look_up c.args.version c.args.heap.now)
+    (data_here (look_up c.args.version c.args.heap.now.bins)
     c.args.at c.payload-value.result.now c.u32_at-size.result c.u32_at-place.result
     c.requires e c.u32_at-size.ensures c.u32_at-place.ensures).reads
 
@@ -37,6 +37,6 @@ pub returns-clause-cells : goal.returns-clause-cells
 returns-clause-cells c =
     let e = c.payload-value.ensures
     ∙ ap (λ (bs : List Bin). payload_in (look_up c.args.version bs) c.args.at) c.cells.ensures in
-    (data_here (look_up c.args.version c.args.heap.now)
+    (data_here (look_up c.args.version c.args.heap.now.bins)
     c.args.at c.payload-value.result.now c.u32_at-size.result c.u32_at-place.result
     c.requires e c.u32_at-size.ensures c.u32_at-place.ensures).cells_are

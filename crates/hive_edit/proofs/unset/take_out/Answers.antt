@@ -9,17 +9,17 @@ use Rattle.key_index.proofs.Tests.{is_ok_of}
 
 pub values_of-count-requires : goal.values_of-count-requires
 values_of-count-requires c =
-    is_ok_of (reading key_node_at (look_up c.args.version c.args.heap.now) c.args.key) c.requires.node c.requires.read
+    is_ok_of (reading key_node_at (look_up c.args.version c.args.heap.now.bins) c.args.key) c.requires.node c.requires.read
 
 pub unlist-now-requires : goal.unlist-now-requires
 unlist-now-requires c =
     let t = c.requires in
     let n = c.values_of-count.ensures t.node t.read in
-    let l = list_after (look_up c.args.version c.args.heap.now)
-    c.args.heap.now c.free_value.new.heap c.args.key c.args.value t c.free_value.ensures in (
+    let l = list_after (look_up c.args.version c.args.heap.now.bins)
+    c.args.heap.now.bins c.free_value.new.heap.bins c.args.key c.args.value t c.free_value.ensures.gone in (
       t.offsets,
-      subst (λ (k : ℕ). HasOffsets c.free_value.new.heap k c.values_of-count.result.0 t.offsets) (sym n.1)
-          (subst (λ (k : ℕ). HasOffsets c.free_value.new.heap t.node.value_list k t.offsets) (sym n.0) l),
+      subst (λ (k : ℕ). HasOffsets c.free_value.new.heap.bins k c.values_of-count.result.0 t.offsets) (sym n.1)
+          (subst (λ (k : ℕ). HasOffsets c.free_value.new.heap.bins t.node.value_list k t.offsets) (sym n.0) l),
       t.among,
     )
 
@@ -29,36 +29,36 @@ overflow_sub-count c =
     omega (
       arith,
       (c.values_of-count.ensures t.node t.read).0,
-      can_count (look_up c.args.version c.args.heap.now) c.args.heap.now c.args.key c.args.value t,
+      can_count (look_up c.args.version c.args.heap.now.bins) c.args.heap.now.bins c.args.key c.args.value t,
     )
 
 pub patch-requires : goal.patch-requires
 patch-requires c =
     let t = c.requires in
     let n = c.values_of-count.ensures t.node t.read in
-    let l = list_after (look_up c.args.version c.args.heap.now)
-    c.args.heap.now c.free_value.new.heap c.args.key c.args.value t c.free_value.ensures in
-    let u = c.unlist-now.ensures t.offsets
-    (subst (λ (k : ℕ). HasOffsets c.free_value.new.heap k c.values_of-count.result.0 t.offsets) (sym n.1)
-    (subst (λ (k : ℕ). HasOffsets c.free_value.new.heap t.node.value_list k t.offsets) (sym n.0) l)) in
-    node_room c.args.version c.args.heap.now c.free_value.new.heap c.unlist-now.new.heap c.args.key c.args.value
+    let l = list_after (look_up c.args.version c.args.heap.now.bins)
+    c.args.heap.now.bins c.free_value.new.heap.bins c.args.key c.args.value t c.free_value.ensures.gone in
+    let u = c.unlist-now.ensures.unlisted t.offsets
+    (subst (λ (k : ℕ). HasOffsets c.free_value.new.heap.bins k c.values_of-count.result.0 t.offsets) (sym n.1)
+    (subst (λ (k : ℕ). HasOffsets c.free_value.new.heap.bins t.node.value_list k t.offsets) (sym n.0) l)) in
+    node_room c.args.version c.args.heap.now.bins c.free_value.new.heap.bins c.unlist-now.new.heap.bins c.args.key c.args.value
     c.unlist-now.result (length c.two_fields-fields.result) t
-    c.free_value.ensures (subst
-    (λ (k : ℕ). Unlists c.free_value.new.heap c.unlist-now.new.heap k c.unlist-now.result t.offsets c.args.value)
+    c.free_value.ensures.gone (subst
+    (λ (k : ℕ). Unlists c.free_value.new.heap.bins c.unlist-now.new.heap.bins k c.unlist-now.result t.offsets c.args.value)
     n.1 u) (ap length c.two_fields-fields.ensures)
 
-pub returns : goal.returns
-returns c =
+pub returns-clause-taken : goal.returns-clause-taken
+returns-clause-taken c =
     let t = c.requires in
     let n = c.values_of-count.ensures t.node t.read in
-    let l = list_after (look_up c.args.version c.args.heap.now)
-    c.args.heap.now c.free_value.new.heap c.args.key c.args.value t c.free_value.ensures in
-    let u = c.unlist-now.ensures t.offsets
-    (subst (λ (k : ℕ). HasOffsets c.free_value.new.heap k c.values_of-count.result.0 t.offsets) (sym n.1)
-    (subst (λ (k : ℕ). HasOffsets c.free_value.new.heap t.node.value_list k t.offsets) (sym n.0) l)) in
-    takes_out c.args.version c.args.heap.now c.free_value.new.heap c.unlist-now.new.heap c.patch.new.self c.args.key
+    let l = list_after (look_up c.args.version c.args.heap.now.bins)
+    c.args.heap.now.bins c.free_value.new.heap.bins c.args.key c.args.value t c.free_value.ensures.gone in
+    let u = c.unlist-now.ensures.unlisted t.offsets
+    (subst (λ (k : ℕ). HasOffsets c.free_value.new.heap.bins k c.values_of-count.result.0 t.offsets) (sym n.1)
+    (subst (λ (k : ℕ). HasOffsets c.free_value.new.heap.bins t.node.value_list k t.offsets) (sym n.0) l)) in
+    takes_out c.args.version c.args.heap.now.bins c.free_value.new.heap.bins c.unlist-now.new.heap.bins c.patch.new.self.bins c.args.key
     c.args.value c.values_of-count.result.0 c.unlist-now.result
-    c.two_fields-fields.result t c.free_value.ensures
-    (subst (λ (k : ℕ). Unlists c.free_value.new.heap c.unlist-now.new.heap k c.unlist-now.result t.offsets c.args.value)
+    c.two_fields-fields.result t c.free_value.ensures.gone
+    (subst (λ (k : ℕ). Unlists c.free_value.new.heap.bins c.unlist-now.new.heap.bins k c.unlist-now.result t.offsets c.args.value)
     n.1 u) n.0 (omega arith) (omega arith)
     c.two_fields-fields.ensures c.patch.ensures.here c.patch.ensures.others c.patch.ensures.long

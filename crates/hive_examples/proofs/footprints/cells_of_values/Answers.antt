@@ -8,8 +8,10 @@ use Rattle.hive_model.specs.KeyValue.{key_value_at, key_value_text}
 use Rattle.hive_model.specs.Security.{security_at, security_text}
 use Rattle.hive_model.specs.Lists.{offsets_in, lf_text, lh_text, list_at, list_of}
 use Rattle.hive_model.specs.Packed.{packed_bins, filled, item_cells, items_cells, class_cells, security_cells, head_cells, list_cells}
-use Rattle.hive_model.specs.Walk.{entries_at, leaf_at, security_checks, value_checks, data_checks, entries_checks, key_checks, class_checks, values_checks, children_checks, node_at}
-use Rattle.hive_model.specs.Footprint.{child_places, list_cells_at, named_value_cells, value_cells_at, security_cell_at, checks_below, named_nodes}
+use Rattle.hive_model.specs.Walk.{entries_at, leaf_at, security_checks, value_checks, data_checks, entries_checks, class_checks}
+use Rattle.hive_model.specs.Footprint.{child_places, list_cells_at, security_cell_at}
+use Rattle.hive_model.specs.Owned.{value_places, value_list_at, class_cell_at}
+use Rattle.hive_examples.proofs.Named.{footprint_is}
 use Rattle.hive_examples.proofs.footprints.cells_of_values.Goals as goal
 
 -- what each clause says is computed
@@ -20,13 +22,13 @@ computed : goal.returns-clause-there
 unfolding packed_bins filled item_cells items_cells class_cells security_cells head_cells list_cells cell_bytes
     offsets_in key_node_at key_name_at key_value_at value_name_at key_value_text key_node_text lf_text lh_text list_at
     list_of bytes_in security_at security_text entries_at leaf_at security_checks value_checks data_checks
-    entries_checks key_checks class_checks values_checks children_checks node_at child_places list_cells_at
-    named_value_cells value_cells_at security_cell_at checks_below named_nodes
+    entries_checks class_checks child_places list_cells_at
+    security_cell_at value_places value_list_at class_cell_at
 computed = (
-  λ c. elim [ V3 ↦ refl | V5 ↦ refl ],
-  λ c. elim [ V3 ↦ refl | V5 ↦ refl ],
-  λ c. elim [ V3 ↦ refl | V5 ↦ refl ],
-  λ c. elim [ V3 ↦ refl | V5 ↦ refl ],
+  λ c. elim [ V3 ↦ footprint_is 4 (refl, refl) | V5 ↦ footprint_is 4 (refl, refl) ],
+  λ c. elim [ V3 ↦ footprint_is 4 (refl, refl) | V5 ↦ footprint_is 4 (refl, refl) ],
+  λ c. elim [ V3 ↦ footprint_is 4 (refl, refl) | V5 ↦ footprint_is 4 (refl, refl) ],
+  λ c. elim [ V3 ↦ footprint_is 4 (refl, refl) | V5 ↦ footprint_is 4 (refl, refl) ],
 )
 
 pub returns-clause-there : goal.returns-clause-there

@@ -10,11 +10,12 @@ loop-at-preserved c =
     let xs = c.args.cells.now in
     let lt : i < length xs = omega arith in
     record {
-      gone = gone_more c.loop-at.heap c.free.new.self xs i lt c.free.ensures.gone c.free.ensures.others
+      gone = gone_more c.loop-at.heap.bins c.free.new.self.bins xs i lt c.free.ensures.gone c.free.ensures.others
           c.loop-at.invariant.gone;
-      others = others_more c.args.heap.now c.loop-at.heap c.free.new.self xs i lt c.free.ensures.others
+      others = others_more c.args.heap.now.bins c.loop-at.heap.bins c.free.new.self.bins xs i lt c.free.ensures.others
           c.loop-at.invariant.others;
       long = c.free.ensures.long ∙ c.loop-at.invariant.long;
+      base = c.free.ensures.base ∙ c.loop-at.invariant.base;
     }
 
 pub returns-clause-gone : goal.returns-clause-gone

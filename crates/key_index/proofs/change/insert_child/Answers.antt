@@ -10,7 +10,7 @@ use Rattle.key_index.proofs.change.insert_child.Goals as goal
 
 pub relist-requires-clause-held : goal.relist-requires-clause-held
 relist-requires-clause-held c =
-    let bins = c.args.cells.now in
+    let bins = c.args.cells.now.bins in
     let gone = c.deref.ensures.value ∙ c.in_ok-plan.ensures.gone
     ∙ ap (λ (b : List Bin). lists_at (look_up c.args.version b) c.args.list c.args.count) c.cells.ensures in
     subst (All (λ o. IsSome (held_at bins o))) (sym gone)
@@ -26,7 +26,7 @@ returns-clause-exact c =
     let offsets = λ (b : List Bin).
     with_child (cells b) c.args.child (children_at (cells b) c.args.list c.args.count) in
     let children = c.in_ok-plan.ensures.children ∙ ap offsets c.cells.ensures in
-    relists_as c.args.version _ _ _ _ _ _ c.args.cells.now c.relist.new.heap c.relist.result
+    relists_as c.args.version _ _ _ _ _ _ c.args.cells.now.bins c.relist.new.heap.bins c.relist.result
     (c.deref.ensures.value ∙ c.in_ok-plan.ensures.gone
     ∙ ap (λ (b : List Bin). lists_at (cells b) c.args.list c.args.count) c.cells.ensures)
     (c.deref-2.ensures.value ∙ children)

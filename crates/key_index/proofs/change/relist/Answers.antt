@@ -10,12 +10,12 @@ pub returns-then-n-gt2097152-clause-exact : goal.returns-then-n-gt2097152-clause
 returns-then-n-gt2097152-clause-exact c =
     let n = length c.args.offsets.now in
     let least = list_least n c.requires.some in
-    (strain_over (bins_size c.args.heap.now) n c.requires.some (omega (arith, least)), refl)
+    (strain_over (bins_size c.args.heap.now.bins) n c.requires.some (omega (arith, least)), refl)
 
 pub returns-then-size-gt16777216-clause-exact : goal.returns-then-size-gt16777216-clause-exact
 returns-then-size-gt16777216-clause-exact c =
     let n = length c.args.offsets.now in
-    (strain_over (bins_size c.args.heap.now) n c.requires.some (omega (arith, c.list_len-size.ensures)), refl)
+    (strain_over (bins_size c.args.heap.now.bins) n c.requires.some (omega (arith, c.list_len-size.ensures)), refl)
 
 pub moved-run-requires-clause-long : goal.moved-run-requires-clause-long
 moved-run-requires-clause-long c =
@@ -26,22 +26,22 @@ moved-run-requires-clause-long c =
 
 pub moved-run-requires-clause-room : goal.moved-run-requires-clause-room
 moved-run-requires-clause-room c =
-    let found : FindsRoom c.list_len-size.result c.args.heap.now c.make_room.new.self c.in-Some.at =
+    let found : FindsRoom c.list_len-size.result c.args.heap.now.bins c.make_room.new.self.bins c.in-Some.at =
     rw c.in-Some.is at c.in_ok-make_room.ensures.exact in
     omega (
       arith,
-      room_inside c.list_len-size.result c.args.heap.now c.make_room.new.self c.in-Some.at found
+      room_inside c.list_len-size.result c.args.heap.now.bins c.make_room.new.self.bins c.in-Some.at found
           c.bins_fit.ensures,
       c.list_len-size.ensures,
     )
 
 pub put-requires-clause-room : goal.put-requires-clause-room
 put-requires-clause-room c =
-    let found : FindsRoom c.list_len-size.result c.args.heap.now c.make_room.new.self c.in-Some.at =
+    let found : FindsRoom c.list_len-size.result c.args.heap.now.bins c.make_room.new.self.bins c.in-Some.at =
     rw c.in-Some.is at c.in_ok-make_room.ensures.exact in
     omega (
       arith,
-      room_inside c.list_len-size.result c.args.heap.now c.make_room.new.self c.in-Some.at found
+      room_inside c.list_len-size.result c.args.heap.now.bins c.make_room.new.self.bins c.in-Some.at found
           c.bins_fit.ensures,
       c.list_len-size.ensures,
     )
@@ -50,15 +50,15 @@ pub returns-in-None-clause-exact : goal.returns-in-None-clause-exact
 returns-in-None-clause-exact c =
     let full = rw c.in-None.is at c.in_ok-make_room.ensures.exact in
     let n = length c.args.offsets.now in (
-      none_over c.list_len-size.result (bins_size c.args.heap.now) n c.list_len-size.ensures c.requires.some full.1.0,
+      none_over c.list_len-size.result (bins_size c.args.heap.now.bins) n c.list_len-size.ensures c.requires.some full.1.0,
       full.1.1,
     )
 
 pub returns-in-Some-clause-exact : goal.returns-in-Some-clause-exact
 returns-in-Some-clause-exact c =
-    let found : FindsRoom c.list_len-size.result c.args.heap.now c.make_room.new.self c.in-Some.at =
+    let found : FindsRoom c.list_len-size.result c.args.heap.now.bins c.make_room.new.self.bins c.in-Some.at =
     rw c.in-Some.is at c.in_ok-make_room.ensures.exact in
-    relisted c.args.version c.args.gone.now c.args.offsets.now c.args.hints.now c.args.heap.now c.make_room.new.self
-    c.put.new.heap c.in-Some.at c.list_len-size.result
-    c.put.ensures c.in_ok-make_room.ensures.held c.in_ok-make_room.ensures.long found c.list_len-size.ensures
+    relisted c.args.version c.args.gone.now c.args.offsets.now c.args.hints.now c.args.heap.now.bins c.make_room.new.self.bins
+    c.put.new.heap.bins c.in-Some.at c.list_len-size.result
+    c.put.ensures.put c.in_ok-make_room.ensures.held c.in_ok-make_room.ensures.long found c.list_len-size.ensures
     c.requires.some

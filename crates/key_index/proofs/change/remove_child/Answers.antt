@@ -10,7 +10,7 @@ use Rattle.key_index.proofs.change.remove_child.Goals as goal
 
 pub shorten-requires-clause-held : goal.shorten-requires-clause-held
 shorten-requires-clause-held c =
-    let bins = c.args.cells.now in
+    let bins = c.args.cells.now.bins in
     let gone = c.deref.ensures.value ∙ c.in_ok-plan.ensures.gone
     ∙ ap (λ (b : List Bin). lists_at (look_up c.args.version b) c.args.list c.args.count) c.cells.ensures in
     subst (All (λ o. IsSome (held_at bins o))) (sym gone)

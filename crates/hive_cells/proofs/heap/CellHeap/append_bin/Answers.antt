@@ -4,6 +4,7 @@ use Rattle.hive_cells.specs.Reading.{bins_of, bin_marks}
 use Rattle.hive_cells.specs.Holes.{free_bin}
 use Rattle.hive_cells.proofs.GrowLemmas.{Sizes, sizes, Grown, grown, rooms_pushed}
 use Rattle.hive_cells.proofs.Indexed.{indexed}
+use Rattle.hive_cells.proofs.KeptLemmas.{base_more}
 use Rattle.hive_cells.proofs.heap.CellHeap.append_bin.Goals as goal
 use Rattle.hive_cells.proofs.heap.CellHeap.append_bin.Goals.{After-self, After-set}
 
@@ -77,3 +78,13 @@ returns-clause-ok c =
 
 pub returns-clause-index : goal.returns-clause-index
 returns-clause-index c = (pushed (goal.at.returns-clause-index c).After-set).kept.index
+
+pub returns-clause-base : goal.returns-clause-base
+returns-clause-base c =
+    let text = c.self.inside.bytes.items in
+    let bytes : c.push_bin.new.bytes.items ≡ text ++ bin_bytes (length text) (free_bin c.args.size) =
+    c.push_bin.ensures ∙ ap (λ (t : List ℕ). t ++ bin_bytes (length t) (free_bin c.args.size))
+    c.in_ok-reserve.ensures.items in
+    base_more text (bin_bytes (length text) (free_bin c.args.size)) c.push_bin.new.bytes.items
+    c.self.inside.starts.items c.push_marks.new.starts.items c.args.self.now c.self.invariant c.self.view_is
+    (pushed (goal.at.returns-clause-base c).After-set).kept.kept bytes

@@ -8,8 +8,13 @@ use Rattle.hive_cells.proofs.PlaceLemmas.{Edited}
 use Rattle.hive_cells.proofs.FilledLemmas.{filled_held, none_in_hole}
 use Rattle.hive_cells.proofs.FillLemmas.{Filling, filling, filled_whole, filled_part}
 use Rattle.hive_cells.proofs.Indexed.{indexed}
+use Rattle.std.specs.Int.{w32, to_le_bytes}
+use Rattle.hive_cells.proofs.KeptLemmas.{seen_long, base_seen}
+use Rattle.saved_pages.specs.Overlay.{before}
+use Rattle.saved_pages.proofs.OverlayLemmas.{before_written}
+use Rattle.saved_pages.proofs.CoveredLemmas.{covered_more}
 use Rattle.hive_cells.proofs.heap.CellHeap.fill.Goals as goal
-use Rattle.hive_cells.proofs.heap.CellHeap.fill.Goals.{After-self, Then-left-eq0, After-set-2}
+use Rattle.hive_cells.proofs.heap.CellHeap.fill.Goals.{After-self, After-put, Then-left-eq0, After-set-2}
 
 -- what the code knows before it writes
 known : (c : After-self) → Filling c.self.inside.bytes.items c.self.inside.starts.items c.args.free.now c.args.at
@@ -169,3 +174,99 @@ returns-then-left-eq0-clause-long c =
 
 pub returns-clause-long : goal.returns-clause-long
 returns-clause-long c = (part (goal.at.returns-clause-long c).After-set-2).long ∙ ap bins_size c.self.view_is
+
+-- the bytes are as many as the bins have
+long : (c : After-self) → length c.self.inside.bytes.items ≡ bins_size c.args.self.now
+long c = seen_long c.self.inside.bytes.items c.self.inside.starts.items c.args.self.now c.self.invariant c.self.view_is
+
+-- the old bytes are told after the run was put
+told : (c : After-put) → before c.touch.new.pages c.put.new.bytes.items
+    ≡ before c.args.pages.now c.self.inside.bytes.items
+told c =
+    let f = known (goal.at.After-put c).After-self in
+    before_written c.args.pages.now c.touch.new.pages c.self.inside.bytes.items c.as_slice.result.now c.args.run.now
+    c.put.new.bytes.items c.args.at c.as_slice.ensures.value c.put.ensures.exact (omega (arith, f.within, f.fits))
+    c.touch.ensures.before c.touch.ensures.count c.touch.ensures.kept
+
+pub touch-requires-clause-covered : goal.touch-requires-clause-covered
+touch-requires-clause-covered c =
+    covered_more c.args.pages.now (bins_size c.args.self.now) (length c.as_slice.result.now) c.requires.saved
+    (omega (arith, long (goal.at.touch-requires-clause-covered c).After-self, ap length c.as_slice.ensures.value))
+
+pub touch-requires-clause-within : goal.touch-requires-clause-within
+touch-requires-clause-within c =
+    let f = known (goal.at.touch-requires-clause-within c).After-self in
+    omega (arith, f.within, f.fits, ap length c.as_slice.ensures.value)
+
+pub returns-then-left-eq0-clause-base : goal.returns-then-left-eq0-clause-base
+returns-then-left-eq0-clause-base c =
+    base_seen c.args.pages.now c.touch.new.pages c.self.inside.bytes.items c.put.new.bytes.items
+    c.self.inside.starts.items c.mark_run.new.starts.items c.args.self.now c.self.invariant c.self.view_is
+    (whole (goal.at.returns-then-left-eq0-clause-base c).Then-left-eq0).kept.kept
+    (told (goal.at.returns-then-left-eq0-clause-base c).After-put)
+
+pub returns-then-left-eq0-clause-covered : goal.returns-then-left-eq0-clause-covered
+returns-then-left-eq0-clause-covered c =
+    let w = whole (goal.at.returns-then-left-eq0-clause-covered c).Then-left-eq0 in
+    covered_more c.touch.new.pages (length c.as_slice.result.now) (bins_size (bins_of c.put.new.bytes.items))
+    c.touch.ensures.covered (omega (
+      arith,
+      long (goal.at.returns-then-left-eq0-clause-covered c).After-self,
+      ap length c.as_slice.ensures.value,
+      w.long ∙ ap bins_size c.self.view_is,
+    ))
+
+pub touch-requires-2-clause-covered : goal.touch-requires-2-clause-covered
+touch-requires-2-clause-covered c =
+    covered_more c.touch.new.pages (length c.as_slice.result.now) (length c.as_slice-2.result.now)
+    c.touch.ensures.covered
+    (omega (arith, c.put.ensures.long, ap length c.as_slice.ensures.value, ap length c.as_slice-2.ensures.value))
+
+pub touch-requires-2-clause-within : goal.touch-requires-2-clause-within
+touch-requires-2-clause-within c =
+    let f = known (goal.at.touch-requires-2-clause-within c).After-self in
+    omega (
+      arith,
+      c.put.ensures.long,
+      f.within,
+      f.run_whole,
+      f.cell_whole,
+      f.room,
+      c.size-size.ensures,
+      c.if-left-eq0.false,
+      ap length c.as_slice-2.ensures.value,
+    )
+
+pub returns-clause-base : goal.returns-clause-base
+returns-clause-base c =
+    let f = known (goal.at.returns-clause-base c).After-self in
+    base_seen c.args.pages.now c.touch-2.new.pages c.self.inside.bytes.items c.put_word.new.bytes.items
+    c.self.inside.starts.items _ c.args.self.now c.self.invariant c.self.view_is
+    (part (goal.at.returns-clause-base c).After-set-2).kept.kept
+    (before_written c.touch.new.pages c.touch-2.new.pages c.put.new.bytes.items c.as_slice-2.result.now
+    (to_le_bytes w32 (c.size-size.result - length c.args.run.now)) c.put_word.new.bytes.items
+    (c.args.at + length c.args.run.now) c.as_slice-2.ensures.value c.put_word.ensures
+    (omega (
+      arith,
+      c.put.ensures.long,
+      f.within,
+      f.run_whole,
+      f.cell_whole,
+      f.room,
+      c.size-size.ensures,
+      c.if-left-eq0.false,
+    ))
+    c.touch-2.ensures.before c.touch-2.ensures.count c.touch-2.ensures.kept
+    ∙ told (goal.at.returns-clause-base c).After-put)
+
+pub returns-clause-covered : goal.returns-clause-covered
+returns-clause-covered c =
+    let p = part (goal.at.returns-clause-covered c).After-set-2 in
+    covered_more c.touch-2.new.pages (length c.as_slice-2.result.now) (bins_size (bins_of c.put_word.new.bytes.items))
+    c.touch-2.ensures.covered (omega (
+      arith,
+      long (goal.at.returns-clause-covered c).After-self,
+      c.put.ensures.long,
+      ap length c.as_slice-2.ensures.value,
+      p.long ∙ ap bins_size c.self.view_is,
+    ))

@@ -6,6 +6,7 @@ use Rattle.hive_cells.specs.Holes.{free_bin, new_bin_size}
 use Rattle.hive_cells.proofs.Steps.{kept_seen}
 use Rattle.hive_cells.proofs.Indexed.{alone}
 use Rattle.hive_cells.proofs.GrowLemmas.{sizes, held_before, new_hole, new_long}
+use Rattle.hive_cells.proofs.Tools.{bins_size-append}
 use Rattle.hive_cells.proofs.heap.CellHeap.grow.Goals as goal
 
 pub returns-then-long-bin-gt16777216-clause-exact : goal.returns-then-long-bin-gt16777216-clause-exact
@@ -52,3 +53,8 @@ returns-clause-long c =
     let bin : (c.from.result + 4127) / 4096 * 4096 ≡ new_bin_size c.args.size = omega (arith, c.from.ensures) in
     let new = c.in_ok-append_bin.ensures.ok ∙ ap (λ (n : ℕ). c.args.self.now ++ free_bin n ∷ []) bin in
     omega (arith, ap bins_size new, new_long c.args.self.now c.args.size)
+
+pub returns-clause-more : goal.returns-clause-more
+returns-clause-more c =
+    let n = (c.from.result + 4127) / 4096 * 4096 in
+    omega (arith, ap bins_size c.in_ok-append_bin.ensures.ok, bins_size-append c.args.self.now (free_bin n ∷ []))

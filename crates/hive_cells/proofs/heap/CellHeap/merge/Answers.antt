@@ -1,10 +1,15 @@
-use Rattle.std.proofs.Common.{ℕ, ◌+◌, ◌/◌, List, false, set, length, ap, refl, sym, subst, ◌∙◌, arith}
+use Rattle.std.proofs.Common.{◌≡◌, ℕ, ◌+◌, ◌/◌, List, false, set, length, ap, refl, sym, subst, ◌∙◌, arith}
 use Rattle.std.proofs.lemmas.List.{length-set}
 use Rattle.hive_model.specs.Bins.{cell_at, bins_size}
+use Rattle.hive_cells.specs.Reading.{bins_of}
 use Rattle.hive_cells.specs.Changes.{at_cell, with_next}
 use Rattle.hive_cells.specs.Frees.{IsFreeOf}
 use Rattle.hive_cells.proofs.FreeLemmas.{Here, here_is, Merged, merging}
 use Rattle.hive_cells.proofs.Indexed.{indexed}
+use Rattle.std.specs.Int.{w32, to_le_bytes}
+use Rattle.hive_cells.proofs.KeptLemmas.{seen_long, base_seen}
+use Rattle.saved_pages.proofs.OverlayLemmas.{before_written}
+use Rattle.saved_pages.proofs.CoveredLemmas.{covered_more}
 use Rattle.hive_cells.proofs.heap.CellHeap.merge.Goals as goal
 use Rattle.hive_cells.proofs.heap.CellHeap.merge.Goals.{After-self, After-set-2}
 
@@ -97,3 +102,38 @@ returns-clause-long c =
 
 pub returns-clause-index : goal.returns-clause-index
 returns-clause-index c = (merged (goal.at.returns-clause-index c).After-set-2).edit.kept.index
+
+-- the bytes are as many as the bins have
+long : (c : After-self) → length c.self.inside.bytes.items ≡ bins_size c.args.self.now
+long c = seen_long c.self.inside.bytes.items c.self.inside.starts.items c.args.self.now c.self.invariant c.self.view_is
+
+pub touch-requires-clause-covered : goal.touch-requires-clause-covered
+touch-requires-clause-covered c =
+    covered_more c.args.pages.now (bins_size c.args.self.now) (length c.as_slice.result.now) c.requires.saved
+    (omega (arith, long (goal.at.touch-requires-clause-covered c).After-self, ap length c.as_slice.ensures.value))
+
+pub touch-requires-clause-within : goal.touch-requires-clause-within
+touch-requires-clause-within c =
+    let h = first (goal.at.touch-requires-clause-within c).After-self in
+    omega (arith, h.within, h.least, ap length c.as_slice.ensures.value)
+
+pub returns-clause-base : goal.returns-clause-base
+returns-clause-base c =
+    let h = first (goal.at.returns-clause-base c).After-self in
+    base_seen c.args.pages.now c.touch.new.pages c.self.inside.bytes.items c.put_word.new.bytes.items
+    c.self.inside.starts.items _ c.args.self.now c.self.invariant c.self.view_is
+    (merged (goal.at.returns-clause-base c).After-set-2).edit.kept.kept
+    (before_written c.args.pages.now c.touch.new.pages c.self.inside.bytes.items c.as_slice.result.now
+    (to_le_bytes w32 (c.args.size + c.args.more)) c.put_word.new.bytes.items c.args.at c.as_slice.ensures.value c.put_word.ensures
+    (omega (arith, h.within, h.least)) c.touch.ensures.before c.touch.ensures.count c.touch.ensures.kept)
+
+pub returns-clause-covered : goal.returns-clause-covered
+returns-clause-covered c =
+    let r = merged (goal.at.returns-clause-covered c).After-set-2 in
+    covered_more c.touch.new.pages (length c.as_slice.result.now) (bins_size (bins_of c.put_word.new.bytes.items))
+    c.touch.ensures.covered (omega (
+      arith,
+      long (goal.at.returns-clause-covered c).After-self,
+      ap length c.as_slice.ensures.value,
+      r.edit.long ∙ ap bins_size c.self.view_is,
+    ))

@@ -8,6 +8,9 @@ use Rattle.hive_cells.specs.Changes.{at_cell, with_part}
 use Rattle.hive_cells.proofs.Indexed.{alone}
 use Rattle.hive_cells.proofs.FreeLemmas.{here_is}
 use Rattle.hive_cells.proofs.PatchLemmas.{Patching, part_cell, patching}
+use Rattle.hive_cells.proofs.KeptLemmas.{seen_long, base_seen}
+use Rattle.saved_pages.proofs.OverlayLemmas.{before_written}
+use Rattle.saved_pages.proofs.CoveredLemmas.{covered_more}
 use Rattle.hive_cells.proofs.heap.CellHeap.patch.Goals as goal
 use Rattle.hive_cells.proofs.heap.CellHeap.patch.Goals.{After-self, After-put}
 
@@ -15,7 +18,7 @@ use Rattle.hive_cells.proofs.heap.CellHeap.patch.Goals.{After-self, After-put}
 old : (c : After-self) → (x : Cell) × (cell_at c.args.self.now c.args.at ≡ Some x) × (x.allocated ≡ true)
     × (c.args.from + length c.args.part.now ≤ length x.payload)
 old c =
-    part_cell (cell_at c.args.self.now c.args.at) (λ p. c.args.from + length c.args.part.now ≤ length p) c.requires
+    part_cell (cell_at c.args.self.now c.args.at) (λ p. c.args.from + length c.args.part.now ≤ length p) c.requires.part
 
 here : (c : After-self) → cell_at (bins_of c.self.inside.bytes.items) c.args.at ≡ Some (old c).0
 here c = ap (λ b. cell_at b c.args.at) c.self.view_is ∙ (old c).1
@@ -65,3 +68,42 @@ returns-clause-others c o other =
 
 pub returns-clause-long : goal.returns-clause-long
 returns-clause-long c = (changed (goal.at.returns-clause-long c).After-put).edit.long ∙ ap bins_size c.self.view_is
+
+-- the bytes are as many as the bins have
+long : (c : After-self) → length c.self.inside.bytes.items ≡ bins_size c.args.self.now
+long c = seen_long c.self.inside.bytes.items c.self.inside.starts.items c.args.self.now c.self.invariant c.self.view_is
+
+pub touch-requires-clause-covered : goal.touch-requires-clause-covered
+touch-requires-clause-covered c =
+    covered_more c.args.pages.now (bins_size c.args.self.now) (length c.as_slice.result.now) c.requires.saved
+    (omega (arith, long (goal.at.touch-requires-clause-covered c).After-self, ap length c.as_slice.ensures.value))
+
+pub touch-requires-clause-within : goal.touch-requires-clause-within
+touch-requires-clause-within c =
+    let s = (goal.at.touch-requires-clause-within c).After-self in
+    let h = here_is c.self.inside.bytes.items c.self.inside.starts.items _ c.args.at (old s).0 (alone c.self.invariant)
+    (here s) in
+    omega (arith, h.within, (old s).3, ap length c.as_slice.ensures.value)
+
+pub returns-clause-base : goal.returns-clause-base
+returns-clause-base c =
+    let s = (goal.at.returns-clause-base c).After-self in
+    let h = here_is c.self.inside.bytes.items c.self.inside.starts.items _ c.args.at (old s).0 (alone c.self.invariant)
+    (here s) in
+    base_seen c.args.pages.now c.touch.new.pages c.self.inside.bytes.items c.put.new.bytes.items
+    c.self.inside.starts.items _ c.args.self.now c.self.invariant c.self.view_is
+    (changed (goal.at.returns-clause-base c).After-put).edit.kept.kept
+    (before_written c.args.pages.now c.touch.new.pages c.self.inside.bytes.items c.as_slice.result.now
+    c.args.part.now c.put.new.bytes.items (c.args.at + 4 + c.args.from) c.as_slice.ensures.value c.put.ensures.exact
+    (omega (arith, h.within, (old s).3)) c.touch.ensures.before c.touch.ensures.count c.touch.ensures.kept)
+
+pub returns-clause-covered : goal.returns-clause-covered
+returns-clause-covered c =
+    let r = changed (goal.at.returns-clause-covered c).After-put in
+    covered_more c.touch.new.pages (length c.as_slice.result.now) (bins_size (bins_of c.put.new.bytes.items))
+    c.touch.ensures.covered (omega (
+      arith,
+      long (goal.at.returns-clause-covered c).After-self,
+      ap length c.as_slice.ensures.value,
+      r.edit.long ∙ ap bins_size c.self.view_is,
+    ))

@@ -3,7 +3,8 @@ use Rattle.hive_model.specs.Tree.{Tree, head}
 use Rattle.hive_model.specs.Valid.{levels}
 use Rattle.hive_edit.specs.Children.{IsNewChild, IsAddedIn, LacksGraftRoom}
 use Rattle.hive_edit.proofs.SteppedLemmas.{if_done, if_undone}
-use Rattle.hive_edit.proofs.AddStepLemmas.{new_child, add_stepped, add_lacks, well_in, low_by}
+use Rattle.hive_edit.proofs.ToldLemmas.{added_told}
+use Rattle.hive_edit.proofs.AddStepLemmas.{new_child, add_stepped, add_lacks, low_by}
 use Rattle.hive_edit.proofs.hive.HiveBytes.add_named.Goals as goal
 
 pub add_below_root-requires : goal.add_below_root-requires
@@ -15,26 +16,29 @@ add_below_root-requires c =
           (new_child c.args.self.now c.args.name.now c.args.key.now c.requires.free c.requires.fits low);
     }
 
-pub returns-in-Ok-true : goal.returns-in-Ok-true
-returns-in-Ok-true c =
-    let low : levels c.args.key.now ≤ 511 =
-    low_by c.args.key.now c.is_deeper.result c.is_deeper.ensures c.if-is_deeper.false in
-    let well = well_in c.self.inside.cells c.self.inside.root c.self.inside.version c.self.inside.bulk c.args.self.now
-    c.self.invariant c.self.view_is in
-    record {
-      made = add_stepped c.args.self.now c.add_below_root.new.self c.args.name.now c.args.key.now well c.requires.free
-          c.requires.fits low
-          (subst (λ (k : Tree). IsAddedIn c.args.self.now k c.add_below_root.new.self) c.in_ok-child.ensures
-          (if_done _ _ _ c.in-Ok-true.field-0-test c.in-Ok-true.ensures.added));
-    }
+pub class_len-class-requires : goal.class_len-class-requires
+class_len-class-requires c = c.requires.fits
 
-pub returns-in-Ok-false : goal.returns-in-Ok-false
-returns-in-Ok-false c =
+pub tell_child-requires : goal.tell_child-requires
+tell_child-requires c = c.requires.free.short
+
+pub returns-in-Ok-true-clause-made : goal.returns-in-Ok-true-clause-made
+returns-in-Ok-true-clause-made c =
     let low : levels c.args.key.now ≤ 511 =
     low_by c.args.key.now c.is_deeper.result c.is_deeper.ensures c.if-is_deeper.false in
-    record {
-      made = add_lacks c.args.self.now c.args.name.now c.args.key.now c.requires.free low
-          (subst (λ (k : Tree). LacksGraftRoom c.args.self.now (head c.args.self.now.tree).security k)
-          c.in_ok-child.ensures
-          (if_undone _ _ _ c.in-Ok-false.field-0-test c.in-Ok-false.ensures.added));
-    }
+    added_told c.args.self.now c.add_below_root.new.self c.tell_child.new.self c.args.name.now c.args.key.now
+    c.class_len-class.result c.stands.ensures
+    (add_stepped c.args.self.now c.add_below_root.new.self c.args.name.now c.args.key.now c.stands.ensures
+    c.requires.free c.requires.fits low
+    (subst (λ (k : Tree). IsAddedIn c.args.self.now k c.add_below_root.new.self) c.in_ok-child.ensures
+    (if_done _ _ _ c.in-Ok-true.field-0-test c.in-Ok-true.ensures.added)))
+    c.class_len-class.ensures c.tell_child.ensures.told
+
+pub returns-in-Ok-false-clause-made : goal.returns-in-Ok-false-clause-made
+returns-in-Ok-false-clause-made c =
+    let low : levels c.args.key.now ≤ 511 =
+    low_by c.args.key.now c.is_deeper.result c.is_deeper.ensures c.if-is_deeper.false in
+    add_lacks c.args.self.now c.args.name.now c.args.key.now c.requires.free low
+    (subst (λ (k : Tree). LacksGraftRoom c.args.self.now (head c.args.self.now.tree).security k)
+    c.in_ok-child.ensures
+    (if_undone _ _ _ c.in-Ok-false.field-0-test c.in-Ok-false.ensures.added))

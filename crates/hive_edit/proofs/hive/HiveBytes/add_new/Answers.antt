@@ -13,29 +13,29 @@ returns-then-bulk-gt-MOST_BULK-clause-made c =
 
 pub returns-then-branch-clause-made : goal.returns-then-branch-clause-made
 returns-then-branch-clause-made c = λ yes.
-    let counted = c.in_ok-put_told.ensures.bulk (ap (λ (b : Bool). Ok b) c.if-branch.true) in
-    stepped_edit c.args.self.now c.put_told.new.self
+    let counted = c.in_ok-put_new.ensures.bulk (ap (λ (b : Bool). Ok b) c.if-branch.true) in
+    stepped_edit c.args.self.now c.put_new.new.self
     (set_value c.args.path.now c.args.name.now c.args.kind c.args.bytes.now)
-    (if_done _ _ _ c.if-branch.true c.in_ok-put_told.ensures.stepped).stepped
+    (if_done _ _ _ c.if-branch.true c.in_ok-put_new.ensures.stepped).stepped
     (omega (arith, counted, c.if-bulk-gt-MOST_BULK.false))
 
 pub returns-then-branch-clause-version : goal.returns-then-branch-clause-version
-returns-then-branch-clause-version c = (if_done _ _ _ c.if-branch.true c.in_ok-put_told.ensures.stepped).stepped.version
+returns-then-branch-clause-version c = (if_done _ _ _ c.if-branch.true c.in_ok-put_new.ensures.stepped).stepped.version
 
 pub returns-then-branch-clause-done : goal.returns-then-branch-clause-done
 returns-then-branch-clause-done c =
-    λ yes. stepped_kept c.args.self.now c.put_told.new.self
+    λ yes. stepped_kept c.args.self.now c.put_new.new.self
     (set_value c.args.path.now c.args.name.now c.args.kind c.args.bytes.now)
-    (if_done _ _ _ c.if-branch.true c.in_ok-put_told.ensures.stepped)
+    (if_done _ _ _ c.if-branch.true c.in_ok-put_new.ensures.stepped)
 
 pub returns-clause-unmade : goal.returns-clause-unmade
-returns-clause-unmade c = λ no. (if_undone _ _ _ c.if-branch.false c.in_ok-put_told.ensures.stepped).1
+returns-clause-unmade c = λ no. (if_undone _ _ _ c.if-branch.false c.in_ok-put_new.ensures.stepped).1
 
 pub returns-clause-version : goal.returns-clause-version
 returns-clause-version c =
-    ap (λ (h : HiveCells). h.version) (if_undone _ _ _ c.if-branch.false c.in_ok-put_told.ensures.stepped).1
+    ap (λ (h : HiveCells). h.version) (if_undone _ _ _ c.if-branch.false c.in_ok-put_new.ensures.stepped).1
 
 pub returns-clause-no_room : goal.returns-clause-no_room
 returns-clause-no_room c =
     λ no u e. lacks_strained c.args.self.now u (set_value c.args.path.now c.args.name.now c.args.kind c.args.bytes.now)
-    (if_undone _ _ _ c.if-branch.false c.in_ok-put_told.ensures.stepped).0 e
+    (if_undone _ _ _ c.if-branch.false c.in_ok-put_new.ensures.stepped).0 e

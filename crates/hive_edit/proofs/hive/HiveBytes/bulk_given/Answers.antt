@@ -13,13 +13,13 @@ data_room-had-requires c =
 pub overflow_add-result : goal.overflow_add-result
 overflow_add-result c =
     let i = c.self.inside in
-    let low = bulk_low i.cells i.root i.version i.bulk c.self.invariant c.bins_fit.ensures in
+    let low = bulk_low i.cells.bins i.root i.version i.bulk c.self.invariant c.bins_fit.ensures in
     omega (arith, low, c.data_len-has.ensures.len)
 
 pub overflow_sub-result : goal.overflow_sub-result
 overflow_sub-result c =
     let i = c.self.inside in
-    let had = room_same i.cells c.cells.result.now i.version c.args.at c.data_room-had.result c.cells.ensures
+    let had = room_same i.cells.bins c.cells.result.now i.version c.args.at c.data_room-had.result c.cells.ensures
     c.data_room-had.ensures.room in
     (there_bulk i.cells i.root i.version i.bulk c.args.self.now c.args.path.now c.args.name.now c.args.kind
     c.args.bytes.now c.args.at c.data_len-has.result c.data_room-had.result
@@ -29,7 +29,7 @@ overflow_sub-result c =
 pub returns-clause-bulk : goal.returns-clause-bulk
 returns-clause-bulk c =
     let i = c.self.inside in
-    let had = room_same i.cells c.cells.result.now i.version c.args.at c.data_room-had.result c.cells.ensures
+    let had = room_same i.cells.bins c.cells.result.now i.version c.args.at c.data_room-had.result c.cells.ensures
     c.data_room-had.ensures.room in
     (there_bulk i.cells i.root i.version i.bulk c.args.self.now c.args.path.now c.args.name.now c.args.kind
     c.args.bytes.now c.args.at c.data_len-has.result c.data_room-had.result

@@ -12,12 +12,12 @@ values_of-count-requires c =
     let i = c.self.inside in
     let can = hive_can_add i.cells i.root i.version i.bulk c.args.self.now c.args.path.now c.args.name.now c.args.key
     c.self.invariant c.self.view_is c.requires.new in
-    is_ok_of (reading key_node_at (look_up i.version i.cells) c.args.key) can.node can.read
+    is_ok_of (reading key_node_at (look_up i.version i.cells.bins) c.args.key) can.node can.read
 
 pub overflow_add-result : goal.overflow_add-result
 overflow_add-result c =
     let i = c.self.inside in
-    let low = bulk_low i.cells i.root i.version i.bulk c.self.invariant c.bins_fit.ensures in
+    let low = bulk_low i.cells.bins i.root i.version i.bulk c.self.invariant c.bins_fit.ensures in
     omega (arith, low, c.added_len-more.ensures.few)
 
 pub overflow_sub-result : goal.overflow_sub-result

@@ -13,7 +13,7 @@ values_of-count-requires c =
     let t = hive_can_take i.cells i.root i.version i.bulk c.args.self.now c.args.path.now c.args.name.now c.args.key
     c.args.value c.self.invariant c.self.view_is
     c.requires.key c.requires.value in
-    is_ok_of (reading key_node_at (look_up i.version i.cells) c.args.key) t.node t.read
+    is_ok_of (reading key_node_at (look_up i.version i.cells.bins) c.args.key) t.node t.read
 
 pub value_len-own-requires : goal.value_len-own-requires
 value_len-own-requires c =
@@ -32,7 +32,7 @@ overflow_sub-count c =
     omega (
       arith,
       (c.values_of-count.ensures t.node t.read).0,
-      can_count (look_up i.version i.cells) i.cells c.args.key c.args.value t,
+      can_count (look_up i.version i.cells.bins) i.cells.bins c.args.key c.args.value t,
     )
 
 pub overflow_sub-result : goal.overflow_sub-result

@@ -1,102 +1,114 @@
-use Rattle.std.proofs.Common.{◌≡◌, Bool, Ok, ap, ◌∙◌}
-use Rattle.hive_model.specs.KeyNode.{key_node_text}
-use Rattle.hive_edit.specs.Making.{new_node, IsAlike, IsAdded}
-use Rattle.hive_edit.proofs.KeyLemmas.{at_there, ready, addable, make_lacks, is_made, is_unmade}
+use Rattle.std.proofs.Common.{◌∙◌, arith}
+use Rattle.hive_edit.specs.Grafted.{LacksGraftLists}
+use Rattle.hive_edit.specs.Hive.{hive_of}
+use Rattle.hive_edit.proofs.AskedLemmas.{open_stands}
+use Rattle.hive_edit.proofs.ChildLemmas.{can_graft, still_hive, still_or}
+use Rattle.hive_edit.proofs.MakeLemmas.{Ready, ready, run_is, node_lacks, list_lacks, key_made}
 use Rattle.hive_edit.proofs.SteppedLemmas.{if_done, if_undone}
+use Rattle.hive_edit.proofs.ToldLemmas.{made_told}
 use Rattle.hive_edit.proofs.hive.HiveBytes.make_at.Goals as goal
+use Rattle.hive_edit.proofs.hive.HiveBytes.make_at.Goals.{In-Some}
+
+-- what is known where there is room for the node
+known : (c : In-Some) → Ready c.self.inside.cells.bins c.self.inside.root c.self.inside.version c.args.parent.now
+    c.args.name.now c.args.place c.above_at-above.result c.security-shared.result.now c.in_ok-key.key c.in-Some.at
+known c =
+    let i = c.self.inside in
+    ready i.cells c.cells.result.now i.root i.version i.bulk c.args.self.now c.args.parent.now c.args.name.now c.args.place
+    c.above_at-above.result c.security-shared.result.now c.in_ok-key.key c.node_len-size.result c.in-Some.at
+    c.self.invariant c.self.view_is c.cells.ensures c.requires.may c.above_at-above.ensures c.in_ok-key.ensures
+    c.security-shared.ensures c.offset_fits.ensures c.offset_fits-2.ensures c.node_len-size.ensures.exact
+    c.in-Some.ensures
 
 pub above_at-above-requires : goal.above_at-above-requires
 above_at-above-requires c =
-    at_there c.self.inside.cells c.cells.result.now c.self.inside.root c.self.inside.version c.self.inside.bulk
-    c.args.self.now c.args.parent.now c.args.name.now c.args.place
-    c.self.invariant c.self.view_is c.cells.ensures c.requires.may
+    let i = c.self.inside in
+    open_stands i.cells c.cells.result.now i.root i.version i.bulk c.args.self.now c.args.parent.now c.args.name.now
+    c.args.place.at c.self.invariant c.cells.ensures c.self.view_is c.requires.may.open_at
 
-pub stamp_at-stamp-requires : goal.stamp_at-stamp-requires
-stamp_at-stamp-requires c =
-    at_there c.self.inside.cells c.cells.result.now c.self.inside.root c.self.inside.version c.self.inside.bulk
-    c.args.self.now c.args.parent.now c.args.name.now c.args.place
-    c.self.invariant c.self.view_is c.cells.ensures c.requires.may
+pub new_child-requires : goal.new_child-requires
+new_child-requires c =
+    let i = c.self.inside in
+    open_stands i.cells c.cells.result.now i.root i.version i.bulk c.args.self.now c.args.parent.now c.args.name.now
+    c.args.place.at c.self.invariant c.cells.ensures c.self.view_is c.requires.may.open_at
 
-pub add_node-requires : goal.add_node-requires
-add_node-requires c =
-    let r = ready c.self.inside.cells c.cells.result.now c.self.inside.root c.self.inside.version c.self.inside.bulk
-    c.args.self.now c.args.parent.now c.args.name.now c.args.place
-    c.above_at-above.result c.stamp_at-stamp.result c.self.invariant c.self.view_is c.cells.ensures c.requires.may
-    c.above_at-above.ensures c.stamp_at-stamp.ensures
-    c.node_fits.ensures.parent c.node_fits.ensures.stamp c.node_fits.ensures.security c.node_fits.ensures.units in
-    let text : c.as_slice.result.now
-    ≡ key_node_text (new_node c.args.place.at c.stamp_at-stamp.result c.above_at-above.result.security
-    c.args.name.now) = c.as_slice.ensures ∙ c.in_ok-node.ensures in
-    record {
-      addable = addable c.self.inside.cells c.self.inside.root c.self.inside.version c.args.parent.now c.args.name.now
-          c.args.place c.above_at-above.result c.stamp_at-stamp.result
-          c.as_slice.result.now r text;
-    }
+pub node_len-size-requires : goal.node_len-size-requires
+node_len-size-requires c = c.requires.may.open_at.short
+
+pub wide_len-wide-requires : goal.wide_len-wide-requires
+wide_len-wide-requires c = omega (arith, c.requires.may.open_at.short)
+
+pub returns-in-None-clause-made : goal.returns-in-None-clause-made
+returns-in-None-clause-made c =
+    let i = c.self.inside in
+    node_lacks i.cells i.root i.version i.bulk c.args.self.now c.args.parent.now c.args.name.now c.args.place
+    c.node_len-size.result c.self.invariant c.self.view_is c.requires.may c.node_len-size.ensures.exact
+    c.in-None.ensures
+
+pub cells_below-requires-clause-valid : goal.cells_below-requires-clause-valid
+cells_below-requires-clause-valid c = (known (goal.at.cells_below-requires-clause-valid c).In-Some).ready.holds
+
+pub cells_below-requires-clause-room : goal.cells_below-requires-clause-room
+cells_below-requires-clause-room c =
+    let inside = (known (goal.at.cells_below-requires-clause-room c).In-Some).room.inside in
+    omega (arith, inside)
+
+pub graft_cells-requires-clause-can : goal.graft_cells-requires-clause-can
+graft_cells-requires-clause-can c =
+    let i = c.self.inside in
+    let r = known (goal.at.graft_cells-requires-clause-can c).In-Some in
+    can_graft i.version i.cells.bins i.root c.args.place.at r.host _ c.above_at-above.result c.security-shared.result.now
+    c.in_ok-key.key c.in-Some.at r.ready r.room
+
+pub graft_cells-requires-clause-run : goal.graft_cells-requires-clause-run
+graft_cells-requires-clause-run c =
+    let i = c.self.inside in
+    c.as_slice.ensures ∙ c.in_ok-run.ensures
+    ∙ run_is i.cells.bins i.root i.version c.args.parent.now c.args.name.now c.args.place c.above_at-above.result
+    c.security-shared.result.now c.in_ok-key.key c.in-Some.at
+    (known (goal.at.graft_cells-requires-clause-run c).In-Some)
 
 pub invariant_of-self : goal.invariant_of-self
 invariant_of-self c =
-    let alike : IsAlike c.as_slice.result.now c.self.inside.cells c.add_node.new.heap = c.in_err-done.ensures.refused in
-    is_unmade c.self.inside.cells c.add_node.new.heap c.self.inside.root c.self.inside.version c.self.inside.bulk
-    c.self.invariant alike.held
+    let i = c.self.inside in
+    let r = known (goal.at.invariant_of-self c).In-Some in
+    still_or i.cells.bins c.graft_cells.new.heap.bins i.root c.args.place.at r.host _ i.version i.bulk c.above_at-above.result
+    c.security-shared.result.now c.in_ok-key.key c.in-Some.at c.self.invariant r.ready c.in_err-done.ensures.refused
 
 pub invariant_of-self-then-not-done : goal.invariant_of-self-then-not-done
 invariant_of-self-then-not-done c =
-    let alike : IsAlike c.as_slice.result.now c.self.inside.cells c.add_node.new.heap =
-    if_undone _ _ _ c.if-not-done.true c.in_ok-done.ensures.added in
-    is_unmade c.self.inside.cells c.add_node.new.heap c.self.inside.root c.self.inside.version c.self.inside.bulk
-    c.self.invariant alike.held
+    let i = c.self.inside in
+    let r = known (goal.at.invariant_of-self-then-not-done c).In-Some in
+    let lacks : LacksGraftLists i.version c.args.place.at c.above_at-above.result c.security-shared.result.now
+    c.in_ok-key.key c.in-Some.at i.cells.bins c.graft_cells.new.heap.bins =
+    if_undone _ _ _ c.if-not-done.true c.in_ok-done.ensures.grafted in
+    still_hive i.cells.bins c.graft_cells.new.heap.bins i.root c.args.place.at r.host _ i.version i.bulk c.above_at-above.result
+    c.security-shared.result.now c.in_ok-key.key c.in-Some.at c.self.invariant r.ready lacks.put
 
-pub returns-then-not-done : goal.returns-then-not-done
-returns-then-not-done c =
-    let r = ready c.self.inside.cells c.cells.result.now c.self.inside.root c.self.inside.version c.self.inside.bulk
-    c.args.self.now c.args.parent.now c.args.name.now c.args.place
-    c.above_at-above.result c.stamp_at-stamp.result c.self.invariant c.self.view_is c.cells.ensures c.requires.may
-    c.above_at-above.ensures c.stamp_at-stamp.ensures
-    c.node_fits.ensures.parent c.node_fits.ensures.stamp c.node_fits.ensures.security c.node_fits.ensures.units in
-    let text : c.as_slice.result.now
-    ≡ key_node_text (new_node c.args.place.at c.stamp_at-stamp.result c.above_at-above.result.security
-    c.args.name.now) = c.as_slice.ensures ∙ c.in_ok-node.ensures in
-    record {
-      made = make_lacks c.self.inside.cells c.self.inside.root c.self.inside.version c.args.self.now c.args.parent.now
-          c.args.name.now c.args.place
-          c.above_at-above.result c.stamp_at-stamp.result c.as_slice.result.now c.self.view_is r text
-          (c.in_ok-done.ensures.no_room (ap (λ (b : Bool). Ok b) c.if-not-done.true));
-    }
+pub returns-then-not-done-clause-made : goal.returns-then-not-done-clause-made
+returns-then-not-done-clause-made c =
+    let i = c.self.inside in
+    let r = known (goal.at.returns-then-not-done-clause-made c).In-Some in
+    list_lacks i.cells c.graft_cells.new.heap.bins i.root i.version c.args.self.now c.args.parent.now c.args.name.now
+    c.args.place c.above_at-above.result c.security-shared.result.now c.in_ok-key.key c.in-Some.at c.self.view_is r
+    (if_undone _ _ _ c.if-not-done.true c.in_ok-done.ensures.grafted)
 
 pub invariant_of-self-2 : goal.invariant_of-self-2
 invariant_of-self-2 c =
-    let r = ready c.self.inside.cells c.cells.result.now c.self.inside.root c.self.inside.version c.self.inside.bulk
-    c.args.self.now c.args.parent.now c.args.name.now c.args.place
-    c.above_at-above.result c.stamp_at-stamp.result c.self.invariant c.self.view_is c.cells.ensures c.requires.may
-    c.above_at-above.ensures c.stamp_at-stamp.ensures
-    c.node_fits.ensures.parent c.node_fits.ensures.stamp c.node_fits.ensures.security c.node_fits.ensures.units in
-    let text : c.as_slice.result.now
-    ≡ key_node_text (new_node c.args.place.at c.stamp_at-stamp.result c.above_at-above.result.security
-    c.args.name.now) = c.as_slice.ensures ∙ c.in_ok-node.ensures in
-    let added : IsAdded c.self.inside.version c.args.place.at c.above_at-above.result c.as_slice.result.now
-    c.self.inside.cells c.add_node.new.heap =
-    if_done _ _ _ c.if-not-done.false c.in_ok-done.ensures.added in
-    (is_made c.self.inside.cells c.add_node.new.heap c.self.inside.root c.self.inside.version c.self.inside.bulk
-    c.args.self.now c.args.parent.now c.args.name.now c.args.place
-    c.above_at-above.result c.stamp_at-stamp.result c.as_slice.result.now c.self.invariant c.self.view_is r text added
-    c.are_bytes.ensures).hive
+    let i = c.self.inside in
+    let r = known (goal.at.invariant_of-self-2 c).In-Some in
+    (key_made i.cells c.graft_cells.new.heap i.root i.version i.bulk c.args.self.now c.args.parent.now c.args.name.now
+    c.args.place c.above_at-above.result c.security-shared.result.now c.in_ok-key.key c.in-Some.at c.self.invariant
+    c.self.view_is r (if_done _ _ _ c.if-not-done.false c.in_ok-done.ensures.grafted) c.are_bytes.ensures).hive
 
-pub returns : goal.returns
-returns c =
-    let r = ready c.self.inside.cells c.cells.result.now c.self.inside.root c.self.inside.version c.self.inside.bulk
-    c.args.self.now c.args.parent.now c.args.name.now c.args.place
-    c.above_at-above.result c.stamp_at-stamp.result c.self.invariant c.self.view_is c.cells.ensures c.requires.may
-    c.above_at-above.ensures c.stamp_at-stamp.ensures
-    c.node_fits.ensures.parent c.node_fits.ensures.stamp c.node_fits.ensures.security c.node_fits.ensures.units in
-    let text : c.as_slice.result.now
-    ≡ key_node_text (new_node c.args.place.at c.stamp_at-stamp.result c.above_at-above.result.security
-    c.args.name.now) = c.as_slice.ensures ∙ c.in_ok-node.ensures in
-    let added : IsAdded c.self.inside.version c.args.place.at c.above_at-above.result c.as_slice.result.now
-    c.self.inside.cells c.add_node.new.heap =
-    if_done _ _ _ c.if-not-done.false c.in_ok-done.ensures.added in
-    record {
-      made = (is_made c.self.inside.cells c.add_node.new.heap c.self.inside.root c.self.inside.version
-          c.self.inside.bulk c.args.self.now c.args.parent.now c.args.name.now c.args.place
-          c.above_at-above.result c.stamp_at-stamp.result c.as_slice.result.now c.self.invariant c.self.view_is r text
-          added c.are_bytes.ensures).stepped;
-    }
+pub returns-clause-made : goal.returns-clause-made
+returns-clause-made c =
+    let i = c.self.inside in
+    let r = known (goal.at.returns-clause-made c).In-Some in
+    made_told c.args.self.now (hive_of c.graft_cells.new.heap i.root i.version) c.tell.new.self
+    c.args.parent.now c.args.name.now c.wide_len-wide.result c.stands.ensures
+    (key_made i.cells c.graft_cells.new.heap i.root i.version i.bulk c.args.self.now c.args.parent.now
+    c.args.name.now c.args.place c.above_at-above.result c.security-shared.result.now c.in_ok-key.key c.in-Some.at
+    c.self.invariant c.self.view_is r (if_done _ _ _ c.if-not-done.false c.in_ok-done.ensures.grafted)
+    c.are_bytes.ensures).stepped
+    c.wide_len-wide.ensures c.tell.ensures.told

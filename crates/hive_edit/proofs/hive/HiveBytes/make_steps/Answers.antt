@@ -19,8 +19,8 @@ make_step-requires c =
     let lt : k < length xs = c.loop-step-test.true in
     record { fits = fits_here Fits step_of xs k item c.requires.fits lt c.step-item.is }
 
-pub returns-in_err-make_step : goal.returns-in_err-make_step
-returns-in_err-make_step c =
+pub returns-in_err-make_step-clause-made : goal.returns-in_err-make_step-clause-made
+returns-in_err-make_step-clause-made c =
     let xs = c.args.steps.now in
     let k = c.loop-step.step-index in
     let item = c.step-item.result in
@@ -28,28 +28,24 @@ returns-in_err-make_step c =
     let stop = c.in_err-make_step.field-0.0 in
     let h = c.args.self.now in
     let p = err_from_is_err_and c.from_residual.result c.from_residual.ensures.1 in
-    rw (p.1, p.2) (record {
-      made = subst (λ (l : List Step). IsRefused (after_steps h.tree l) stop)
-          (sym (map_parts step_of xs k item lt c.step-item.is))
-          (refused_behind (map step_of (take k xs)) (map step_of (drop (suc k) xs)) (step_of item)
-          h c.loop-step.self stop c.loop-step.invariant.0 c.in_err-make_step.ensures.made);
-    })
+    rw (p.1, p.2) (subst (λ (l : List Step). IsRefused (after_steps h.tree l) stop)
+    (sym (map_parts step_of xs k item lt c.step-item.is))
+    (refused_behind (map step_of (take k xs)) (map step_of (drop (suc k) xs)) (step_of item)
+    h c.loop-step.self stop c.loop-step.invariant.made c.in_err-make_step.ensures.made))
 
-pub returns-then-not-branch : goal.returns-then-not-branch
-returns-then-not-branch c =
+pub returns-then-not-branch-clause-made : goal.returns-then-not-branch-clause-made
+returns-then-not-branch-clause-made c =
     let xs = c.args.steps.now in
     let k = c.loop-step.step-index in
     let item = c.step-item.result in
     let lt : k < length xs = c.loop-step-test.true in
     let lacks = if_undone _ _ _ c.if-not-branch.true c.in_ok-make_step.ensures.made in
-    record {
-      made = subst (AreStrained c.args.self.now) (sym (map_parts step_of xs k item lt c.step-item.is))
-          (stopped_strained (map step_of (take k xs)) (map step_of (drop (suc k) xs)) (step_of item)
-          c.args.self.now c.loop-step.self c.loop-step.invariant.0 lacks);
-    }
+    subst (AreStrained c.args.self.now) (sym (map_parts step_of xs k item lt c.step-item.is))
+    (stopped_strained (map step_of (take k xs)) (map step_of (drop (suc k) xs)) (step_of item)
+    c.args.self.now c.loop-step.self c.loop-step.invariant.made lacks)
 
-pub returns-then-room-gt-MOST_BINS : goal.returns-then-room-gt-MOST_BINS
-returns-then-room-gt-MOST_BINS c =
+pub returns-then-room-gt-MOST_BINS-clause-made : goal.returns-then-room-gt-MOST_BINS-clause-made
+returns-then-room-gt-MOST_BINS-clause-made c =
     let xs = c.args.steps.now in
     let k = c.loop-step.step-index in
     let item = c.step-item.result in
@@ -57,14 +53,12 @@ returns-then-room-gt-MOST_BINS c =
     let h = c.args.self.now in
     let made : IsToldStep c.loop-step.self (step_of item) c.make_step.new.self =
     if_done _ _ _ c.if-not-branch.false c.in_ok-make_step.ensures.made in
-    record {
-      made = subst (AreStrained h) (sym (map_parts step_of xs k item lt c.step-item.is))
-          (all_taken h c.loop-step.self c.make_step.new.self (map step_of (take k xs)) (map step_of (drop (suc k) xs))
-          (step_of item) c.loop-step.room c.least_room-more.result c.saturating_add-room.result
-          c.loop-step.invariant.0 c.loop-step.invariant.1 made.stepped
-          (c.least_room-more.ensures.least c.loop-step.self made.stepped c.bulk-before.ensures)
-          c.saturating_add-room.ensures c.if-room-gt-MOST_BINS.true);
-    }
+    subst (AreStrained h) (sym (map_parts step_of xs k item lt c.step-item.is))
+    (all_taken h c.loop-step.self c.make_step.new.self (map step_of (take k xs)) (map step_of (drop (suc k) xs))
+    (step_of item) c.loop-step.room c.least_room-more.result c.saturating_add-room.result
+    c.loop-step.invariant.made c.loop-step.invariant.grown made.stepped
+    (c.least_room-more.ensures.least c.loop-step.self made.stepped c.bulk-before.ensures)
+    c.saturating_add-room.ensures c.if-room-gt-MOST_BINS.true)
 
 pub loop-step-preserved : goal.loop-step-preserved
 loop-step-preserved c =
@@ -77,14 +71,15 @@ loop-step-preserved c =
     let more : map step_of (take (k + 1) xs) ≡ map step_of (take k xs) ++ step_of item ∷ [] =
     ap (λ (n : ℕ). map step_of (take n xs)) (sym next) ∙ map_more step_of xs k item lt c.step-item.is in
     let made : IsToldStep c.loop-step.self (step_of item) c.make_step.new.self =
-    if_done _ _ _ c.if-not-branch.false c.in_ok-make_step.ensures.made in (
-      subst (λ (l : List Step). AreStepped h l c.make_step.new.self) (sym more)
+    if_done _ _ _ c.if-not-branch.false c.in_ok-make_step.ensures.made in record {
+      made = subst (λ (l : List Step). AreStepped h l c.make_step.new.self) (sym more)
           (stepped_more (map step_of (take k xs)) h c.loop-step.self c.make_step.new.self (step_of item)
-          c.loop-step.invariant.0 made),
-      subst (λ (l : List Step). AreGrown h.version (bins_size h.bins) h.tree l
+          c.loop-step.invariant.made made);
+      grown = subst (λ (l : List Step). AreGrown h.version (bins_size h.bins) h.tree l
           (bins_size h.bins + c.saturating_add-room.result) c.make_step.new.self.tree) (sym more)
           (step_grown h c.loop-step.self c.make_step.new.self (map step_of (take k xs)) (step_of item)
           c.loop-step.room c.least_room-more.result c.saturating_add-room.result
-          c.loop-step.invariant.0 c.loop-step.invariant.1 made.stepped
-          (c.least_room-more.ensures.least c.loop-step.self made.stepped c.bulk-before.ensures) c.saturating_add-room.ensures),
-    )
+          c.loop-step.invariant.made c.loop-step.invariant.grown made.stepped
+          (c.least_room-more.ensures.least c.loop-step.self made.stepped c.bulk-before.ensures) c.saturating_add-room.ensures);
+      base = c.in_ok-make_step.ensures.base ∙ c.loop-step.invariant.base;
+    }

@@ -1,4 +1,4 @@
-use Rattle.std.proofs.Common.{◌+◌, map, take}
+use Rattle.std.proofs.Common.{◌≡◌, ◌+◌, map, take}
 use Rattle.hive_model.specs.Bins.{bins_size}
 use Rattle.reg_tree.specs.Makes.{step_of}
 use Rattle.edit_laws.specs.Sizes.{AreGrown}
@@ -8,5 +8,9 @@ use Rattle.hive_edit.proofs.hive.HiveBytes.make_steps.Given as goal
 abbrev pub invariant-loop-step : goal.invariant-loop-step
 invariant-loop-step l =
     let h = l.fn.self in
-    let made = map step_of (take l.step-index l.steps) in
-    AreStepped h made l.self × AreGrown h.version (bins_size h.bins) h.tree made (bins_size h.bins + l.room) l.self.tree
+    let front = map step_of (take l.step-index l.steps) in
+    record {
+      made : AreStepped h front l.self;
+      grown : AreGrown h.version (bins_size h.bins) h.tree front (bins_size h.bins + l.room) l.self.tree;
+      base : l.self.base ≡ h.base;
+    }

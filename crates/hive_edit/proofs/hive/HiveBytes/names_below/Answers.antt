@@ -7,7 +7,7 @@ use Rattle.std.proofs.lemmas.Result.{IfOk-weaker}
 pub key_at-requires : goal.key_at-requires
 key_at-requires c =
     let i = c.self.inside in
-    root_there i.cells c.cells.result.now i.root i.version i.bulk c.self.invariant c.cells.ensures
+    root_there i.cells.bins c.cells.result.now i.root i.version i.bulk c.self.invariant c.cells.ensures
 
 pub returns-in-Some-clause-none : goal.returns-in-Some-clause-none
 returns-in-Some-clause-none c = λ none.

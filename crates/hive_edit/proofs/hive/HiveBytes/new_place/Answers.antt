@@ -13,7 +13,7 @@ returns-then-count-gt2097150 c =
 pub grown_bulk-bulk-requires-clause-low : goal.grown_bulk-bulk-requires-clause-low
 grown_bulk-bulk-requires-clause-low c =
     let i = c.self.inside in
-    let low = bulk_low i.cells i.root i.version i.bulk c.self.invariant c.bins_fit.ensures in
+    let low = bulk_low i.cells.bins i.root i.version i.bulk c.self.invariant c.bins_fit.ensures in
     omega (arith, low)
 
 pub grown_bulk-bulk-requires-clause-less : goal.grown_bulk-bulk-requires-clause-less

@@ -12,7 +12,7 @@ pub unreachable-requires : goal.unreachable-requires
 unreachable-requires c =
     let i = c.self.inside in
     no_fault_there (look_up i.version c.cells.result.now) i.root c.in-Err-Fault.field-0-0
-    (root_there i.cells c.cells.result.now i.root i.version i.bulk c.self.invariant c.cells.ensures)
+    (root_there i.cells.bins c.cells.result.now i.root i.version i.bulk c.self.invariant c.cells.ensures)
     (rw c.in-Err-Fault.field-0-is at c.in-Err-Fault.ensures.exact)
 
 pub returns-in_err-apply-clause-made : goal.returns-in_err-apply-clause-made

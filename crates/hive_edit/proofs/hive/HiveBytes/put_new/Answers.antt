@@ -1,9 +1,14 @@
-use Rattle.std.proofs.Common.{◌≡◌}
+use Rattle.std.proofs.Common.{◌≡◌, sym, ap, ◌∙◌}
 use Rattle.hive_model.specs.Edit.{set_value}
+use Rattle.hive_model.specs.Size.{bulk_of}
+use Rattle.hive_model.specs.Tree.{Tree}
 use Rattle.edit_laws.specs.Done.{item}
+use Rattle.hive_cells.specs.Opened.{Opened}
+use Rattle.hive_edit.specs.Hive.{hive_of}
 use Rattle.hive_edit.specs.NewValue.{LacksRoomForValue, PutsValue}
 use Rattle.hive_edit.proofs.NewValueLemmas.{hive_can_add, new_set, new_lacks}
 use Rattle.hive_edit.proofs.SteppedLemmas.{stepped_bulk, same_hive}
+use Rattle.hive_edit.proofs.ToldLemmas.{value_told, new_long}
 use Rattle.hive_edit.proofs.hive.HiveBytes.put_new.Goals as goal
 
 pub add_value-requires-clause-can : goal.add_value-requires-clause-can
@@ -12,10 +17,13 @@ add_value-requires-clause-can c =
     hive_can_add i.cells i.root i.version i.bulk c.args.self.now c.args.path.now c.args.name.now c.args.key
     c.self.invariant c.self.view_is c.requires.new
 
+pub wide_len-wide-requires : goal.wide_len-wide-requires
+wide_len-wide-requires c = c.requires.new.short
+
 pub invariant_of-self-then-branch : goal.invariant_of-self-then-branch
 invariant_of-self-then-branch c =
     let i = c.self.inside in
-    let put : PutsValue i.version i.cells c.add_value.new.heap c.args.key
+    let put : PutsValue i.version i.cells.bins c.add_value.new.heap.bins c.args.key
     (item c.args.name.now c.args.kind c.args.bytes.now) = rw c.if-branch.true at c.in_ok-add_value.ensures.put in
     (new_set i.cells c.add_value.new.heap i.root i.version i.bulk c.args.bulk c.args.self.now c.args.path.now
     c.args.name.now c.args.key c.args.kind c.args.bytes.now
@@ -24,31 +32,38 @@ invariant_of-self-then-branch c =
 pub returns-then-branch-clause-stepped : goal.returns-then-branch-clause-stepped
 returns-then-branch-clause-stepped c =
     let i = c.self.inside in
-    let put : PutsValue i.version i.cells c.add_value.new.heap c.args.key
+    let put : PutsValue i.version i.cells.bins c.add_value.new.heap.bins c.args.key
     (item c.args.name.now c.args.kind c.args.bytes.now) = rw c.if-branch.true at c.in_ok-add_value.ensures.put in
+    value_told c.args.self.now (hive_of c.add_value.new.heap i.root i.version) c.tell.new.self c.args.path.now
+    c.args.name.now c.args.kind c.args.bytes.now c.wide_len-wide.result c.stands.ensures
     (new_set i.cells c.add_value.new.heap i.root i.version i.bulk c.args.bulk c.args.self.now c.args.path.now
     c.args.name.now c.args.key c.args.kind c.args.bytes.now
     c.self.invariant c.self.view_is c.requires.new c.requires.few c.requires.bulk c.are_bytes.ensures put).stepped
+    (new_long c.args.self.now c.args.path.now c.args.name.now c.wide_len-wide.result c.wide_len-wide.ensures)
+    c.tell.ensures.told
 
 pub returns-then-branch-clause-bulk : goal.returns-then-branch-clause-bulk
 returns-then-branch-clause-bulk c = λ yes.
     let i = c.self.inside in
-    let put : PutsValue i.version i.cells c.add_value.new.heap c.args.key
+    let put : PutsValue i.version i.cells.bins c.add_value.new.heap.bins c.args.key
     (item c.args.name.now c.args.kind c.args.bytes.now) = rw c.if-branch.true at c.in_ok-add_value.ensures.put in
     stepped_bulk c.args.self.now c.add_value.new.heap i.root i.version c.args.bulk
     (set_value c.args.path.now c.args.name.now c.args.kind c.args.bytes.now)
     (new_set i.cells c.add_value.new.heap i.root i.version i.bulk c.args.bulk c.args.self.now c.args.path.now
     c.args.name.now c.args.key c.args.kind c.args.bytes.now
     c.self.invariant c.self.view_is c.requires.new c.requires.few c.requires.bulk c.are_bytes.ensures put)
+    ∙ ap (λ (t : Tree). bulk_of c.args.self.now.version t) (sym c.tell.ensures.told.tree)
 
 pub returns-clause-stepped : goal.returns-clause-stepped
 returns-clause-stepped c =
     let i = c.self.inside in
-    let lacks : LacksRoomForValue i.version i.cells c.args.key (item c.args.name.now c.args.kind c.args.bytes.now)
+    let lacks : LacksRoomForValue i.version i.cells.bins c.args.key (item c.args.name.now c.args.kind c.args.bytes.now)
     × (c.add_value.new.heap ≡ i.cells) =
     rw c.if-branch.false at c.in_ok-add_value.ensures.put in (
       new_lacks i.cells i.root i.version i.bulk c.args.self.now c.args.path.now c.args.name.now c.args.key c.args.kind
           c.args.bytes.now
           c.self.invariant c.self.view_is c.requires.new c.requires.few lacks.0,
-      same_hive i.cells c.add_value.new.heap i.root i.version c.args.self.now c.self.view_is lacks.1,
+      same_hive i.cells c.add_value.new.heap i.root i.version c.args.self.now c.self.view_is
+          (ap (λ (o : Opened). o.bins) lacks.1)
+          c.in_ok-add_value.ensures.base,
     )

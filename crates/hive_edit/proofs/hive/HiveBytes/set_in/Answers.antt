@@ -6,14 +6,14 @@ pub bulk_with-bulk-requires-clause-new : goal.bulk_with-bulk-requires-clause-new
 bulk_with-bulk-requires-clause-new c =
     record { key = c.requires.key; absent = sym c.in-None.ensures; short = c.requires.short }
 
-pub put_told-requires-clause-new : goal.put_told-requires-clause-new
-put_told-requires-clause-new c =
+pub put_new-requires-clause-new : goal.put_new-requires-clause-new
+put_new-requires-clause-new c =
     record { key = c.requires.key; absent = sym c.in-None.ensures; short = c.requires.short }
 
 pub bulk_given-bulk-requires-clause-there : goal.bulk_given-bulk-requires-clause-there
 bulk_given-bulk-requires-clause-there c =
     placed_in c.args.self.now c.args.path.now c.args.name.now c.args.key c.in-Some.at c.requires.key c.in-Some.ensures
 
-pub give_told-requires-clause-there : goal.give_told-requires-clause-there
-give_told-requires-clause-there c =
+pub give_there-requires-clause-there : goal.give_there-requires-clause-there
+give_there-requires-clause-there c =
     placed_in c.args.self.now c.args.path.now c.args.name.now c.args.key c.in-Some.at c.requires.key c.in-Some.ensures

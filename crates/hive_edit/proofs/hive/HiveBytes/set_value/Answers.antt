@@ -19,7 +19,7 @@ returns-in-None-clause-no_memory c = λ there few. absurd (let e = ap is_some c.
 pub returns-then-bulk-gt-MOST_BULK-clause-made : goal.returns-then-bulk-gt-MOST_BULK-clause-made
 returns-then-bulk-gt-MOST_BULK-clause-made c =
     let i = c.self.inside in (
-      set_full i.cells i.cells i.root i.version i.bulk c.args.self.now c.args.path.now c.args.name.now c.args.kind
+      set_full i.cells i.cells.bins i.root i.version i.bulk c.args.self.now c.args.path.now c.args.name.now c.args.kind
           c.args.bytes.now c.in-Some.at
           c.self.invariant c.self.view_is (sym c.in-Some.ensures) (omega arith) c.if-bulk-gt-MOST_BULK.true,
       refl,

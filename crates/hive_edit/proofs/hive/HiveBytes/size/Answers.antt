@@ -7,5 +7,5 @@ use Rattle.hive_edit.proofs.hive.HiveBytes.size.Goals as goal
 
 pub returns : goal.returns
 returns c =
-    ap length c.bytes.ensures.exact ∙ length_spelled 0 c.self.inside.cells c.bytes.ensures.sound.each
+    ap length c.bytes.ensures.exact ∙ length_spelled 0 c.self.inside.cells.bins c.bytes.ensures.sound.each
     ∙ ap (λ (h : HiveCells). bins_size h.bins) c.self.view_is

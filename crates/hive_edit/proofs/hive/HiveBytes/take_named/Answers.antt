@@ -14,7 +14,7 @@ invariant_of-self c =
     let i = c.self.inside in
     (is_unset i.cells c.take_out.new.heap i.root i.version i.bulk c.args.bulk c.args.self.now c.args.path.now
     c.args.name.now c.args.key c.args.value
-    c.self.invariant c.self.view_is c.requires.key c.requires.value c.take_out.ensures c.are_bytes.ensures
+    c.self.invariant c.self.view_is c.requires.key c.requires.value c.take_out.ensures.taken c.are_bytes.ensures
     c.requires.bulk).hive
 
 pub returns-clause-stepped : goal.returns-clause-stepped
@@ -22,7 +22,7 @@ returns-clause-stepped c =
     let i = c.self.inside in
     (is_unset i.cells c.take_out.new.heap i.root i.version i.bulk c.args.bulk c.args.self.now c.args.path.now
     c.args.name.now c.args.key c.args.value
-    c.self.invariant c.self.view_is c.requires.key c.requires.value c.take_out.ensures c.are_bytes.ensures
+    c.self.invariant c.self.view_is c.requires.key c.requires.value c.take_out.ensures.taken c.are_bytes.ensures
     c.requires.bulk).stepped
 
 pub returns-clause-bulk : goal.returns-clause-bulk
@@ -31,11 +31,11 @@ returns-clause-bulk c =
     stepped_bulk c.args.self.now c.take_out.new.heap i.root i.version c.args.bulk _
     (is_unset i.cells c.take_out.new.heap i.root i.version i.bulk c.args.bulk c.args.self.now c.args.path.now
     c.args.name.now c.args.key c.args.value
-    c.self.invariant c.self.view_is c.requires.key c.requires.value c.take_out.ensures c.are_bytes.ensures
+    c.self.invariant c.self.view_is c.requires.key c.requires.value c.take_out.ensures.taken c.are_bytes.ensures
     c.requires.bulk)
 
 pub returns-clause-freed : goal.returns-clause-freed
 returns-clause-freed c =
     let i = c.self.inside in
     frees_value i.cells c.take_out.new.heap i.root i.version c.args.self.now c.args.path.now c.args.name.now c.args.key
-    c.args.value c.self.view_is c.requires.key c.requires.value c.take_out.ensures
+    c.args.value c.self.view_is c.requires.key c.requires.value c.take_out.ensures.taken

@@ -9,7 +9,7 @@ use Rattle.hive_edit.proofs.hive.HiveBytes.value_there.Goals as goal
 pub key_at-requires : goal.key_at-requires
 key_at-requires c =
     let i = c.self.inside in
-    root_there i.cells c.cells.result.now i.root i.version i.bulk c.self.invariant c.cells.ensures
+    root_there i.cells.bins c.cells.result.now i.root i.version i.bulk c.self.invariant c.cells.ensures
 
 pub returns-in-None : goal.returns-in-None
 returns-in-None c =

@@ -45,5 +45,5 @@ returns-clause-bulk c =
 pub returns-clause-written : goal.returns-clause-written
 returns-clause-written c =
     let fields = value_fields (2147483648 + length c.args.bytes.now) (from_le_bytes w32 c.args.bytes.now) c.args.kind in
-    subst (λ (h : HiveCells). WritesFields c.args.at fields h.bins c.patch.new.self) c.self.view_is
+    subst (λ (h : HiveCells). WritesFields c.args.at fields h.bins c.patch.new.self.bins) c.self.view_is
     (record { exact = rw c.inside_fields-fields.ensures at c.patch.ensures.exact; long = c.patch.ensures.long })

@@ -1,8 +1,6 @@
-use Rattle.std.proofs.Common.{◌≡◌, ◌<◌, ◌/◌, Bool, List, ℕ, false, length, refl, ap, sym, subst, ◌∙◌}
+use Rattle.std.proofs.Common.{Bool, List, ℕ, false, refl, ap, sym, subst, ◌∙◌}
 use Rattle.std.proofs.lemmas.Result.{err_from_is_err_and}
 use Rattle.hive_model.specs.Base.{Base}
-use Rattle.hive_model.specs.Bins.{spelled}
-use Rattle.hive_model.specs.Recovery.{bit}
 use Rattle.hive_model.specs.Carries.{Carries, HasLog}
 use Rattle.hive_model.specs.Log.{dirty, log_of}
 use Rattle.hive_model.specs.State.{HiveState}
@@ -11,47 +9,38 @@ use Rattle.nt_edge.specs.Calls.{Makes, MakesFront}
 use Rattle.nt_edge.specs.Crash.{EachCrash}
 use Rattle.hive_commit.specs.Calls.{change_calls}
 use Rattle.hive_commit.specs.Stages.{next_number, closed_of, IsBeforeOrAfter, LoadsAsEither}
-use Rattle.hive_store.specs.Session.{Session, carried_bins, session_of, next_bins, next_root}
+use Rattle.hive_store.specs.Session.{Session, session_of, next_bins, next_root}
 use Rattle.hive_store.specs.Commits.{next_base, committed, committed_state, session_log}
-use Rattle.hive_store.proofs.CommittingLemmas.{is_ready, stood, commit_loads, commit_crash, next_session, next_is, as_written, goes_again}
+use Rattle.hive_store.proofs.CommittingLemmas.{is_ready, stood, commit_loads, commit_crash, next_session, next_is, old_is, as_written, goes_again}
 use Rattle.hive_store.proofs.SizedLemmas.{sized_bytes}
 use Rattle.hive_store.proofs.hive.Hive.commit.Goals as goal
 
-pub commit-requires-clause-sized : goal.commit-requires-clause-sized
-commit-requires-clause-sized g c =
+pub commit_kept-requires-clause-sized : goal.commit_kept-requires-clause-sized
+commit_kept-requires-clause-sized g c =
     let cells = c.self.inside.cells in
     sized_bytes cells.version cells.bins cells.root cells.tree c.bytes-new.result.now c.bytes-new.ensures.sound
     c.root.ensures.stands c.bytes-new.ensures.exact
 
-pub keep-requires-clause-sized : goal.keep-requires-clause-sized
-keep-requires-clause-sized g c =
-    let cells = c.self.inside.cells in
-    sized_bytes cells.version cells.bins cells.root cells.tree (spelled 0 cells.bins) c.bytes-new.ensures.sound
-    c.root.ensures.stands refl
-
-pub keep-requires-clause-marked : goal.keep-requires-clause-marked
-keep-requires-clause-marked g c =
-    let i = c.self.inside in
-    let old = carried_bins i.kept i.cells in
-    subst (λ (new : List ℕ). (k : ℕ) → k < length new / 512 → bit c.commit.new.marks k ≡ dirty old new k)
-    c.bytes-new.ensures.exact
-    (λ k below. c.commit.ensures.marked k below
-    ∙ ap (λ (bins : List ℕ). dirty bins c.bytes-new.result.now k) c.carried.ensures)
+pub commit_kept-requires-clause-carries : goal.commit_kept-requires-clause-carries
+commit_kept-requires-clause-carries g c = λ tells.
+    subst (λ (old : List ℕ). Carries (g.D.Disk.state c.args.disk.now).held c.self.inside.base old)
+    (sym (old_is _ _ c.bytes-new.ensures.exact c.pages.ensures.base))
+    (subst (λ (v : Session). Carries (g.D.Disk.state c.args.disk.now).held v.base v.bins) (sym c.self.view_is) (c.requires.carries tells))
 
 pub invariant_of-hive : goal.invariant_of-hive
 invariant_of-hive g c =
     let i = c.self.inside in
-    let s : Session = session_of i.base (carried_bins i.kept i.cells) i.cells i.changed in
-    let ready = is_ready i.base (carried_bins i.kept i.cells) i.cells i.changed c.self.invariant c.bytes-new.ensures.sound
+    let s : Session = session_of i.base i.cells.base i.cells i.changed in
+    let ready = is_ready i.base i.cells.base i.cells i.changed c.self.invariant c.bytes-new.ensures.sound
     c.root.ensures.stands in
-    next_session s ready c.self.invariant.version _ _ _ _ c.in_ok-closed.ensures.answered c.keep.ensures
+    next_session s ready c.self.invariant.version _ _ _ _ c.in_ok-closed.ensures.answered c.settle.ensures
     c.bytes-new.ensures.exact c.root.ensures.root
 
 pub returns-clause-answered : goal.returns-clause-answered
 returns-clause-answered g c =
     let i = c.self.inside in
-    let s : Session = session_of i.base (carried_bins i.kept i.cells) i.cells i.changed in
-    next_is s refl _ _ _ _ c.in_ok-closed.ensures.answered c.keep.ensures c.bytes-new.ensures.exact c.root.ensures.root
+    let s : Session = session_of i.base i.cells.base i.cells i.changed in
+    next_is s refl _ _ _ _ c.in_ok-closed.ensures.answered c.settle.ensures c.bytes-new.ensures.exact c.root.ensures.root
     ∙ ap committed c.self.view_is
 
 pub returns-clause-number : goal.returns-clause-number
@@ -62,101 +51,101 @@ returns-clause-number g c =
 pub returns-clause-made : goal.returns-clause-made
 returns-clause-made g c =
     let i = c.self.inside in
-    let s : Session = session_of i.base (carried_bins i.kept i.cells) i.cells i.changed in
+    let s : Session = session_of i.base i.cells.base i.cells i.changed in
     let before = g.D.Disk.calls c.args.disk.now in
-    let after = g.D.Disk.calls c.commit.new.disk in
+    let after = g.D.Disk.calls c.commit_kept.new.disk in
     subst (λ (v : Session). Makes before after (change_calls v.base v.bins (next_bins v) (next_root v))) c.self.view_is
     (as_written (λ old new root. Makes before after (change_calls s.base old new root))
-    c.carried.ensures c.bytes-new.ensures.exact c.root.ensures.root c.in_ok-closed.ensures.made)
+    (old_is _ _ c.bytes-new.ensures.exact c.pages.ensures.base) c.bytes-new.ensures.exact c.root.ensures.root c.in_ok-closed.ensures.made)
 
 pub returns-in_err-closed-clause-made : goal.returns-in_err-closed-clause-made
 returns-in_err-closed-clause-made g c =
     let i = c.self.inside in
-    let s : Session = session_of i.base (carried_bins i.kept i.cells) i.cells i.changed in
+    let s : Session = session_of i.base i.cells.base i.cells i.changed in
     let before = g.D.Disk.calls c.args.disk.now in
-    let after = g.D.Disk.calls c.commit.new.disk in
+    let after = g.D.Disk.calls c.commit_kept.new.disk in
     let p = err_from_is_err_and c.from_residual.result c.from_residual.ensures.1 in
     rw p.1
     (subst (λ (v : Session). MakesFront before after (change_calls v.base v.bins (next_bins v) (next_root v)))
     c.self.view_is
     (as_written (λ old new root. MakesFront before after (change_calls s.base old new root))
-    c.carried.ensures c.bytes-new.ensures.exact c.root.ensures.root c.in_err-closed.ensures.made))
+    (old_is _ _ c.bytes-new.ensures.exact c.pages.ensures.base) c.bytes-new.ensures.exact c.root.ensures.root c.in_err-closed.ensures.made))
 
 pub returns-clause-carries : goal.returns-clause-carries
 returns-clause-carries g c = λ tells.
     let i = c.self.inside in
-    let s : Session = session_of i.base (carried_bins i.kept i.cells) i.cells i.changed in
-    let held = (g.D.Disk.state c.commit.new.disk).held in
+    let s : Session = session_of i.base i.cells.base i.cells i.changed in
+    let held = (g.D.Disk.state c.commit_kept.new.disk).held in
     subst (λ (v : Session). Carries held (next_base v) (next_bins v)) c.self.view_is
     (as_written (λ old new root. Carries held (closed_of s.base new root) new)
-    c.carried.ensures c.bytes-new.ensures.exact c.root.ensures.root (c.in_ok-closed.ensures.carries tells))
+    (old_is _ _ c.bytes-new.ensures.exact c.pages.ensures.base) c.bytes-new.ensures.exact c.root.ensures.root (c.in_ok-closed.ensures.carries tells))
 
 pub returns-clause-logged : goal.returns-clause-logged
 returns-clause-logged g c = λ tells.
     let i = c.self.inside in
-    let s : Session = session_of i.base (carried_bins i.kept i.cells) i.cells i.changed in
-    let held = (g.D.Disk.state c.commit.new.disk).held in
+    let s : Session = session_of i.base i.cells.base i.cells i.changed in
+    let held = (g.D.Disk.state c.commit_kept.new.disk).held in
     subst (λ (v : Session). HasLog held (session_log v)) c.self.view_is
     (as_written (λ old new root. HasLog held (log_of (dirty old new) new (closed_of s.base new root)))
-    c.carried.ensures c.bytes-new.ensures.exact c.root.ensures.root
+    (old_is _ _ c.bytes-new.ensures.exact c.pages.ensures.base) c.bytes-new.ensures.exact c.root.ensures.root
     (c.in_ok-closed.ensures.logged tells))
 
 pub returns-clause-loads : goal.returns-clause-loads
 returns-clause-loads g c = λ tells.
     let i = c.self.inside in
-    let s : Session = session_of i.base (carried_bins i.kept i.cells) i.cells i.changed in
-    let ready = is_ready i.base (carried_bins i.kept i.cells) i.cells i.changed c.self.invariant c.bytes-new.ensures.sound
+    let s : Session = session_of i.base i.cells.base i.cells i.changed in
+    let ready = is_ready i.base i.cells.base i.cells i.changed c.self.invariant c.bytes-new.ensures.sound
     c.root.ensures.stands in
-    let held = (g.D.Disk.state c.commit.new.disk).held in
+    let held = (g.D.Disk.state c.commit_kept.new.disk).held in
     subst (λ (v : Session). Loads held (committed_state v) false) c.self.view_is
     (commit_loads s ready held
     (as_written (λ old new root. Carries held (closed_of s.base new root) new)
-    c.carried.ensures c.bytes-new.ensures.exact c.root.ensures.root (c.in_ok-closed.ensures.carries tells)))
+    (old_is _ _ c.bytes-new.ensures.exact c.pages.ensures.base) c.bytes-new.ensures.exact c.root.ensures.root (c.in_ok-closed.ensures.carries tells)))
 
 pub returns-clause-crash : goal.returns-clause-crash
 returns-clause-crash g c = λ tells.
     let i = c.self.inside in
-    let s : Session = session_of i.base (carried_bins i.kept i.cells) i.cells i.changed in
-    let ready = is_ready i.base (carried_bins i.kept i.cells) i.cells i.changed c.self.invariant c.bytes-new.ensures.sound
+    let s : Session = session_of i.base i.cells.base i.cells i.changed in
+    let ready = is_ready i.base i.cells.base i.cells i.changed c.self.invariant c.bytes-new.ensures.sound
     c.root.ensures.stands in
     let start = (g.D.Disk.state c.args.disk.now).held in
-    let state = g.D.Disk.state c.commit.new.disk in
+    let state = g.D.Disk.state c.commit_kept.new.disk in
     let carries = subst (λ (v : Session). Carries start v.base v.bins) (sym c.self.view_is)
     (c.requires.carries tells) in
     subst (λ (v : Session). (before : HiveState) (was : Bool) → Loads start before was
     → EachCrash state (LoadsAsEither before (committed_state v))) c.self.view_is
     (commit_crash s ready c.self.invariant.carried.sized start state carries
     (as_written (λ old new root. EachCrash state (IsBeforeOrAfter s.base old (closed_of s.base new root) new))
-    c.carried.ensures c.bytes-new.ensures.exact c.root.ensures.root
-    (c.commit.ensures.crash tells)))
+    (old_is _ _ c.bytes-new.ensures.exact c.pages.ensures.base) c.bytes-new.ensures.exact c.root.ensures.root
+    (c.commit_kept.ensures.crash tells)))
 
 pub returns-in_err-closed-clause-crash : goal.returns-in_err-closed-clause-crash
 returns-in_err-closed-clause-crash g c = λ tells.
     let i = c.self.inside in
-    let s : Session = session_of i.base (carried_bins i.kept i.cells) i.cells i.changed in
-    let ready = is_ready i.base (carried_bins i.kept i.cells) i.cells i.changed c.self.invariant c.bytes-new.ensures.sound
+    let s : Session = session_of i.base i.cells.base i.cells i.changed in
+    let ready = is_ready i.base i.cells.base i.cells i.changed c.self.invariant c.bytes-new.ensures.sound
     c.root.ensures.stands in
     let start = (g.D.Disk.state c.args.disk.now).held in
-    let state = g.D.Disk.state c.commit.new.disk in
+    let state = g.D.Disk.state c.commit_kept.new.disk in
     let carries = subst (λ (v : Session). Carries start v.base v.bins) (sym c.self.view_is)
     (c.requires.carries tells) in
     subst (λ (v : Session). (before : HiveState) (was : Bool) → Loads start before was
     → EachCrash state (LoadsAsEither before (committed_state v))) c.self.view_is
     (commit_crash s ready c.self.invariant.carried.sized start state carries
     (as_written (λ old new root. EachCrash state (IsBeforeOrAfter s.base old (closed_of s.base new root) new))
-    c.carried.ensures c.bytes-new.ensures.exact c.root.ensures.root
-    (c.commit.ensures.crash tells)))
+    (old_is _ _ c.bytes-new.ensures.exact c.pages.ensures.base) c.bytes-new.ensures.exact c.root.ensures.root
+    (c.commit_kept.ensures.crash tells)))
 
 pub returns-in_err-closed-clause-goes : goal.returns-in_err-closed-clause-goes
 returns-in_err-closed-clause-goes g c =
     let p = err_from_is_err_and c.from_residual.result c.from_residual.ensures.1 in
-    rw (p.1, p.2) (goes_again _ _ (g.D.Disk.state c.args.disk.now) (g.D.Disk.state c.commit.new.disk)
+    rw (p.1, p.2) (goes_again _ _ (g.D.Disk.state c.args.disk.now) (g.D.Disk.state c.commit_kept.new.disk)
     c.in_err-closed.field-0.0 c.in_err-closed.ensures.goes)
 
 pub returns-in_err-closed-clause-before : goal.returns-in_err-closed-clause-before
 returns-in_err-closed-clause-before g c = λ tells.
     let i = c.self.inside in
-    let s : Session = session_of i.base (carried_bins i.kept i.cells) i.cells i.changed in
+    let s : Session = session_of i.base i.cells.base i.cells i.changed in
     let start = (g.D.Disk.state c.args.disk.now).held in
     stood s _ c.self.invariant.carried start
     (subst (λ (v : Session). Carries start v.base v.bins) (sym c.self.view_is) (c.requires.carries tells))
@@ -164,7 +153,7 @@ returns-in_err-closed-clause-before g c = λ tells.
 pub returns-clause-before : goal.returns-clause-before
 returns-clause-before g c = λ tells.
     let i = c.self.inside in
-    let s : Session = session_of i.base (carried_bins i.kept i.cells) i.cells i.changed in
+    let s : Session = session_of i.base i.cells.base i.cells i.changed in
     let start = (g.D.Disk.state c.args.disk.now).held in
     stood s _ c.self.invariant.carried start
     (subst (λ (v : Session). Carries start v.base v.bins) (sym c.self.view_is) (c.requires.carries tells))

@@ -1,6 +1,7 @@
 use Rattle.std.proofs.Common.{◌≡◌, ◌++◌, ◌∙◌, true, [], refl, sym, ap}
 use Rattle.std.proofs.lemmas.List.{append-nil}
 use Rattle.nt_bytes.specs.declared.fault.HiveFault.{HiveFault}
+use Rattle.hive_model.specs.Bins.{spelled}
 use Rattle.hive_model.specs.Load.{LoadFault}
 use Rattle.hive_model.specs.Recovery.{Recovered, bit}
 use Rattle.hive_commit.specs.Calls.{closing_calls}
@@ -41,7 +42,7 @@ returns-in_err-restore-clause-made g c =
     let asked = c.in_ok-hive.ensures.asked in
     let closed = c.hive.inside.base in
     let bitmap = c.as_slice.result.now in
-    let bins = c.carried-bins.result.now in
+    let bins = c.bytes-bins.result.now in
     let made = c.in_err-restore.ensures.made in
     read_then (g.D.Disk.calls c.args.disk.now) (g.D.Disk.calls c.look.new.disk) _ asked.sectors asked.made
     (g.D.Disk.calls c.restore.new.disk) closed (bit bitmap) bins made
@@ -50,7 +51,8 @@ returns-in_err-restore-clause-made g c =
     (restored_front image asked.sectors (asked.are tells) view (c.in_ok-hive.ensures.recovered tells)
     closed bitmap bins c.in_ok-hive.field-0.bitmap c.if-dirty.true (c.in_ok-hive.ensures.found tells c.if-dirty.true)
     (ap (λ (s : Session). s.base) c.hive.view_is) c.as_slice.ensures
-    (c.carried-bins.ensures ∙ ap (λ (s : Session). s.bins) c.hive.view_is)
+    (c.bytes-bins.ensures.exact ∙ ap (λ (s : Session). spelled 0 s.cells.bins) c.hive.view_is
+    ∙ c.in_ok-hive.ensures.cells.bytes)
     made.front (record { rest = made.rest; cut = made.cut }))
     (no_fault g (goal.at.returns-in_err-restore-clause-made g c).In_ok-hive tells))
 
@@ -65,7 +67,7 @@ returns-clause-made g c =
       | then-dirty+in_ok-restore w ↦
           let closed = c.hive.inside.base in
           let bitmap = w.as_slice.result.now in
-          let bins = w.carried-bins.result.now in
+          let bins = w.bytes-bins.result.now in
           let calls = closing_calls closed (bit bitmap) bins in
           rw w.disk-is
           (read_then start one _ asked.sectors asked.made (g.D.Disk.calls w.restore.new.disk) closed (bit bitmap) bins
@@ -74,7 +76,8 @@ returns-clause-made g c =
           closed bitmap bins c.in_ok-hive.field-0.bitmap w.if-dirty.true
           (c.in_ok-hive.ensures.found tells w.if-dirty.true)
           (ap (λ (s : Session). s.base) c.hive.view_is) w.as_slice.ensures
-          (w.carried-bins.ensures ∙ ap (λ (s : Session). s.bins) c.hive.view_is)))
+          (w.bytes-bins.ensures.exact ∙ ap (λ (s : Session). spelled 0 s.cells.bins) c.hive.view_is
+    ∙ c.in_ok-hive.ensures.cells.bytes)))
       | else-dirty w ↦ rw w.disk-is
           (only_read start one _ asked.sectors asked.made
           (λ tells. clean_all image asked.sectors (asked.are tells) view (c.in_ok-hive.ensures.recovered tells)
@@ -91,8 +94,9 @@ returns-in_err-restore-clause-crash g c = λ tells.
     restored_loads (g.D.Disk.state c.args.disk.now).held
     (seen g (goal.at.returns-in_err-restore-clause-crash g c).In_ok-hive)
     (c.in_ok-hive.ensures.recovered tells)
-    c.hive.inside.base c.carried-bins.result.now (ap (λ (s : Session). s.base) c.hive.view_is)
-    (c.carried-bins.ensures ∙ ap (λ (s : Session). s.bins) c.hive.view_is)
+    c.hive.inside.base c.bytes-bins.result.now (ap (λ (s : Session). s.base) c.hive.view_is)
+    (c.bytes-bins.ensures.exact ∙ ap (λ (s : Session). spelled 0 s.cells.bins) c.hive.view_is
+    ∙ c.in_ok-hive.ensures.cells.bytes)
     (g.D.Disk.state c.restore.new.disk) (c.restore.ensures.crash tells)
 
 pub returns-clause-crash : goal.returns-clause-crash
@@ -102,8 +106,9 @@ returns-clause-crash g c = λ tells.
       | then-dirty+in_ok-restore w ↦ rw w.disk-is
           (restored_loads s0.held (seen g (goal.at.returns-clause-crash g c).In_ok-hive)
           (c.in_ok-hive.ensures.recovered tells)
-          c.hive.inside.base w.carried-bins.result.now (ap (λ (s : Session). s.base) c.hive.view_is)
-          (w.carried-bins.ensures ∙ ap (λ (s : Session). s.bins) c.hive.view_is)
+          c.hive.inside.base w.bytes-bins.result.now (ap (λ (s : Session). s.base) c.hive.view_is)
+          (w.bytes-bins.ensures.exact ∙ ap (λ (s : Session). spelled 0 s.cells.bins) c.hive.view_is
+    ∙ c.in_ok-hive.ensures.cells.bytes)
           (g.D.Disk.state w.restore.new.disk) (w.restore.ensures.crash tells))
       | else-dirty w ↦ rw w.disk-is
           (kept_loads s0 (g.D.Disk.state c.look.new.disk) (c.look.ensures.look.held tells)
@@ -119,8 +124,9 @@ returns-clause-loads g c = λ tells.
     (c.in_ok-hive.ensures.exact tells) (c.in_ok-hive.ensures.recovered tells) c.in_ok-hive.ensures.sized in
     elim c.if-dirty.branch [
       | then-dirty+in_ok-restore w ↦ rw w.disk-is
-          (found c.hive.inside.base w.carried-bins.result.now (ap (λ (s : Session). s.base) c.hive.view_is)
-          (w.carried-bins.ensures ∙ ap (λ (s : Session). s.bins) c.hive.view_is)
+          (found c.hive.inside.base w.bytes-bins.result.now (ap (λ (s : Session). s.base) c.hive.view_is)
+          (w.bytes-bins.ensures.exact ∙ ap (λ (s : Session). spelled 0 s.cells.bins) c.hive.view_is
+    ∙ c.in_ok-hive.ensures.cells.bytes)
           (g.D.Disk.state w.restore.new.disk).held (w.in_ok-restore.ensures.carries tells))
       | else-dirty w ↦ rw (w.disk-is, c.look.ensures.look.held tells)
           (found looked.hive.base looked.hive.bins refl refl s0.held

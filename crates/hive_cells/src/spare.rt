@@ -1,0 +1,46 @@
+//! Pages that are spare: room for the next base, made before the bins grow.
+
+ghost use Rattle.std.specs.Prelude.{◌≡◌, ◌⊎◌, ◌<◌, ◌≤◌, [], length, replicate, OnOk};
+
+use saved_pages::SavedPages;
+use std::alloc::AllocError;
+use std::mem::swap;
+
+/// Makes room for so many pages, where bins data may have so many.
+pub(crate) fn widen_to(spare: &mut SavedPages, wanted: u64) -> Result<(), AllocError>
+    ensures ok { OnOk result (wanted ≤ 4096 → wanted ≤ length spare.new) }
+    ensures more { length spare.old ≤ length spare.new }
+{
+    let there = spare.len() as u64;
+    if wanted <= there || wanted > 4096 {
+        return Ok(());
+    }
+    spare.widen((wanted - there) as usize)?;
+    Ok(())
+}
+
+/// Nothing is kept any more, of so many pages, in the one of the two that has room for them. No memory is taken.
+pub(crate) fn begin_anew(pages: &mut SavedPages, spare: &mut SavedPages, count: usize)
+    requires { (count ≤ length pages.old) ⊎ (count ≤ length spare.old) }
+    ensures { pages.new ≡ replicate count [] }
+{
+    if count <= pages.len() {
+        pages.clear(count);
+        return;
+    }
+    swap(pages, spare);
+    pages.clear(count);
+    let there = spare.len();
+    spare.clear(there);
+}
+
+/// The one of more pages.
+pub(crate) fn longer(a: SavedPages, b: SavedPages) -> SavedPages
+    ensures left { length a ≤ length result }
+    ensures right { length b ≤ length result }
+{
+    if a.len() < b.len() {
+        return b;
+    }
+    a
+}

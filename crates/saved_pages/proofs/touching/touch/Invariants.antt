@@ -1,0 +1,12 @@
+use Rattle.std.proofs.Common.{◌≡◌, ◌≤◌, ◌<◌, ◌/◌, ℕ, [], length}
+use Rattle.saved_pages.specs.Overlay.{before, kept_at, IsCovered}
+use Rattle.saved_pages.proofs.touching.touch.Given as goal
+
+-- the pages up to this one are kept
+abbrev pub invariant-loop-k : goal.invariant-loop-k
+invariant-loop-k l = record {
+  before : before l.pages l.bytes ≡ before l.fn.pages l.bytes;
+  count : length l.pages ≡ length l.fn.pages;
+  covered : IsCovered l.pages (length l.bytes);
+  kept : (j : ℕ) → l.from / 4096 ≤ j → j < l.k → j < length l.fn.pages → kept_at l.pages j ≡ [] → ⊥;
+}

@@ -1,0 +1,109 @@
+//! Old pages, each kept once.
+
+ghost use Rattle.std.specs.Prelude.{◌≡◌, ◌+◌, ◌*◌, ◌<◌, ◌≤◌, [], ◌++◌, ℕ, List, length, replicate, IfOk, OnErr, OnOk, MatchOption};
+ghost use Rattle.saved_pages.specs.Overlay.{kept_at, with_kept, AreWhole};
+
+use std::alloc::{AllocError, Global};
+use std::marker::Model;
+
+/// The old pages of bytes, each as it was before its first change. Room for all of them is made at once, and touched
+/// where a page is kept.
+#[derive(Drop)]
+pub struct SavedPages {
+    slots: Vec<u16>,
+    room: Vec<u8>,
+}
+
+impl Model for SavedPages {
+    ghost use Rattle.std.specs.Prelude.{List, ℕ};
+    ghost use Rattle.std.specs.Vec.{vec_capacity};
+    ghost use Rattle.saved_pages.specs.Table.{pages_in, IsTable};
+
+    ghost Value = { List (List ℕ) };
+
+    ghost view = { λ a. pages_in a.room.items a.slots.items };
+
+    ghost invariant = { λ a. IsTable a.slots.items a.room.items (vec_capacity a.room) };
+}
+
+impl SavedPages {
+    /// Of so many pages none is kept.
+    pub fn new(alloc: Global, count: usize) -> Result<SavedPages, AllocError>
+        requires { count ≤ 4096 }
+        ensures { IfOk result (λ pages. pages ≡ replicate count []) }
+    {
+        let mut slots = Vec::with_capacity(alloc, count)?;
+        slots.resize(count, 0)?;
+        let room = Vec::with_capacity(alloc, 4096 * count)?;
+        Ok(SavedPages { slots, room })
+    }
+
+    /// The same pages in room of their own.
+    pub fn copy(&self, alloc: Global) -> Result<SavedPages, AllocError>
+        ensures { IfOk result (λ pages. pages ≡ self.now) }
+    {
+        let count = self.slots.len();
+        let mut slots = Vec::with_capacity(alloc, count)?;
+        slots.extend_from_slice(self.slots.as_slice())?;
+        let mut room = Vec::with_capacity(alloc, 4096 * count)?;
+        room.extend_from_slice(self.room.as_slice())?;
+        Ok(SavedPages { slots, room })
+    }
+
+    /// So many pages more, of which none is kept. Where there is no memory all is as it was.
+    pub fn widen(&mut self, more: usize) -> Result<(), AllocError>
+        requires { length self.old + more ≤ 4096 }
+        ensures ok { OnOk result (self.new ≡ self.old ++ replicate more []) }
+        ensures err { OnErr result (self.new ≡ self.old) }
+    {
+        let count = self.slots.len() + more;
+        self.room.reserve(4096 * count - self.room.len())?;
+        self.slots.resize(count, 0)?;
+        Ok(())
+    }
+
+    /// How many pages the old bytes have.
+    pub fn len(&self) -> usize
+        ensures count { result ≡ length self.now }
+        ensures few { result ≤ 4096 }
+        ensures whole { AreWhole self.now }
+    {
+        self.slots.len()
+    }
+
+    /// What was kept of a page.
+    pub fn kept(&self, k: usize) -> Option<&[u8]>
+        requires { k < length self.now }
+        ensures { MatchOption result (kept_at self.now k ≡ []) (λ p. (p.now ≡ kept_at self.now k) × (length p.now ≡ 4096)) }
+    {
+        let slot = self.slots[k] as usize;
+        if slot == 0 {
+            return None;
+        }
+        Some(&self.room[4096 * (slot - 1)..4096 * slot])
+    }
+
+    /// Keeps a page of which nothing was kept. No memory is taken.
+    pub fn keep(&mut self, k: usize, page: &[u8])
+        requires inside { k < length self.old }
+        requires first { kept_at self.old k ≡ [] }
+        requires whole { length page.now ≡ 4096 }
+        ensures { self.new ≡ with_kept self.old k page.now }
+    {
+        let slot = self.room.len() / 4096 + 1;
+        let done = self.room.extend_from_slice(page).is_ok();
+        prove!(done);
+        self.slots[k] = slot as u16;
+    }
+
+    /// Nothing is kept any more, of so many pages, which are no more than before. No memory is taken.
+    pub fn clear(&mut self, count: usize)
+        requires { count ≤ length self.old }
+        ensures { self.new ≡ replicate count [] }
+    {
+        self.room.truncate(0);
+        self.slots.truncate(0);
+        let done = self.slots.resize(count, 0).is_ok();
+        prove!(done);
+    }
+}

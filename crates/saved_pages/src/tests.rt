@@ -1,0 +1,32 @@
+//! Two pages and a half.
+
+use super::*;
+use std::test::Fail;
+
+#[test]
+fn a_page_is_kept_as_it_was_at_first(rt: HostRuntime) -> Result<(), Fail> {
+    let mut bytes = [1; 10240];
+    let mut pages = SavedPages::new(rt.alloc(), 2)?;
+    assert_eq!(rt; pages.kept(1).is_none(), true);
+    touch(&mut pages, &bytes, 4095, 4097);
+    bytes[4096] = 2;
+    touch(&mut pages, &bytes, 4096, 8200);
+    bytes[4097] = 2;
+    let copy = pages.copy(rt.alloc())?;
+    for k in 0..2 {
+        match copy.kept(k) {
+            None => assert_eq!(rt; k, 2),
+            Some(page) => assert_eq!(rt; page[0], 1),
+        }
+    }
+    pages.widen(1)?;
+    assert_eq!(rt; pages.len(), 3);
+    assert_eq!(rt; pages.kept(1).is_some(), true);
+    assert_eq!(rt; pages.kept(2).is_none(), true);
+    pages.clear(3);
+    assert_eq!(rt; pages.kept(1).is_none(), true);
+    pages.clear(1);
+    assert_eq!(rt; pages.len(), 1);
+    assert_eq!(rt; pages.kept(0).is_none(), true);
+    Ok(())
+}
