@@ -9,61 +9,13 @@ use Rattle.command_parts.specs.declared.refusal.Refusal.{Refusal}
 use Rattle.command_parts.specs.declared.refusal.Obstacle.{Obstacle}
 use Rattle.command_parts.specs.declared.refusal.Obstacle.TheVariants.{Refused, Stopped}
 use Rattle.command_parts.specs.Inputs.{file_in, behind_step, asks_hive}
-use Rattle.command_parts.specs.Leaves.{more, named, AsksSome, AsksStopped, AsksUntil, AsksBy, Gives, Reads, stop_in, stopped_as}
+use Rattle.command_parts.specs.Leaves.{more, named, AsksSome, AsksStopped, AsksUntil, AsksBy, stop_in, stopped_as}
 
 pub more_more : (a b n : ℕ) → more a (more b n) ≡ more (a + b) n
 more_more zero b n = (let same : b ≡ 0 + b = omega arith in ap (λ (k : ℕ). more k n) same)
 more_more (suc a) b n =
     let same : suc (a + b) ≡ suc a + b = omega arith in
     ap (λ (k : ℕ). min (k + 1) 18446744073709551615) (more_more a b n) ∙ ap (λ (k : ℕ). more k n) same
-
--- ---- a step that ends the search
-
-none_more : (p : ℕ) → p + 0 ≡ p
-none_more p = omega arith
-
--- it asked for nothing, after p files
-pub reads_asks : {A B : Type 0} (n p : ℕ) (s : Result A Refusal) (k : A → ℕ) (e : Obstacle) (q : Result B Obstacle)
-    (g h : ℕ)
-    → n ≡ p + behind_step s k → Reads s (Err e) → IsErrAnd q (λ x. x ≡ e) → h ≡ more p g → AsksUntil n q g h
-reads_asks n p s k e (Ok x) g h whole reads is asked = absurd is
-reads_asks {A} {B} n p s k e (Err x) g h whole reads is asked =
-    subst (λ (y : Obstacle). AsksUntil {A = B} n (Err y) g h) (sym is) (by_kind e reads)
-  where
-    by_kind : (y : Obstacle) → Reads s (Err y) → AsksUntil {A = B} n (Err y) g h
-    by_kind (Refused r) reads =
-        let all : n ≡ p = whole ∙ ap (λ (t : Result A Refusal). p + behind_step t k) reads ∙ none_more p in
-        asked ∙ ap (λ (m : ℕ). more m g) (sym all)
-    by_kind (Stopped stop) reads =
-        subst (λ (t : HostStop). AsksStopped t n g h) (sym reads)
-        (record { asked = p; not_less = omega arith; not_more = omega (arith, whole); gets = asked })
-
--- it asked for the last of p files
-pub file_asks : {A B : Type 0} (n p : ℕ) (s : Result A Refusal) (k : A → ℕ) (e : Obstacle) (q : Result B Obstacle)
-    (g h : ℕ)
-    → n ≡ p + behind_step s k → Gives s (Err e) → (e ≡ Stopped Write → ⊥) → IsErrAnd q (λ x. x ≡ e) → 1 ≤ p
-    → h ≡ more p g → AsksUntil n q g h
-file_asks n p s k e (Ok x) g h whole gives unwritten is some asked = absurd is
-file_asks {A} {B} n p s k e (Err x) g h whole gives unwritten is some asked =
-    subst (λ (y : Obstacle). AsksUntil {A = B} n (Err y) g h) (sym is) (by_kind e gives unwritten)
-  where
-    by_kind : (y : Obstacle) → Gives s (Err y) → (y ≡ Stopped Write → ⊥) → AsksUntil {A = B} n (Err y) g h
-    by_kind (Refused r) gives unwritten =
-        let all : n ≡ p = whole ∙ ap (λ (t : Result A Refusal). p + behind_step t k) gives ∙ none_more p in
-        asked ∙ ap (λ (m : ℕ). more m g) (sym all)
-    by_kind (Stopped Read) gives unwritten = record {
-      asked = p;
-      not_less = some;
-      not_more = omega (arith, whole);
-      gets = asked;
-    }
-    by_kind (Stopped Write) gives unwritten = absurd (unwritten refl)
-    by_kind (Stopped Memory) gives unwritten = record {
-      asked = p;
-      not_less = omega arith;
-      not_more = omega (arith, whole);
-      gets = asked;
-    }
 
 -- it asked for the last of all n files
 pub last_asks : {B : Type 0} (n : ℕ) (e : Obstacle) (q : Result B Obstacle) (g h : ℕ)
@@ -97,55 +49,6 @@ some_behind least n p k g m h whole before some =
       not_more = omega (arith, whole, some.not_more);
       gets = more_behind (p + some.asked) p some.asked g m h refl before some.gets;
     }
-
--- the last step asked for some of k files, after p files
-pub behind_asks : (A : Type 0) {B : Type 0} (n p k : ℕ) (e : Obstacle) (q : Result B Obstacle) (g m h : ℕ) → n ≡ p + k
-    → m ≡ more p g → AsksUntil {A = A} k (Err e) m h → IsErrAnd q (λ x. x ≡ e) → AsksUntil n q g h
-behind_asks A n p k e (Ok x) g m h whole before asks is = absurd is
-behind_asks A {B} n p k e (Err x) g m h whole before asks is =
-    subst (λ (y : Obstacle). AsksUntil {A = B} n (Err y) g h) (sym is) (by_kind e asks)
-  where
-    by_kind : (y : Obstacle) → AsksUntil {A = A} k (Err y) m h → AsksUntil {A = B} n (Err y) g h
-    by_kind (Refused r) asks = more_behind n p k g m h whole before asks
-    by_kind (Stopped Read) asks = some_behind 1 n p k g m h whole before asks
-    by_kind (Stopped Write) asks = more_behind n p k g m h whole before asks
-    by_kind (Stopped Memory) asks = some_behind 0 n p k g m h whole before asks
-
-wider : (least n m g h : ℕ) → n ≤ m → AsksSome least n g h → AsksSome least m g h
-wider least n m g h le some =
-    record {
-      asked = some.asked;
-      not_less = some.not_less;
-      not_more = omega (arith, some.not_more, le);
-      gets = some.gets;
-    }
-
--- a first step that ends the search, which asked for p files
-pub first_asks : (A B : Type 0) (n p : ℕ) (s : Result A Refusal) (k : A → ℕ) (e : Obstacle) (q : Result B Obstacle)
-    (g h : ℕ)
-    → n ≡ p + behind_step s k → Gives s (Err e) → (e ≡ Stopped Write → ⊥) → AsksUntil {A = A} p (Err e) g h
-    → IsErrAnd q (λ x. x ≡ e) → AsksUntil n q g h
-first_asks A B n p s k e (Ok x) g h whole gives unwritten asks is = absurd is
-first_asks A B n p s k e (Err x) g h whole gives unwritten asks is =
-    subst (λ (y : Obstacle). AsksUntil {A = B} n (Err y) g h) (sym is) (by_kind e gives unwritten asks)
-  where
-    by_kind : (y : Obstacle) → Gives s (Err y) → (y ≡ Stopped Write → ⊥) → AsksUntil {A = A} p (Err y) g h
-        → AsksUntil {A = B} n (Err y) g h
-    by_kind (Refused r) gives unwritten asks =
-        let all : n ≡ p = whole ∙ ap (λ (t : Result A Refusal). p + behind_step t k) gives ∙ none_more p in
-        asks ∙ ap (λ (m : ℕ). more m g) (sym all)
-    by_kind (Stopped Read) gives unwritten asks = wider 1 p n g h (omega (arith, whole)) asks
-    by_kind (Stopped Write) gives unwritten asks = absurd (unwritten refl)
-    by_kind (Stopped Memory) gives unwritten asks = wider 0 p n g h (omega (arith, whole)) asks
-
--- the same after p files, where the step asked for m of them itself
-pub next_asks : (A B : Type 0) (n p m : ℕ) (s : Result A Refusal) (k : A → ℕ) (e : Obstacle) (q : Result B Obstacle)
-    (g mid h : ℕ)
-    → n ≡ p + (m + behind_step s k) → mid ≡ more p g → Gives s (Err e) → (e ≡ Stopped Write → ⊥)
-    → AsksUntil {A = A} m (Err e) mid h → IsErrAnd q (λ x. x ≡ e) → AsksUntil n q g h
-next_asks A B n p m s k e q g mid h whole before gives unwritten asks is =
-    behind_asks A n p (m + behind_step s k) e q g mid h whole before
-    (first_asks A A (m + behind_step s k) m s k e (Err e) mid h refl gives unwritten asks refl) is
 
 -- ---- the files that are asked for, step by step
 

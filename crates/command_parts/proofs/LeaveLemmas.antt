@@ -14,11 +14,6 @@ pub files_then : (old mid new : HostState) → KeepsHost old mid → KeepsFiles 
     → KeepsFiles old new
 files_then old mid new k f g = λ tells. g (k.tells ∙ tells) ∙ f tells
 
-pub looks_then : (old mid new : HostState) → KeepsHost old mid → KeepsHost mid new → KeepsFiles old mid
-    → KeepsFiles mid new
-    → KeepsHost old new × KeepsFiles old new
-looks_then old mid new k l f g = (keeps_then old mid new k l, files_then old mid new k f g)
-
 -- no fault before, and what came then
 counts_then : (stop : HostStop) (old mid new : HostState) → KeepsHost old mid → KeepsCounts old mid
     → Counts mid new stop

@@ -6,19 +6,15 @@ use Rattle.std.proofs.lemmas.List.{append-nil}
 use Rattle.nt_bytes.specs.Fields.{u32_in}
 use Rattle.nt_bytes.specs.declared.fault.HiveFaultKind.{HiveFaultKind}
 use Rattle.hive_model.specs.Bins.{Cells}
-use Rattle.hive_model.specs.Tree.{Tree, head}
-use Rattle.hive_model.specs.Edit.{new_key}
-use Rattle.hive_model.specs.Forms.{◌>>=◌, bytes_in}
+use Rattle.hive_model.specs.Forms.{◌>>=◌}
 use Rattle.hive_model.specs.KeyNode.{KeyNode, key_node_in, key_node_at}
-use Rattle.hive_model.specs.Lists.{offsets_in}
-use Rattle.hive_model.specs.Walk.{reading, use_as, entries_at, class_checks, entries_checks}
-use Rattle.hive_model.specs.Footprint.{used_in, of_read, child_places, list_cells_at, security_cell_at}
-use Rattle.hive_model.specs.Stands.{ListsChildren, Stands, class_of, items_at, security_of, tree_flags, values_of}
-use Rattle.edit_laws.specs.Owned.{In, class_cell_at, value_list_at, value_places}
+use Rattle.hive_model.specs.Walk.{reading, entries_at, entries_checks}
+use Rattle.hive_model.specs.Footprint.{used_in, child_places, list_cells_at}
+use Rattle.hive_model.specs.Stands.{ListsChildren}
+use Rattle.edit_laws.specs.Owned.{In}
 use Rattle.edit_laws.specs.Framed.{IsUnheld}
 use Rattle.edit_laws.specs.Parents.{IsChildOf}
-use Rattle.edit_laws.specs.Uses.{Once, plain, secure, tree_uses}
-use Rattle.edit_laws.specs.Revalues.{cells_of_values, all_value_cells}
+use Rattle.edit_laws.specs.Uses.{Once, plain, tree_uses}
 use Rattle.edit_laws.specs.Written.{with_part, three_numbers}
 use Rattle.edit_laws.specs.Relists.{SaysTheRest, ChangesChildren}
 use Rattle.edit_laws.specs.Lists.{HasNewChildren, InsertsChild, RemovesChild}
@@ -198,85 +194,3 @@ removes_child b c root x left n front back y q list counted read places g = reco
     once [] f =
         subst (λ (l : List ℕ). Once (plain l)) (sym (lists_at_none c x g.node.new read_new (none [] refl f))) tt
     once (w ∷ os) f = subst (λ (l : List ℕ). Once (plain l)) (sym (lists_are w os f)) (g.once w os f)
-
--- ---- a key without values and children
-
-class_none : (cells : Cells) (at : ℕ) (n : KeyNode) → reading key_node_at cells at ≡ Ok n
-    → (n.class_length == 0) ≡ true → class_cell_at cells at ≡ []
-unfolding class_cell_at class_checks
-class_none cells at n read none =
-    of_node_is cells at n (λ m. used_in (class_checks cells m)) read
-    ∙ ap (λ (b : Bool). used_in (cond b [] (use_as false (bytes_in n.class_length) cells n.class))) none
-
-values_none : (cells : Cells) (at : ℕ) (n : KeyNode) → reading key_node_at cells at ≡ Ok n
-    → (n.value_count == 0) ≡ true → all_value_cells cells at ≡ []
-unfolding value_list_at value_places
-values_none cells at n read none =
-    ap (λ (l : List ℕ). l ++ cells_of_values cells (value_places cells at))
-    (of_node_is cells at n (λ k. if k.value_count == 0 then [] else k.value_list ∷ []) read
-    ∙ ap (λ (b : Bool). cond b [] (n.value_list ∷ [])) none)
-    ∙ ap (cells_of_values cells)
-    (of_node_is cells at n (λ k. if k.value_count == 0 then [] else of_read
-    (reading (offsets_in k.value_count) cells k.value_list) (λ os. os)) read
-    ∙ ap (λ (b : Bool). cond b [] (of_read (reading (offsets_in n.value_count) cells n.value_list) (λ os. os))) none)
-
-children_none : (cells : Cells) (at : ℕ) (n : KeyNode) → reading key_node_at cells at ≡ Ok n
-    → (n.child_count == 0) ≡ true → child_places cells at ≡ []
-unfolding child_places
-children_none cells at n read none =
-    of_node_is cells at n (λ m. if m.child_count == 0 then [] else of_read (entries_at cells m.child_list) (λ os. os))
-    read
-    ∙ ap (λ (b : Bool). cond b [] (of_read (entries_at cells n.child_list) (λ os. os))) none
-
--- a key with a name alone, and a descriptor perhaps, uses its node and the cell of that
-pub bare_uses : (left : ℕ) (cells : Cells) (at : ℕ) (n : KeyNode) → reading key_node_at cells at ≡ Ok n
-    → (n.class_length == 0) ≡ true → (n.value_count == 0) ≡ true → (n.child_count == 0) ≡ true
-    → tree_uses (suc left) cells at ≡ (at, false) ∷ (secure (security_cell_at cells at) ++ [])
-bare_uses left cells at n read no_class no_values no_children =
-    ap (λ (l : List ℕ). ((at, false)
-    ∷ (plain l ++ (secure (security_cell_at cells at)
-    ++ (plain (all_value_cells cells at) ++ plain (list_cells_at cells at)))))
-    ++ flat_map (tree_uses left cells) (child_places cells at))
-    (class_none cells at n read no_class)
-    ∙ ap (λ (l : List ℕ). ((at, false)
-    ∷ (secure (security_cell_at cells at) ++ (plain l ++ plain (list_cells_at cells at))))
-    ++ flat_map (tree_uses left cells) (child_places cells at)) (values_none cells at n read no_values)
-    ∙ ap (λ (l : List ℕ). ((at, false) ∷ (secure (security_cell_at cells at) ++ plain l))
-    ++ flat_map (tree_uses left cells) (child_places cells at)) (lists_at_none cells at n read no_children)
-    ∙ ap (λ (l : List ℕ). ((at, false) ∷ (secure (security_cell_at cells at) ++ []))
-    ++ flat_map (tree_uses left cells) l) (children_none cells at n read no_children)
-    ∙ append-nil ((at, false) ∷ (secure (security_cell_at cells at) ++ []))
-
-abbrev no_offsets : List ℕ
-no_offsets = []
-
--- a key with a name alone stands, as a new key has the stamp and the descriptor of the key above it
-pub bare_stands : (cells : Cells) (at : ℕ) (n : KeyNode) (name : List ℕ) (k : Tree)
-    → reading key_node_at cells at ≡ Ok n
-    → n.name ≡ name → tree_flags n.flags ≡ 0 → n.stamp ≡ (head k).stamp → (n.class_length == 0) ≡ true
-    → security_of cells n ≡ Ok (head k).security → (n.value_count == 0) ≡ true → (n.child_count == 0) ≡ true
-    → Stands cells at (new_key name k)
-unfolding class_of values_of
-bare_stands cells at n name k read named flags stamp no_class descriptor no_values no_children = (
-  no_offsets,
-  record {
-    node = n;
-    read = read;
-    name = sym named;
-    flags = sym flags;
-    stamp = sym stamp;
-    class = ap (λ (b : Bool). cond b (Ok []) (reading (bytes_in n.class_length) cells n.class)) no_class;
-    security = descriptor;
-    values = ap
-        (λ (b : Bool). cond b (Ok []) (reading (offsets_in n.value_count) cells n.value_list >>= items_at cells))
-        no_values;
-    children = no_children_at (n.child_count == 0) no_children;
-  },
-  refl,
-)
-  where
-    no_children_at : (b : Bool) → b ≡ true
-        → MatchBool b (no_offsets ≡ [])
-        ((entries_at cells n.child_list ≡ Ok no_offsets) × (length no_offsets ≡ n.child_count))
-    no_children_at true e = refl
-    no_children_at false e = absurd cc
