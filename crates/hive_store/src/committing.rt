@@ -52,14 +52,7 @@ impl Hive {
         let (base, mut cells) = (self.base, self.cells);
         let new = cells.bytes();
         let mut marks = [0; 4096];
-        let closed = commit_kept(
-            disk,
-            &base,
-            cells.pages(),
-            new,
-            cells.root(),
-            &mut marks,
-        )?;
+        let closed = commit_kept(disk, &base, cells.pages(), new, cells.root(), &mut marks)?;
         cells.settle();
         let hive = Hive {
             base: closed,

@@ -77,7 +77,7 @@ returns-clause-made g c =
           (c.in_ok-hive.ensures.found tells w.if-dirty.true)
           (ap (λ (s : Session). s.base) c.hive.view_is) w.as_slice.ensures
           (w.bytes-bins.ensures.exact ∙ ap (λ (s : Session). spelled 0 s.cells.bins) c.hive.view_is
-    ∙ c.in_ok-hive.ensures.cells.bytes)))
+          ∙ c.in_ok-hive.ensures.cells.bytes)))
       | else-dirty w ↦ rw w.disk-is
           (only_read start one _ asked.sectors asked.made
           (λ tells. clean_all image asked.sectors (asked.are tells) view (c.in_ok-hive.ensures.recovered tells)
@@ -108,7 +108,7 @@ returns-clause-crash g c = λ tells.
           (c.in_ok-hive.ensures.recovered tells)
           c.hive.inside.base w.bytes-bins.result.now (ap (λ (s : Session). s.base) c.hive.view_is)
           (w.bytes-bins.ensures.exact ∙ ap (λ (s : Session). spelled 0 s.cells.bins) c.hive.view_is
-    ∙ c.in_ok-hive.ensures.cells.bytes)
+          ∙ c.in_ok-hive.ensures.cells.bytes)
           (g.D.Disk.state w.restore.new.disk) (w.restore.ensures.crash tells))
       | else-dirty w ↦ rw w.disk-is
           (kept_loads s0 (g.D.Disk.state c.look.new.disk) (c.look.ensures.look.held tells)
@@ -126,7 +126,7 @@ returns-clause-loads g c = λ tells.
       | then-dirty+in_ok-restore w ↦ rw w.disk-is
           (found c.hive.inside.base w.bytes-bins.result.now (ap (λ (s : Session). s.base) c.hive.view_is)
           (w.bytes-bins.ensures.exact ∙ ap (λ (s : Session). spelled 0 s.cells.bins) c.hive.view_is
-    ∙ c.in_ok-hive.ensures.cells.bytes)
+          ∙ c.in_ok-hive.ensures.cells.bytes)
           (g.D.Disk.state w.restore.new.disk).held (w.in_ok-restore.ensures.carries tells))
       | else-dirty w ↦ rw (w.disk-is, c.look.ensures.look.held tells)
           (found looked.hive.base looked.hive.bins refl refl s0.held
