@@ -1,0 +1,7 @@
+use Rattle.std.proofs.Common.{OnOk, map, [], ◌∷◌, ◌≡◌}
+use Rattle.reg_tree.specs.Makes.{step_of}
+use Rattle.quiet_run.proofs.editing.edit.Goals as goal
+
+-- src/editing.rt:50:1
+pub returns-clause-watched : goal.returns-clause-watched
+returns-clause-watched c = rw c.in_ok-steps.ensures at c.make.ensures.watched
