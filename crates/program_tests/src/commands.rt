@@ -1,5 +1,7 @@
 //! Tables of the commands on one hive: of each row every call of the host fails in turn.
 
+ghost use Rattle.std.specs.Prelude.{◌≤◌};
+
 use crate::cases::{BEFORE, Case, called, each_call, host};
 use crate::hive::{Sets, hive};
 use crate::tables::{AGAIN, loads};
@@ -455,9 +457,12 @@ fn export_stops(
     rt: &impl Abort,
     alloc: Global,
     case: &Case<'_>,
-    (read, n): (bool, u64),
+    read: bool,
+    n: u64,
     wanted: (Status, &str, &[u8]),
-) -> Result<(), Fail> {
+) -> Result<(), Fail>
+    requires { 1 ≤ n }
+{
     let mut host = host(alloc, case)?;
     if read {
         host.fail_read(n);
@@ -476,10 +481,10 @@ fn export_ends(rt: &impl Abort, alloc: Global, case: &Case<'_>, x: &[u8]) -> Res
 /// Each call of the host fails in turn, and then none does.
 fn exports(rt: &impl Abort, alloc: Global, case: &Case<'_>, x: &[u8]) -> Result<(), Fail> {
     let unread = (Status::ReadFault, "", BEFORE);
-    export_stops(rt, alloc, case, (true, 1), unread)?;
+    export_stops(rt, alloc, case, true, 1, unread)?;
     let unwritten = (Status::WriteFault, "", BEFORE);
-    export_stops(rt, alloc, case, (false, 1), unwritten)?;
-    export_stops(rt, alloc, case, (false, 2), (Status::WriteFault, "", x))?;
+    export_stops(rt, alloc, case, false, 1, unwritten)?;
+    export_stops(rt, alloc, case, false, 2, (Status::WriteFault, "", x))?;
     export_ends(rt, alloc, case, x)
 }
 
