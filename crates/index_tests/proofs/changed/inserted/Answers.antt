@@ -12,7 +12,7 @@ insert_child-requires-clause-siblings c =
     let all = root_lists (look_up c.args.version c.args.cells)
     32 c.args.tree.now node c.requires.formed c.requires.read in
     subst (λ (bins : List Bin). ListsSiblings (look_up c.args.version bins) node.child_list node.child_count)
-    (sym c.in_ok-heap.ensures) all.0
+    (sym c.in_ok-heap.ensures.bins) all.0
 
 pub insert_child-requires-clause-apart : goal.insert_child-requires-clause-apart
 insert_child-requires-clause-apart c =
@@ -20,9 +20,9 @@ insert_child-requires-clause-apart c =
     let all = root_lists (look_up c.args.version c.args.cells)
     32 c.args.tree.now node c.requires.formed c.requires.read in
     subst (λ (bins : List Bin). AreApart (lists_at (look_up c.args.version bins) node.child_list node.child_count))
-    (sym c.in_ok-heap.ensures) all.1
+    (sym c.in_ok-heap.ensures.bins) all.1
 
 pub insert_child-requires-clause-child : goal.insert_child-requires-clause-child
 insert_child-requires-clause-child c =
     let is = root_is_node (look_up c.args.version c.args.cells) 32 (key_node_of c.args.node.now) c.requires.read in
-    subst (λ (bins : List Bin). IsNode (look_up c.args.version bins) 32) (sym c.in_ok-heap.ensures) is
+    subst (λ (bins : List Bin). IsNode (look_up c.args.version bins) 32) (sym c.in_ok-heap.ensures.bins) is

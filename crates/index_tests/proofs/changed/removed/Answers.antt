@@ -12,7 +12,7 @@ remove_child-requires-clause-siblings c =
     let all = root_lists (look_up c.args.version c.args.cells)
     32 c.args.tree.now node c.requires.formed c.requires.read in
     subst (λ (bins : List Bin). ListsSiblings (look_up c.args.version bins) node.child_list node.child_count)
-    (sym c.in_ok-heap.ensures) all.0
+    (sym c.in_ok-heap.ensures.bins) all.0
 
 pub remove_child-requires-clause-apart : goal.remove_child-requires-clause-apart
 remove_child-requires-clause-apart c =
@@ -20,4 +20,4 @@ remove_child-requires-clause-apart c =
     let all = root_lists (look_up c.args.version c.args.cells)
     32 c.args.tree.now node c.requires.formed c.requires.read in
     subst (λ (bins : List Bin). AreApart (lists_at (look_up c.args.version bins) node.child_list node.child_count))
-    (sym c.in_ok-heap.ensures) all.1
+    (sym c.in_ok-heap.ensures.bins) all.1
