@@ -1,5 +1,3 @@
-use Rattle.std.proofs.Common.{OnOk, map, [], ◌∷◌, ◌≡◌}
-use Rattle.reg_tree.specs.Makes.{step_of}
 use Rattle.quiet_run.proofs.editing.edit.Goals as goal
 
 -- src/editing.rt:50:1
