@@ -1,1 +1,2 @@
-pub mod TopLemmas
+pub mod PageLemmas
+pub mod LastLemmas

@@ -8,6 +8,7 @@
 
 mod changes;
 mod heap;
+mod index;
 mod laws;
 mod lookup;
 mod marks;
