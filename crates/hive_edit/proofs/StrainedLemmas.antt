@@ -287,12 +287,9 @@ joined [] back step = refl
 joined (first ∷ front) back step = ap (λ (l : List Step). first ∷ l) (joined front back step)
 
 -- once they have taken more than the greatest size of bins data, all are strained
-pub all_taken : (h mid g : HiveCells) (front back : List Step) (step : Step) (room more sum : ℕ)
-    → AreStepped h front mid
-    → AreGrown h.version (bins_size h.bins) h.tree front (bins_size h.bins + room) mid.tree → IsStepped mid step g
-    → IsLeastRoom mid step g more
-    → sum ≡ min (room + more) 18446744073709551615 → 16777216 < sum → AreStrained h (front ++ step ∷ back)
-all_taken h mid g front back step room more sum stepped grown made least capped over = λ u e.
+pub all_taken : (h g : HiveCells) (front back : List Step) (step : Step) (sum : ℕ)
+    → AreGrown h.version (bins_size h.bins) h.tree (front ++ step ∷ []) (bins_size h.bins + sum) g.tree
+    → 16777216 < sum → AreStrained h (front ++ step ∷ back)
+all_taken h g front back step sum grown over = λ u e.
     subst (λ (l : List Step). 16777216 < strain_of h.version (bins_size h.bins) h.tree l) (joined front back step)
-    (taken_strained h.version (bins_size h.bins) sum h.tree g.tree (front ++ step ∷ []) back
-    (step_grown h mid g front step room more sum stepped grown made least capped) over)
+    (taken_strained h.version (bins_size h.bins) sum h.tree g.tree (front ++ step ∷ []) back grown over)

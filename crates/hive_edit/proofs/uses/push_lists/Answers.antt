@@ -1,12 +1,18 @@
 use Rattle.std.proofs.Common.{ap, sym, List, ℕ, [], ◌∷◌, ◌++◌, ◌∙◌, false, arith}
 use Rattle.hive_model.specs.Footprint.{list_cells_at}
 use Rattle.edit_laws.specs.Uses.{plain}
-use Rattle.key_index.specs.Lists.{offsets_of}
+use Rattle.key_index.specs.Lists.{ListsSiblings, offsets_of}
 use Rattle.key_index.proofs.Below.{child_lists, used_lists}
 use Rattle.hive_cells.specs.Sources.{cells_of}
 use Rattle.hive_edit.proofs.NodeLemmas.{siblings_here}
 use Rattle.hive_edit.proofs.UsesLemmas.{use_of, nothing_more, joined_uses, no_lists, lists_by}
 use Rattle.hive_edit.proofs.uses.push_lists.Goals as goal
+use Rattle.hive_edit.proofs.uses.push_lists.Goals.{After-u32_at-list}
+
+siblings : (c : After-u32_at-list) → ListsSiblings (cells_of c.args.cells.now) c.u32_at-list.result c.u32_at-count.result
+siblings c =
+    siblings_here (cells_of c.args.cells.now) c.args.at c.node_at-node.result.now c.u32_at-list.result c.u32_at-count.result
+    c.requires c.node_at-node.ensures.value c.u32_at-list.ensures c.u32_at-count.ensures
 
 pub returns-then-count-eq0 : goal.returns-then-count-eq0
 returns-then-count-eq0 c =
@@ -17,27 +23,20 @@ returns-then-count-eq0 c =
 
 pub is_list_of_lists-requires : goal.is_list_of_lists-requires
 is_list_of_lists-requires c =
-    let cells = cells_of c.args.cells.now in
-    let s = siblings_here cells c.args.at c.node_at-node.result.now c.u32_at-list.result c.u32_at-count.result
-    c.requires c.node_at-node.ensures.value c.u32_at-list.ensures c.u32_at-count.ensures in
-    rw c.payload-bytes.ensures
-    (child_lists cells c.u32_at-list.result c.u32_at-count.result s (omega (arith, c.if-count-eq0.false))).read
+    rw c.payload-bytes.ensures (child_lists (cells_of c.args.cells.now) c.u32_at-list.result c.u32_at-count.result
+    (siblings (goal.at.is_list_of_lists-requires c).After-u32_at-list) (omega (arith, c.if-count-eq0.false))).read
 
 pub entries_in-requires : goal.entries_in-requires
 entries_in-requires c =
-    let cells = cells_of c.args.cells.now in
-    let s = siblings_here cells c.args.at c.node_at-node.result.now c.u32_at-list.result c.u32_at-count.result
-    c.requires c.node_at-node.ensures.value c.u32_at-list.ensures c.u32_at-count.ensures in
-    rw c.payload-bytes.ensures
-    (child_lists cells c.u32_at-list.result c.u32_at-count.result s (omega (arith, c.if-count-eq0.false))).read
+    rw c.payload-bytes.ensures (child_lists (cells_of c.args.cells.now) c.u32_at-list.result c.u32_at-count.result
+    (siblings (goal.at.entries_in-requires c).After-u32_at-list) (omega (arith, c.if-count-eq0.false))).read
 
 pub returns-then-not-is_list_of_lists : goal.returns-then-not-is_list_of_lists
 returns-then-not-is_list_of_lists c =
     let cells = cells_of c.args.cells.now in
-    let s = siblings_here cells c.args.at c.node_at-node.result.now c.u32_at-list.result c.u32_at-count.result
-    c.requires c.node_at-node.ensures.value c.u32_at-list.ensures c.u32_at-count.ensures in
     let is = sym c.is_list_of_lists.ensures ∙ c.if-not-is_list_of_lists.true in
-    let used = (used_lists cells c.u32_at-list.result c.u32_at-count.result s
+    let used = (used_lists cells c.u32_at-list.result c.u32_at-count.result
+    (siblings (goal.at.returns-then-not-is_list_of_lists c).After-u32_at-list)
     (omega (arith, c.if-count-eq0.false))).single (rw c.payload-bytes.ensures at is) in
     let mine = lists_by cells c.args.at c.node_at-node.result.now c.u32_at-list.result c.u32_at-count.result c.requires
     c.node_at-node.ensures.value c.u32_at-list.ensures c.u32_at-count.ensures in
@@ -46,11 +45,10 @@ returns-then-not-is_list_of_lists c =
 pub returns : goal.returns
 returns c =
     let cells = cells_of c.args.cells.now in
-    let s = siblings_here cells c.args.at c.node_at-node.result.now c.u32_at-list.result c.u32_at-count.result
-    c.requires c.node_at-node.ensures.value c.u32_at-list.ensures c.u32_at-count.ensures in
     let is = sym c.is_list_of_lists.ensures ∙ c.if-not-is_list_of_lists.false in
-    let used = (used_lists cells c.u32_at-list.result c.u32_at-count.result s
-    (omega (arith, c.if-count-eq0.false))).many (rw c.payload-bytes.ensures at is) in
+    let used = (used_lists cells c.u32_at-list.result c.u32_at-count.result
+    (siblings (goal.at.returns c).After-u32_at-list) (omega (arith, c.if-count-eq0.false))).many
+    (rw c.payload-bytes.ensures at is) in
     let mine = lists_by cells c.args.at c.node_at-node.result.now c.u32_at-list.result c.u32_at-count.result c.requires
     c.node_at-node.ensures.value c.u32_at-list.ensures c.u32_at-count.ensures in
     let lists = c.as_slice.ensures ∙ c.in_ok-lists.ensures ∙ ap offsets_of c.payload-bytes.ensures in

@@ -1,6 +1,17 @@
 use Rattle.std.proofs.Common.{ℕ, List, length, sym, ap, ◌∙◌, arith}
-use Rattle.hive_edit.proofs.AskedLemmas.{asks_no_key, asks_bad_name, asks_long, asks_deep, asks_there, asks_open, already_told}
+use Rattle.hive_edit.proofs.AskedLemmas.{Good, asks_no_key, asks_bad_name, asks_long, asks_deep, asks_there, asks_open, already_told}
 use Rattle.hive_edit.proofs.hive.HiveBytes.open_place.Goals as goal
+use Rattle.hive_edit.proofs.hive.HiveBytes.open_place.Goals.{Else-as_slice-gt-MOST_PARENTS}
+
+good : (c : Else-as_slice-gt-MOST_PARENTS) → Good c.self.inside.cells c.cells.result.now c.self.inside.root
+    c.self.inside.version c.self.inside.bulk c.args.self.now c.args.parent.now c.args.name.now c.in-Some.at
+good c = record {
+  lent = record { is = c.self.invariant; same = c.cells.ensures; view = c.self.view_is };
+  place = c.in-Some.ensures.place;
+  good = sym c.is_bad_name.ensures ∙ c.if-is_bad_name.false;
+  short = omega (arith, c.if-name-gt-LONGEST_KEY_NAME.false);
+  deep = omega (arith, c.if-as_slice-gt-MOST_PARENTS.false, ap (λ (l : List _). length l) c.as_slice.ensures);
+}
 
 pub returns-in-None : goal.returns-in-None
 returns-in-None c = record {
@@ -42,13 +53,7 @@ returns-then-is_some c = record {
       c.args.self.now c.args.parent.now c.args.name.now c.self.invariant c.self.view_is
       (asks_there c.self.inside.cells c.cells.result.now c.self.inside.root c.self.inside.version c.self.inside.bulk
       c.args.self.now c.args.parent.now c.args.name.now c.in-Some.at
-      (record {
-        lent = record { is = c.self.invariant; same = c.cells.ensures; view = c.self.view_is };
-        place = c.in-Some.ensures.place;
-        good = sym c.is_bad_name.ensures ∙ c.if-is_bad_name.false;
-        short = omega (arith, c.if-name-gt-LONGEST_KEY_NAME.false);
-        deep = omega (arith, c.if-as_slice-gt-MOST_PARENTS.false, ap (λ (l : List _). length l) c.as_slice.ensures);
-      })
+      (good (goal.at.returns-then-is_some c).Else-as_slice-gt-MOST_PARENTS)
       c.child_at.result c.child_at.ensures.place (sym c.is_some.ensures ∙ c.if-is_some.true));
 }
 
@@ -56,12 +61,6 @@ pub returns : goal.returns
 returns c = record {
   judged = asks_open c.self.inside.cells c.cells.result.now c.self.inside.root c.self.inside.version c.self.inside.bulk
       c.args.self.now c.args.parent.now c.args.name.now c.in-Some.at
-      (record {
-        lent = record { is = c.self.invariant; same = c.cells.ensures; view = c.self.view_is };
-        place = c.in-Some.ensures.place;
-        good = sym c.is_bad_name.ensures ∙ c.if-is_bad_name.false;
-        short = omega (arith, c.if-name-gt-LONGEST_KEY_NAME.false);
-        deep = omega (arith, c.if-as_slice-gt-MOST_PARENTS.false, ap (λ (l : List _). length l) c.as_slice.ensures);
-      })
+      (good (goal.at.returns c).Else-as_slice-gt-MOST_PARENTS)
       c.child_at.result c.child_at.ensures.place (sym c.is_some.ensures ∙ c.if-is_some.false);
 }

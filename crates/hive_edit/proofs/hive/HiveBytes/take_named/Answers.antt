@@ -1,6 +1,18 @@
-use Rattle.hive_edit.proofs.SteppedLemmas.{stepped_bulk}
+use Rattle.hive_model.specs.Edit.{delete_value}
+use Rattle.hive_edit.proofs.SteppedLemmas.{IsStepMade, stepped_bulk}
 use Rattle.hive_edit.proofs.UnsetLemmas.{hive_can_take, is_unset, frees_value}
 use Rattle.hive_edit.proofs.hive.HiveBytes.take_named.Goals as goal
+use Rattle.hive_edit.proofs.hive.HiveBytes.take_named.Goals.{After-are_bytes}
+
+-- the value is gone
+unset : (c : After-are_bytes) → IsStepMade c.args.self.now c.take_out.new.heap c.self.inside.root c.self.inside.version
+    c.args.bulk (delete_value c.args.path.now c.args.name.now)
+unset c =
+    let i = c.self.inside in
+    is_unset i.cells c.take_out.new.heap i.root i.version i.bulk c.args.bulk c.args.self.now c.args.path.now
+    c.args.name.now c.args.key c.args.value
+    c.self.invariant c.self.view_is c.requires.key c.requires.value c.take_out.ensures.taken c.are_bytes.ensures
+    c.requires.bulk
 
 pub take_out-requires : goal.take_out-requires
 take_out-requires c =
@@ -10,29 +22,15 @@ take_out-requires c =
     c.requires.key c.requires.value
 
 pub invariant_of-self : goal.invariant_of-self
-invariant_of-self c =
-    let i = c.self.inside in
-    (is_unset i.cells c.take_out.new.heap i.root i.version i.bulk c.args.bulk c.args.self.now c.args.path.now
-    c.args.name.now c.args.key c.args.value
-    c.self.invariant c.self.view_is c.requires.key c.requires.value c.take_out.ensures.taken c.are_bytes.ensures
-    c.requires.bulk).hive
+invariant_of-self c = (unset (goal.at.invariant_of-self c).After-are_bytes).hive
 
 pub returns-clause-stepped : goal.returns-clause-stepped
-returns-clause-stepped c =
-    let i = c.self.inside in
-    (is_unset i.cells c.take_out.new.heap i.root i.version i.bulk c.args.bulk c.args.self.now c.args.path.now
-    c.args.name.now c.args.key c.args.value
-    c.self.invariant c.self.view_is c.requires.key c.requires.value c.take_out.ensures.taken c.are_bytes.ensures
-    c.requires.bulk).stepped
+returns-clause-stepped c = (unset (goal.at.returns-clause-stepped c).After-are_bytes).stepped
 
 pub returns-clause-bulk : goal.returns-clause-bulk
 returns-clause-bulk c =
-    let i = c.self.inside in
-    stepped_bulk c.args.self.now c.take_out.new.heap i.root i.version c.args.bulk _
-    (is_unset i.cells c.take_out.new.heap i.root i.version i.bulk c.args.bulk c.args.self.now c.args.path.now
-    c.args.name.now c.args.key c.args.value
-    c.self.invariant c.self.view_is c.requires.key c.requires.value c.take_out.ensures.taken c.are_bytes.ensures
-    c.requires.bulk)
+    stepped_bulk c.args.self.now c.take_out.new.heap c.self.inside.root c.self.inside.version c.args.bulk _
+    (unset (goal.at.returns-clause-bulk c).After-are_bytes)
 
 pub returns-clause-freed : goal.returns-clause-freed
 returns-clause-freed c =
