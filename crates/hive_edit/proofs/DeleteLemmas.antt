@@ -1,6 +1,6 @@
 -- A key deleted in place as an edit of the hive: judged by the bulk, refused, or with no room.
-use Rattle.std.proofs.Common.{◌≡◌, ◌≤◌, ◌<◌, ℕ, ◌+◌, ◌||◌, Bool, true, false, cond, List, [], ◌∷◌, length, Result, Ok, Err, refl, sym, ap, subst, ◌∙◌}
-use Rattle.std.specs.Prelude.{nat_lt, ◌==◌, ◌⊎◌, OnOk, MatchBool}
+use Rattle.std.proofs.Common.{◌≡◌, ◌<◌, ℕ, ◌+◌, ◌||◌, Bool, true, false, cond, List, [], ◌∷◌, length, Result, Ok, Err, refl, sym, ap, subst, ◌∙◌}
+use Rattle.std.specs.Prelude.{nat_lt, ◌==◌, ◌⊎◌, OnOk}
 use Rattle.std.specs.Option.{is_none}
 use Rattle.nt_bytes.specs.declared.version.HiveVersion.{HiveVersion}
 use Rattle.hive_model.specs.Bins.{bins_size}
@@ -12,12 +12,9 @@ use Rattle.reg_tree.specs.declared.stop.EditStop.{EditStop}
 use Rattle.reg_tree.specs.Makes.{Makes}
 use Rattle.hive_edit.specs.Hive.{HiveCells}
 use Rattle.hive_edit.specs.Edits.{IsPackedAnew, IsPackedForRoom}
-use Rattle.hive_edit.specs.Stepped.{IsStepped, LacksStepRoom}
-use Rattle.hive_edit.specs.Deleting.{DropsUses}
-use Rattle.hive_edit.specs.Deleted.{IsDeletedInPlace}
+use Rattle.hive_edit.specs.Stepped.{LacksStepRoom}
 use Rattle.hive_edit.proofs.EditLemmas.{the_tree}
-use Rattle.hive_edit.proofs.SteppedLemmas.{packed_for_room, step_within, stepped_kept}
-use Rattle.hive_edit.proofs.ToldLemmas.{deleted_told}
+use Rattle.hive_edit.proofs.SteppedLemmas.{packed_for_room}
 use Rattle.hive_model.specs.Forms.{◌>>=◌}
 
 -- ---- one step as an edit
@@ -57,18 +54,6 @@ step_leaves path t u e = go ((length path == 0) || is_none (find_key path t)) e
     go true f = absurd cc
     go false f = cc
 
--- ---- in place
-
-pub deleted_in_place : (old new : HiveCells) (path : List (List ℕ)) → IsStepped old (delete_key path) new
-    → DropsUses old path new
-    → bulk_of old.version new.tree ≤ 16773120 → IsDeletedInPlace old path new
-deleted_in_place old new path s d small = record {
-  edit = step_within old.version old.tree new.tree (delete_key path) s.tree small;
-  version = s.version;
-  kept = stepped_kept old new (delete_key path) (deleted_told old new path s);
-  drops = d;
-}
-
 -- ---- no room
 
 pub lacks_strain : (h : HiveCells) (step : Step) → LacksStepRoom h step → (u : Tree)
@@ -87,15 +72,3 @@ pub anew_for_room : (h new : HiveCells) (step : Step) (r : Result (Unit {0}) Edi
     → OnOk r (IsPackedAnew new) → LacksStepRoom h step → OnOk r (P ⊎ IsPackedForRoom h (step ∷ []) new)
 anew_for_room h new step r P made anew lacks =
     packed_for_room h new (step ∷ []) r P made anew (λ u e. lacks_strain h step lacks u e)
-
--- ---- what is answered
-
-pub judged_done : (done : Bool) (old new : HiveCells) (path : List (List ℕ))
-    → MatchBool done (IsStepped old (delete_key path) new) (LacksStepRoom old (delete_key path))
-    → (done ≡ true → DropsUses old path new)
-    → bulk_of old.version (without_key path old.tree) ≤ 16773120
-    → MatchBool done (IsDeletedInPlace old path new) (LacksStepRoom old (delete_key path))
-judged_done true old new path s d small =
-    deleted_in_place old new path s (d refl)
-    (subst (λ (u : Tree). bulk_of old.version u ≤ 16773120) (sym (step_leaves path old.tree new.tree s.tree)) small)
-judged_done false old new path s d small = s

@@ -2,7 +2,7 @@
 use Rattle.std.proofs.Common.{◌≡◌, ◌≤◌, ◌<◌, inl, ℕ, zero, suc, ◌+◌, ◌-◌, ◌*◌, Bool, true, false, eqb, cond, List, [], ◌∷◌, ◌++◌, length, Option, Some, None, Result, Ok, Err, refl, sym, ap, subst, ◌∙◌, arith}
 use Rattle.std.specs.Prelude.{nat_lt, find, is_some}
 use Rattle.std.specs.Option.{is_none, option_and_then, option_map_or}
-use Rattle.std.proofs.lemmas.Bool.{ltb-false, le-ltb, lt-ltb, ne_eqb, eqb-true, eqb-false}
+use Rattle.std.proofs.lemmas.Bool.{le-ltb, lt-ltb, ne_eqb, eqb-true, eqb-false}
 use Rattle.nt_bytes.specs.declared.fault.HiveFaultKind.{HiveFaultKind}
 use Rattle.nt_bytes.specs.declared.version.HiveVersion.{HiveVersion}
 use Rattle.hive_model.specs.Bins.{Bin, Cells, bins_size, look_up, spelled}
@@ -12,7 +12,7 @@ use Rattle.hive_model.specs.Lists.{offsets_in}
 use Rattle.hive_model.specs.Size.{cell, item_size, items_sum, items_size, size, bulk_of}
 use Rattle.hive_model.specs.Tree.{Tree, Item, head, find_key, find_item, is_item}
 use Rattle.hive_model.specs.Tree.{key as tree_key}
-use Rattle.hive_model.specs.Edit.{set_value, Refusal, no_key, name_too_long, data_too_long, full, unless, with_item, of_items, has_item, after_step, after_steps, most_bulk, edited}
+use Rattle.hive_model.specs.Edit.{set_value, Refusal, no_key, name_too_long, data_too_long, full, unless, with_item, of_items, has_item, after_step}
 use Rattle.hive_model.specs.Packed.{rounded}
 use Rattle.hive_model.specs.Walk.{reading}
 use Rattle.hive_model.specs.Footprint.{of_read, key_place, value_list_sizes, item_sizes, needed_sizes, room_of}
@@ -36,7 +36,7 @@ use Rattle.edit_laws.proofs.ValueCells.{value_added}
 use Rattle.hive_edit.specs.Given.{place_in}
 use Rattle.hive_edit.specs.Gone.{list_room, HasOffsets}
 use Rattle.hive_edit.specs.Hive.{HiveCells, cells_in, hive_of, IsHive}
-use Rattle.hive_edit.specs.NewValue.{added_size, CanAdd, IsNewIn, LacksRoomForValue, NeverSets, PutsValue, set_tree}
+use Rattle.hive_edit.specs.NewValue.{added_size, CanAdd, IsNewIn, LacksRoomForValue, PutsValue, set_tree}
 use Rattle.hive_edit.specs.Places.{IsKeyAt, value_place, value_places}
 use Rattle.hive_edit.specs.Standing.{tree_of}
 use Rattle.hive_edit.specs.Stepped.{LacksStepRoom}
@@ -170,27 +170,6 @@ edit_new t k path name kind bytes found none short few = record {
   step = made path name kind bytes t (ap is_none found) (le-ltb 16383 (length name) short)
       (le-ltb 1048576 (length bytes) few);
 }
-
--- what an edit that is made reports the key and the name
-record IsSetIn (t : Tree) (path : List (List ℕ)) (name : List ℕ) : Type 0 where
-  found : is_none (find_key path t) ≡ false
-  short : length name ≤ 16383
-
-set_made : (version : HiveVersion) (t u : Tree) (path : List (List ℕ)) (name : List ℕ) (kind : ℕ) (bytes : List ℕ)
-    → edited version t (set_value path name kind bytes ∷ []) ≡ the_tree u
-    → IsSetIn t path name
-unfolding edited
-set_made version t u path name kind bytes e = go (is_none (find_key path t)) (nat_lt 16383 (length name)) refl refl e
-  where
-    go : (a b : Bool) → is_none (find_key path t) ≡ a → nat_lt 16383 (length name) ≡ b
-        → (((unless
-        ((a, no_key) ∷ (b, name_too_long) ∷ (nat_lt 1048576 (length bytes), data_too_long) ∷ [])
-        (set_tree path name kind bytes t)) >>= λ w. after_steps w []) >>=
-        (λ w. cond (nat_lt most_bulk (bulk_of version w)) (Err full) (Ok w))) ≡ the_tree u
-        → IsSetIn t path name
-    go true b p q f = absurd cc
-    go false true p q f = absurd cc
-    go false false p q f = record { found = p; short = ltb-false 16383 (length name) q }
 
 -- ---- the bulk
 
@@ -407,35 +386,10 @@ new_lacks bins root version bulk h path name x kind bytes is view isnew few lack
     lacks_room bins root version h (set_tree path name kind bytes t) (set_value path name kind bytes) view d.step
     (omega (arith, over, r))
 
--- a value of the name is there, or there is none
-pub by_place : (o : Option ℕ) (P : Type 0) → ((at : ℕ) → o ≡ some at → P) → (o ≡ None → P) → P
-by_place None P there none = none refl
-by_place (Some at) P there none = there at refl
-
 -- ---- where the search for the key ends
 
 abbrev pub nowhere : Option ℕ
 nowhere = None
-
--- a name that is too long is not set
-pub never_long : (h : HiveCells) (path : List (List ℕ)) (name : List ℕ) → 16383 < length name → NeverSets h path name
-never_long h path name long = λ kind bytes u e.
-    absurd (let m = (set_made h.version h.tree u path name kind bytes e).short in omega (arith, m, long))
-
--- nor is a value of a key that is not there
-pub never_there : (bins : Opened) (heap : List Bin) (root : ℕ) (version : HiveVersion) (bulk : ℕ) (h : HiveCells)
-    (path : List (List ℕ)) (name : List ℕ) → IsHive bins.bins root version bulk
-    → heap ≡ bins.bins → hive_of bins root version ≡ h → nowhere ≡ key_place (look_up version heap) path root
-    → NeverSets h path name
-never_there bins heap root version bulk h path name is e view none =
-    subst (λ (g : HiveCells). NeverSets g path name) view
-    (λ kind bytes u f.
-    let b = look_up version bins.bins in
-    let here : key_place b path root ≡ nowhere =
-    sym (none ∙ ap (λ (bs : List Bin). key_place (look_up version bs) path root) e) in
-    let gone = no_place b path root (tree_of b root) is.stands here in
-    let found = (set_made version (tree_of b root) u path name kind bytes f).found in
-    absurd (let z = sym found ∙ ap is_none gone in cc))
 
 -- ---- why a value is not set
 

@@ -1,21 +1,18 @@
 -- A value that is there, and has no room for other data: the strain of the step is over the limit.
-use Rattle.std.proofs.Common.{◌≡◌, ◌<◌, ◌≤◌, ◌^◌, ℕ, ◌+◌, Bool, true, false, cond, List, [], ◌∷◌, ◌++◌, length, map, Option, Some, Result, Ok, Err, refl, sym, ap, subst, ◌∙◌, arith}
-use Rattle.std.specs.Prelude.{nat_lt, find, is_some, OnOk}
-use Rattle.std.specs.Option.{is_none}
-use Rattle.std.proofs.lemmas.Bool.{ltb-false, ltb-true}
+use Rattle.std.proofs.Common.{◌≡◌, ◌<◌, ◌≤◌, ◌^◌, ℕ, ◌+◌, Bool, true, false, cond, List, [], ◌∷◌, ◌++◌, length, map, Option, Some, refl, sym, ap, subst, ◌∙◌, arith}
+use Rattle.std.specs.Prelude.{nat_lt, find, is_some}
+use Rattle.std.proofs.lemmas.Bool.{ltb-true}
 use Rattle.nt_bytes.specs.declared.version.HiveVersion.{HiveVersion}
 use Rattle.hive_model.specs.Bins.{Cells, bins_size, look_up, spelled}
 use Rattle.hive_model.specs.Size.{cell, name_bytes, data_sizes, data_size, bulk_of}
 use Rattle.hive_model.specs.Tree.{Tree, Item, head, is_item, find_key, find_item}
 use Rattle.hive_model.specs.Tree.{key as tree_key}
-use Rattle.hive_model.specs.Edit.{set_value, no_key, name_too_long, data_too_long, full, unless, at_first, with_item, of_items, after_steps, most_bulk, edited}
+use Rattle.hive_model.specs.Edit.{set_value, at_first, with_item, of_items}
 use Rattle.hive_model.specs.Packed.{rounded}
 use Rattle.hive_model.specs.Footprint.{value_list_sizes, item_sizes, needed_sizes, room_of}
 use Rattle.hive_cells.specs.Opened.{Opened}
 use Rattle.hive_cells.specs.Holes.{new_bin_size}
 use Rattle.hive_read.proofs.FormFacts.{IsBytes}
-use Rattle.reg_tree.specs.declared.stop.EditStop.{EditStop}
-use Rattle.reg_tree.specs.Makes.{Makes}
 use Rattle.edit_laws.specs.Sizes.{total, AreSome}
 use Rattle.edit_laws.proofs.RoomLemmas.{some_all, some_right, room_some, room_for, found_changed, set_needs, item_total}
 use Rattle.hive_edit.specs.Given.{place_in, IsGiven}
@@ -25,7 +22,6 @@ use Rattle.hive_edit.specs.Places.{data_places}
 use Rattle.hive_edit.specs.Standing.{tree_of}
 use Rattle.hive_edit.specs.Stepped.{LacksStepRoom}
 use Rattle.hive_edit.proofs.ResultLemmas.{some, some_same}
-use Rattle.hive_edit.proofs.EditLemmas.{the_tree}
 use Rattle.hive_pack.proofs.Rows.{space_data}
 use Rattle.hive_edit.proofs.GiveLemmas.{some_size}
 use Rattle.hive_edit.proofs.SteppedLemmas.{IsStepMade, IsWithinRoom, stepped, lacks_room}
@@ -35,7 +31,6 @@ use Rattle.hive_edit.proofs.SecuredLemmas.{none_counted, set_counts_none}
 use Rattle.hive_edit.proofs.GivenUpLemmas.{replaced_there}
 use Rattle.edit_laws.specs.Owned.{In}
 use Rattle.edit_laws.proofs.Ins.{contains_from}
-use Rattle.hive_model.specs.Forms.{◌>>=◌}
 
 abbrev become : ℕ → List ℕ → Item → Item
 become kind bytes v = record v { kind = kind; bytes = bytes }
@@ -159,29 +154,3 @@ there_set old new root version bulk after h path name kind bytes v is view e few
         (set_tree path name kind bytes (tree_of (look_up version old.bins) root))
     by_length true q l within = let w = within (ltb-true 4 (length bytes) q) in omega (arith, l, w)
     by_length false q l within = omega (arith, l)
-
--- data that are set are not too long
-pub few_made : (version : HiveVersion) (t u : Tree) (path : List (List ℕ)) (name : List ℕ) (kind : ℕ) (bytes : List ℕ)
-    → edited version t (set_value path name kind bytes ∷ []) ≡ the_tree u
-    → length bytes ≤ 1048576
-unfolding edited
-few_made version t u path name kind bytes e =
-    go (is_none (find_key path t)) (nat_lt 16383 (length name)) (nat_lt 1048576 (length bytes)) refl e
-  where
-    go : (a b c : Bool) → nat_lt 1048576 (length bytes) ≡ c
-        → (((unless ((a, no_key) ∷ (b, name_too_long) ∷ (c, data_too_long) ∷ [])
-        (set_tree path name kind bytes t)) >>= λ w. after_steps w []) >>=
-        (λ w. cond (nat_lt most_bulk (bulk_of version w)) (Err full) (Ok w))) ≡ the_tree u
-        → length bytes ≤ 1048576
-    go true b c q f = absurd cc
-    go false true c q f = absurd cc
-    go false false true q f = absurd cc
-    go false false false q f = ltb-false 1048576 (length bytes) q
-
--- and an edit that brings too many is not made
-pub too_long : (version : HiveVersion) (t u : Tree) (path : List (List ℕ)) (name : List ℕ) (kind : ℕ) (bytes : List ℕ)
-    (r : Result (Unit {0}) EditStop) (P : Type 0)
-    → Makes t u r (edited version t (set_value path name kind bytes ∷ [])) → 1048576 < length bytes → OnOk r P
-too_long version t u path name kind bytes (Ok x) P made long =
-    absurd (let few = few_made version t u path name kind bytes made in omega (arith, few, long))
-too_long version t u path name kind bytes (Err stop) P made long = tt

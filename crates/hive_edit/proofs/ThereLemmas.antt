@@ -123,14 +123,6 @@ edit_there b root t path name kind bytes v i few =
     (le-ltb 16383 (length name) (name_short b name i.key v i.value i.named i.read))
     (le-ltb 1048576 (length bytes) few)
 
--- the value is found in the hive
-pub value_seen : (bins : Opened) (heap : List Bin) (root : ℕ) (version : HiveVersion) (h : HiveCells) (path : List (List ℕ))
-    (name : List ℕ) → heap ≡ bins.bins → hive_of bins root version ≡ h
-    → place_in (look_up version heap) path name root ≡ place_in (cells_in h) path name h.root
-value_seen bins heap root version h path name e view =
-    ap (λ (b : List Bin). place_in (look_up version b) path name root) e
-    ∙ ap (λ (g : HiveCells). place_in (cells_in g) path name g.root) view
-
 pub there_in : (bins : Opened) (root : ℕ) (version : HiveVersion) (bulk : ℕ) (h : HiveCells) (path : List (List ℕ))
     (name : List ℕ) (v : ℕ) → IsHive bins.bins root version bulk
     → hive_of bins root version ≡ h → place_in (cells_in h) path name h.root ≡ some v

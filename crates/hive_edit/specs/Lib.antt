@@ -15,7 +15,6 @@ pub mod Making
 pub mod NewValue
 pub mod Dropped
 pub mod Deleting
-pub mod Deleted
 pub mod Secured
 pub mod Listed
 pub mod GivenUp

@@ -8,15 +8,16 @@ use Rattle.hive_model.specs.Size.{cell, item_size}
 use Rattle.hive_model.specs.KeyNode.{KeyNode, key_node_at}
 use Rattle.hive_model.specs.Lists.{offsets_text}
 use Rattle.hive_model.specs.Packed.{item_cells}
-use Rattle.hive_model.specs.Edit.{at_key, of_items, with_item, edited, set_value}
+use Rattle.hive_model.specs.Edit.{at_key, of_items, with_item}
 use Rattle.hive_model.specs.Walk.{reading}
 use Rattle.hive_model.specs.Footprint.{key_place}
-use Rattle.hive_model.specs.Valid.{longest_value_name}
+use Rattle.hive_model.specs.Valid.{longest_data, longest_value_name}
 use Rattle.hive_cells.specs.Held.{held_at, patched, run_cells}
 use Rattle.hive_cells.specs.Holes.{new_bin_size}
 use Rattle.edit_laws.specs.Owned.{In, value_places, value_list_at}
 use Rattle.edit_laws.specs.Changes.{AddsValue}
 use Rattle.edit_laws.specs.Written.{two_numbers}
+use Rattle.hive_edit.specs.declared.new_value.ValuePlace.{ValuePlace}
 use Rattle.hive_edit.specs.Gone.{HasOffsets}
 use Rattle.hive_edit.specs.Hive.{HiveCells, cells_in}
 use Rattle.hive_edit.specs.Places.{value_place}
@@ -90,6 +91,9 @@ pub record IsNewIn (h : HiveCells) (path : List (List ℕ)) (name : List ℕ) (x
 abbrev pub set_tree : List (List ℕ) → List ℕ → ℕ → List ℕ → Tree → Tree
 set_tree path name kind bytes t = at_key path (of_items (with_item name kind bytes)) t
 
--- the step that sets a value is refused in the tree of this hive
-abbrev pub NeverSets : HiveCells → List (List ℕ) → List ℕ → Type 0
-NeverSets h path name = (kind : ℕ) (bytes : List ℕ) (u : Tree) → edited h.version h.tree (set_value path name kind bytes ∷ []) ≡ Ok u → ⊥
+-- a value of this name and these data may be set at a place: in the key at a path, which has this value of the name, or none
+pub record MaySet (h : HiveCells) (path : List (List ℕ)) (name bytes : List ℕ) (place : ValuePlace) : Type 0 where
+  pub key : key_place (cells_in h) path h.root ≡ Some place.key
+  pub there : place.value ≡ value_place (cells_in h) name place.key
+  pub short : length name ≤ longest_value_name
+  pub few : length bytes ≤ longest_data

@@ -14,7 +14,6 @@ ghost use Rattle.hive_edit.specs.Places.{IsKeyAt};
 ghost use Rattle.hive_edit.specs.Edits.{IsEditedInPlace, IsPackedAnew, IsPackedForRoom, KeepsParents};
 ghost use Rattle.hive_edit.specs.Stepped.{IsStepped, LacksStepRoom};
 ghost use Rattle.hive_edit.specs.Deleting.{levels_left, pair_place, DropsUses, IsPairKept, IsPairTaken, IsPairThere};
-ghost use Rattle.hive_edit.specs.Deleted.{IsDeletedInPlace};
 
 use crate::adding::above_at;
 use crate::cells::are_bytes;
@@ -220,49 +219,33 @@ impl HiveBytes {
         self.apply_anew(alloc, steps)
     }
 
-    /// Deletes a key, where this is the bulk without it. `false` where there is no room.
-    fn delete_judged(
+    /// Deletes a key, where this is the bulk without it, in place where there is room, else repacks the tree.
+    fn delete_or_pack(
         &mut self,
         alloc: Global,
         path: &Names,
         pair: KeyPair,
         bulk: u64,
-    ) -> Result<bool, EditStop>
+    ) -> Result<(), EditStop>
         requires place { pair_place (cells_in self.old) path.now self.old.root ≡ Some pair }
         requires step { after_step (delete_key path.now) self.old.tree ≡ Ok (without_key path.now self.old.tree) }
         requires bulk { bulk ≡ bulk_of self.old.version (without_key path.now self.old.tree) }
-        ensures made { MatchResult result
-            (λ done. MatchBool done (IsDeletedInPlace self.old path.now self.new) (LacksStepRoom self.old (delete_key path.now)))
-            (IsRefused (edited self.old.version self.old.tree (delete_key path.now ∷ []))) }
-        ensures kept { result ≡ Ok false → self.new ≡ self.old }
+        ensures made { Makes self.old.tree self.new.tree result (edited self.old.version self.old.tree (delete_key path.now ∷ [])) }
         ensures refused { OnErr result (self.new ≡ self.old) }
+        ensures version { self.new.version ≡ self.old.version }
+        ensures cells { OnOk result (IsEditedInPlace self.old (delete_key path.now ∷ []) self.new
+            ⊎ IsPackedForRoom self.old (delete_key path.now ∷ []) self.new) }
+        ensures parents { OnOk result (KeepsParents self.old self.new) }
+        ensures drops { OnOk result (DropsUses self.old path.now self.new ⊎ IsPackedForRoom self.old (delete_key path.now ∷ []) self.new) }
         ensures base { self.new.base ≡ self.old.base }
     {
         if bulk > MOST_BULK {
             return Err(EditStop::Full);
         }
-        match self.take_at(alloc, path, pair, bulk) {
-            Ok(done) => Ok(done),
-            Err(_) => Err(EditStop::Memory),
+        if self.take_at(alloc, path, pair, bulk)? {
+            return Ok(());
         }
-    }
-
-    /// Deletes a key in place. `false` where there is no room.
-    fn delete_in_place(&mut self, alloc: Global, path: &Names) -> Result<bool, EditStop>
-        ensures made { MatchResult result
-            (λ done. MatchBool done (IsDeletedInPlace self.old path.now self.new) (LacksStepRoom self.old (delete_key path.now)))
-            (IsRefused (edited self.old.version self.old.tree (delete_key path.now ∷ []))) }
-        ensures kept { result ≡ Ok false → self.new ≡ self.old }
-        ensures refused { OnErr result (self.new ≡ self.old) }
-        ensures base { self.new.base ≡ self.old.base }
-    {
-        match self.key_pair(path) {
-            None => Err(EditStop::NoKey),
-            Some(pair) => {
-                let bulk = self.bulk_without_key(alloc, path, pair)?;
-                self.delete_judged(alloc, path, pair, bulk)
-            }
-        }
+        self.delete_anew(alloc, path)
     }
 
     /// Deletes the key that a path leads to, with all below it, but never the root. The lists of the key above are
@@ -278,9 +261,12 @@ impl HiveBytes {
         ensures drops { OnOk result (DropsUses self.old path.now self.new ⊎ IsPackedForRoom self.old (delete_key path.now ∷ []) self.new) }
         ensures base { self.new.base ≡ self.old.base }
     {
-        if self.delete_in_place(alloc, path)? {
-            return Ok(());
+        match self.key_pair(path) {
+            None => Err(EditStop::NoKey),
+            Some(pair) => {
+                let bulk = self.bulk_without_key(alloc, path, pair)?;
+                self.delete_or_pack(alloc, path, pair, bulk)
+            }
         }
-        self.delete_anew(alloc, path)
     }
 }

@@ -1,15 +1,12 @@
 //! A value set, where it stands or with all cells repacked, and steps in order.
 
-ghost use Rattle.std.specs.Prelude.{◌≡◌, ◌≤◌, ◌<◌, ℕ, ◌+◌, ◌⊎◌, [], ◌∷◌, length, map, is_some, true, false, Some, Ok, IfOk, IfErr, OnOk, OnErr, MatchResult};
+ghost use Rattle.std.specs.Prelude.{◌≡◌, ◌≤◌, ◌<◌, ℕ, ◌+◌, ◌⊎◌, [], ◌∷◌, length, map, is_some, true, Some, Ok, IfOk, IfErr, OnOk, OnErr, MatchResult};
 ghost use Rattle.std.specs.List.{All};
 ghost use Rattle.std.specs.Int.{w32, from_le_bytes};
-ghost use Rattle.hive_model.specs.Bins.{bins_size};
 ghost use Rattle.hive_model.specs.Edit.{edited, set_value};
-ghost use Rattle.hive_model.specs.Footprint.{strain_of};
-ghost use Rattle.hive_model.specs.Tree.{Tree};
 ghost use Rattle.reg_tree.specs.Fitting.{Fits};
 ghost use Rattle.hive_model.specs.Size.{bulk_of};
-ghost use Rattle.hive_model.specs.Valid.{IsValid, longest_data};
+ghost use Rattle.hive_model.specs.Valid.{IsValid};
 ghost use Rattle.hive_model.specs.Stands.{IsWellFormed};
 ghost use Rattle.reg_tree.specs.Makes.{IsRefused, Makes, step_of};
 ghost use Rattle.reg_tree.specs.declared.stop.EditStop.TheVariants.{Full, Memory};
@@ -19,10 +16,12 @@ ghost use Rattle.hive_edit.specs.Stepped.{IsStepped};
 ghost use Rattle.hive_edit.specs.Tells.{IsToldStep};
 ghost use Rattle.hive_edit.specs.Told.{WritesValue};
 ghost use Rattle.hive_edit.specs.Freed.{FreesData};
+ghost use Rattle.hive_edit.specs.NewValue.{MaySet};
 
 use crate::cells::are_bytes;
 use crate::give::inside_fields;
 use crate::hive::HiveBytes;
+use crate::new_value::ValuePlace;
 use crate::path::key_at;
 use crate::telling::VALUES;
 use crate::values::{if_inside, value_at};
@@ -209,37 +208,40 @@ impl HiveBytes {
         self.apply_anew(alloc, steps)
     }
 
-    /// Sets one value in place. `false` where there is no room for it, and where it is refused for its key or its name; the
-    /// hive is as before then, and after an `Err`.
-    fn set_in_place(
+    /// Sets one value at a place, in place where there is room for it, else repacks the tree.
+    fn set_or_pack(
         &mut self,
         alloc: Global,
         path: &Names,
         name: &[u16],
+        place: ValuePlace,
         kind: u32,
         bytes: &[u8],
-    ) -> Result<bool, EditStop>
-        requires few { length bytes.now ≤ longest_data }
-        ensures made { MatchResult result
-            (λ done. done ≡ true → edited self.old.version self.old.tree (set_value path.now name.now kind bytes.now ∷ []) ≡ Ok self.new.tree)
-            (IsRefused (edited self.old.version self.old.tree (set_value path.now name.now kind bytes.now ∷ []))) }
-        ensures unmade { result ≡ Ok false → self.new ≡ self.old }
+    ) -> Result<(), EditStop>
+        requires may { MaySet self.old path.now name.now bytes.now place }
+        ensures made { Makes self.old.tree self.new.tree result (edited self.old.version self.old.tree (set_value path.now name.now kind bytes.now ∷ [])) }
         ensures refused { OnErr result (self.new ≡ self.old) }
         ensures version { self.new.version ≡ self.old.version }
-        ensures done { result ≡ Ok true → IsEditedInPlace self.old (set_value path.now name.now kind bytes.now ∷ []) self.new }
-        ensures freed { result ≡ Ok true → FreesData self.old path.now name.now self.new }
-        ensures no_room { result ≡ Ok false → (u : Tree) → edited self.old.version self.old.tree (set_value path.now name.now kind bytes.now ∷ []) ≡ Ok u
-            → 16777216 < strain_of self.old.version (bins_size self.old.bins) self.old.tree (set_value path.now name.now kind bytes.now ∷ []) }
+        ensures cells { OnOk result (IsEditedInPlace self.old (set_value path.now name.now kind bytes.now ∷ []) self.new ⊎ IsPackedAnew self.new) }
+        ensures room { OnOk result (IsEditedInPlace self.old (set_value path.now name.now kind bytes.now ∷ []) self.new
+            ⊎ IsPackedForRoom self.old (set_value path.now name.now kind bytes.now ∷ []) self.new) }
+        ensures parents { OnOk result (KeepsParents self.old self.new) }
+        ensures freed { OnOk result (FreesData self.old path.now name.now self.new
+            ⊎ IsPackedForRoom self.old (set_value path.now name.now kind bytes.now ∷ []) self.new) }
         ensures base { self.new.base ≡ self.old.base }
     {
-        if self.set_there(alloc, path, name, kind, bytes)? {
-            return Ok(true);
+        let bulk = self.bulk_set(path, name, place, kind, bytes);
+        if bulk > MOST_BULK {
+            return Err(EditStop::Full);
         }
-        self.set_new(alloc, path, name, kind, bytes)
+        if self.set_at(alloc, path, name, place, kind, bytes, bulk)? {
+            return Ok(());
+        }
+        self.set_anew(alloc, path, name, kind, bytes)
     }
 
-    /// Sets one value in place where there is room for it, else repacks the tree.
-    fn set_or_pack(
+    /// Sets one value, where the one that is there does not hold its data itself, or is not to.
+    fn set_judged(
         &mut self,
         alloc: Global,
         path: &Names,
@@ -258,13 +260,10 @@ impl HiveBytes {
             ⊎ IsPackedForRoom self.old (set_value path.now name.now kind bytes.now ∷ []) self.new) }
         ensures base { self.new.base ≡ self.old.base }
     {
-        if bytes.len() > LONGEST_DATA {
-            return self.set_anew(alloc, path, name, kind, bytes);
+        match self.settable(path, name, bytes) {
+            Err(stop) => Err(stop),
+            Ok(place) => self.set_or_pack(alloc, path, name, place, kind, bytes),
         }
-        if self.set_in_place(alloc, path, name, kind, bytes)? {
-            return Ok(());
-        }
-        self.set_anew(alloc, path, name, kind, bytes)
     }
 
     /// Writes twelve bytes of a value that holds its data itself, and is to hold these.
@@ -330,10 +329,10 @@ impl HiveBytes {
     {
         let size = bytes.len();
         if size > 4 {
-            return self.set_or_pack(alloc, path, name, kind, bytes);
+            return self.set_judged(alloc, path, name, kind, bytes);
         }
         match self.inside_at(path, name) {
-            None => self.set_or_pack(alloc, path, name, kind, bytes),
+            None => self.set_judged(alloc, path, name, kind, bytes),
             Some(at) => {
                 let bulk = self.bulk;
                 if bulk > MOST_BULK {

@@ -1,28 +1,23 @@
 //! A value of a new name, put after the others of its key: one run of the list with it, its cell and those of its data.
 
 ghost use Rattle.std.specs.Prelude.{◌≡◌, ◌≤◌, ◌<◌, ◌+◌, ◌-◌, ◌*◌, ◌++◌, ◌∷◌, [], ℕ, List, suc, true, false, nat_lt, if◌then◌else◌, length, take, None, Some, Ok, IfOk, IfErr, OnErr, OnOk, MatchBool, MatchResult};
-ghost use Rattle.std.specs.Option.{IfSome, IsSome, IsSomeAnd};
+ghost use Rattle.std.specs.Option.{IsSome, IsSomeAnd};
 ghost use Rattle.hive_model.specs.Bins.{bins_size, look_up};
 ghost use Rattle.std.specs.Int.{w32, from_le_bytes};
 ghost use lib.ListN.{replicate};
-ghost use Rattle.hive_model.specs.Edit.{edited, set_value, after_step};
+ghost use Rattle.hive_model.specs.Edit.{set_value, after_step};
 ghost use Rattle.hive_model.specs.Size.{cell, cells_sum, data_sizes, bulk_of, item_size, name_bytes};
-ghost use Rattle.hive_model.specs.Tree.{Tree};
 ghost use Rattle.hive_model.specs.KeyNode.{KeyNode, key_node_at};
 ghost use Rattle.hive_model.specs.KeyValue.{key_value_text};
 ghost use Rattle.hive_model.specs.Lists.{AreOffsets, numbers_in, offsets_text};
-ghost use Rattle.hive_model.specs.Footprint.{key_place, strain_of};
 ghost use Rattle.hive_model.specs.Packed.{item_cells, item_form, text};
 ghost use Rattle.hive_model.specs.Walk.{reading};
 ghost use Rattle.cell_forms.specs.Views.{key_value_of};
 ghost use Rattle.hive_cells.specs.Held.{held_at, IsRun};
 ghost use Rattle.edit_laws.specs.Done.{item};
 ghost use Rattle.reg_tree.specs.Makes.{IsRefused};
-ghost use Rattle.hive_edit.specs.Edits.{IsEditedInPlace};
-ghost use Rattle.hive_edit.specs.Given.{place_in};
-ghost use Rattle.hive_edit.specs.Hive.{cells_in};
-ghost use Rattle.hive_edit.specs.NewValue.{added_cells, added_size, CanAdd, IsNewIn, IsRelistedAt, LacksRoomForValue, ListsThese, NeverSets, PutsValue, set_tree};
-ghost use Rattle.hive_edit.specs.Places.{value_place};
+ghost use Rattle.hive_edit.specs.Freed.{FreesData};
+ghost use Rattle.hive_edit.specs.NewValue.{added_cells, added_size, CanAdd, IsNewIn, IsRelistedAt, LacksRoomForValue, ListsThese, MaySet, PutsValue, set_tree};
 ghost use Rattle.hive_edit.specs.Runs.{IsPlace};
 ghost use Rattle.hive_edit.specs.Stepped.{LacksStepRoom};
 ghost use Rattle.hive_edit.specs.Tells.{IsToldStep};
@@ -42,7 +37,7 @@ use hive_cells::{OpenHeap, Source};
 use hive_pack::{cell_size, is_narrow, name_len, put_cell, write_data};
 use key_index::bins_fit;
 use nt_bytes::{Bytes, HiveVersion, Names, Units};
-use reg_tree::{EditStop, LONGEST_DATA, LONGEST_VALUE_NAME, MOST_BULK};
+use reg_tree::{EditStop, LONGEST_DATA, LONGEST_VALUE_NAME};
 use std::alloc::{AllocError, Global};
 
 // ---- the run
@@ -307,28 +302,14 @@ fn add_value(
 
 // ---- the hive
 
-impl HiveBytes {
-    /// The key that a path leads to, where it has no value of a name, which is not too long for one.
-    fn new_in(&self, path: &Names, name: &[u16]) -> Option<u32>
-        ensures new { IfSome result (IsNewIn self.now path.now name.now) }
-        ensures none { result ≡ None → place_in (cells_in self.now) path.now name.now self.now.root ≡ None → NeverSets self.now path.now name.now }
-    {
-        if name.len() > LONGEST_VALUE_NAME {
-            return None;
-        }
-        let source = Source {
-            heap: self.cells.cells(),
-            version: self.version,
-        };
-        match key_at(&source, self.root, path) {
-            None => None,
-            Some(key) => match value_at(&source, key, name) {
-                None => Some(key),
-                Some(_) => None,
-            },
-        }
-    }
+/// Where a value is to be set: the key that gets it, and the value of the name that it has, if there is one.
+#[derive(Clone, Copy)]
+pub(crate) struct ValuePlace {
+    pub(crate) key: u32,
+    pub(crate) value: Option<u32>,
+}
 
+impl HiveBytes {
     /// The bulk with a value of a new name in a key.
     fn bulk_with(&self, path: &Names, name: &[u16], key: u32, kind: u32, bytes: &[u8]) -> u64
         requires new { IsNewIn self.now path.now name.now key }
@@ -359,7 +340,8 @@ impl HiveBytes {
         requires few { length bytes.now ≤ longest_data }
         requires bulk { bulk ≡ bulk_of self.old.version (set_tree path.now name.now kind bytes.now self.old.tree) }
         ensures stepped { IfOk result (λ done. MatchBool done (IsToldStep self.old (set_value path.now name.now kind bytes.now) self.new)
-            (LacksStepRoom self.old (set_value path.now name.now kind bytes.now) × (self.new ≡ self.old))) }
+            (LacksStepRoom self.old (set_value path.now name.now kind bytes.now))) }
+        ensures kept { result ≡ Ok false → self.new ≡ self.old }
         ensures bulk { result ≡ Ok true → bulk ≡ bulk_of self.old.version self.new.tree }
         ensures refused { OnErr result (self.new ≡ self.old) }
         ensures base { self.new.base ≡ self.old.base }
@@ -376,75 +358,14 @@ impl HiveBytes {
         Ok(false)
     }
 
-    /// Puts a value of a new name into a key in place. `false` where there is no room for it; the hive is as before then,
-    /// and after an `Err`.
-    fn add_new(
-        &mut self,
-        alloc: Global,
+    /// Where a value is to be set, or why it is refused: that there is no key, or that the name or the data are too long.
+    pub(crate) fn settable(
+        &self,
         path: &Names,
         name: &[u16],
-        key: u32,
-        kind: u32,
         bytes: &[u8],
-    ) -> Result<bool, EditStop>
-        requires new { IsNewIn self.old path.now name.now key }
-        requires few { length bytes.now ≤ longest_data }
-        ensures made { MatchResult result
-            (λ done. done ≡ true → edited self.old.version self.old.tree (set_value path.now name.now kind bytes.now ∷ []) ≡ Ok self.new.tree)
-            (IsRefused (edited self.old.version self.old.tree (set_value path.now name.now kind bytes.now ∷ []))) }
-        ensures unmade { result ≡ Ok false → self.new ≡ self.old }
-        ensures refused { OnErr result (self.new ≡ self.old) }
-        ensures version { self.new.version ≡ self.old.version }
-        ensures done { result ≡ Ok true → IsEditedInPlace self.old (set_value path.now name.now kind bytes.now ∷ []) self.new }
-        ensures no_room { result ≡ Ok false → (u : Tree) → edited self.old.version self.old.tree (set_value path.now name.now kind bytes.now ∷ []) ≡ Ok u
-            → 16777216 < strain_of self.old.version (bins_size self.old.bins) self.old.tree (set_value path.now name.now kind bytes.now ∷ []) }
-        ensures base { self.new.base ≡ self.old.base }
-    {
-        let bulk = self.bulk_with(path, name, key, kind, bytes);
-        if bulk > MOST_BULK {
-            return Err(EditStop::Full);
-        }
-        if self.put_new(alloc, path, name, key, kind, bytes, bulk)? {
-            return Ok(true);
-        }
-        Ok(false)
-    }
-
-    /// Sets a value of a new name in place. `false` where there is no key for it, or a value of the name, or no room; the
-    /// hive is as before then, and after an `Err`.
-    pub(crate) fn set_new(
-        &mut self,
-        alloc: Global,
-        path: &Names,
-        name: &[u16],
-        kind: u32,
-        bytes: &[u8],
-    ) -> Result<bool, EditStop>
-        requires few { length bytes.now ≤ longest_data }
-        ensures made { MatchResult result
-            (λ done. done ≡ true → edited self.old.version self.old.tree (set_value path.now name.now kind bytes.now ∷ []) ≡ Ok self.new.tree)
-            (IsRefused (edited self.old.version self.old.tree (set_value path.now name.now kind bytes.now ∷ []))) }
-        ensures unmade { result ≡ Ok false → self.new ≡ self.old }
-        ensures refused { OnErr result (self.new ≡ self.old) }
-        ensures version { self.new.version ≡ self.old.version }
-        ensures done { result ≡ Ok true → IsEditedInPlace self.old (set_value path.now name.now kind bytes.now ∷ []) self.new }
-        ensures fresh { result ≡ Ok true → place_in (cells_in self.old) path.now name.now self.old.root ≡ None }
-        ensures no_room { result ≡ Ok false → place_in (cells_in self.old) path.now name.now self.old.root ≡ None
-            → (u : Tree) → edited self.old.version self.old.tree (set_value path.now name.now kind bytes.now ∷ []) ≡ Ok u
-            → 16777216 < strain_of self.old.version (bins_size self.old.bins) self.old.tree (set_value path.now name.now kind bytes.now ∷ []) }
-        ensures base { self.new.base ≡ self.old.base }
-    {
-        match self.new_in(path, name) {
-            None => Ok(false),
-            Some(key) => self.add_new(alloc, path, name, key, kind, bytes),
-        }
-    }
-
-    /// The key that gets the value, or why it is refused: that there is no key, or that the name or the data are too long.
-    fn settable(&self, path: &Names, name: &[u16], bytes: &[u8]) -> Result<u32, EditStop>
-        ensures key { IfOk result (λ key. key_place (cells_in self.now) path.now self.now.root ≡ Some key) }
-        ensures short { IfOk result (λ key. length name.now ≤ longest_value_name) }
-        ensures few { IfOk result (λ key. length bytes.now ≤ longest_data) }
+    ) -> Result<ValuePlace, EditStop>
+        ensures may { IfOk result (MaySet self.now path.now name.now bytes.now) }
         ensures refused { IfErr result (λ stop. (kind : ℕ) → IsRefused (after_step (set_value path.now name.now kind bytes.now) self.now.tree) stop) }
         ensures no_memory { IfErr result (λ stop. stop ≡ EditStop.Memory → ⊥) }
     {
@@ -461,49 +382,56 @@ impl HiveBytes {
                 if bytes.len() > LONGEST_DATA {
                     return Err(EditStop::DataTooLong);
                 }
-                Ok(key)
+                let value = value_at(&source, key, name);
+                Ok(ValuePlace { key, value })
             }
         }
     }
 
-    /// The offset of the value of a name in a key.
-    fn value_in(&self, path: &Names, name: &[u16], key: u32) -> Option<u32>
-        requires { key_place (cells_in self.now) path.now self.now.root ≡ Some key }
-        ensures { result ≡ value_place (cells_in self.now) name.now key }
+    /// The bulk of the tree with the value.
+    pub(crate) fn bulk_set(
+        &self,
+        path: &Names,
+        name: &[u16],
+        place: ValuePlace,
+        kind: u32,
+        bytes: &[u8],
+    ) -> u64
+        requires may { MaySet self.now path.now name.now bytes.now place }
+        ensures bulk { result ≡ bulk_of self.now.version (set_tree path.now name.now kind bytes.now self.now.tree) }
+        ensures step { after_step (set_value path.now name.now kind bytes.now) self.now.tree ≡ Ok (set_tree path.now name.now kind bytes.now self.now.tree) }
     {
-        let source = Source {
-            heap: self.cells.cells(),
-            version: self.version,
-        };
-        value_at(&source, key, name)
+        match place.value {
+            None => self.bulk_with(path, name, place.key, kind, bytes),
+            Some(at) => self.bulk_given(path, name, at, kind, bytes),
+        }
     }
 
-    /// Gives a key a value, whatever the bulk of the tree then. `false` where there is no room for it.
-    fn set_in(
+    /// Sets a value in place, where this is the bulk with it. `false` where there is no room for it; the hive is as before
+    /// then, and where there is no memory.
+    pub(crate) fn set_at(
         &mut self,
         alloc: Global,
         path: &Names,
         name: &[u16],
-        key: u32,
+        place: ValuePlace,
         kind: u32,
         bytes: &[u8],
+        bulk: u64,
     ) -> Result<bool, AllocError>
-        requires key { key_place (cells_in self.old) path.now self.old.root ≡ Some key }
-        requires short { length name.now ≤ longest_value_name }
-        requires few { length bytes.now ≤ longest_data }
-        ensures set { IfOk result (λ done. MatchBool done (IsToldStep self.old (set_value path.now name.now kind bytes.now) self.new)
-            (LacksStepRoom self.old (set_value path.now name.now kind bytes.now) × (self.new ≡ self.old))) }
+        requires may { MaySet self.old path.now name.now bytes.now place }
+        requires bulk { bulk ≡ bulk_of self.old.version (set_tree path.now name.now kind bytes.now self.old.tree) }
+        ensures stepped { IfOk result (λ done. MatchBool done (IsToldStep self.old (set_value path.now name.now kind bytes.now) self.new)
+            (LacksStepRoom self.old (set_value path.now name.now kind bytes.now))) }
+        ensures kept { result ≡ Ok false → self.new ≡ self.old }
+        ensures freed { result ≡ Ok true → FreesData self.old path.now name.now self.new }
+        ensures bulk { result ≡ Ok true → bulk ≡ bulk_of self.old.version self.new.tree }
+        ensures refused { OnErr result (self.new ≡ self.old) }
         ensures base { self.new.base ≡ self.old.base }
     {
-        match self.value_in(path, name, key) {
-            None => {
-                let bulk = self.bulk_with(path, name, key, kind, bytes);
-                self.put_new(alloc, path, name, key, kind, bytes, bulk)
-            }
-            Some(at) => {
-                let bulk = self.bulk_given(path, name, at, kind, bytes);
-                self.give_there(alloc, path, name, at, kind, bytes, bulk)
-            }
+        match place.value {
+            None => self.put_new(alloc, path, name, place.key, kind, bytes, bulk),
+            Some(at) => self.give_there(alloc, path, name, at, kind, bytes, bulk),
         }
     }
 
@@ -525,11 +453,14 @@ impl HiveBytes {
     {
         match self.settable(path, name, bytes) {
             Err(stop) => Err(stop),
-            Ok(key) => match self.set_in(alloc, path, name, key, kind, bytes) {
-                Ok(true) => Ok(true),
-                Ok(false) => Ok(false),
-                Err(_) => Err(EditStop::Memory),
-            },
+            Ok(place) => {
+                let bulk = self.bulk_set(path, name, place, kind, bytes);
+                match self.set_at(alloc, path, name, place, kind, bytes, bulk) {
+                    Ok(true) => Ok(true),
+                    Ok(false) => Ok(false),
+                    Err(_) => Err(EditStop::Memory),
+                }
+            }
         }
     }
 }

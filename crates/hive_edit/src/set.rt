@@ -1,19 +1,14 @@
 //! A value that is there, set in place.
 
-ghost use Rattle.std.specs.Prelude.{◌≡◌, ◌≤◌, ◌<◌, ℕ, [], ◌∷◌, length, true, false, Some, Ok, IfOk, OnErr, MatchBool, MatchResult, Contains, None};
-ghost use Rattle.hive_model.specs.Bins.{bins_size};
-ghost use Rattle.hive_model.specs.Edit.{edited, set_value, after_step};
+ghost use Rattle.std.specs.Prelude.{◌≡◌, ◌≤◌, ℕ, length, true, false, Some, Ok, IfOk, OnErr, MatchBool, Contains, None};
+ghost use Rattle.hive_model.specs.Edit.{set_value, after_step};
 ghost use Rattle.hive_model.specs.Size.{bulk_of};
-ghost use Rattle.hive_model.specs.Footprint.{strain_of};
-ghost use Rattle.reg_tree.specs.Makes.{IsRefused};
 ghost use Rattle.hive_cells.specs.Held.{held_at};
 ghost use Rattle.hive_edit.specs.Hive.{cells_in};
-ghost use Rattle.hive_edit.specs.Edits.{IsEditedInPlace};
 ghost use Rattle.hive_edit.specs.Given.{place_in};
 ghost use Rattle.hive_edit.specs.NewValue.{set_tree};
 ghost use Rattle.hive_edit.specs.Stepped.{LacksStepRoom};
 ghost use Rattle.hive_edit.specs.Tells.{IsToldStep};
-ghost use Rattle.hive_edit.specs.Freed.{FreesData};
 ghost use Rattle.hive_edit.specs.Places.{data_places};
 ghost use Rattle.hive_model.specs.Valid.{longest_data};
 
@@ -21,31 +16,14 @@ use crate::cells::are_bytes;
 use crate::data::{data_places, data_room};
 use crate::give::give;
 use crate::hive::HiveBytes;
-use crate::path::key_at;
 use crate::telling::VALUES;
-use crate::values::value_at;
 use hive_cells::Source;
 use hive_pack::data_len;
 use key_index::bins_fit;
 use nt_bytes::Names;
-use reg_tree::{EditStop, MOST_BULK};
 use std::alloc::{AllocError, Global};
 
 impl HiveBytes {
-    /// The offset of the value of a name in the key that a path leads to.
-    fn value_there(&self, path: &Names, name: &[u16]) -> Option<u32>
-        ensures { result ≡ place_in (cells_in self.now) path.now name.now self.now.root }
-    {
-        let source = Source {
-            heap: self.cells.cells(),
-            version: self.version,
-        };
-        match key_at(&source, self.root, path) {
-            None => None,
-            Some(key) => value_at(&source, key, name),
-        }
-    }
-
     /// The bulk with these data in the value that is there.
     pub(crate) fn bulk_given(
         &self,
@@ -87,7 +65,8 @@ impl HiveBytes {
         requires few { length bytes.now ≤ longest_data }
         requires bulk { bulk ≡ bulk_of self.old.version (set_tree path.now name.now kind bytes.now self.old.tree) }
         ensures stepped { IfOk result (λ done. MatchBool done (IsToldStep self.old (set_value path.now name.now kind bytes.now) self.new)
-            (LacksStepRoom self.old (set_value path.now name.now kind bytes.now) × (self.new ≡ self.old))) }
+            (LacksStepRoom self.old (set_value path.now name.now kind bytes.now))) }
+        ensures kept { result ≡ Ok false → self.new ≡ self.old }
         ensures freed { result ≡ Ok true → (o : ℕ) → Contains (data_places (cells_in self.old) at) o → held_at self.new.bins o ≡ None }
         ensures bulk { result ≡ Ok true → bulk ≡ bulk_of self.old.version self.new.tree }
         ensures refused { OnErr result (self.new ≡ self.old) }
@@ -112,42 +91,6 @@ impl HiveBytes {
             self.bulk = bulk;
             are_bytes(&self.cells);
             self.tell(path, VALUES, 0, bytes.len() as u32);
-            return Ok(true);
-        }
-        Ok(false)
-    }
-
-    /// Sets a value that is there in place. `false` where there is none, or no room for its data; the hive is as before
-    /// then, and after an `Err`.
-    pub(crate) fn set_there(
-        &mut self,
-        alloc: Global,
-        path: &Names,
-        name: &[u16],
-        kind: u32,
-        bytes: &[u8],
-    ) -> Result<bool, EditStop>
-        requires few { length bytes.now ≤ longest_data }
-        ensures made { MatchResult result
-            (λ done. done ≡ true → edited self.old.version self.old.tree (set_value path.now name.now kind bytes.now ∷ []) ≡ Ok self.new.tree)
-            (IsRefused (edited self.old.version self.old.tree (set_value path.now name.now kind bytes.now ∷ []))) }
-        ensures unmade { result ≡ Ok false → self.new ≡ self.old }
-        ensures refused { OnErr result (self.new ≡ self.old) }
-        ensures version { self.new.version ≡ self.old.version }
-        ensures done { result ≡ Ok true → IsEditedInPlace self.old (set_value path.now name.now kind bytes.now ∷ []) self.new }
-        ensures freed { result ≡ Ok true → FreesData self.old path.now name.now self.new }
-        ensures no_room { result ≡ Ok false → (at : ℕ) → place_in (cells_in self.old) path.now name.now self.old.root ≡ Some at
-            → 16777216 < strain_of self.old.version (bins_size self.old.bins) self.old.tree (set_value path.now name.now kind bytes.now ∷ []) }
-        ensures base { self.new.base ≡ self.old.base }
-    {
-        let Some(at) = self.value_there(path, name) else {
-            return Ok(false);
-        };
-        let bulk = self.bulk_given(path, name, at, kind, bytes);
-        if bulk > MOST_BULK {
-            return Err(EditStop::Full);
-        }
-        if self.give_there(alloc, path, name, at, kind, bytes, bulk)? {
             return Ok(true);
         }
         Ok(false)

@@ -14,7 +14,7 @@ use Rattle.hive_edit.proofs.StrainLemmas.{there_lacks, there_set}
 use Rattle.hive_edit.proofs.ThereLemmas.{there_here, there_room, there_own, gone_same, gone_held, gone_apart, gone_outside, given_same}
 use Rattle.hive_edit.proofs.ToldLemmas.{value_told, there_long}
 use Rattle.hive_edit.proofs.hive.HiveBytes.give_there.Goals as goal
-use Rattle.hive_edit.proofs.hive.HiveBytes.give_there.Goals.{After-self, After-as_slice, After-are_bytes, Then-branch}
+use Rattle.hive_edit.proofs.hive.HiveBytes.give_there.Goals.{Else-branch, After-self, After-as_slice, After-are_bytes, Then-branch}
 
 own : (c : After-self) → ValueOwn (look_up c.self.inside.version c.self.inside.cells.bins) c.args.at
 own c =
@@ -103,13 +103,21 @@ returns-then-branch-clause-bulk c = λ yes.
     (made (goal.at.returns-then-branch-clause-bulk c).After-are_bytes)
     ∙ ap (λ (t : Tree). bulk_of c.args.self.now.version t) (sym c.tell.ensures.told.tree)
 
+-- there is no room
+lacks : (c : Else-branch) → Gives c.self.inside.version c.args.at c.args.kind c.args.bytes.now c.as_slice.result.now
+    c.self.inside.cells.bins c.give.new.heap.bins false
+lacks c = rw c.if-branch.false at c.in_ok-give.ensures.given
+
 pub returns-clause-stepped : goal.returns-clause-stepped
 returns-clause-stepped c =
     let i = c.self.inside in
-    let lacks : Gives i.version c.args.at c.args.kind c.args.bytes.now c.as_slice.result.now i.cells.bins c.give.new.heap.bins
-    false = rw c.if-branch.false at c.in_ok-give.ensures.given in (
-      there_lacks i.cells i.root i.version i.bulk c.args.self.now c.args.path.now c.args.name.now c.args.kind
-          c.args.bytes.now c.args.at
-          c.self.invariant c.self.view_is c.requires.there c.requires.few lacks.0 lacks.1.1,
-      same_hive i.cells c.give.new.heap i.root i.version c.args.self.now c.self.view_is lacks.2 c.in_ok-give.ensures.base,
-    )
+    let l = lacks (goal.at.returns-clause-stepped c).Else-branch in
+    there_lacks i.cells i.root i.version i.bulk c.args.self.now c.args.path.now c.args.name.now c.args.kind
+    c.args.bytes.now c.args.at
+    c.self.invariant c.self.view_is c.requires.there c.requires.few l.0 l.1.1
+
+pub returns-clause-kept : goal.returns-clause-kept
+returns-clause-kept c = λ no.
+    let i = c.self.inside in
+    same_hive i.cells c.give.new.heap i.root i.version c.args.self.now c.self.view_is
+    (lacks (goal.at.returns-clause-kept c).Else-branch).2 c.in_ok-give.ensures.base

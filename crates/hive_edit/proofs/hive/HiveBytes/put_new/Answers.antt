@@ -10,7 +10,7 @@ use Rattle.hive_edit.proofs.NewValueLemmas.{hive_can_add, new_set, new_lacks}
 use Rattle.hive_edit.proofs.SteppedLemmas.{IsStepMade, stepped_bulk, same_hive}
 use Rattle.hive_edit.proofs.ToldLemmas.{value_told, new_long}
 use Rattle.hive_edit.proofs.hive.HiveBytes.put_new.Goals as goal
-use Rattle.hive_edit.proofs.hive.HiveBytes.put_new.Goals.{After-are_bytes}
+use Rattle.hive_edit.proofs.hive.HiveBytes.put_new.Goals.{After-are_bytes, Else-branch}
 
 -- the value was put
 made : (c : After-are_bytes) → IsStepMade c.args.self.now c.add_value.new.heap c.self.inside.root c.self.inside.version
@@ -50,16 +50,21 @@ returns-then-branch-clause-bulk c = λ yes.
     (made (goal.at.returns-then-branch-clause-bulk c).After-are_bytes)
     ∙ ap (λ (t : Tree). bulk_of c.args.self.now.version t) (sym c.tell.ensures.told.tree)
 
+-- there is no room
+lacks : (c : Else-branch) → LacksRoomForValue c.self.inside.version c.self.inside.cells.bins c.args.key
+    (item c.args.name.now c.args.kind c.args.bytes.now) × (c.add_value.new.heap ≡ c.self.inside.cells)
+lacks c = rw c.if-branch.false at c.in_ok-add_value.ensures.put
+
 pub returns-clause-stepped : goal.returns-clause-stepped
 returns-clause-stepped c =
     let i = c.self.inside in
-    let lacks : LacksRoomForValue i.version i.cells.bins c.args.key (item c.args.name.now c.args.kind c.args.bytes.now)
-    × (c.add_value.new.heap ≡ i.cells) =
-    rw c.if-branch.false at c.in_ok-add_value.ensures.put in (
-      new_lacks i.cells i.root i.version i.bulk c.args.self.now c.args.path.now c.args.name.now c.args.key c.args.kind
-          c.args.bytes.now
-          c.self.invariant c.self.view_is c.requires.new c.requires.few lacks.0,
-      same_hive i.cells c.add_value.new.heap i.root i.version c.args.self.now c.self.view_is
-          (ap (λ (o : Opened). o.bins) lacks.1)
-          c.in_ok-add_value.ensures.base,
-    )
+    new_lacks i.cells i.root i.version i.bulk c.args.self.now c.args.path.now c.args.name.now c.args.key c.args.kind
+    c.args.bytes.now
+    c.self.invariant c.self.view_is c.requires.new c.requires.few (lacks (goal.at.returns-clause-stepped c).Else-branch).0
+
+pub returns-clause-kept : goal.returns-clause-kept
+returns-clause-kept c = λ no.
+    let i = c.self.inside in
+    same_hive i.cells c.add_value.new.heap i.root i.version c.args.self.now c.self.view_is
+    (ap (λ (o : Opened). o.bins) (lacks (goal.at.returns-clause-kept c).Else-branch).1)
+    c.in_ok-add_value.ensures.base

@@ -1,57 +1,74 @@
-use Rattle.std.proofs.Common.{◌≡◌, Bool, [], ◌∷◌, Ok, ap, subst, inl}
+use Rattle.std.proofs.Common.{◌≡◌, Bool, [], ◌∷◌, Ok, ap, subst, inl, refl, arith}
 use Rattle.std.specs.Prelude.{◌⊎◌, OnOk}
 use Rattle.hive_model.specs.Edit.{edited, set_value}
 use Rattle.reg_tree.specs.Makes.{Makes}
-use Rattle.hive_edit.specs.Edits.{IsPackedForRoom}
+use Rattle.hive_edit.specs.Edits.{IsEditedInPlace, IsPackedForRoom}
 use Rattle.hive_edit.specs.Hive.{HiveCells}
-use Rattle.hive_edit.proofs.SteppedLemmas.{names_anew, packed_for_room}
-use Rattle.hive_edit.proofs.StrainLemmas.{too_long}
+use Rattle.hive_edit.specs.Tells.{IsToldStep}
+use Rattle.hive_edit.proofs.SteppedLemmas.{if_done, if_undone, lacks_strained, names_anew, packed_for_room, step_full, stepped_edit, stepped_kept}
 use Rattle.hive_edit.proofs.hive.HiveBytes.set_or_pack.Goals as goal
-use Rattle.hive_edit.proofs.hive.HiveBytes.set_or_pack.Goals.{After-set_anew, After-set_anew-2}
+use Rattle.hive_edit.proofs.hive.HiveBytes.set_or_pack.Goals.{After-set_anew, Then-branch}
 
-refuses : (c : After-set_anew) (P : Type 0) → OnOk c.set_anew.result P
-refuses c P =
-    too_long c.args.self.now.version c.args.self.now.tree c.set_anew.new.self.tree c.args.path.now c.args.name.now
-    c.args.kind c.args.bytes.now c.set_anew.result P c.set_anew.ensures.made c.if-bytes-gt-LONGEST_DATA.true
+-- the value was set in place
+told : (c : Then-branch) → IsToldStep c.args.self.now
+    (set_value c.args.path.now c.args.name.now c.args.kind c.args.bytes.now) c.set_at.new.self
+told c = if_done _ _ _ c.if-branch.true c.in_ok-set_at.ensures.stepped
 
-packed : (c : After-set_anew-2) (P : Type 0) → OnOk c.set_anew-2.result (P ⊎ IsPackedForRoom c.args.self.now
-    (set_value c.args.path.now c.args.name.now c.args.kind c.args.bytes.now ∷ []) c.set_anew-2.new.self)
+kept : (c : Then-branch) → IsEditedInPlace c.args.self.now
+    (set_value c.args.path.now c.args.name.now c.args.kind c.args.bytes.now ∷ []) c.set_at.new.self
+kept c =
+    stepped_kept c.args.self.now c.set_at.new.self
+    (set_value c.args.path.now c.args.name.now c.args.kind c.args.bytes.now) (told c)
+
+packed : (c : After-set_anew) (P : Type 0) → OnOk c.set_anew.result (P ⊎ IsPackedForRoom c.args.self.now
+    (set_value c.args.path.now c.args.name.now c.args.kind c.args.bytes.now ∷ []) c.set_anew.new.self)
 packed c P =
     let h = c.args.self.now in
     let step = set_value c.args.path.now c.args.name.now c.args.kind c.args.bytes.now in
-    let same : c.set_in_place.new.self ≡ h =
-    c.in_ok-set_in_place.ensures.unmade (ap (λ (b : Bool). Ok b) c.if-branch.false) in
-    packed_for_room h c.set_anew-2.new.self (step ∷ []) c.set_anew-2.result P
-    (subst (λ (g : HiveCells). Makes g.tree c.set_anew-2.new.self.tree c.set_anew-2.result
-    (edited g.version g.tree (step ∷ []))) same c.set_anew-2.ensures.made)
-    c.set_anew-2.ensures.anew
-    (λ u e. c.in_ok-set_in_place.ensures.no_room (ap (λ (b : Bool). Ok b) c.if-branch.false) u e)
+    let same : c.set_at.new.self ≡ h = c.in_ok-set_at.ensures.kept (ap (λ (b : Bool). Ok b) c.if-branch.false) in
+    packed_for_room h c.set_anew.new.self (step ∷ []) c.set_anew.result P
+    (subst (λ (g : HiveCells). Makes g.tree c.set_anew.new.self.tree c.set_anew.result
+    (edited g.version g.tree (step ∷ []))) same c.set_anew.ensures.made)
+    c.set_anew.ensures.anew
+    (λ u e. lacks_strained h u step (if_undone _ _ _ c.if-branch.false c.in_ok-set_at.ensures.stepped) e)
 
-pub returns-then-bytes-gt-LONGEST_DATA-clause-room : goal.returns-then-bytes-gt-LONGEST_DATA-clause-room
-returns-then-bytes-gt-LONGEST_DATA-clause-room c =
-    refuses (goal.at.returns-then-bytes-gt-LONGEST_DATA-clause-room c).After-set_anew _
+pub returns-then-bulk-gt-MOST_BULK-clause-made : goal.returns-then-bulk-gt-MOST_BULK-clause-made
+returns-then-bulk-gt-MOST_BULK-clause-made c =
+    let h = c.args.self.now in (
+      step_full h.version h.tree _ (set_value c.args.path.now c.args.name.now c.args.kind c.args.bytes.now)
+          c.bulk_set-bulk.ensures.step
+          (omega (arith, c.bulk_set-bulk.ensures.bulk, c.if-bulk-gt-MOST_BULK.true)),
+      refl,
+    )
 
-pub returns-then-bytes-gt-LONGEST_DATA-clause-freed : goal.returns-then-bytes-gt-LONGEST_DATA-clause-freed
-returns-then-bytes-gt-LONGEST_DATA-clause-freed c =
-    refuses (goal.at.returns-then-bytes-gt-LONGEST_DATA-clause-freed c).After-set_anew _
+pub returns-then-branch-clause-made : goal.returns-then-branch-clause-made
+returns-then-branch-clause-made c =
+    let counted = c.in_ok-set_at.ensures.bulk (ap (λ (b : Bool). Ok b) c.if-branch.true) in
+    stepped_edit c.args.self.now c.set_at.new.self
+    (set_value c.args.path.now c.args.name.now c.args.kind c.args.bytes.now)
+    (told (goal.at.returns-then-branch-clause-made c).Then-branch).stepped
+    (omega (arith, counted, c.if-bulk-gt-MOST_BULK.false))
 
-pub returns-then-branch-clause-freed : goal.returns-then-branch-clause-freed
-returns-then-branch-clause-freed c =
-    inl (c.in_ok-set_in_place.ensures.freed (ap (λ (b : Bool). Ok b) c.if-branch.true))
+pub returns-then-branch-clause-version : goal.returns-then-branch-clause-version
+returns-then-branch-clause-version c = (told (goal.at.returns-then-branch-clause-version c).Then-branch).stepped.version
 
-pub returns-clause-room : goal.returns-clause-room
-returns-clause-room c = packed (goal.at.returns-clause-room c).After-set_anew-2 _
+pub returns-then-branch-clause-cells : goal.returns-then-branch-clause-cells
+returns-then-branch-clause-cells c = inl (kept (goal.at.returns-then-branch-clause-cells c).Then-branch)
 
-pub returns-clause-freed : goal.returns-clause-freed
-returns-clause-freed c = packed (goal.at.returns-clause-freed c).After-set_anew-2 _
-
-pub returns-then-bytes-gt-LONGEST_DATA-clause-parents : goal.returns-then-bytes-gt-LONGEST_DATA-clause-parents
-returns-then-bytes-gt-LONGEST_DATA-clause-parents c =
-    names_anew c.args.self.now c.set_anew.new.self c.set_anew.result c.set_anew.ensures.anew
+pub returns-then-branch-clause-room : goal.returns-then-branch-clause-room
+returns-then-branch-clause-room c = inl (kept (goal.at.returns-then-branch-clause-room c).Then-branch)
 
 pub returns-then-branch-clause-parents : goal.returns-then-branch-clause-parents
-returns-then-branch-clause-parents c =
-    (c.in_ok-set_in_place.ensures.done (ap (λ (b : Bool). Ok b) c.if-branch.true)).parents
+returns-then-branch-clause-parents c = (kept (goal.at.returns-then-branch-clause-parents c).Then-branch).parents
+
+pub returns-then-branch-clause-freed : goal.returns-then-branch-clause-freed
+returns-then-branch-clause-freed c = inl (c.in_ok-set_at.ensures.freed (ap (λ (b : Bool). Ok b) c.if-branch.true))
+
+pub returns-clause-room : goal.returns-clause-room
+returns-clause-room c = packed (goal.at.returns-clause-room c).After-set_anew _
+
+pub returns-clause-freed : goal.returns-clause-freed
+returns-clause-freed c = packed (goal.at.returns-clause-freed c).After-set_anew _
 
 pub returns-clause-parents : goal.returns-clause-parents
-returns-clause-parents c = names_anew c.args.self.now c.set_anew-2.new.self c.set_anew-2.result c.set_anew-2.ensures.anew
+returns-clause-parents c = names_anew c.args.self.now c.set_anew.new.self c.set_anew.result c.set_anew.ensures.anew

@@ -1,4 +1,5 @@
-use Rattle.hive_edit.proofs.NewValueLemmas.{sets_nowhere, sets_long_name, sets_long_data, key_seen}
+use Rattle.std.proofs.Common.{◌∙◌}
+use Rattle.hive_edit.proofs.NewValueLemmas.{sets_nowhere, sets_long_name, sets_long_data, key_seen, stands_at, value_seen_in}
 use Rattle.hive_edit.proofs.hive.HiveBytes.settable.Goals as goal
 
 pub returns-in-None-clause-refused : goal.returns-in-None-clause-refused
@@ -25,3 +26,24 @@ returns-then-bytes-gt-LONGEST_DATA-clause-refused c = λ kind.
     (key_seen i.cells c.cells.result.now i.root i.version c.args.self.now c.args.path.now c.in-Some.key c.cells.ensures
     c.self.view_is c.in-Some.ensures.place)
     c.if-name-gt-LONGEST_VALUE_NAME.false c.if-bytes-gt-LONGEST_DATA.true
+
+pub value_at-value-requires : goal.value_at-value-requires
+value_at-value-requires c =
+    let i = c.self.inside in
+    stands_at i.cells c.cells.result.now i.root i.version i.bulk c.args.self.now c.args.path.now c.in-Some.key
+    c.self.invariant c.cells.ensures c.self.view_is
+    (key_seen i.cells c.cells.result.now i.root i.version c.args.self.now c.args.path.now c.in-Some.key c.cells.ensures
+    c.self.view_is c.in-Some.ensures.place)
+
+pub returns-in-Some-clause-may : goal.returns-in-Some-clause-may
+returns-in-Some-clause-may c =
+    let i = c.self.inside in
+    record {
+      key = key_seen i.cells c.cells.result.now i.root i.version c.args.self.now c.args.path.now c.in-Some.key
+          c.cells.ensures c.self.view_is c.in-Some.ensures.place;
+      there = c.value_at-value.ensures.place
+          ∙ value_seen_in i.cells c.cells.result.now i.root i.version c.args.self.now c.args.name.now c.in-Some.key
+          c.cells.ensures c.self.view_is;
+      short = c.if-name-gt-LONGEST_VALUE_NAME.false;
+      few = c.if-bytes-gt-LONGEST_DATA.false;
+    }
