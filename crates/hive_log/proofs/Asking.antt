@@ -95,11 +95,12 @@ module _ {before between : List Made → Type 0} {tells : Bool} {image : Image} 
   next_made : Makes before after (reads_of (front ++ at ∷ []))
   next_made = reads_in_turn before between after front (at ∷ []) so_far.made makes
 
-  pub asks_more : (tells ≡ true → is_readable (image at) ≡ true) → AsksSoFar before after tells image (front ++ at ∷ [])
-  asks_more there = record {
+  pub asks_more : (now : List Address) → front ++ at ∷ [] ≡ now → (tells ≡ true → is_readable (image at) ≡ true)
+      → AsksSoFar before after tells image now
+  asks_more now is there = subst (AsksSoFar before after tells image) is (record {
     made = next_made;
     there = λ told. there_more image front at (so_far.there told) (there told);
-  }
+  })
 
   module _ (all rest : List Address) (is : all ≡ front ++ at ∷ rest) where
     next_front : tells ≡ true → (more : List Address) → IsFront (one_by_one image all more) (front ++ at ∷ [])

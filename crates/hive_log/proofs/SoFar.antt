@@ -1,5 +1,5 @@
 -- A run of sectors as it is read, and a fault in a part of what is read.
-use Rattle.std.proofs.Common.{◌≡◌, ◌<◌, ◌≤◌, ◌+◌, ◌-◌, ◌*◌, ◌++◌, ℕ, suc, List, [], length, Option, Result, Ok, Err, refl, sym, ◌∙◌, ap, arith, add-one, append_assoc, append-nil, ⊎_elim}
+use Rattle.std.proofs.Common.{◌≡◌, ◌<◌, ◌≤◌, ◌+◌, ◌-◌, ◌*◌, ◌++◌, ℕ, suc, List, [], length, Option, Result, Ok, Err, refl, sym, ◌∙◌, ap, subst, arith, add-one, append_assoc, append-nil, ⊎_elim}
 use Rattle.nt_bytes.specs.declared.fault.HiveFault.{HiveFault}
 use Rattle.hive_model.specs.Image.{Address, Write, Content, overlaid}
 use Rattle.hive_model.specs.Recovery.{Sectors, sector, joined, gathered}
@@ -37,21 +37,22 @@ module _ (at : Sectors) (count : ℕ) where
       let long : count - i ≡ suc (count - (i + 1)) = omega arith in
       ap (gathered at i) long ∙ ap (λ k. joined (at i) (gathered at k (count - (i + 1)))) (sym (add-one i))
 
-  pub read_more : (bytes s : List ℕ) (i : ℕ) → i < count → length bytes ≡ 512 * i → length s ≡ 512 → at i ≡ Ok s
-      → ReadSoFar at count bytes i → ReadSoFar at count (bytes ++ s) (i + 1)
-  read_more bytes s i small long one is so_far = record {
-    all =
-        behind bytes s (gathered at (i + 1) (count - (i + 1)))
-        ∙ ap (λ r. joined (Ok bytes) (joined r (gathered at (i + 1) (count - (i + 1))))) (sym is)
-        ∙ ap (joined (Ok bytes)) (sym (next i small)) ∙ so_far.all;
-    sectors = λ j below. ⊎_elim
-        (λ less. so_far.sectors j less ∙ ap (λ b. Ok b) (sym (sector_front bytes s j (omega arith))))
-        (λ same.
-        let place : i + 0 ≡ j = omega arith in
-        ap at same ∙ is ∙ ap (λ b. Ok b)
-        (sym (sector_whole s one) ∙ sym (sector_back bytes s i 0 long) ∙ ap (sector (bytes ++ s)) place))
-        (split j i (omega arith));
-  }
+  pub read_more : (bytes s after : List ℕ) (i : ℕ) → after ≡ bytes ++ s → i < count → length bytes ≡ 512 * i
+      → length s ≡ 512 → at i ≡ Ok s → ReadSoFar at count bytes i → ReadSoFar at count after (i + 1)
+  read_more bytes s after i appended small long one is so_far =
+      subst (λ (b : List ℕ). ReadSoFar at count b (i + 1)) (sym appended) (record {
+        all =
+            behind bytes s (gathered at (i + 1) (count - (i + 1)))
+            ∙ ap (λ r. joined (Ok bytes) (joined r (gathered at (i + 1) (count - (i + 1))))) (sym is)
+            ∙ ap (joined (Ok bytes)) (sym (next i small)) ∙ so_far.all;
+        sectors = λ j below. ⊎_elim
+            (λ less. so_far.sectors j less ∙ ap (λ b. Ok b) (sym (sector_front bytes s j (omega arith))))
+            (λ same.
+            let place : i + 0 ≡ j = omega arith in
+            ap at same ∙ is ∙ ap (λ b. Ok b)
+            (sym (sector_whole s one) ∙ sym (sector_back bytes s i 0 long) ∙ ap (sector (bytes ++ s)) place))
+            (split j i (omega arith));
+      })
 
   pub read_fault : (bytes : List ℕ) (i : ℕ) → i < count → ReadSoFar at count bytes i → (f : HiveFault) → at i ≡ Err f
       → gathered at 0 count ≡ Err f

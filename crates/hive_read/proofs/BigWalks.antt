@@ -1,5 +1,5 @@
 -- Walks over the checks of big data.
-use Rattle.std.proofs.Common.{◌≡◌, ℕ, ◌-◌, false, List, ◌∷◌, ◌++◌, Ok, Err, refl, sym, ap, ◌∙◌, append_assoc}
+use Rattle.std.proofs.Common.{◌≡◌, ℕ, ◌-◌, ◌≤◌, false, List, [], ◌∷◌, length, get_or, arith, ◌++◌, Ok, Err, refl, sym, ap, ◌∙◌, append_assoc}
 use Rattle.nt_bytes.specs.declared.fault.HiveFault.{HiveFault}
 use Rattle.hive_model.specs.Forms.{bytes_in}
 use Rattle.hive_model.specs.BigData.{BigData}
@@ -14,13 +14,12 @@ use Rattle.hive_read.proofs.Walks.{walk-on, walk-off, walk-below}
 -- ---- segments
 
 -- the walk over segments ends where the first one has a fault, and goes on after it where it has none
-pub segments-off : (cells : Cells) (seen : Seen) (n : ℕ) (offsets : List ℕ) (at : ℕ) (rest : List ℕ) (f : HiveFault)
-    → offsets ≡ at ∷ rest
-    → walk cells seen (use_as false (bytes_in (segment_part n)) cells at) ≡ Err f
+pub segments-off : (cells : Cells) (seen : Seen) (n : ℕ) (offsets : List ℕ) (f : HiveFault) → 1 ≤ length offsets
+    → walk cells seen (use_as false (bytes_in (segment_part n)) cells (get_or offsets 0 0)) ≡ Err f
     → walk cells seen (segments_checks cells n offsets) ≡ Err f
-segments-off cells seen n offsets at rest f o e =
-    ap (λ xs. walk cells seen (segments_checks cells n xs)) o
-    ∙ walk-off cells seen (use_as false (bytes_in (segment_part n)) cells at)
+segments-off cells seen n [] f l e = absurd (omega arith)
+segments-off cells seen n (at ∷ rest) f l e =
+    walk-off cells seen (use_as false (bytes_in (segment_part n)) cells at)
     (segments_checks cells (n - segment_bytes) rest) f e
 
 pub segments-on : (cells : Cells) (seen after : Seen) (n : ℕ) (offsets : List ℕ) (at : ℕ) (rest : List ℕ)

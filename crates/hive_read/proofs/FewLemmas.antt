@@ -1,5 +1,5 @@
 -- Names left where they stand: which are known, and that none comes after the greatest.
-use Rattle.std.proofs.Common.{◌≡◌, ◌≤◌, ◌-◌, ℕ, Bool, true, false, ◌||◌, List, [], ◌∷◌, ◌++◌, map, length, take, drop, get_or, refl, sym, ap, ◌∙◌, arith}
+use Rattle.std.proofs.Common.{◌≡◌, ◌≤◌, ◌-◌, ℕ, Bool, true, false, not, ◌||◌, List, [], ◌∷◌, ◌++◌, map, length, take, drop, get_or, refl, sym, ap, ◌∙◌, arith}
 use Rattle.std.specs.List.{list_any}
 use Rattle.std.specs.Ordering.{is_eq, is_lt, is_gt, nat_cmp, ordering_reverse}
 use Rattle.std.specs.declared.cmp.Ordering.{Ordering}
@@ -144,6 +144,21 @@ pub is-known : (name : List ℕ) (names : List StoredName) (b : Bool)
     → b ≡ list_any (folds_to name) (map folded_name names) → has_name (map folded_name names) name ≡ b
 unfolding has_name
 is-known name names b e = sym e
+
+-- ---- what a set says of its names
+
+-- a name is fresh where the names do not have it
+pub fresh-so : {names seen : List (List ℕ)} (known : Bool) (name : List ℕ) → has_name names name ≡ known
+    → names ≡ seen → not known ≡ not (has_name seen name)
+fresh-so known name k same = ap not (sym k) ∙ ap (λ (ks : List (List ℕ)). not (has_name ks name)) same
+
+-- and one that is put behind them is added
+pub added-so : {seen : List (List ℕ)} (names new : List StoredName) (name : StoredName) → new ≡ names ++ name ∷ []
+    → map folded_name names ≡ seen
+    → (n : List ℕ) → has_name (map folded_name new) n ≡ (has_name seen n || folds_same n (name_of name))
+added-so names new name put same n =
+    ap (λ (xs : List StoredName). has_name (map folded_name xs) n) put ∙ has-pushed names name n
+    ∙ ap (λ (ks : List (List ℕ)). has_name ks n || folds_same n (name_of name)) same
 
 -- ---- names put into a set
 

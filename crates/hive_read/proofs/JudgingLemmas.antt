@@ -13,7 +13,7 @@ use Rattle.hive_model.specs.Bins.{Cells}
 use Rattle.hive_model.specs.Size.{cell, name_bytes, class_size, security_size, items_size, head_size, list_size, size, size_of_all}
 use Rattle.nt_bytes.specs.Counts.{capped}
 use Rattle.hive_model.specs.Tree.{Item, Head, Tree, trees, key, head}
-use Rattle.hive_model.specs.Walk.{reading, node_at, names_of, key_checks, keys_in_turn, children_checks, Check}
+use Rattle.hive_model.specs.Walk.{reading, node_at, names_of, key_checks, keys_in_turn, children_checks}
 use Rattle.hive_model.specs.Stands.{tree_flags, class_of, security_of, values_of, ListsChildren, Stands, AllStand}
 use Rattle.hive_read.specs.Judged.{AddsName, Counts, HasBulk, Judges}
 use Rattle.hive_read.specs.Taken.{has_name, Knows}
@@ -97,13 +97,13 @@ keys-last cells left shared offsets rest taken total seen start s z = (
 -- ---- children
 
 -- a key without children has no list
-pub no-children : (checks : List (List ℕ) → ℕ → List Check) (cells : Cells) (seen : Seen) (node : KeyNode) (at : ℕ)
+pub no-children : (left : ℕ) (cells : Cells) (seen : Seen) (node : KeyNode) (at : ℕ)
     (shared : List ℕ) → node.child_count ≡ 0
-    → (walk cells seen (children_checks checks cells node at) ≡ Ok seen)
+    → (walk cells seen (children_checks (key_checks left cells false) cells node at) ≡ Ok seen)
     × Counts (ChildrenRead cells node)
     (λ (ts : List Tree). list_size (length ts) + sum_by (size cells.version shared) ts) 0
-no-children checks cells seen node at shared z =
-    let n = children-none checks cells seen node at z in
+no-children left cells seen node at shared z =
+    let n = children-none (key_checks left cells false) cells seen node at z in
     (n.0, record { it = []; means = ([], n.1, refl); counted = refl })
 
 -- a list of children and the children below it, counted together

@@ -1,5 +1,5 @@
 -- Walks over the checks of keys.
-use Rattle.std.proofs.Common.{◌≡◌, ℕ, zero, suc, ◌-◌, ◌<◌, Bool, true, false, not, ◌&&◌, cond, List, [], ◌∷◌, ◌++◌, map, length, Result, Ok, Err, refl, sym, ap, subst, ◌∙◌, append_assoc, eq-eqb, arith}
+use Rattle.std.proofs.Common.{◌≡◌, ℕ, zero, suc, ◌-◌, ◌<◌, ◌≤◌, Bool, true, false, not, ◌&&◌, cond, List, [], ◌∷◌, ◌++◌, map, length, get_or, Result, Ok, Err, refl, sym, ap, subst, ◌∙◌, append_assoc, eq-eqb, arith}
 use Rattle.std.specs.Prelude.{◌==◌, if◌then◌else◌}
 use Rattle.std.proofs.lemmas.List.{map_push}
 use Rattle.nt_bytes.specs.declared.fault.HiveFaultKind.{HiveFaultKind}
@@ -52,6 +52,29 @@ key-named (suc left) cells root seen after names at node h e r =
     (named left cells names at) node e r
     ∙ ap (λ n. walk cells after (named n cells names at node)) (sym one)
 
+-- it ends at a name that a sibling has
+pub key-unnamed : {after : Seen} (left : ℕ) (cells : Cells) (root : Bool) (seen : Seen) (names : List (List ℕ)) (at : ℕ)
+    (node : KeyNode) (f : HiveFault) → 0 < left
+    → walk cells seen (use_as false (node_at root) cells at) ≡ Ok after → reading (node_at root) cells at ≡ Ok node
+    → walk cells after (name_check names at node.name ∷ []) ≡ Err f
+    → walk cells seen (key_checks left cells root names at) ≡ Err f
+key-unnamed {after} left cells root seen names at node f h e r n =
+    key-named left cells root seen after names at node h e r
+    ∙ walk-off cells after (name_check names at node.name ∷ [])
+    (below_node (key_checks (left - 1) cells false) cells node at) f n
+
+-- and goes on below any other
+pub key-below : {after : Seen} (left : ℕ) (cells : Cells) (root : Bool) (seen : Seen) (names : List (List ℕ)) (at : ℕ)
+    (node : KeyNode) → 0 < left
+    → walk cells seen (use_as false (node_at root) cells at) ≡ Ok after → reading (node_at root) cells at ≡ Ok node
+    → walk cells after (name_check names at node.name ∷ []) ≡ Ok after
+    → walk cells seen (key_checks left cells root names at)
+    ≡ walk cells after (below_node (key_checks (left - 1) cells false) cells node at)
+key-below {after} left cells root seen names at node h e r n =
+    key-named left cells root seen after names at node h e r
+    ∙ walk-on cells after after (name_check names at node.name ∷ [])
+    (below_node (key_checks (left - 1) cells false) cells node at) n
+
 abbrev done : KeyNode → Result KeyNode HiveFaultKind
 done n = Ok n
 
@@ -78,96 +101,105 @@ node-plain root cells at node e = payload (cells.payload at) e
 
 -- ---- all that a node names
 
-abbrev Checks : Type 0
-Checks = List (List ℕ) → ℕ → List Check
+abbrev keys : ℕ → Cells → List (List ℕ) → ℕ → List Check
+keys left cells = key_checks left cells false
 
 -- what a node names is walked in order: class, security, values, children; the first fault ends it
-pub below-class : (checks : Checks) (cells : Cells) (seen : Seen) (node : KeyNode) (at : ℕ) (f : HiveFault)
-    → walk cells seen (class_checks cells node) ≡ Err f → walk cells seen (below_node checks cells node at) ≡ Err f
-below-class checks cells seen node at f e =
+pub below-class : (left : ℕ) (cells : Cells) (seen : Seen) (node : KeyNode) (at : ℕ) (f : HiveFault)
+    → walk cells seen (class_checks cells node) ≡ Err f
+    → walk cells seen (below_node (keys left cells) cells node at) ≡ Err f
+below-class left cells seen node at f e =
     walk-off cells seen (class_checks cells node)
-    (security_checks cells node ++ (values_checks cells node ++ children_checks checks cells node at)) f e
+    (security_checks cells node ++ (values_checks cells node ++ children_checks (keys left cells) cells node at)) f e
 
-pub below-security : (checks : Checks) (cells : Cells) (seen one : Seen) (node : KeyNode) (at : ℕ) (f : HiveFault)
+pub below-security : {one : Seen} (left : ℕ) (cells : Cells) (seen : Seen) (node : KeyNode) (at : ℕ) (f : HiveFault)
     → walk cells seen (class_checks cells node) ≡ Ok one → walk cells one (security_checks cells node) ≡ Err f
-    → walk cells seen (below_node checks cells node at) ≡ Err f
-below-security checks cells seen one node at f a e =
+    → walk cells seen (below_node (keys left cells) cells node at) ≡ Err f
+below-security {one} left cells seen node at f a e =
     walk-on cells seen one (class_checks cells node)
-    (security_checks cells node ++ (values_checks cells node ++ children_checks checks cells node at)) a
-    ∙ walk-off cells one (security_checks cells node) (values_checks cells node ++ children_checks checks cells node at)
-    f e
+    (security_checks cells node ++ (values_checks cells node ++ children_checks (keys left cells) cells node at)) a
+    ∙ walk-off cells one (security_checks cells node)
+    (values_checks cells node ++ children_checks (keys left cells) cells node at) f e
 
-pub below-values : (checks : Checks) (cells : Cells) (seen one two : Seen) (node : KeyNode) (at : ℕ) (f : HiveFault)
+secured : (left : ℕ) (cells : Cells) (seen one two : Seen) (node : KeyNode) (at : ℕ)
+    → walk cells seen (class_checks cells node) ≡ Ok one → walk cells one (security_checks cells node) ≡ Ok two
+    → walk cells seen (below_node (keys left cells) cells node at)
+    ≡ walk cells two (values_checks cells node ++ children_checks (keys left cells) cells node at)
+secured left cells seen one two node at a b =
+    walk-on cells seen one (class_checks cells node)
+    (security_checks cells node ++ (values_checks cells node ++ children_checks (keys left cells) cells node at)) a
+    ∙ walk-on cells one two (security_checks cells node)
+    (values_checks cells node ++ children_checks (keys left cells) cells node at) b
+
+pub below-values : {one two : Seen} (left : ℕ) (cells : Cells) (seen : Seen) (node : KeyNode) (at : ℕ) (f : HiveFault)
     → walk cells seen (class_checks cells node) ≡ Ok one → walk cells one (security_checks cells node) ≡ Ok two
     → walk cells two (values_checks cells node) ≡ Err f
-    → walk cells seen (below_node checks cells node at) ≡ Err f
-below-values checks cells seen one two node at f a b e =
-    walk-on cells seen one (class_checks cells node)
-    (security_checks cells node ++ (values_checks cells node ++ children_checks checks cells node at)) a
-    ∙ walk-on cells one two (security_checks cells node)
-    (values_checks cells node ++ children_checks checks cells node at) b
-    ∙ walk-off cells two (values_checks cells node) (children_checks checks cells node at) f e
+    → walk cells seen (below_node (keys left cells) cells node at) ≡ Err f
+below-values {one} {two} left cells seen node at f a b e =
+    secured left cells seen one two node at a b
+    ∙ walk-off cells two (values_checks cells node) (children_checks (keys left cells) cells node at) f e
 
-pub below-children : (checks : Checks) (cells : Cells) (seen one two three : Seen) (node : KeyNode) (at : ℕ)
+pub below-children : {one two three : Seen} (left : ℕ) (cells : Cells) (seen : Seen) (node : KeyNode) (at : ℕ)
     → walk cells seen (class_checks cells node) ≡ Ok one → walk cells one (security_checks cells node) ≡ Ok two
     → walk cells two (values_checks cells node) ≡ Ok three
-    → walk cells seen (below_node checks cells node at) ≡ walk cells three (children_checks checks cells node at)
-below-children checks cells seen one two three node at a b d =
-    walk-on cells seen one (class_checks cells node)
-    (security_checks cells node ++ (values_checks cells node ++ children_checks checks cells node at)) a
-    ∙ walk-on cells one two (security_checks cells node)
-    (values_checks cells node ++ children_checks checks cells node at) b
-    ∙ walk-on cells two three (values_checks cells node) (children_checks checks cells node at) d
+    → walk cells seen (below_node (keys left cells) cells node at)
+    ≡ walk cells three (children_checks (keys left cells) cells node at)
+below-children {one} {two} {three} left cells seen node at a b d =
+    secured left cells seen one two node at a b
+    ∙ walk-on cells two three (values_checks cells node) (children_checks (keys left cells) cells node at) d
 
 -- ---- children
 
-abbrev counted : Checks → Cells → KeyNode → ℕ → List ℕ → List Check
+abbrev counted : (List (List ℕ) → ℕ → List Check) → Cells → KeyNode → ℕ → List ℕ → List Check
 counted checks cells node at offsets =
     tests at (failing (not (length offsets == node.child_count)) Count) ∷ keys_in_turn checks cells [] offsets
 
 -- a node without children needs no list
-pub children-none : (checks : Checks) (cells : Cells) (seen : Seen) (node : KeyNode) (at : ℕ) → node.child_count ≡ 0
+pub children-none : (checks : List (List ℕ) → ℕ → List Check) (cells : Cells) (seen : Seen) (node : KeyNode) (at : ℕ)
+    → node.child_count ≡ 0
     → (walk cells seen (children_checks checks cells node at) ≡ Ok seen) × ListsChildren cells node []
 unfolding children_checks
 children-none checks cells seen node at z = (rw z refl, rw z refl)
 
 -- the faults of children: of the list first, then that it has another length than was counted
-pub children-off : (checks : Checks) (cells : Cells) (seen : Seen) (node : KeyNode) (at : ℕ) (f : HiveFault)
+pub children-off : (left : ℕ) (cells : Cells) (seen : Seen) (node : KeyNode) (at : ℕ) (f : HiveFault)
     → (node.child_count ≡ 0 → ⊥)
     → walk cells seen (entries_checks cells node.child_list) ≡ Err f
-    → walk cells seen (children_checks checks cells node at) ≡ Err f
+    → walk cells seen (children_checks (keys left cells) cells node at) ≡ Err f
 unfolding children_checks
-children-off checks cells seen node at f n e =
+children-off left cells seen node at f n e =
     let z : (node.child_count == 0) ≡ false = not-same _ _ n in
     rw z (walk-off cells seen (entries_checks cells node.child_list)
-    (below_of (entries_at cells node.child_list) (counted checks cells node at)) f e)
+    (below_of (entries_at cells node.child_list) (counted (keys left cells) cells node at)) f e)
 
-pub children-count : (checks : Checks) (cells : Cells) (seen after : Seen) (node : KeyNode) (at : ℕ) (offsets : List ℕ)
-    → (node.child_count ≡ 0 → ⊥)
+pub children-count : {after : Seen} {found offsets : List ℕ} (left : ℕ) (cells : Cells) (seen : Seen) (node : KeyNode)
+    (at : ℕ) → (node.child_count ≡ 0 → ⊥)
     → walk cells seen (entries_checks cells node.child_list) ≡ Ok after → entries_at cells node.child_list ≡ Ok offsets
-    → (length offsets ≡ node.child_count → ⊥)
-    → walk cells seen (children_checks checks cells node at) ≡ fault Count at
+    → found ≡ offsets → (length found ≡ node.child_count → ⊥)
+    → walk cells seen (children_checks (keys left cells) cells node at) ≡ fault Count at
 unfolding children_checks
-children-count checks cells seen after node at offsets n e r d =
+children-count {after} {found} {offsets} left cells seen node at n e r same d =
     let z : (node.child_count == 0) ≡ false = not-same _ _ n in
-    let w : (length offsets == node.child_count) ≡ false = not-same _ _ d in
+    let w : (length offsets == node.child_count) ≡ false = not-same _ _ (λ k. d (ap length same ∙ k)) in
     rw z (walk-below cells seen after (entries_checks cells node.child_list) (entries_at cells node.child_list)
-    (counted checks cells node at) offsets e r ∙ rw w refl)
+    (counted (keys left cells) cells node at) offsets e r ∙ rw w refl)
 
 -- where the list and its length are right, the walk goes on over its keys
-pub children-on : (checks : Checks) (cells : Cells) (seen after : Seen) (node : KeyNode) (at : ℕ) (offsets : List ℕ)
-    → (node.child_count ≡ 0 → ⊥)
+pub children-on : {after : Seen} {found offsets : List ℕ} (left : ℕ) (cells : Cells) (seen : Seen) (node : KeyNode)
+    (at : ℕ) → (node.child_count ≡ 0 → ⊥)
     → walk cells seen (entries_checks cells node.child_list) ≡ Ok after → entries_at cells node.child_list ≡ Ok offsets
-    → length offsets ≡ node.child_count
-    → (walk cells seen (children_checks checks cells node at) ≡ walk cells after (keys_in_turn checks cells [] offsets))
+    → found ≡ offsets → length found ≡ node.child_count
+    → (walk cells seen (children_checks (keys left cells) cells node at)
+    ≡ walk cells after (keys_in_turn (keys left cells) cells [] offsets))
     × ListsChildren cells node offsets
 unfolding children_checks
-children-on checks cells seen after node at offsets n e r d =
+children-on {after} {found} {offsets} left cells seen node at n e r same d =
     let z : (node.child_count == 0) ≡ false = not-same _ _ n in
-    let w : (length offsets == node.child_count) ≡ true = eq-eqb _ _ d in (
+    let many : length offsets ≡ node.child_count = sym (ap length same) ∙ d in
+    let w : (length offsets == node.child_count) ≡ true = eq-eqb _ _ many in (
       rw z (walk-below cells seen after (entries_checks cells node.child_list) (entries_at cells node.child_list)
-          (counted checks cells node at) offsets e r ∙ rw w refl),
-      rw z (r, d),
+          (counted (keys left cells) cells node at) offsets e r ∙ rw w refl),
+      rw z (r, many),
     )
 
 -- ---- keys in turn
@@ -176,13 +208,12 @@ abbrev pub key_name : Tree → List ℕ
 key_name t = (head t).name
 
 -- the walk over keys ends at the first fault of one, and goes on after one that stands
-pub keys-off : (left : ℕ) (cells : Cells) (seen : Seen) (names : List (List ℕ)) (offsets : List ℕ) (at : ℕ)
-    (rest : List ℕ) (f : HiveFault) → offsets ≡ at ∷ rest
-    → walk cells seen (key_checks left cells false names at) ≡ Err f
+pub keys-off : (left : ℕ) (cells : Cells) (seen : Seen) (names : List (List ℕ)) (offsets : List ℕ) (f : HiveFault)
+    → 1 ≤ length offsets → walk cells seen (key_checks left cells false names (get_or offsets 0 0)) ≡ Err f
     → walk cells seen (keys_in_turn (key_checks left cells false) cells names offsets) ≡ Err f
-keys-off left cells seen names offsets at rest f o e =
-    ap (λ os. walk cells seen (keys_in_turn (key_checks left cells false) cells names os)) o
-    ∙ walk-off cells seen (key_checks left cells false names at)
+keys-off left cells seen names [] f n e = absurd (omega arith)
+keys-off left cells seen names (at ∷ rest) f n e =
+    walk-off cells seen (key_checks left cells false names at)
     (keys_in_turn (key_checks left cells false) cells
     (names ++ names_of (λ (node : KeyNode). node.name) (reading (node_at false) cells at)) rest) f e
 

@@ -1,5 +1,5 @@
 -- Walks over the checks of subkey lists.
-use Rattle.std.proofs.Common.{◌≡◌, ℕ, true, false, List, [], ◌∷◌, ◌++◌, Ok, Err, refl, sym, ap, ◌∙◌, append_assoc}
+use Rattle.std.proofs.Common.{◌≡◌, ℕ, ◌≤◌, length, get_or, arith, true, false, List, [], ◌∷◌, ◌++◌, Ok, Err, refl, sym, ap, ◌∙◌, append_assoc}
 use Rattle.std.specs.Prelude.{if◌then◌else◌}
 use Rattle.nt_bytes.specs.declared.fault.HiveFault.{HiveFault}
 use Rattle.hive_model.specs.Forms.{◌>>=◌}
@@ -10,12 +10,12 @@ use Rattle.hive_read.specs.Walked.{Seen, walk}
 use Rattle.hive_read.proofs.Walks.{walk-on, walk-off, walk-below}
 
 -- the walk over leaves ends where one can't be read, and goes on after one that can
-pub leaves-off : (cells : Cells) (seen : Seen) (lists : List ℕ) (at : ℕ) (rest : List ℕ) (f : HiveFault)
-    → lists ≡ at ∷ rest
-    → walk cells seen (use_as false leaf_at cells at) ≡ Err f → walk cells seen (leaves_checks cells lists) ≡ Err f
-leaves-off cells seen lists at rest f o e =
-    ap (λ xs. walk cells seen (leaves_checks cells xs)) o
-    ∙ walk-off cells seen (use_as false leaf_at cells at) (leaves_checks cells rest) f e
+pub leaves-off : (cells : Cells) (seen : Seen) (lists : List ℕ) (f : HiveFault) → 1 ≤ length lists
+    → walk cells seen (use_as false leaf_at cells (get_or lists 0 0)) ≡ Err f
+    → walk cells seen (leaves_checks cells lists) ≡ Err f
+leaves-off cells seen [] f n e = absurd (omega arith)
+leaves-off cells seen (at ∷ rest) f n e =
+    walk-off cells seen (use_as false leaf_at cells at) (leaves_checks cells rest) f e
 
 pub leaves-on : (cells : Cells) (seen after : Seen) (lists : List ℕ) (at : ℕ) (rest : List ℕ) → lists ≡ at ∷ rest
     → walk cells seen (use_as false leaf_at cells at) ≡ Ok after

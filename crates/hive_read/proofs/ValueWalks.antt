@@ -1,5 +1,6 @@
 -- Walks over the checks of values.
 use Rattle.std.proofs.Common.{◌≡◌, ℕ, false, List, [], ◌∷◌, ◌++◌, map, Result, Ok, Err, refl, sym, ap, ◌∙◌, append_assoc}
+use Rattle.std.proofs.Common.{◌≤◌, length, get_or, arith}
 use Rattle.std.specs.Prelude.{◌==◌}
 use Rattle.std.proofs.lemmas.List.{map_push}
 use Rattle.nt_bytes.specs.declared.fault.HiveFaultKind.{HiveFaultKind}
@@ -28,7 +29,7 @@ value-off cells seen names at f e =
     (below_of (reading key_value_at cells at) (λ v. name_check names at v.name ∷ data_checks cells v)) f e
 
 -- and else goes on over its name and its data
-pub value-named : (cells : Cells) (seen after : Seen) (names : List (List ℕ)) (at : ℕ) (v : KeyValue)
+value-named : (cells : Cells) (seen after : Seen) (names : List (List ℕ)) (at : ℕ) (v : KeyValue)
     → walk cells seen (use_as false key_value_at cells at) ≡ Ok after → reading key_value_at cells at ≡ Ok v
     → walk cells seen (value_checks cells names at)
     ≡ walk cells after (name_check names at v.name ∷ [] ++ data_checks cells v)
@@ -36,6 +37,24 @@ unfolding value_checks
 value-named cells seen after names at v e r =
     walk-below cells seen after (use_as false key_value_at cells at) (reading key_value_at cells at)
     (λ v. name_check names at v.name ∷ data_checks cells v) v e r
+
+-- it ends at a name that an earlier value has
+pub value-unnamed : {after : Seen} (cells : Cells) (seen : Seen) (names : List (List ℕ)) (at : ℕ) (v : KeyValue)
+    (f : HiveFault)
+    → walk cells seen (use_as false key_value_at cells at) ≡ Ok after → reading key_value_at cells at ≡ Ok v
+    → walk cells after (name_check names at v.name ∷ []) ≡ Err f → walk cells seen (value_checks cells names at) ≡ Err f
+value-unnamed {after} cells seen names at v f e r n =
+    value-named cells seen after names at v e r
+    ∙ walk-off cells after (name_check names at v.name ∷ []) (data_checks cells v) f n
+
+-- and goes on over its data after any other
+pub value-data : {after : Seen} (cells : Cells) (seen : Seen) (names : List (List ℕ)) (at : ℕ) (v : KeyValue)
+    → walk cells seen (use_as false key_value_at cells at) ≡ Ok after → reading key_value_at cells at ≡ Ok v
+    → walk cells after (name_check names at v.name ∷ []) ≡ Ok after
+    → walk cells seen (value_checks cells names at) ≡ walk cells after (data_checks cells v)
+value-data {after} cells seen names at v e r n =
+    value-named cells seen after names at v e r
+    ∙ walk-on cells after after (name_check names at v.name ∷ []) (data_checks cells v) n
 
 pub item-stands : (cells : Cells) (at : ℕ) (v : KeyValue) (bytes : List ℕ) → reading key_value_at cells at ≡ Ok v
     → data_of cells v ≡ Ok bytes → item_at cells at ≡ Ok (item_of v bytes)
@@ -65,11 +84,11 @@ item-named cells at item e = go (reading key_value_at cells at) e
     go (Err k) e = absurd cc
 
 -- the walk over values ends at the first fault of one, and goes on after one that stands
-pub values-off : (cells : Cells) (seen : Seen) (names : List (List ℕ)) (offsets : List ℕ) (at : ℕ) (rest : List ℕ)
-    (f : HiveFault) → offsets ≡ at ∷ rest
-    → walk cells seen (value_checks cells names at) ≡ Err f
+pub values-off : (cells : Cells) (seen : Seen) (names : List (List ℕ)) (offsets : List ℕ) (f : HiveFault)
+    → 1 ≤ length offsets → walk cells seen (value_checks cells names (get_or offsets 0 0)) ≡ Err f
     → walk cells seen (values_in_turn cells names offsets) ≡ Err f
-values-off cells seen names offsets at rest f o e = rw o (walk-off cells seen (value_checks cells names at) _ f e)
+values-off cells seen names [] f n e = absurd (omega arith)
+values-off cells seen names (at ∷ rest) f n e = walk-off cells seen (value_checks cells names at) _ f e
 
 pub values-on : (cells : Cells) (seen after : Seen) (items : List Item) (offsets : List ℕ) (at : ℕ) (rest : List ℕ)
     (item : Item) → offsets ≡ at ∷ rest

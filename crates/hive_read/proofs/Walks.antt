@@ -1,7 +1,7 @@
 -- Walks over lists of checks, and over the checks of a form.
 use Rattle.std.proofs.Common.{◌≡◌, ℕ, Bool, true, false, List, [], ◌∷◌, ◌++◌, Result, Ok, Err, refl, ap, ◌∙◌}
 use Rattle.std.proofs.Common.{eqb, ◌-◌, ◌<◌, ◌≤◌, length, get_or, take, drop, arith}
-use Rattle.std.specs.Prelude.{IfOk}
+use Rattle.std.specs.Prelude.{IfOk, IsErrAnd}
 use Rattle.std.proofs.Math.Seq.{take-length}
 use Rattle.std.proofs.lemmas.Bool.{eqb-true}
 use Rattle.nt_bytes.specs.declared.fault.HiveFaultKind.{HiveFaultKind}
@@ -54,6 +54,11 @@ pub stops-on : (e : ReadStop) (a b : Result Seen HiveFault) → ((f : HiveFault)
     → Stops b e
 stops-on stops.Memory a b h s = tt
 stops-on (stops.Fault f) a b h s = h f s
+
+-- what a call answers that stops where one in it did
+pub stopped : {X : Type 0} (r : Result X ReadStop) (e : ReadStop) → IsErrAnd r (λ made. made ≡ e) → r ≡ Err e
+stopped (Ok x) e err = absurd err
+stopped (Err y) e err = ap (λ (z : ReadStop). Err z) err
 
 -- what a step says of checks that reach the same
 pub steps-same : {X : Type 0} (P Q : X → Type 0) (a b : Result Seen HiveFault) (new : Seen) (r : Result X ReadStop)

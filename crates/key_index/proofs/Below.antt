@@ -75,14 +75,12 @@ nodes_of cells (at ∷ more) r n =
 
 -- ---- a key's list
 
--- the list of a key is read, and the children are its entries or those of its lists
-pub record ChildLists (cells : Cells) (list count : ℕ) : Type 0 where
-  pub read : IsOk (list_at (payload_in cells list))
-  pub single : lists_lists (payload_in cells list) ≡ false
-      → children_at cells list count ≡ offsets_of (payload_in cells list)
-  pub many : lists_lists (payload_in cells list) ≡ true
-      → AreRead cells (offsets_of (payload_in cells list))
-      × (children_at cells list count ≡ offsets_in_lists cells (offsets_of (payload_in cells list)))
+-- the list of a key is read from these bytes, and the children are its entries or those of its lists
+pub record ChildLists (cells : Cells) (list count : ℕ) (bytes : List ℕ) : Type 0 where
+  pub read : IsOk (list_at bytes)
+  pub single : lists_lists bytes ≡ false → children_at cells list count ≡ offsets_of bytes
+  pub many : lists_lists bytes ≡ true
+      → AreRead cells (offsets_of bytes) × (children_at cells list count ≡ offsets_in_lists cells (offsets_of bytes))
 
 lists_of : (cells : Cells) (list : ℕ) (l : SubkeyList) (offsets : List ℕ) → list_at (payload_in cells list) ≡ done l
     → entries_of cells l ≡ done offsets
@@ -110,7 +108,7 @@ lists_of cells list l offsets e f =
     )
 
 pub child_lists : (cells : Cells) (list count : ℕ) → ListsSiblings cells list count → 0 < count
-    → ChildLists cells list count
+    → ChildLists cells list count (payload_in cells list)
 unfolding entries_at
 child_lists cells list count s some =
     let v = value_of (entries_at cells list) (s.read some) in
@@ -127,30 +125,30 @@ child_lists cells list count s some =
       many = λ lists. let m = l.1 lists in (m.0, is ∙ m.1);
     }
 
-pub single_nodes : (cells : Cells) (list count : ℕ) → ListsSiblings cells list count → 0 < count
-    → lists_lists (payload_in cells list) ≡ false
-    → All (IsNode cells) (offsets_of (payload_in cells list))
-single_nodes cells list count s some plain =
-    subst (All (IsNode cells)) ((child_lists cells list count s some).single plain) s.nodes
+pub read_child_lists : {bytes : List ℕ} (cells : Cells) (list count : ℕ) → bytes ≡ payload_in cells list
+    → ListsSiblings cells list count → 0 < count → ChildLists cells list count bytes
+read_child_lists cells list count e s some =
+    subst (ChildLists cells list count) (sym e) (child_lists cells list count s some)
 
-pub single_apart : (cells : Cells) (list count : ℕ) → ListsSiblings cells list count → 0 < count
-    → lists_lists (payload_in cells list) ≡ false
-    → NamesDiffer cells (offsets_of (payload_in cells list))
-single_apart cells list count s some plain =
-    subst (NamesDiffer cells) ((child_lists cells list count s some).single plain) s.apart
+-- the entries of one list, or of many, are nodes of names that differ
+pub single_nodes : {bytes : List ℕ} {cells : Cells} {list count : ℕ} → ChildLists cells list count bytes
+    → ListsSiblings cells list count → lists_lists bytes ≡ false → All (IsNode cells) (offsets_of bytes)
+single_nodes {bytes} {cells} l s plain = subst (All (IsNode cells)) (l.single plain) s.nodes
 
-pub many_lists : (cells : Cells) (list count : ℕ) → ListsSiblings cells list count → 0 < count
-    → lists_lists (payload_in cells list) ≡ true
-    → AreLists cells (offsets_of (payload_in cells list))
-many_lists cells list count s some lists =
-    let m = (child_lists cells list count s some).many lists in
-    nodes_of cells (offsets_of (payload_in cells list)) m.0 (subst (All (IsNode cells)) m.1 s.nodes)
+pub single_apart : {bytes : List ℕ} {cells : Cells} {list count : ℕ} → ChildLists cells list count bytes
+    → ListsSiblings cells list count → lists_lists bytes ≡ false → NamesDiffer cells (offsets_of bytes)
+single_apart {bytes} {cells} l s plain = subst (NamesDiffer cells) (l.single plain) s.apart
 
-pub many_apart : (cells : Cells) (list count : ℕ) → ListsSiblings cells list count → 0 < count
-    → lists_lists (payload_in cells list) ≡ true
-    → NamesDiffer cells (offsets_in_lists cells (offsets_of (payload_in cells list)))
-many_apart cells list count s some lists =
-    subst (NamesDiffer cells) ((child_lists cells list count s some).many lists).1 s.apart
+pub many_lists : {bytes : List ℕ} {cells : Cells} {list count : ℕ} → ChildLists cells list count bytes
+    → ListsSiblings cells list count → lists_lists bytes ≡ true → AreLists cells (offsets_of bytes)
+many_lists {bytes} {cells} l s lists =
+    let m = l.many lists in
+    nodes_of cells (offsets_of bytes) m.0 (subst (All (IsNode cells)) m.1 s.nodes)
+
+pub many_apart : {bytes : List ℕ} {cells : Cells} {list count : ℕ} → ChildLists cells list count bytes
+    → ListsSiblings cells list count → lists_lists bytes ≡ true
+    → NamesDiffer cells (offsets_in_lists cells (offsets_of bytes))
+many_apart {bytes} {cells} l s lists = subst (NamesDiffer cells) (l.many lists).1 s.apart
 
 -- the children below lists are key nodes
 pub all_nodes : (cells : Cells) (lists : List ℕ) → AreLists cells lists

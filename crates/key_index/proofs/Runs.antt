@@ -519,7 +519,7 @@ lists_held version bins list (suc n) s = go (lists_lists (payload_in cells list)
     cells : Cells
     cells = look_up version bins
 
-    own : ChildLists cells list (suc n)
+    own : ChildLists cells list (suc n) (payload_in cells list)
     own = child_lists cells list (suc n) s (omega arith)
 
     used : UsedLists cells list (suc n)

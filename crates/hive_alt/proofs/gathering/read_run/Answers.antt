@@ -1,11 +1,11 @@
-use Rattle.std.proofs.Common.{◌≡◌, ◌+◌, ◌++◌, ℕ, true, List, length, Ok, sym, ◌∙◌, ap, subst, arith, length-append}
+use Rattle.std.proofs.Common.{◌≡◌, ◌+◌, ◌++◌, true, length, Ok, sym, ◌∙◌, ap, arith, length-append}
 use Rattle.std.proofs.lemmas.Result.{err_from_is_err_and}
 use Rattle.hive_model.specs.Image.{Image}
 use Rattle.hive_model.specs.Recovery.{Sectors, gathered}
 use Rattle.nt_edge.specs.Book.{file_of}
 use Rattle.nt_edge.proofs.Leaving.{leaves_then}
 use Rattle.hive_log.proofs.Looks.{look_ok, look_on}
-use Rattle.hive_log.proofs.SoFar.{ReadSoFar, read_more, read_fault, read_end, fault_on}
+use Rattle.hive_log.proofs.SoFar.{read_more, read_fault, read_end, fault_on}
 use Rattle.hive_alt.specs.Twin.{copy_at, read_in}
 use Rattle.hive_alt.proofs.ReadingLemmas.{reads_one, reads_then}
 use Rattle.hive_alt.proofs.gathering.read_run.Goals as goal
@@ -41,9 +41,8 @@ loop-k-preserved g c =
       long = ap length appended
           ∙ omega (arith, length-append c.loop-k.bytes bytes, c.read_copy_sector.array_long, c.loop-k.invariant.long);
       read = λ tells.
-          subst (λ (b : List ℕ). ReadSoFar at c.args.count b (k + 1)) (sym appended)
-          (read_more at c.args.count c.loop-k.bytes bytes k c.loop-k-test.true c.loop-k.invariant.long
-          c.read_copy_sector.array_long (read tells) (c.loop-k.invariant.read tells));
+          read_more at c.args.count c.loop-k.bytes bytes _ k appended c.loop-k-test.true c.loop-k.invariant.long
+          c.read_copy_sector.array_long (read tells) (c.loop-k.invariant.read tells);
       asked = reads_then c.loop-k.invariant.asked
           (reads_one (g.D.Disk.calls c.loop-k.disk) (g.D.Disk.calls c.read_copy_sector.new.disk) (copy_at file (8 + k))
           c.read_copy_sector.ensures.made);

@@ -1,4 +1,4 @@
-use Rattle.std.proofs.Common.{◌≡◌, ◌+◌, ◌++◌, ◌<◌, ℕ, true, false, List, length, Ok, sym, ◌∙◌, ap, subst, arith, length-append}
+use Rattle.std.proofs.Common.{◌≡◌, ◌+◌, ◌++◌, ◌∷◌, ◌<◌, ℕ, true, false, List, length, Ok, sym, ◌∙◌, ap, subst, arith, length-append}
 use Rattle.std.proofs.lemmas.Result.{err_from_is_err_and}
 use Rattle.nt_bytes.specs.declared.fault.HiveFaultKind.TheVariants.{Size, Unreadable}
 use Rattle.hive_model.specs.Asked.{bin_at, unmarked_at, one_by_one}
@@ -13,15 +13,30 @@ use Rattle.hive_log.proofs.Asking.{AsksSoFar, asks_all, asks_held, asks_more, as
 use Rattle.hive_log.proofs.Looked.{mixed_off, mixed_on}
 use Rattle.hive_log.proofs.Ranks.{rank_on, rank_off, rank_below}
 use Rattle.hive_log.proofs.Looks.{look_ok, look_on}
-use Rattle.hive_log.proofs.SoFar.{ReadSoFar, read_more, read_fault, fault_on}
+use Rattle.hive_log.proofs.SoFar.{read_more, read_fault, fault_on}
+use Rattle.hive_log.proofs.gathering.read_bins.Given.{Over}
 use Rattle.hive_log.proofs.gathering.read_bins.Goals as goal
+use Rattle.hive_log.proofs.gathering.read_bins.Goals.{Then-has_bit, Else-has_bit}
+
+-- the bit of the sector
+bit_on : (g : Over) (c : Then-has_bit g) → bit c.args.bitmap.now c.loop-i.i ≡ true
+bit_on g c = sym c.has_bit.ensures ∙ c.if-has_bit.true
+
+bit_off : (g : Over) (c : Else-has_bit g) → bit c.args.bitmap.now c.loop-i.i ≡ false
+bit_off g c = sym c.has_bit.ensures ∙ c.if-has_bit.false
+
+-- where it is off, the sector is the next that is asked for
+splits : (g : Over) (c : Else-has_bit g) → let bits = bit c.args.bitmap.now in
+    unmarked_at bits c.args.count
+    ≡ unmarked_at bits c.loop-i.i ++ bin_at c.loop-i.i ∷ unmarked_rest bits c.loop-i.i c.args.count
+splits g c = unmarked_split (bit c.args.bitmap.now) c.loop-i.i c.args.count c.loop-i-test.true (bit_off g c)
 
 pub sector_of-requires : goal.sector_of-requires
 sector_of-requires g c =
     let bits = bit c.args.bitmap.now in
-    let on : bits c.loop-i.i ≡ true = sym c.has_bit.ensures ∙ c.if-has_bit.true in
     let below : rank bits c.loop-i.i < rank bits c.args.count =
-    rank_below bits c.args.count c.loop-i.i c.loop-i-test.true on in
+    rank_below bits c.args.count c.loop-i.i c.loop-i-test.true
+    (bit_on g (goal.at.sector_of-requires g c).Then-has_bit) in
     omega (arith, below, c.loop-i.invariant.place, c.requires.run_long)
 
 pub loop-i-preserved-then-has_bit : goal.loop-i-preserved-then-has_bit
@@ -29,9 +44,8 @@ loop-i-preserved-then-has_bit g c =
     let h = (g.D.Disk.state c.args.disk.now).held in
     let bits = bit c.args.bitmap.now in
     let run = c.args.run.now in
-    let on : bits c.loop-i.i ≡ true = sym c.has_bit.ensures ∙ c.if-has_bit.true in
+    let on = bit_on g (goal.at.loop-i-preserved-then-has_bit g c).Then-has_bit in
     let more = rank_on bits c.loop-i.i on in
-    let at : Sectors = mixed h run bits in
     let taken : c.sector_of.result.now ≡ sector run (rank bits c.loop-i.i) =
     c.sector_of.ensures.value ∙ ap (sector run) c.loop-i.invariant.place in
     let appended : c.append.new.self ≡ c.loop-i.bytes ++ c.sector_of.result.now = c.in_ok-append.ensures.ok in
@@ -48,10 +62,9 @@ loop-i-preserved-then-has_bit g c =
       place = omega (arith, more, c.loop-i.invariant.place);
       small = omega (arith, c.loop-i.invariant.small);
       read = λ tells.
-          subst (λ (b : List ℕ). ReadSoFar at c.args.count b (c.loop-i.i + 1)) (sym appended)
-          (read_more at c.args.count c.loop-i.bytes c.sector_of.result.now c.loop-i.i c.loop-i-test.true
+          read_more (mixed h run bits) c.args.count c.loop-i.bytes _ _ c.loop-i.i appended c.loop-i-test.true
           c.loop-i.invariant.long c.sector_of.ensures.long
-          (mixed_on h run bits c.loop-i.i on ∙ ap (λ b. Ok b) (sym taken)) (c.loop-i.invariant.read tells));
+          (mixed_on h run bits c.loop-i.i on ∙ ap (λ b. Ok b) (sym taken)) (c.loop-i.invariant.read tells);
       asked = subst (λ (l : List Address). AsksSoFar (g.D.Disk.calls c.args.disk.now) (g.D.Disk.calls c.loop-i.disk)
           g.D.Disk.tells h l) (marked_more bits c.loop-i.i on) c.loop-i.invariant.asked;
     }
@@ -60,10 +73,8 @@ pub loop-i-preserved : goal.loop-i-preserved
 loop-i-preserved g c =
     let h = (g.D.Disk.state c.args.disk.now).held in
     let bits = bit c.args.bitmap.now in
-    let run = c.args.run.now in
     let i = c.loop-i.i in
-    let off : bits i ≡ false = sym c.has_bit.ensures ∙ c.if-has_bit.false in
-    let at : Sectors = mixed h run bits in
+    let off = bit_off g (goal.at.loop-i-preserved g c).Else-has_bit in
     let bytes = c.read_bin_sector.new.into in
     let read : g.D.Disk.tells ≡ true → read_bin h i ≡ Ok bytes =
     λ tells. ap (λ (m : Image). read_bin m i) (sym (c.loop-i.invariant.look.held tells))
@@ -77,70 +88,56 @@ loop-i-preserved g c =
       place = c.loop-i.invariant.place ∙ sym (rank_off bits i off);
       small = omega (arith, c.loop-i.invariant.small);
       read = λ tells.
-          subst (λ (b : List ℕ). ReadSoFar at c.args.count b (i + 1)) (sym appended)
-          (read_more at c.args.count c.loop-i.bytes bytes i c.loop-i-test.true c.loop-i.invariant.long
-          c.read_bin_sector.array_long (mixed_off h run bits i off ∙ read tells) (c.loop-i.invariant.read tells));
-      asked = subst (λ (l : List Address). AsksSoFar (g.D.Disk.calls c.args.disk.now)
-          (g.D.Disk.calls c.read_bin_sector.new.disk) g.D.Disk.tells h l) (unmarked_more bits i off)
-          (asks_more c.loop-i.invariant.asked (bin_at i) (g.D.Disk.calls c.read_bin_sector.new.disk)
-          c.read_bin_sector.ensures.made
-          (λ tells. readable (fault_at Size 40) (fault_at Unreadable _) (h (bin_at i)) bytes (read tells)));
+          read_more (mixed h c.args.run.now bits) c.args.count c.loop-i.bytes bytes _ i appended c.loop-i-test.true
+          c.loop-i.invariant.long c.read_bin_sector.array_long (mixed_off h c.args.run.now bits i off ∙ read tells)
+          (c.loop-i.invariant.read tells);
+      asked = asks_more c.loop-i.invariant.asked (bin_at i) (g.D.Disk.calls c.read_bin_sector.new.disk)
+          c.read_bin_sector.ensures.made _ (unmarked_more bits i off)
+          (λ tells. readable (fault_at Size 40) (fault_at Unreadable _) (h (bin_at i)) bytes (read tells));
     }
 
 pub returns-in_err-read_bin_sector-clause-bins : goal.returns-in_err-read_bin_sector-clause-bins
 returns-in_err-read_bin_sector-clause-bins g c = λ tells.
     let h = (g.D.Disk.state c.args.disk.now).held in
-    let now = (g.D.Disk.state c.loop-i.disk).held in
-    let bits = bit c.args.bitmap.now in
-    let run = c.args.run.now in
     let i = c.loop-i.i in
-    let off : bits i ≡ false = sym c.has_bit.ensures ∙ c.if-has_bit.false in
-    let at : Sectors = mixed h run bits in
+    let at : Sectors = mixed h c.args.run.now (bit c.args.bitmap.now) in
     let p = err_from_is_err_and c.from_residual-in_err-read_bin_sector.result
     c.from_residual-in_err-read_bin_sector.ensures.1 in
     rw (p.1, p.2)
-    (fault_on c.in_err-read_bin_sector.field-0.0 (read_bin now i) (gathered at 0 c.args.count)
+    (fault_on c.in_err-read_bin_sector.field-0.0 _ (gathered at 0 c.args.count)
     (λ f is. read_fault at c.args.count c.loop-i.bytes i c.loop-i-test.true (c.loop-i.invariant.read tells) f
-    (mixed_off h run bits i off ∙ ap (λ (m : Image). read_bin m i) (sym (c.loop-i.invariant.look.held tells)) ∙ is))
+    (mixed_off h c.args.run.now _ i (bit_off g (goal.at.returns-in_err-read_bin_sector-clause-bins g c).Else-has_bit)
+    ∙ ap (λ (m : Image). read_bin m i) (sym (c.loop-i.invariant.look.held tells)) ∙ is))
     (c.in_err-read_bin_sector.ensures.bytes tells))
 
 pub returns-in_err-append-clause-asked : goal.returns-in_err-append-clause-asked
 returns-in_err-append-clause-asked g c =
-    let bits = bit c.args.bitmap.now in
-    let i = c.loop-i.i in
-    let on : bits i ≡ true = sym c.has_bit.ensures ∙ c.if-has_bit.true in
     let p = err_from_is_err_and c.from_residual.result c.from_residual.ensures.1 in
     rw (p.1, p.2)
-    (asks_held {T = List ℕ} c.loop-i.invariant.asked (unmarked_at bits c.args.count) (unmarked_rest bits i c.args.count)
-    (marked_split bits i c.args.count c.loop-i-test.true on))
+    (asks_held {T = List ℕ} c.loop-i.invariant.asked _ (unmarked_rest (bit c.args.bitmap.now) c.loop-i.i c.args.count)
+    (marked_split (bit c.args.bitmap.now) c.loop-i.i c.args.count c.loop-i-test.true
+    (bit_on g (goal.at.returns-in_err-append-clause-asked g c).Then-has_bit)))
 
 pub returns-in_err-read_bin_sector-clause-asked : goal.returns-in_err-read_bin_sector-clause-asked
 returns-in_err-read_bin_sector-clause-asked g c =
-    let bits = bit c.args.bitmap.now in
-    let i = c.loop-i.i in
-    let at : Address = bin_at i in
-    let off : bits i ≡ false = sym c.has_bit.ensures ∙ c.if-has_bit.false in
     let e = c.in_err-read_bin_sector.field-0.0 in
     let p = err_from_is_err_and c.from_residual-in_err-read_bin_sector.result
     c.from_residual-in_err-read_bin_sector.ensures.1 in
     rw (p.1, p.2)
-    (asks_refused c.loop-i.invariant.asked at (g.D.Disk.calls c.read_bin_sector.new.disk) c.read_bin_sector.ensures.made
-    (unmarked_at bits c.args.count) (unmarked_rest bits i c.args.count)
-    (unmarked_split bits i c.args.count c.loop-i-test.true off) (List ℕ) e (fault_at Size 40) (fault_at Unreadable _)
-    (λ tells. subst (λ (m : Image). IsFaultOf e (read_bin m i)) (c.loop-i.invariant.look.held tells)
+    (asks_refused c.loop-i.invariant.asked (bin_at c.loop-i.i) (g.D.Disk.calls c.read_bin_sector.new.disk)
+    c.read_bin_sector.ensures.made _ (unmarked_rest (bit c.args.bitmap.now) c.loop-i.i c.args.count)
+    (splits g (goal.at.returns-in_err-read_bin_sector-clause-asked g c).Else-has_bit) (List ℕ) e (fault_at Size 40)
+    (fault_at Unreadable _)
+    (λ tells. subst (λ (m : Image). IsFaultOf e (read_bin m c.loop-i.i)) (c.loop-i.invariant.look.held tells)
     (c.in_err-read_bin_sector.ensures.bytes tells)))
 
 pub returns-in_err-append-2-clause-asked : goal.returns-in_err-append-2-clause-asked
 returns-in_err-append-2-clause-asked g c =
-    let bits = bit c.args.bitmap.now in
-    let i = c.loop-i.i in
-    let at : Address = bin_at i in
-    let off : bits i ≡ false = sym c.has_bit.ensures ∙ c.if-has_bit.false in
     let p = err_from_is_err_and c.from_residual-in_err-append-2.result c.from_residual-in_err-append-2.ensures.1 in
     rw (p.1, p.2)
-    (asks_unheld c.loop-i.invariant.asked at (g.D.Disk.calls c.read_bin_sector.new.disk) c.read_bin_sector.ensures.made
-    (unmarked_at bits c.args.count) (unmarked_rest bits i c.args.count)
-    (unmarked_split bits i c.args.count c.loop-i-test.true off) (List ℕ))
+    (asks_unheld c.loop-i.invariant.asked (bin_at c.loop-i.i) (g.D.Disk.calls c.read_bin_sector.new.disk)
+    c.read_bin_sector.ensures.made _ (unmarked_rest (bit c.args.bitmap.now) c.loop-i.i c.args.count)
+    (splits g (goal.at.returns-in_err-append-2-clause-asked g c).Else-has_bit) (List ℕ))
 
 pub returns-clause-asked : goal.returns-clause-asked
 returns-clause-asked g c =

@@ -8,10 +8,10 @@ use Rattle.hive_model.specs.Recovery.{Sectors, read_log, gathered}
 use Rattle.nt_edge.proofs.Leaving.{leaves_then}
 use Rattle.hive_log.specs.Asked.{AsksFirst}
 use Rattle.hive_log.specs.Stops.{IsFaultOf}
-use Rattle.hive_log.proofs.Asking.{AsksSoFar, asks_all, asks_more, asks_refused, asks_unheld, readable, run_rest, run_split, run_more}
+use Rattle.hive_log.proofs.Asking.{asks_all, asks_more, asks_refused, asks_unheld, readable, run_rest, run_split, run_more}
 use Rattle.hive_log.proofs.Runs.{run_counted}
 use Rattle.hive_log.proofs.Looks.{look_ok, look_on}
-use Rattle.hive_log.proofs.SoFar.{ReadSoFar, read_more, read_fault, read_end, fault_on}
+use Rattle.hive_log.proofs.SoFar.{read_more, read_fault, read_end, fault_on}
 use Rattle.hive_log.proofs.gathering.read_log_run.Goals as goal
 
 pub returns-in_err-read_log_sector-clause-run : goal.returns-in_err-read_log_sector-clause-run
@@ -47,15 +47,12 @@ loop-k-preserved g c =
       long = ap length appended
           ∙ omega (arith, length-append c.loop-k.bytes bytes, c.read_log_sector.array_long, c.loop-k.invariant.long);
       read = λ tells.
-          subst (λ (b : List ℕ). ReadSoFar at c.args.count b (k + 1)) (sym appended)
-          (read_more at c.args.count c.loop-k.bytes bytes k c.loop-k-test.true c.loop-k.invariant.long
-          c.read_log_sector.array_long (read tells) (c.loop-k.invariant.read tells));
-      asked = subst (λ (l : List Address). AsksSoFar (g.D.Disk.calls c.args.disk.now)
-          (g.D.Disk.calls c.read_log_sector.new.disk) g.D.Disk.tells h l) (run_more Log first k)
-          (asks_more c.loop-k.invariant.asked (log_at (first + k)) (g.D.Disk.calls c.read_log_sector.new.disk)
-          c.read_log_sector.ensures.made
+          read_more at c.args.count c.loop-k.bytes bytes _ k appended c.loop-k-test.true c.loop-k.invariant.long
+          c.read_log_sector.array_long (read tells) (c.loop-k.invariant.read tells);
+      asked = asks_more c.loop-k.invariant.asked (log_at (first + k)) (g.D.Disk.calls c.read_log_sector.new.disk)
+          c.read_log_sector.ensures.made _ (run_more Log first k)
           (λ tells. readable (fault_at LogShort _) (fault_at LogUnreadable _) (h (log_at (first + k))) bytes
-          (read tells)));
+          (read tells));
     }
 
 pub returns-in_err-read_log_sector-clause-asked : goal.returns-in_err-read_log_sector-clause-asked

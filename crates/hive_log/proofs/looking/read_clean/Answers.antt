@@ -1,6 +1,5 @@
-use Rattle.std.proofs.Common.{◌≡◌, ◌*◌, ◌/◌, Result, List, [], ℕ, sym, ◌∙◌, ap, arith}
+use Rattle.std.proofs.Common.{◌≡◌, ◌*◌, ◌/◌, true, List, [], sym, ◌∙◌, ap, arith}
 use Rattle.std.proofs.lemmas.Result.{err_from_is_err_and}
-use Rattle.nt_bytes.specs.declared.fault.HiveFault.{HiveFault}
 use Rattle.hive_model.specs.Asked.{one_by_one, run_at, unmarked_at}
 use Rattle.hive_model.specs.Base.{Base}
 use Rattle.hive_model.specs.Image.{Address, Primary}
@@ -11,7 +10,23 @@ use Rattle.hive_log.proofs.AskedWhole.{none_marked}
 use Rattle.hive_log.specs.Mixing.{mixed}
 use Rattle.hive_log.proofs.Looked.{no_run, clean_fault, clean_ok, clean_carries}
 use Rattle.hive_log.proofs.SoFar.{fault_on}
+use Rattle.hive_log.proofs.looking.read_clean.Given.{Over}
 use Rattle.hive_log.proofs.looking.read_clean.Goals as goal
+use Rattle.hive_log.proofs.looking.read_clean.Goals.{After-read_bins}
+
+-- the sectors are as many as the base block says
+count : (g : Over) (c : After-read_bins g) → c.base.inside.size / 512 ≡ c.args.base.size / 512
+count g c = ap (λ (b : Base). b.size / 512) c.base.view_is
+
+-- so they are all that is asked for
+asked_all : (g : Over) (c : After-read_bins g) → g.D.Disk.tells ≡ true
+    → let h = (g.D.Disk.state c.args.disk.now).held in
+    one_by_one h (unmarked_at (bit []) (c.base.inside.size / 512)) []
+    ≡ one_by_one h (run_at Primary 8 (c.args.base.size / 512)) []
+asked_all g c tells =
+    let h = (g.D.Disk.state c.args.disk.now).held in
+    ap (λ (l : List Address). one_by_one h l []) (none_marked (c.base.inside.size / 512))
+    ∙ ap (λ n. one_by_one h (run_at Primary 8 n) []) (count g c)
 
 pub read_bins-requires-clause-run_long : goal.read_bins-requires-clause-run_long
 read_bins-requires-clause-run_long g c = no_run (c.base.inside.size / 512)
@@ -19,49 +34,35 @@ read_bins-requires-clause-run_long g c = no_run (c.base.inside.size / 512)
 pub returns-in_err-bins-clause-exact : goal.returns-in_err-bins-clause-exact
 returns-in_err-bins-clause-exact g c = λ tells.
     let h = (g.D.Disk.state c.args.disk.now).held in
-    let base = c.args.base in
-    let e : c.base.inside.size ≡ base.size = ap (λ (b : Base). b.size) c.base.view_is in
-    let all : ℕ → Result (List ℕ) HiveFault = λ s. gathered (mixed h [] (bit [])) 0 (s / 512) in
     let p = err_from_is_err_and c.from_residual.result c.from_residual.ensures.1 in
     rw (p.1, p.2)
-    (fault_on c.in_err-bins.field-0.0 (all c.base.inside.size) (recovered_of h)
-    (λ f is. clean_fault h base (c.requires.block tells) c.requires.clean f (ap all (sym e) ∙ is))
+    (fault_on c.in_err-bins.field-0.0 _ (recovered_of h)
+    (λ f is. clean_fault h c.args.base (c.requires.block tells) c.requires.clean f
+    (ap (gathered (mixed h [] (bit [])) 0)
+    (sym (count g (goal.at.returns-in_err-bins-clause-exact g c).After-read_bins)) ∙ is))
     (c.in_err-bins.ensures.bins tells))
 
 pub returns-clause-exact : goal.returns-clause-exact
 returns-clause-exact g c = λ tells.
     let h = (g.D.Disk.state c.args.disk.now).held in
-    let e : c.base.inside.size ≡ c.args.base.size = ap (λ (b : Base). b.size) c.base.view_is in
-    let all : ℕ → Result (List ℕ) HiveFault = λ s. gathered (mixed h [] (bit [])) 0 (s / 512) in
     clean_ok h c.args.base (c.requires.block tells) c.requires.clean c.in_ok-bins.bins
-    (ap all (sym e) ∙ c.in_ok-bins.ensures.bins tells)
+    (ap (gathered (mixed h [] (bit [])) 0) (sym (count g (goal.at.returns-clause-exact g c).After-read_bins))
+    ∙ c.in_ok-bins.ensures.bins tells)
 
 pub returns-clause-carries : goal.returns-clause-carries
 returns-clause-carries g c = λ tells.
-    let e : c.base.inside.size ≡ c.args.base.size = ap (λ (b : Base). b.size) c.base.view_is in
-    let count : c.base.inside.size / 512 ≡ c.args.base.size / 512 = ap (λ n. n / 512) e in
+    let same = count g (goal.at.returns-clause-carries g c).After-read_bins in
     clean_carries (g.D.Disk.state c.args.disk.now).held c.args.base (c.requires.block tells)
     c.requires.clean c.in_ok-bins.bins c.requires.size
-    (c.in_ok-bins.ensures.long ∙ ap (λ n. 512 * n) count)
-    (λ i small. c.in_ok-bins.ensures.sectors tells i (omega (arith, count)))
+    (c.in_ok-bins.ensures.long ∙ ap (λ n. 512 * n) same)
+    (λ i small. c.in_ok-bins.ensures.sectors tells i (omega (arith, same)))
 
 pub returns-in_err-bins-clause-asked : goal.returns-in_err-bins-clause-asked
 returns-in_err-bins-clause-asked g c =
-    let h = (g.D.Disk.state c.args.disk.now).held in
-    let e : c.base.inside.size ≡ c.args.base.size = ap (λ (b : Base). b.size) c.base.view_is in
-    let whole = one_by_one h (run_at Primary 8 (c.args.base.size / 512)) [] in
-    let same : one_by_one h (unmarked_at (bit []) (c.base.inside.size / 512)) [] ≡ whole =
-    ap (λ (l : List Address). one_by_one h l []) (none_marked (c.base.inside.size / 512))
-    ∙ ap (λ n. one_by_one h (run_at Primary 8 (n / 512)) []) e in
     let p = err_from_is_err_and c.from_residual.result c.from_residual.ensures.1 in
-    rw (p.1, p.2) (asks_no_more c.in_err-bins.ensures.asked Reading [] whole (λ tells. same))
+    rw (p.1, p.2) (asks_no_more c.in_err-bins.ensures.asked Reading [] _
+    (asked_all g (goal.at.returns-in_err-bins-clause-asked g c).After-read_bins))
 
 pub returns-clause-asked : goal.returns-clause-asked
-returns-clause-asked g c =
-    let h = (g.D.Disk.state c.args.disk.now).held in
-    let e : c.base.inside.size ≡ c.args.base.size = ap (λ (b : Base). b.size) c.base.view_is in
-    let whole = one_by_one h (run_at Primary 8 (c.args.base.size / 512)) [] in
-    let same : one_by_one h (unmarked_at (bit []) (c.base.inside.size / 512)) [] ≡ whole =
-    ap (λ (l : List Address). one_by_one h l []) (none_marked (c.base.inside.size / 512))
-    ∙ ap (λ n. one_by_one h (run_at Primary 8 (n / 512)) []) e in
-    asks_in_whole c.in_ok-bins.ensures.asked whole (λ tells. same)
+returns-clause-asked g c = asks_in_whole c.in_ok-bins.ensures.asked _
+    (asked_all g (goal.at.returns-clause-asked g c).After-read_bins)

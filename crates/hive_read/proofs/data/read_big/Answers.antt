@@ -1,28 +1,24 @@
 use Rattle.std.proofs.Common.{◌≡◌, ℕ, List, Ok, ◌∙◌}
-use Rattle.std.proofs.lemmas.Result.{err_from_is_err_and}
 use Rattle.hive_model.specs.Stands.{joined_segments, big_bytes_at}
 use Rattle.cell_forms.specs.Views.{big_data_of}
 use Rattle.hive_cells.specs.Sources.{cells_of}
-use Rattle.hive_read.proofs.Walks.{stops-on, steps-same}
+use Rattle.hive_read.proofs.Walks.{stopped, stops-on, steps-same}
 use Rattle.hive_read.proofs.BigWalks.{big-off, big-unlisted, big-on}
 use Rattle.hive_read.proofs.data.read_big.Goals as goal
 
 pub returns-in_err-big : goal.returns-in_err-big
 returns-in_err-big c =
-    let p = err_from_is_err_and c.from_residual.result c.from_residual.ensures.1 in
-    rw (p.1, p.2) (stops-on c.in_err-big.field-0.0 _ _
+    rw (stopped c.from_residual.result c.in_err-big.field-0.0 c.from_residual.ensures.1)
+    (stops-on c.in_err-big.field-0.0 _ _
     (λ f. big-off (cells_of c.args.cells.now) c.args.used.now c.args.size c.args.at f) c.in_err-big.ensures)
 
 pub returns-in_err-offsets : goal.returns-in_err-offsets
 returns-in_err-offsets c =
-    let p = err_from_is_err_and c.from_residual-in_err-offsets.result c.from_residual-in_err-offsets.ensures.1 in
-    let cells = cells_of c.args.cells.now in
-    let u = c.in_ok-big.ensures in
-    let one = c.from.ensures in
-    rw (p.1, p.2) (stops-on c.in_err-offsets.field-0.0 _ _
-    (λ f. big-unlisted cells c.args.used.now c.use_big_data.new.used c.args.size c.args.at (big_data_of c.in_ok-big.big)
-    f u.0 u.1)
-    (rw c.from.ensures at c.in_err-offsets.ensures))
+    rw (stopped c.from_residual-in_err-offsets.result c.in_err-offsets.field-0.0
+    c.from_residual-in_err-offsets.ensures.1)
+    (stops-on c.in_err-offsets.field-0.0 _ _ (λ f. big-unlisted (cells_of c.args.cells.now) c.args.used.now
+    c.use_big_data.new.used c.args.size c.args.at (big_data_of c.in_ok-big.big) f c.in_ok-big.ensures.0
+    c.in_ok-big.ensures.1) (rw c.from.ensures at c.in_err-offsets.ensures))
 
 pub returns : goal.returns
 returns c =

@@ -1,11 +1,10 @@
 use Rattle.std.proofs.Common.{◌-◌, ℕ, List, [], length, take, drop, get_or, Ok, refl, sym, ap, ◌∙◌}
-use Rattle.std.proofs.lemmas.Result.{err_from_is_err_and}
 use Rattle.std.proofs.lemmas.List.{append-nil}
 use Rattle.hive_model.specs.Walk.{segments_checks}
 use Rattle.hive_model.specs.Stands.{joined_segments}
 use Rattle.hive_cells.specs.Sources.{cells_of}
 use Rattle.hive_read.specs.Walked.{walk}
-use Rattle.hive_read.proofs.Walks.{stops-on, none-left, first-and-rest}
+use Rattle.hive_read.proofs.Walks.{stopped, stops-on, none-left, first-and-rest}
 use Rattle.hive_read.proofs.BigWalks.{segments-off, segments-on, segments-one}
 use Rattle.hive_read.proofs.data.read_segments.Goals as goal
 
@@ -15,23 +14,18 @@ segments-init c = rw c.new-bytes.ensures (record { told = refl; stand = λ more 
 pub returns-in_default : goal.returns-in_default
 returns-in_default c =
     let cells = cells_of c.args.cells.now in
-    let i = c.segments.invariant in
     let z = none-left c.segments.rest.now c.in_default.len_below in (
-      sym i.told ∙ ap (λ r. walk cells c.segments.used (segments_checks cells c.segments.left r)) z,
-      i.stand [] (ap (joined_segments cells c.segments.left) z)
+      sym c.segments.invariant.told ∙ ap (λ r. walk cells c.segments.used (segments_checks cells c.segments.left r)) z,
+      c.segments.invariant.stand [] (ap (joined_segments cells c.segments.left) z)
           ∙ ap (λ (vs : List ℕ). Ok vs) (append-nil c.segments.bytes),
     )
 
 pub returns-in_err-part : goal.returns-in_err-part
 returns-in_err-part c =
-    let p = err_from_is_err_and c.from_residual.result c.from_residual.ensures.1 in
-    let cells = cells_of c.args.cells.now in
-    let i = c.segments.invariant in
-    let rest = c.segments.rest.now in
-    let r = first-and-rest rest c.in-len1-up.len_at_least in
-    rw (p.1, p.2) (stops-on c.in_err-part.field-0.0 _ _
-    (λ f e. sym i.told ∙ segments-off cells c.segments.used c.segments.left rest (get_or rest 0 0)
-    (take (length rest - 1) (drop 1 rest)) f r e) (rw c.min.ensures at c.in_err-part.ensures))
+    rw (stopped c.from_residual.result c.in_err-part.field-0.0 c.from_residual.ensures.1)
+    (stops-on c.in_err-part.field-0.0 _ _ (λ f e. sym c.segments.invariant.told
+    ∙ segments-off (cells_of c.args.cells.now) c.segments.used c.segments.left c.segments.rest.now f
+    c.in-len1-up.len_at_least e) (rw c.min.ensures at c.in_err-part.ensures))
 
 pub segments-preserved : goal.segments-preserved
 segments-preserved c =

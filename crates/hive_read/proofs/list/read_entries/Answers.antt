@@ -1,16 +1,15 @@
 use Rattle.std.proofs.Common.{◌≡◌, ℕ, List, true, false, Ok, sym, ◌∙◌}
-use Rattle.std.proofs.lemmas.Result.{err_from_is_err_and}
 use Rattle.hive_cells.specs.Sources.{cells_of}
 use Rattle.hive_model.specs.Walk.{is_list_of_lists, joined_at, entries_at}
 use Rattle.cell_forms.specs.Views.{kind_of, subkey_list_of}
-use Rattle.hive_read.proofs.Walks.{stops-on, steps-same}
+use Rattle.hive_read.proofs.Walks.{stopped, stops-on, steps-same}
 use Rattle.hive_read.proofs.ListWalks.{entries-off, entries-own, entries-lists}
 use Rattle.hive_read.proofs.list.read_entries.Goals as goal
 
 pub returns-in_err-list : goal.returns-in_err-list
 returns-in_err-list c =
-    let p = err_from_is_err_and c.from_residual.result c.from_residual.ensures.1 in
-    rw (p.1, p.2) (stops-on c.in_err-list.field-0.0 _ _
+    rw (stopped c.from_residual.result c.in_err-list.field-0.0 c.from_residual.ensures.1)
+    (stops-on c.in_err-list.field-0.0 _ _
     (λ f. entries-off (cells_of c.args.cells.now) c.args.used.now c.args.at f) c.in_err-list.ensures)
 
 pub returns-then-lists_lists : goal.returns-then-lists_lists

@@ -1,5 +1,4 @@
 use Rattle.std.proofs.Common.{◌-◌, ℕ, List, [], map, length, take, drop, get_or, Ok, refl, sym, ap, subst, ◌∙◌}
-use Rattle.std.proofs.lemmas.Result.{err_from_is_err_and}
 use Rattle.std.proofs.lemmas.List.{append-nil, map_push}
 use Rattle.hive_cells.specs.Sources.{cells_of}
 use Rattle.hive_model.specs.Tree.{Item}
@@ -8,31 +7,26 @@ use Rattle.hive_model.specs.Stands.{items_at}
 use Rattle.hive_read.specs.Taken.{Knows}
 use Rattle.hive_read.specs.Walked.{walk}
 use Rattle.hive_read.proofs.TakenLemmas.{knows-none, knows-more}
-use Rattle.hive_read.proofs.Walks.{stops-on, none-left, first-and-rest}
+use Rattle.hive_read.proofs.Walks.{stopped, stops-on, none-left, first-and-rest}
 use Rattle.hive_read.proofs.ValueWalks.{values-off, values-on, items-one}
 use Rattle.hive_read.proofs.value.read_in_turn.Goals as goal
 
 pub returns-in_default : goal.returns-in_default
 returns-in_default c =
     let cells = cells_of c.args.cells.now in
-    let i = c.values.invariant in
     let z = none-left c.values.rest.now c.in_default.len_below in (
-      sym i.told ∙ ap (λ r. walk cells c.values.used
+      sym c.values.invariant.told ∙ ap (λ r. walk cells c.values.used
           (values_in_turn cells (map (λ (v : Item). v.name) c.values.values) r)) z,
-      i.stand [] (ap (items_at cells) z) ∙ ap (λ (vs : List Item). Ok vs) (append-nil c.values.values),
+      c.values.invariant.stand [] (ap (items_at cells) z) ∙ ap (λ (vs : List Item). Ok vs) (append-nil c.values.values),
     )
 
 pub returns-in_err-value : goal.returns-in_err-value
 returns-in_err-value c =
-    let p = err_from_is_err_and c.from_residual.result c.from_residual.ensures.1 in
-    let cells = cells_of c.args.cells.now in
-    let i = c.values.invariant in
-    let rest = c.values.rest.now in
-    let r = first-and-rest rest c.in-len1-up.len_at_least in
-    rw (p.1, p.2) (stops-on c.in_err-value.field-0.0 _ _
-    (λ f e. sym i.told ∙ values-off cells c.values.used (map (λ (v : Item). v.name) c.values.values) rest
-    (get_or rest 0 0) (take (length rest - 1) (drop 1 rest)) f r e)
-    (c.in_err-value.ensures.walked (map (λ (v : Item). v.name) c.values.values) i.knows))
+    rw (stopped c.from_residual.result c.in_err-value.field-0.0 c.from_residual.ensures.1)
+    (stops-on c.in_err-value.field-0.0 _ _ (λ f e. sym c.values.invariant.told
+    ∙ values-off (cells_of c.args.cells.now) c.values.used (map (λ (v : Item). v.name) c.values.values)
+    c.values.rest.now f c.in-len1-up.len_at_least e)
+    (c.in_err-value.ensures.walked (map (λ (v : Item). v.name) c.values.values) c.values.invariant.knows))
 
 pub values-preserved : goal.values-preserved
 values-preserved c =

@@ -1,7 +1,6 @@
 use Rattle.std.proofs.Common.{◌-◌, map, length, take, drop, get_or, sym, ◌∙◌}
-use Rattle.std.proofs.lemmas.Result.{err_from_is_err_and}
 use Rattle.hive_cells.specs.Sources.{cells_of}
-use Rattle.hive_read.proofs.Walks.{stops-on, none-left, first-and-rest}
+use Rattle.hive_read.proofs.Walks.{stopped, stops-on, none-left, first-and-rest}
 use Rattle.hive_read.proofs.ValueWalks.{values-off}
 use Rattle.hive_read.proofs.WeighingLemmas.{item_name, values-first, values-next, values-last}
 use Rattle.hive_read.proofs.weighing.judge_in_turn.Goals as goal
@@ -19,15 +18,11 @@ returns-in_default c =
 
 pub returns-in_err-value : goal.returns-in_err-value
 returns-in_err-value c =
-    let p = err_from_is_err_and c.from_residual.result c.from_residual.ensures.1 in
-    let cells = cells_of c.args.cells.now in
-    let i = c.values.invariant in
-    let rest = c.values.rest.now in
-    let r = first-and-rest rest c.in-len1-up.len_at_least in
-    rw (p.1, p.2) (stops-on c.in_err-value.field-0.0 _ _
-    (λ f e. sym i.told ∙ values-off cells c.values.used (map item_name i.items) rest (get_or rest 0 0)
-    (take (length rest - 1) (drop 1 rest)) f r e)
-    (c.in_err-value.ensures (map item_name i.items) i.knows))
+    rw (stopped c.from_residual.result c.in_err-value.field-0.0 c.from_residual.ensures.1)
+    (stops-on c.in_err-value.field-0.0 _ _ (λ f e. sym c.values.invariant.told
+    ∙ values-off (cells_of c.args.cells.now) c.values.used (map item_name c.values.invariant.items)
+    c.values.rest.now f c.in-len1-up.len_at_least e)
+    (c.in_err-value.ensures (map item_name c.values.invariant.items) c.values.invariant.knows))
 
 pub values-preserved : goal.values-preserved
 values-preserved c =

@@ -1,8 +1,7 @@
 use Rattle.std.proofs.Common.{◌∙◌}
-use Rattle.std.proofs.lemmas.Result.{err_from_is_err_and}
 use Rattle.hive_cells.specs.Sources.{cells_of}
 use Rattle.cell_forms.specs.Views.{node_seen}
-use Rattle.hive_read.proofs.Walks.{stops-on}
+use Rattle.hive_read.proofs.Walks.{stopped, stops-on}
 use Rattle.hive_read.proofs.ValueWalks.{values-unread, values-read}
 use Rattle.hive_read.proofs.WeighingLemmas.{values-counts, no-values}
 use Rattle.hive_read.proofs.weighing.judge_values.Goals as goal
@@ -13,18 +12,18 @@ returns-then-node-eq0 c =
 
 pub returns-in_err-offsets : goal.returns-in_err-offsets
 returns-in_err-offsets c =
-    let p = err_from_is_err_and c.from_residual.result c.from_residual.ensures.1 in
-    rw (p.1, p.2) (stops-on c.in_err-offsets.field-0.0 _ _
+    rw (stopped c.from_residual.result c.in_err-offsets.field-0.0 c.from_residual.ensures.1)
+    (stops-on c.in_err-offsets.field-0.0 _ _
     (λ f. values-unread (cells_of c.args.cells.now) c.args.used.now (node_seen c.args.node.now)
     f c.if-node-eq0.false) c.in_err-offsets.ensures)
 
 pub returns-in_err-values : goal.returns-in_err-values
 returns-in_err-values c =
-    let p = err_from_is_err_and c.from_residual-in_err-values.result c.from_residual-in_err-values.ensures.1 in
     let o = c.in_ok-offsets.ensures in
     let on = values-read (cells_of c.args.cells.now) c.args.used.now c.use_offsets.new.used
     (node_seen c.args.node.now) c.in_ok-offsets.offsets c.if-node-eq0.false o.0 o.1 in
-    rw (p.1, p.2) (stops-on c.in_err-values.field-0.0 _ _ (λ f e. on.0 ∙ e)
+    rw (stopped c.from_residual-in_err-values.result c.in_err-values.field-0.0 c.from_residual-in_err-values.ensures.1)
+    (stops-on c.in_err-values.field-0.0 _ _ (λ f e. on.0 ∙ e)
     (rw c.as_slice-found.ensures at c.in_err-values.ensures))
 
 pub returns : goal.returns

@@ -1,71 +1,66 @@
-use Rattle.std.proofs.Common.{ℕ, List, sym, ap, ◌∙◌, arith}
+use Rattle.std.proofs.Common.{◌≡◌, true, false, sym, ap, ◌∙◌, arith}
 use Rattle.std.specs.Prelude.{find}
 use Rattle.hive_model.specs.Bins.{look_up}
 use Rattle.hive_model.specs.Footprint.{is_node_named}
-use Rattle.key_index.specs.Lists.{offsets_of, offsets_in_lists}
-use Rattle.key_index.proofs.Below.{child_lists, single_nodes, single_apart, many_lists, many_apart}
+use Rattle.key_index.specs.Lists.{lists_lists}
+use Rattle.key_index.proofs.Below.{ChildLists, read_child_lists, single_nodes, single_apart, many_lists, many_apart}
 use Rattle.key_index.proofs.find.find_child.Goals as goal
+use Rattle.key_index.proofs.find.find_child.Goals.{After-payload-bytes, Then-is_list_of_lists, Else-is_list_of_lists}
+
+-- the bytes that were read are the key's list
+listed : (c : After-payload-bytes)
+    → ChildLists (look_up c.args.version c.args.cells.now) c.args.list c.args.count c.payload-bytes.result.now
+listed c =
+    read_child_lists (look_up c.args.version c.args.cells.now) c.args.list c.args.count c.payload-bytes.ensures
+    c.requires
+    (omega arith)
+
+-- which lists lists, or not
+of_lists : (c : Then-is_list_of_lists) → lists_lists c.payload-bytes.result.now ≡ true
+of_lists c = sym c.is_list_of_lists.ensures ∙ c.if-is_list_of_lists.true
+
+of_nodes : (c : Else-is_list_of_lists) → lists_lists c.payload-bytes.result.now ≡ false
+of_nodes c = sym c.is_list_of_lists.ensures ∙ c.if-is_list_of_lists.false
 
 pub is_list_of_lists-requires : goal.is_list_of_lists-requires
-is_list_of_lists-requires c =
-    let cells = look_up c.args.version c.args.cells.now in
-    rw c.payload-bytes.ensures (child_lists cells c.args.list c.args.count c.requires (omega arith)).read
+is_list_of_lists-requires c = (listed (goal.at.is_list_of_lists-requires c).After-payload-bytes).read
 
 pub find_in_lists-requires-clause-read : goal.find_in_lists-requires-clause-read
-find_in_lists-requires-clause-read c =
-    let cells = look_up c.args.version c.args.cells.now in
-    rw c.payload-bytes.ensures (child_lists cells c.args.list c.args.count c.requires (omega arith)).read
+find_in_lists-requires-clause-read c = (listed (goal.at.find_in_lists-requires-clause-read c).After-payload-bytes).read
 
 pub find_in_lists-requires-clause-lists : goal.find_in_lists-requires-clause-lists
 find_in_lists-requires-clause-lists c =
-    let cells = look_up c.args.version c.args.cells.now in
-    let is = sym c.is_list_of_lists.ensures ∙ c.if-is_list_of_lists.true in
-    rw c.payload-bytes.ensures
-    (many_lists cells c.args.list c.args.count c.requires (omega arith) (rw c.payload-bytes.ensures at is))
+    many_lists (listed (goal.at.find_in_lists-requires-clause-lists c).After-payload-bytes) c.requires
+    (of_lists (goal.at.find_in_lists-requires-clause-lists c).Then-is_list_of_lists)
 
 pub find_in_lists-requires-clause-apart : goal.find_in_lists-requires-clause-apart
 find_in_lists-requires-clause-apart c =
-    let cells = look_up c.args.version c.args.cells.now in
-    let is = sym c.is_list_of_lists.ensures ∙ c.if-is_list_of_lists.true in
-    rw c.payload-bytes.ensures
-    (many_apart cells c.args.list c.args.count c.requires (omega arith) (rw c.payload-bytes.ensures at is))
+    many_apart (listed (goal.at.find_in_lists-requires-clause-apart c).After-payload-bytes) c.requires
+    (of_lists (goal.at.find_in_lists-requires-clause-apart c).Then-is_list_of_lists)
 
 pub find_in_list-requires-clause-read : goal.find_in_list-requires-clause-read
-find_in_list-requires-clause-read c =
-    let cells = look_up c.args.version c.args.cells.now in
-    rw c.payload-bytes.ensures (child_lists cells c.args.list c.args.count c.requires (omega arith)).read
+find_in_list-requires-clause-read c = (listed (goal.at.find_in_list-requires-clause-read c).After-payload-bytes).read
 
 pub find_in_list-requires-clause-nodes : goal.find_in_list-requires-clause-nodes
 find_in_list-requires-clause-nodes c =
-    let cells = look_up c.args.version c.args.cells.now in
-    let is = sym c.is_list_of_lists.ensures ∙ c.if-is_list_of_lists.false in
-    rw c.payload-bytes.ensures
-    (single_nodes cells c.args.list c.args.count c.requires (omega arith) (rw c.payload-bytes.ensures at is))
+    single_nodes (listed (goal.at.find_in_list-requires-clause-nodes c).After-payload-bytes) c.requires
+    (of_nodes (goal.at.find_in_list-requires-clause-nodes c).Else-is_list_of_lists)
 
 pub find_in_list-requires-clause-apart : goal.find_in_list-requires-clause-apart
 find_in_list-requires-clause-apart c =
-    let cells = look_up c.args.version c.args.cells.now in
-    let is = sym c.is_list_of_lists.ensures ∙ c.if-is_list_of_lists.false in
-    rw c.payload-bytes.ensures
-    (single_apart cells c.args.list c.args.count c.requires (omega arith) (rw c.payload-bytes.ensures at is))
+    single_apart (listed (goal.at.find_in_list-requires-clause-apart c).After-payload-bytes) c.requires
+    (of_nodes (goal.at.find_in_list-requires-clause-apart c).Else-is_list_of_lists)
 
 pub returns-then-is_list_of_lists : goal.returns-then-is_list_of_lists
 returns-then-is_list_of_lists c =
-    let cells = look_up c.args.version c.args.cells.now in
-    let is = sym c.is_list_of_lists.ensures ∙ c.if-is_list_of_lists.true in
-    let many = (child_lists cells c.args.list c.args.count c.requires (omega arith)).many
-    (rw c.payload-bytes.ensures at is) in
     c.find_in_lists.ensures
-    ∙ ap (λ (p : List ℕ). find (is_node_named cells c.args.name.now) (offsets_in_lists cells (offsets_of p)))
-    c.payload-bytes.ensures
-    ∙ ap (find (is_node_named cells c.args.name.now)) (sym many.1)
+    ∙ ap (find (is_node_named (look_up c.args.version c.args.cells.now) c.args.name.now))
+    (sym ((listed (goal.at.returns-then-is_list_of_lists c).After-payload-bytes).many
+    (of_lists (goal.at.returns-then-is_list_of_lists c).Then-is_list_of_lists)).1)
 
 pub returns-else-is_list_of_lists : goal.returns-else-is_list_of_lists
 returns-else-is_list_of_lists c =
-    let cells = look_up c.args.version c.args.cells.now in
-    let is = sym c.is_list_of_lists.ensures ∙ c.if-is_list_of_lists.false in
-    let single = (child_lists cells c.args.list c.args.count c.requires (omega arith)).single
-    (rw c.payload-bytes.ensures at is) in
     c.find_in_list.ensures
-    ∙ ap (λ (p : List ℕ). find (is_node_named cells c.args.name.now) (offsets_of p)) c.payload-bytes.ensures
-    ∙ ap (find (is_node_named cells c.args.name.now)) (sym single)
+    ∙ ap (find (is_node_named (look_up c.args.version c.args.cells.now) c.args.name.now))
+    (sym ((listed (goal.at.returns-else-is_list_of_lists c).After-payload-bytes).single
+    (of_nodes (goal.at.returns-else-is_list_of_lists c).Else-is_list_of_lists)))

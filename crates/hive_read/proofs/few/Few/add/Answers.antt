@@ -1,11 +1,11 @@
-use Rattle.std.proofs.Common.{◌≡◌, ℕ, List, true, false, not, ◌||◌, map, sym, ap, subst, ◌∙◌}
+use Rattle.std.proofs.Common.{◌≡◌, ℕ, List, true, false, ◌||◌, map, sym, ap, subst, ◌∙◌}
 use Rattle.std.specs.List.{list_any}
 use Rattle.std.specs.Ordering.{is_gt}
 use Rattle.nt_bytes.specs.Folding.{folds_same, folded_order}
 use Rattle.cell_forms.specs.declared.stored.StoredName.{StoredName}
 use Rattle.cell_forms.specs.Views.{name_of}
 use Rattle.hive_read.specs.Taken.{folded_name, folds_to, has_name}
-use Rattle.hive_read.proofs.FewLemmas.{above-unknown, above-none, has-pushed, none-pushed, not-behind-itself, not-above, known-again, is-known}
+use Rattle.hive_read.proofs.FewLemmas.{above-unknown, above-none, fresh-so, added-so, none-pushed, not-behind-itself, not-above, known-again, is-known}
 use Rattle.hive_read.proofs.few.Few.add.Goals as goal
 use Rattle.hive_read.proofs.few.Few.add.Goals.{Then-is_gt, Else-is_gt, After-has_same}
 
@@ -35,29 +35,25 @@ invariant_of-self-then-is_gt c =
 
 pub returns-then-is_gt-clause-fresh : goal.returns-then-is_gt-clause-fresh
 returns-then-is_gt-clause-fresh c =
-    ap not (sym (above-unknown (name_of c.self.inside.greatest) (name_of c.args.name)
+    fresh-so false (name_of c.args.name) (above-unknown (name_of c.self.inside.greatest) (name_of c.args.name)
     (map folded_name c.self.inside.names.items) c.self.invariant
-    (after (goal.at.returns-then-is_gt-clause-fresh c).Then-is_gt)))
-    ∙ ap (λ (ks : List (List ℕ)). not (has_name ks (name_of c.args.name))) c.self.view_is
+    (after (goal.at.returns-then-is_gt-clause-fresh c).Then-is_gt)) c.self.view_is
 
 pub returns-then-is_gt-clause-added : goal.returns-then-is_gt-clause-added
-returns-then-is_gt-clause-added c = λ n.
-    rw c.in_ok-push.ensures.items
-    (has-pushed c.self.inside.names.items c.args.name n
-    ∙ ap (λ (ks : List (List ℕ)). has_name ks n || folds_same n (name_of c.args.name)) c.self.view_is)
+returns-then-is_gt-clause-added c =
+    added-so c.self.inside.names.items _ c.args.name c.in_ok-push.ensures.items c.self.view_is
 
 pub returns-then-has_same-clause-fresh : goal.returns-then-has_same-clause-fresh
 returns-then-has_same-clause-fresh c =
-    let name = name_of c.args.name in
-    let known = answered (goal.at.returns-then-has_same-clause-fresh c).After-has_same in
-    ap not (sym (known ∙ c.if-has_same.true)) ∙ ap (λ (ks : List (List ℕ)). not (has_name ks name)) c.self.view_is
+    fresh-so true (name_of c.args.name)
+    (answered (goal.at.returns-then-has_same-clause-fresh c).After-has_same ∙ c.if-has_same.true) c.self.view_is
 
 pub returns-then-has_same-clause-added : goal.returns-then-has_same-clause-added
 returns-then-has_same-clause-added c = λ n.
     let name = name_of c.args.name in
-    let known = answered (goal.at.returns-then-has_same-clause-added c).After-has_same in
     subst (λ (ks : List (List ℕ)). has_name ks n ≡ (has_name ks n || folds_same n name)) c.self.view_is
-    (known-again name n (map folded_name c.self.inside.names.items) (known ∙ c.if-has_same.true))
+    (known-again name n (map folded_name c.self.inside.names.items)
+    (answered (goal.at.returns-then-has_same-clause-added c).After-has_same ∙ c.if-has_same.true))
 
 pub invariant_of-self-2 : goal.invariant_of-self-2
 invariant_of-self-2 c =
@@ -68,12 +64,9 @@ invariant_of-self-2 c =
 
 pub returns-clause-fresh : goal.returns-clause-fresh
 returns-clause-fresh c =
-    let name = name_of c.args.name in
-    let known = answered (goal.at.returns-clause-fresh c).After-has_same in
-    ap not (sym (known ∙ c.if-has_same.false)) ∙ ap (λ (ks : List (List ℕ)). not (has_name ks name)) c.self.view_is
+    fresh-so false (name_of c.args.name)
+    (answered (goal.at.returns-clause-fresh c).After-has_same ∙ c.if-has_same.false) c.self.view_is
 
 pub returns-clause-added : goal.returns-clause-added
-returns-clause-added c = λ n.
-    rw c.in_ok-push-2.ensures.items
-    (has-pushed c.self.inside.names.items c.args.name n
-    ∙ ap (λ (ks : List (List ℕ)). has_name ks n || folds_same n (name_of c.args.name)) c.self.view_is)
+returns-clause-added c =
+    added-so c.self.inside.names.items _ c.args.name c.in_ok-push-2.ensures.items c.self.view_is

@@ -1,6 +1,6 @@
-use Rattle.std.proofs.Common.{Bool, List, ℕ, false, refl, ap, sym, subst, ◌∙◌}
+use Rattle.std.proofs.Common.{◌≡◌, Bool, List, ℕ, true, false, refl, ap, sym, subst, ◌∙◌}
 use Rattle.std.proofs.lemmas.Result.{err_from_is_err_and}
-use Rattle.hive_model.specs.Base.{Base}
+use Rattle.hive_model.specs.Base.{Base, version_of}
 use Rattle.hive_model.specs.Carries.{Carries, HasLog}
 use Rattle.hive_model.specs.Log.{dirty, log_of}
 use Rattle.hive_model.specs.State.{HiveState}
@@ -9,11 +9,53 @@ use Rattle.nt_edge.specs.Calls.{Makes, MakesFront}
 use Rattle.nt_edge.specs.Crash.{EachCrash}
 use Rattle.hive_commit.specs.Calls.{change_calls}
 use Rattle.hive_commit.specs.Stages.{next_number, closed_of, IsBeforeOrAfter, LoadsAsEither}
-use Rattle.hive_store.specs.Session.{Session, session_of, next_bins, next_root}
-use Rattle.hive_store.specs.Commits.{next_base, committed, committed_state, session_log}
-use Rattle.hive_store.proofs.CommittingLemmas.{is_ready, stood, commit_loads, commit_crash, next_session, next_is, old_is, as_written, goes_again}
+use Rattle.saved_pages.specs.Overlay.{before}
+use Rattle.hive_store.specs.Session.{Session, HasTree, session_of, next_bins, next_root}
+use Rattle.hive_store.specs.Commits.{committed, committed_state}
+use Rattle.hive_store.proofs.CommittingLemmas.{IsReady, is_ready, stood, commit_loads, commit_crash, next_session, next_is, old_is, as_written, goes_again}
 use Rattle.hive_store.proofs.SizedLemmas.{sized_bytes}
+use Rattle.hive_store.proofs.hive.Hive.commit.Given.{Over}
 use Rattle.hive_store.proofs.hive.Hive.commit.Goals as goal
+use Rattle.hive_store.proofs.hive.Hive.commit.Goals.{After-self, After-root, After-commit_kept}
+
+-- the session by its parts, and that its tree is in what it writes
+abbrev session : (g : Over) → After-root g → Session
+session g c = let i = c.self.inside in session_of i.base i.cells.base i.cells i.changed
+
+ready : (g : Over) (c : After-root g) → IsReady (session g c)
+ready g c =
+    let i = c.self.inside in
+    is_ready i.base i.cells.base i.cells i.changed c.self.invariant c.bytes-new.ensures.sound c.root.ensures.stands
+
+-- a tree is in the data from before
+has : (g : Over) (c : After-self g) → let s = c.args.self in
+    HasTree (version_of s.base.minor) s.bins s.base.root c.self.invariant.committed
+has g c = subst (λ (s : Session). HasTree (version_of s.base.minor) s.bins s.base.root c.self.invariant.committed)
+    c.self.view_is c.self.invariant.carried
+
+loads_before : (g : Over) (c : After-self g) → g.D.Disk.tells ≡ true
+    → (state : HiveState) × Loads (g.D.Disk.state c.args.disk.now).held state false
+loads_before g c tells =
+    stood c.args.self _ (has g c) (g.D.Disk.state c.args.disk.now).held (c.requires.carries tells)
+
+-- what is said of the data and the root that the commit was given is said of the session's
+of_session : (g : Over) (c : After-commit_kept g) (P : Base → List ℕ → List ℕ → ℕ → Type 0)
+    → P c.self.inside.base (before c.pages.result.now c.bytes-new.result.now) c.bytes-new.result.now c.root.result
+    → let s = c.args.self in P s.base s.bins (next_bins s) (next_root s)
+of_session g c P is = subst (λ (s : Session). P s.base s.bins (next_bins s) (next_root s)) c.self.view_is
+    (as_written (P c.self.inside.base) (old_is _ _ c.bytes-new.ensures.exact c.pages.ensures.base)
+    c.bytes-new.ensures.exact c.root.ensures.root is)
+
+crash : (g : Over) (c : After-commit_kept g) → g.D.Disk.tells ≡ true → (state : HiveState) (dirty : Bool)
+    → Loads (g.D.Disk.state c.args.disk.now).held state dirty
+    → EachCrash (g.D.Disk.state c.commit_kept.new.disk) (LoadsAsEither state (committed_state c.args.self))
+crash g c tells =
+    let state = g.D.Disk.state c.commit_kept.new.disk in
+    commit_crash c.args.self (subst IsReady c.self.view_is (ready g (goal.at.After-commit_kept g c).After-root))
+    (has g (goal.at.After-commit_kept g c).After-self).sized (g.D.Disk.state c.args.disk.now).held state
+    (c.requires.carries tells)
+    (of_session g c (λ base old new root. EachCrash state (IsBeforeOrAfter base old (closed_of base new root) new))
+    (c.commit_kept.ensures.crash tells))
 
 pub commit_kept-requires-clause-sized : goal.commit_kept-requires-clause-sized
 commit_kept-requires-clause-sized g c =
@@ -29,19 +71,14 @@ commit_kept-requires-clause-carries g c = λ tells.
 
 pub invariant_of-hive : goal.invariant_of-hive
 invariant_of-hive g c =
-    let i = c.self.inside in
-    let s : Session = session_of i.base i.cells.base i.cells i.changed in
-    let ready = is_ready i.base i.cells.base i.cells i.changed c.self.invariant c.bytes-new.ensures.sound
-    c.root.ensures.stands in
-    next_session s ready c.self.invariant.version _ _ _ _ c.in_ok-closed.ensures.answered c.settle.ensures
-    c.bytes-new.ensures.exact c.root.ensures.root
+    let here = (goal.at.invariant_of-hive g c).After-root in
+    next_session (session g here) (ready g here) c.self.invariant.version _ _ _ _ c.in_ok-closed.ensures.answered
+    c.settle.ensures c.bytes-new.ensures.exact c.root.ensures.root
 
 pub returns-clause-answered : goal.returns-clause-answered
 returns-clause-answered g c =
-    let i = c.self.inside in
-    let s : Session = session_of i.base i.cells.base i.cells i.changed in
-    next_is s refl _ _ _ _ c.in_ok-closed.ensures.answered c.settle.ensures c.bytes-new.ensures.exact c.root.ensures.root
-    ∙ ap committed c.self.view_is
+    next_is (session g (goal.at.returns-clause-answered g c).After-root) refl _ _ _ _ c.in_ok-closed.ensures.answered
+    c.settle.ensures c.bytes-new.ensures.exact c.root.ensures.root ∙ ap committed c.self.view_is
 
 pub returns-clause-number : goal.returns-clause-number
 returns-clause-number g c =
@@ -50,91 +87,43 @@ returns-clause-number g c =
 
 pub returns-clause-made : goal.returns-clause-made
 returns-clause-made g c =
-    let i = c.self.inside in
-    let s : Session = session_of i.base i.cells.base i.cells i.changed in
-    let before = g.D.Disk.calls c.args.disk.now in
-    let after = g.D.Disk.calls c.commit_kept.new.disk in
-    subst (λ (v : Session). Makes before after (change_calls v.base v.bins (next_bins v) (next_root v))) c.self.view_is
-    (as_written (λ old new root. Makes before after (change_calls s.base old new root))
-    (old_is _ _ c.bytes-new.ensures.exact c.pages.ensures.base) c.bytes-new.ensures.exact c.root.ensures.root c.in_ok-closed.ensures.made)
+    of_session g (goal.at.returns-clause-made g c).After-commit_kept
+    (λ base old new root. Makes (g.D.Disk.calls c.args.disk.now) (g.D.Disk.calls c.commit_kept.new.disk)
+    (change_calls base old new root)) c.in_ok-closed.ensures.made
 
 pub returns-in_err-closed-clause-made : goal.returns-in_err-closed-clause-made
 returns-in_err-closed-clause-made g c =
-    let i = c.self.inside in
-    let s : Session = session_of i.base i.cells.base i.cells i.changed in
-    let before = g.D.Disk.calls c.args.disk.now in
-    let after = g.D.Disk.calls c.commit_kept.new.disk in
     let p = err_from_is_err_and c.from_residual.result c.from_residual.ensures.1 in
     rw p.1
-    (subst (λ (v : Session). MakesFront before after (change_calls v.base v.bins (next_bins v) (next_root v)))
-    c.self.view_is
-    (as_written (λ old new root. MakesFront before after (change_calls s.base old new root))
-    (old_is _ _ c.bytes-new.ensures.exact c.pages.ensures.base) c.bytes-new.ensures.exact c.root.ensures.root c.in_err-closed.ensures.made))
+    (of_session g (goal.at.returns-in_err-closed-clause-made g c).After-commit_kept
+    (λ base old new root. MakesFront (g.D.Disk.calls c.args.disk.now) (g.D.Disk.calls c.commit_kept.new.disk)
+    (change_calls base old new root)) c.in_err-closed.ensures.made)
 
 pub returns-clause-carries : goal.returns-clause-carries
 returns-clause-carries g c = λ tells.
-    let i = c.self.inside in
-    let s : Session = session_of i.base i.cells.base i.cells i.changed in
-    let held = (g.D.Disk.state c.commit_kept.new.disk).held in
-    subst (λ (v : Session). Carries held (next_base v) (next_bins v)) c.self.view_is
-    (as_written (λ old new root. Carries held (closed_of s.base new root) new)
-    (old_is _ _ c.bytes-new.ensures.exact c.pages.ensures.base) c.bytes-new.ensures.exact c.root.ensures.root (c.in_ok-closed.ensures.carries tells))
+    of_session g (goal.at.returns-clause-carries g c).After-commit_kept
+    (λ base old new root. Carries (g.D.Disk.state c.commit_kept.new.disk).held (closed_of base new root) new)
+    (c.in_ok-closed.ensures.carries tells)
 
 pub returns-clause-logged : goal.returns-clause-logged
 returns-clause-logged g c = λ tells.
-    let i = c.self.inside in
-    let s : Session = session_of i.base i.cells.base i.cells i.changed in
-    let held = (g.D.Disk.state c.commit_kept.new.disk).held in
-    subst (λ (v : Session). HasLog held (session_log v)) c.self.view_is
-    (as_written (λ old new root. HasLog held (log_of (dirty old new) new (closed_of s.base new root)))
-    (old_is _ _ c.bytes-new.ensures.exact c.pages.ensures.base) c.bytes-new.ensures.exact c.root.ensures.root
-    (c.in_ok-closed.ensures.logged tells))
+    of_session g (goal.at.returns-clause-logged g c).After-commit_kept
+    (λ base old new root. HasLog (g.D.Disk.state c.commit_kept.new.disk).held
+    (log_of (dirty old new) new (closed_of base new root))) (c.in_ok-closed.ensures.logged tells)
 
 pub returns-clause-loads : goal.returns-clause-loads
 returns-clause-loads g c = λ tells.
-    let i = c.self.inside in
-    let s : Session = session_of i.base i.cells.base i.cells i.changed in
-    let ready = is_ready i.base i.cells.base i.cells i.changed c.self.invariant c.bytes-new.ensures.sound
-    c.root.ensures.stands in
+    let here = goal.at.returns-clause-loads g c in
     let held = (g.D.Disk.state c.commit_kept.new.disk).held in
-    subst (λ (v : Session). Loads held (committed_state v) false) c.self.view_is
-    (commit_loads s ready held
-    (as_written (λ old new root. Carries held (closed_of s.base new root) new)
-    (old_is _ _ c.bytes-new.ensures.exact c.pages.ensures.base) c.bytes-new.ensures.exact c.root.ensures.root (c.in_ok-closed.ensures.carries tells)))
+    commit_loads c.args.self (subst IsReady c.self.view_is (ready g here.After-root)) held
+    (of_session g here.After-commit_kept (λ base old new root. Carries held (closed_of base new root) new)
+    (c.in_ok-closed.ensures.carries tells))
 
 pub returns-clause-crash : goal.returns-clause-crash
-returns-clause-crash g c = λ tells.
-    let i = c.self.inside in
-    let s : Session = session_of i.base i.cells.base i.cells i.changed in
-    let ready = is_ready i.base i.cells.base i.cells i.changed c.self.invariant c.bytes-new.ensures.sound
-    c.root.ensures.stands in
-    let start = (g.D.Disk.state c.args.disk.now).held in
-    let state = g.D.Disk.state c.commit_kept.new.disk in
-    let carries = subst (λ (v : Session). Carries start v.base v.bins) (sym c.self.view_is)
-    (c.requires.carries tells) in
-    subst (λ (v : Session). (before : HiveState) (was : Bool) → Loads start before was
-    → EachCrash state (LoadsAsEither before (committed_state v))) c.self.view_is
-    (commit_crash s ready c.self.invariant.carried.sized start state carries
-    (as_written (λ old new root. EachCrash state (IsBeforeOrAfter s.base old (closed_of s.base new root) new))
-    (old_is _ _ c.bytes-new.ensures.exact c.pages.ensures.base) c.bytes-new.ensures.exact c.root.ensures.root
-    (c.commit_kept.ensures.crash tells)))
+returns-clause-crash g c = crash g (goal.at.returns-clause-crash g c).After-commit_kept
 
 pub returns-in_err-closed-clause-crash : goal.returns-in_err-closed-clause-crash
-returns-in_err-closed-clause-crash g c = λ tells.
-    let i = c.self.inside in
-    let s : Session = session_of i.base i.cells.base i.cells i.changed in
-    let ready = is_ready i.base i.cells.base i.cells i.changed c.self.invariant c.bytes-new.ensures.sound
-    c.root.ensures.stands in
-    let start = (g.D.Disk.state c.args.disk.now).held in
-    let state = g.D.Disk.state c.commit_kept.new.disk in
-    let carries = subst (λ (v : Session). Carries start v.base v.bins) (sym c.self.view_is)
-    (c.requires.carries tells) in
-    subst (λ (v : Session). (before : HiveState) (was : Bool) → Loads start before was
-    → EachCrash state (LoadsAsEither before (committed_state v))) c.self.view_is
-    (commit_crash s ready c.self.invariant.carried.sized start state carries
-    (as_written (λ old new root. EachCrash state (IsBeforeOrAfter s.base old (closed_of s.base new root) new))
-    (old_is _ _ c.bytes-new.ensures.exact c.pages.ensures.base) c.bytes-new.ensures.exact c.root.ensures.root
-    (c.commit_kept.ensures.crash tells)))
+returns-in_err-closed-clause-crash g c = crash g (goal.at.returns-in_err-closed-clause-crash g c).After-commit_kept
 
 pub returns-in_err-closed-clause-goes : goal.returns-in_err-closed-clause-goes
 returns-in_err-closed-clause-goes g c =
@@ -143,17 +132,7 @@ returns-in_err-closed-clause-goes g c =
     c.in_err-closed.field-0.0 c.in_err-closed.ensures.goes)
 
 pub returns-in_err-closed-clause-before : goal.returns-in_err-closed-clause-before
-returns-in_err-closed-clause-before g c = λ tells.
-    let i = c.self.inside in
-    let s : Session = session_of i.base i.cells.base i.cells i.changed in
-    let start = (g.D.Disk.state c.args.disk.now).held in
-    stood s _ c.self.invariant.carried start
-    (subst (λ (v : Session). Carries start v.base v.bins) (sym c.self.view_is) (c.requires.carries tells))
+returns-in_err-closed-clause-before g c = loads_before g (goal.at.returns-in_err-closed-clause-before g c).After-self
 
 pub returns-clause-before : goal.returns-clause-before
-returns-clause-before g c = λ tells.
-    let i = c.self.inside in
-    let s : Session = session_of i.base i.cells.base i.cells i.changed in
-    let start = (g.D.Disk.state c.args.disk.now).held in
-    stood s _ c.self.invariant.carried start
-    (subst (λ (v : Session). Carries start v.base v.bins) (sym c.self.view_is) (c.requires.carries tells))
+returns-clause-before g c = loads_before g (goal.at.returns-clause-before g c).After-self
