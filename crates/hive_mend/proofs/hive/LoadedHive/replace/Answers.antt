@@ -1,7 +1,6 @@
-use Rattle.std.proofs.Common.{◌≡◌, true, false, refl, sym, subst}
+use Rattle.std.proofs.Common.{◌≡◌, true, refl, sym, subst}
 use Rattle.std.proofs.lemmas.Result.{err_from_is_err_and}
 use Rattle.hive_model.specs.Carries.{Carries}
-use Rattle.hive_model.specs.Load.{Loads}
 use Rattle.nt_edge.specs.Crash.{EachCrash}
 use Rattle.hive_commit.specs.Stages.{closed_of, IsBeforeOrAfter}
 use Rattle.hive_store.proofs.Holding.{tree_loads}
