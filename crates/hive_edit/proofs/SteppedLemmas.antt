@@ -180,7 +180,7 @@ step_refused version t step stop h =
     (subst (λ (r : Result Tree Refusal). IsRefused r stop) (sym (one_step t step)) h)
 
 -- an edit that is made
-then_ok : (r : Result Tree Refusal) (f : Tree → Result Tree Refusal) (u : Tree) → (r >>= f) ≡ the_tree u
+pub then_ok : (r : Result Tree Refusal) (f : Tree → Result Tree Refusal) (u : Tree) → (r >>= f) ≡ the_tree u
     → (v : Tree) × (r ≡ the_tree v) × (f v ≡ the_tree u)
 then_ok (Ok v) f u e = (v, refl, e)
 then_ok (Err why) f u e = absurd cc

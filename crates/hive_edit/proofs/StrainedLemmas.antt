@@ -1,35 +1,38 @@
 -- How much of the strain steps take at the least, by the lists that each writes again.
 use Rattle.std.proofs.Common.{◌≡◌, ◌≤◌, ◌<◌, ℕ, ◌+◌, ◌*◌, ◌/◌, ◌%◌, Bool, true, false, cond, List, [], ◌∷◌, ◌++◌, length, replicate, Option, Some, None, Ok, Err, inl, inr, refl, sym, ap, subst, ◌∙◌, arith}
-use Rattle.std.specs.Prelude.{◌==◌, nat_lt, min}
+use Rattle.std.specs.Prelude.{◌==◌, nat_lt, min, find, is_some}
 use Rattle.std.specs.Option.{is_none, option_map_or}
+use Rattle.std.proofs.lemmas.List.Sums.{sum_by-cons}
 use Rattle.std.proofs.lemmas.Bool.{cases_Bool, cases_lt, both_ways, le-ltb, lt-ltb, ne_eqb}
 use Rattle.nt_bytes.specs.declared.version.HiveVersion.{HiveVersion}
 use Rattle.hive_model.specs.Bins.{Bin, bins_size, look_up}
-use Rattle.hive_model.specs.Edit.{Step, Refusal, no_key, too_deep, name_tests, has_child, unless, set_value, make_key, after_step}
+use Rattle.hive_model.specs.Edit.{Step, Refusal, no_key, name_too_long, data_too_long, too_deep, name_tests, has_child, at_first, of_items, unless, with_item, set_value, delete_value, make_key, delete_key, copy_child, add_child, after_step, after_steps}
 use Rattle.hive_model.specs.Valid.{deepest_level}
 use Rattle.hive_model.specs.Footprint.{has_key, key_place, value_list_sizes, value_list_sizes_in, named_value_sizes_in, list_sizes, list_sizes_in, key_sizes_in, added_sizes_in, needed_sizes, room_of, strain_of}
 use Rattle.hive_model.specs.KeyNode.{KeyNode, key_node_at}
 use Rattle.hive_model.specs.Packed.{rounded}
 use Rattle.hive_model.specs.Size.{bulk_of, cell, part_count}
-use Rattle.hive_model.specs.Tree.{Tree, head, children, find_key}
+use Rattle.hive_model.specs.Tree.{Item, Tree, head, children, find_key, is_item}
+use Rattle.hive_model.specs.Tree.{key as tree_key}
 use Rattle.hive_model.specs.Walk.{reading}
 use Rattle.edit_laws.specs.Sizes.{AreGrown}
 use Rattle.edit_laws.proofs.Grown.{strain_behind}
 use Rattle.edit_laws.proofs.Out.{placed_at}
-use Rattle.edit_laws.proofs.RoomLemmas.{room_some, some_all, some_left, strain_least, room_cons}
+use Rattle.edit_laws.proofs.RoomLemmas.{found_changed, room_some, some_all, some_left, strain_least, strain_one, room_cons}
 use Rattle.hive_edit.specs.Hive.{HiveCells, hive_of, IsHive}
 use Rattle.hive_edit.specs.Making.{made_tree}
+use Rattle.hive_edit.specs.NewValue.{set_tree}
 use Rattle.hive_edit.specs.Standing.{tree_of}
 use Rattle.hive_edit.specs.Stepped.{IsStepped}
-use Rattle.hive_edit.specs.Steps.{AreStepped, AreStrained, IsLeastRoom, values_in, children_in}
+use Rattle.hive_edit.specs.Steps.{AreStepped, AreStrained, IsLeastRoom, values_in, children_in, sets_value, values_set}
 use Rattle.hive_edit.proofs.EditLemmas.{the_tree}
 use Rattle.hive_edit.proofs.JudgeLemmas.{counted_children, nothing_made, room_both, room_alike}
 use Rattle.hive_edit.proofs.KeyLemmas.{node_read}
-use Rattle.hive_edit.proofs.NewValueLemmas.{can_add, values_many}
+use Rattle.hive_edit.proofs.NewValueLemmas.{can_add, kept_name, values_many}
 use Rattle.hive_edit.proofs.ParentLemmas.{IsParent}
 use Rattle.hive_edit.proofs.PlaceLemmas.{IsPlaceOf, key_there, place_of_key}
 use Rattle.hive_edit.proofs.ResultLemmas.{some}
-use Rattle.hive_edit.proofs.SteppedLemmas.{same_version}
+use Rattle.hive_edit.proofs.SteppedLemmas.{same_version, steps_made, then_ok}
 use Rattle.hive_cells.specs.Opened.{Opened}
 
 -- ---- counts by the node
@@ -293,3 +296,81 @@ pub all_taken : (h g : HiveCells) (front back : List Step) (step : Step) (sum : 
 all_taken h g front back step sum grown over = λ u e.
     subst (λ (l : List Step). 16777216 < strain_of h.version (bins_size h.bins) h.tree l) (joined front back step)
     (taken_strained h.version (bins_size h.bins) sum h.tree g.tree (front ++ step ∷ []) back grown over)
+
+-- ---- values that are set
+
+-- a key that gets a value has one
+some_item : (name : List ℕ) (kind : ℕ) (bytes : List ℕ) (vs : List Item) → 0 < length (with_item name kind bytes vs)
+some_item name kind bytes [] = omega arith
+some_item name kind bytes (v ∷ vs) = go (is_some (find (is_item name) (v ∷ vs)))
+  where
+    other : Item → Item
+    other w = record w { kind = kind; bytes = bytes }
+
+    first : (b : Bool) → 0 < length (cond b (other v ∷ vs) (v ∷ at_first (is_item name) other vs))
+    first true = omega arith
+    first false = omega arith
+
+    go : (b : Bool) → 0 < length (cond b (at_first (is_item name) other (v ∷ vs))
+        ((v ∷ vs) ++ record { name = name; kind = kind; bytes = bytes } ∷ []))
+    go true = first (is_item name v)
+    go false = omega arith
+
+-- so its list is rewritten
+some_value : (path : List (List ℕ)) (name : List ℕ) (kind : ℕ) (bytes : List ℕ) (t u : Tree)
+    → after_step (set_value path name kind bytes) t ≡ the_tree u → values_in path u ≡ 0 → ⊥
+some_value path name kind bytes t u e z = go (find_key path t) refl
+  where
+    further : List (Bool × Refusal)
+    further = (nat_lt 16383 (length name), name_too_long) ∷ (nat_lt 1048576 (length bytes), data_too_long) ∷ []
+
+    refused : (b : Bool) → b ≡ true → unless ((b, no_key) ∷ further) (set_tree path name kind bytes t) ≡ the_tree u → ⊥
+    refused true is h = absurd cc
+    refused false is h = absurd cc
+
+    same : set_tree path name kind bytes t ≡ u
+    same = made_is ((is_none (find_key path t), no_key) ∷ further) (set_tree path name kind bytes t) u e
+
+    go : (o : Option Tree) → find_key path t ≡ o → ⊥
+    go None f = absurd (refused (is_none (find_key path t)) (ap is_none f) e)
+    go (Some (tree_key h ts)) f =
+        let k = tree_key h ts in
+        let found = found_changed (of_items (with_item name kind bytes)) path t k (kept_name name kind bytes) f in
+        let many : values_in path u ≡ length (with_item name kind bytes h.values) =
+        ap (values_in path) (sym same)
+        ∙ ap (λ (o : Option Tree). option_map_or (λ (w : Tree). length (head w).values) o 0) found in
+        let some = some_item name kind bytes h.values in
+        absurd (omega (arith, some, many, z))
+
+-- a step that sets a value takes a page of the strain at the least
+step_page : (version : HiveVersion) (t u : Tree) (step : Step) → after_step step t ≡ the_tree u
+    → 4096 * sets_value step ≤ room_of (needed_sizes version t step u)
+step_page version t u (set_value path name kind bytes) e =
+    let least = (values_found path u (values_in path u) refl (some_value path name kind bytes t u e)).page in
+    let front = room_front (value_list_sizes_in path u) (named_value_sizes_in version path name u) in
+    omega (arith, least, front)
+step_page version t u (delete_value path name) e = omega arith
+step_page version t u (make_key parent name) e = omega arith
+step_page version t u (delete_key path) e = omega arith
+step_page version t u (copy_child from to) e = omega arith
+step_page version t u (add_child name k) e = omega arith
+
+-- and so do all
+steps_pages : (version : HiveVersion) (bytes : ℕ) (t u : Tree) (steps : List Step) → after_steps t steps ≡ the_tree u
+    → bytes + 4096 * values_set steps ≤ strain_of version bytes t steps
+steps_pages version bytes t u [] e = omega arith
+steps_pages version bytes t u (step ∷ steps) e =
+    let v = then_ok (after_step step t) (λ w. after_steps w steps) u e in
+    let room = room_of (needed_sizes version t step v.0) in
+    let deep = steps_pages version (bytes + room) v.0 u steps v.2 in
+    let one = strain_one version bytes t v.0 step steps v.1 in
+    let page = step_page version t v.0 step v.1 in
+    let count = sum_by-cons sets_value step steps in
+    omega (arith, deep, one, page, count)
+
+-- steps that set more values than bins data may have pages are strained
+pub sets_strained : (h : HiveCells) (steps : List Step) → 4096 < values_set steps → AreStrained h steps
+sets_strained h steps many = λ u e.
+    let v = steps_made h.version h.tree u steps e in
+    let all = steps_pages h.version (bins_size h.bins) h.tree v.0 steps v.1 in
+    omega (arith, all, many)

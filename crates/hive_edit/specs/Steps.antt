@@ -1,5 +1,5 @@
 -- What do steps in order, made one by one, make of a hive's cells, whatever the bulk of the tree? (This project's own.)
-use Rattle.std.specs.Prelude.{◌≡◌, ◌≤◌, ◌<◌, ◌*◌, ◌/◌, ◌==◌, ℕ, nat_lt, Bool, if◌then◌else◌, List, [], ◌∷◌, length, Ok}
+use Rattle.std.specs.Prelude.{◌≡◌, ◌≤◌, ◌<◌, ◌*◌, ◌/◌, ◌==◌, ℕ, nat_lt, Bool, if◌then◌else◌, List, [], ◌∷◌, length, sum_by, Ok}
 use Rattle.std.specs.Option.{option_map_or}
 use Rattle.hive_model.specs.Bins.{bins_size}
 use Rattle.hive_model.specs.Tree.{Tree, head, children, find_key}
@@ -50,3 +50,16 @@ least_step_room (make_key parent name) still t = if still then 0 else least_list
 least_step_room (delete_key path) still t = least_list_room (children_in (parent_of path) t)
 least_step_room (copy_child from to) still t = 0
 least_step_room (add_child name k) still t = 0
+
+-- 1 where a step sets a value, else 0
+abbrev pub sets_value : Step → ℕ
+sets_value (set_value path name kind bytes) = 1
+sets_value (delete_value path name) = 0
+sets_value (make_key parent name) = 0
+sets_value (delete_key path) = 0
+sets_value (copy_child from to) = 0
+sets_value (add_child name k) = 0
+
+-- how many of the steps set a value
+abbrev pub values_set : List Step → ℕ
+values_set steps = sum_by sets_value steps

@@ -23,6 +23,7 @@ use crate::give::inside_fields;
 use crate::hive::HiveBytes;
 use crate::new_value::ValuePlace;
 use crate::path::key_at;
+use crate::strain::{MOST_PAGES, count_sets};
 use crate::telling::VALUES;
 use crate::values::{if_inside, value_at};
 use hive_cells::{Source, read_cells};
@@ -161,6 +162,25 @@ impl HiveBytes {
         self.apply_anew(alloc, steps)
     }
 
+    /// Makes the steps in order, all or none. Each value list that is rewritten takes a page of the strain at the least: where
+    /// so many steps set a value that the strain is over the limit, the tree is repacked at once, with no copy of the
+    /// cells.
+    fn apply_many(&mut self, alloc: Global, steps: Steps) -> Result<(), EditStop>
+        requires fits { All Fits (map step_of steps) }
+        ensures made { Makes self.old.tree self.new.tree result (edited self.old.version self.old.tree (map step_of steps)) }
+        ensures refused { OnErr result (self.new ≡ self.old) }
+        ensures version { self.new.version ≡ self.old.version }
+        ensures cells { OnOk result (IsEditedInPlace self.old (map step_of steps) self.new ⊎ IsPackedForRoom self.old (map step_of steps) self.new) }
+        ensures parents { OnOk result (KeepsParents self.old self.new) }
+        ensures base { self.new.base ≡ self.old.base }
+    {
+        let sets = count_sets(steps.as_slice());
+        if sets > MOST_PAGES {
+            return self.apply_anew(alloc, steps);
+        }
+        self.apply_in_order(alloc, steps)
+    }
+
     /// Makes the steps in order, all or none. A hive can hold each key that a step brings along. One value that is set
     /// or deleted and one key that is deleted change few cells, as `set_value`, `delete_value` and `delete_key` say; other
     /// steps do so in a copy of the cells, in sequence, where there is room, and else repack the tree. After an
@@ -185,7 +205,7 @@ impl HiveBytes {
             ] => self.set_value(alloc, path, name.as_slice(), *kind, bytes.as_slice()),
             [TreeStep::DeleteValue { path, name }] => self.delete_value(path, name.as_slice()),
             [TreeStep::DeleteKey { path }] => self.delete_key(alloc, path),
-            _ => self.apply_in_order(alloc, steps),
+            _ => self.apply_many(alloc, steps),
         }
     }
 

@@ -1,6 +1,6 @@
 //! How much of the strain a step takes at the least, once it is made.
 
-ghost use Rattle.std.specs.Prelude.{◌≡◌, ◌≤◌, ◌==◌, if◌then◌else◌, Ok};
+ghost use Rattle.std.specs.Prelude.{◌≡◌, ◌≤◌, ◌==◌, if◌then◌else◌, map, min, Ok};
 ghost use Rattle.hive_model.specs.Footprint.{list_sizes_in, parent_of, room_of, value_list_sizes_in};
 ghost use Rattle.hive_model.specs.KeyNode.{KeyNode, key_node_at};
 ghost use Rattle.hive_model.specs.Size.{bulk_of};
@@ -9,7 +9,7 @@ ghost use Rattle.reg_tree.specs.Makes.{step_of};
 ghost use Rattle.hive_cells.specs.Sources.{cells_of};
 ghost use Rattle.hive_edit.specs.Places.{IsKeyAt};
 ghost use Rattle.hive_edit.specs.Stepped.{IsStepped};
-ghost use Rattle.hive_edit.specs.Steps.{IsLeastRoom, children_in, least_list_room, least_step_room, least_value_room, values_in};
+ghost use Rattle.hive_edit.specs.Steps.{IsLeastRoom, children_in, least_list_room, least_step_room, least_value_room, sets_value, values_in, values_set};
 ghost use Rattle.hive_edit.specs.Hive.{HiveCells};
 
 use crate::adding::above_at;
@@ -22,6 +22,35 @@ use reg_tree::TreeStep;
 
 /// A page of bins data, in bytes: no cell has less room by itself.
 const PAGE: u64 = 4096;
+
+/// How many pages bins data may have.
+pub(crate) const MOST_PAGES: u64 = 4096;
+
+/// 1 where a step sets a value, else 0.
+fn sets_value(step: &TreeStep) -> u64
+    ensures { result ≡ sets_value (step_of step.now) }
+{
+    match step {
+        TreeStep::SetValue { .. } => 1,
+        TreeStep::DeleteValue { .. }
+        | TreeStep::MakeKey { .. }
+        | TreeStep::DeleteKey { .. }
+        | TreeStep::CopyChild { .. }
+        | TreeStep::AddChild { .. } => 0,
+    }
+}
+
+/// How many of the steps set a value, at most 2^64 less one.
+pub(crate) fn count_sets(steps: &[TreeStep]) -> u64
+    ensures { result ≡ min (values_set (map step_of steps.now)) 18446744073709551615 }
+{
+    let mut sets: u64 = 0;
+    for step in steps {
+        let one = sets_value(step);
+        sets = sets.saturating_add(one);
+    }
+    sets
+}
 
 /// How many values the key at an offset has.
 fn values_at(cells: &Source, at: u32) -> u32
