@@ -1,2 +1,1 @@
-pub mod PageLemmas
-pub mod LastLemmas
+pub mod TopLemmas

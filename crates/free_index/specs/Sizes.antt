@@ -1,41 +1,44 @@
 -- Sizes: for each slot of eight bytes the size of the free cell that begins there, or 0. And their tops: for each page of
 -- 512 slots the greatest of its sizes.
-use Rattle.std.specs.Prelude.{◌≡◌, ℕ, ◌+◌, ◌*◌, ◌<◌, ◌≤◌, max, List, [], ◌∷◌, length, Option, slice_index, slice_range, MatchOption}
+use Rattle.std.specs.Prelude.{◌≡◌, ℕ, ◌+◌, ◌*◌, ◌<◌, ◌≤◌, List, length, Option, slice_index, MatchOption}
 
--- the greatest number, or 0 where there is none
-abbrev pub greatest : List ℕ → ℕ
-greatest [] = 0
-greatest (x ∷ xs) = max x (greatest xs)
+-- the numbers from here to there are at most this
+abbrev pub AreUpTo : ℕ → List ℕ → ℕ → ℕ → Type 0
+AreUpTo n xs from to = (j : ℕ) → from ≤ j → j < to → slice_index xs j ≤ n
 
--- the sizes of a page
-abbrev pub page : List ℕ → ℕ → List ℕ
-page sizes p = slice_range sizes (512 * p) (512 * p + 512)
+-- the greatest of them, or 0 where there is none
+pub record IsTop (xs : List ℕ) (from to top : ℕ) : Type 0 where
+  pub bounds : AreUpTo top xs from to
+  pub least : (n : ℕ) → AreUpTo n xs from to → top ≤ n
 
--- for each page the greatest of its sizes
-pub record IsKept (sizes tops : List ℕ) : Type 0 where
+-- for each page the greatest of its sizes, in 16 MiB at most
+pub record AreTops (sizes tops : List ℕ) : Type 0 where
   pub whole : length sizes ≡ 512 * length tops
-  pub each : (p : ℕ) → p < length tops → slice_index tops p ≡ greatest (page sizes p)
+  pub few : length tops ≤ 4096
+  pub each : (p : ℕ) → p < length tops → IsTop sizes (512 * p) (512 * p + 512) (slice_index tops p)
 
--- the first place whose number is at least this size
-pub record IsLowestFit (size : ℕ) (xs : List ℕ) (k : ℕ) : Type 0 where
-  pub inside : k < length xs
+-- the numbers from here to there are smaller than this
+abbrev pub AreUnder : ℕ → List ℕ → ℕ → ℕ → Type 0
+AreUnder size xs from to = (j : ℕ) → from ≤ j → j < to → slice_index xs j < size
+
+-- the first place from here to there whose number is at least this size
+pub record IsLowestFit (size : ℕ) (xs : List ℕ) (from to k : ℕ) : Type 0 where
+  pub from_here : from ≤ k
+  pub below : k < to
   pub fits : size ≤ slice_index xs k
-  pub lowest : (j : ℕ) → j < k → slice_index xs j < size
+  pub lowest : AreUnder size xs from k
 
 -- that place, or none where each number is smaller
-abbrev pub FindsLowest : ℕ → List ℕ → Option ℕ → Type 0
-FindsLowest size xs r = MatchOption r ((j : ℕ) → j < length xs → slice_index xs j < size) (IsLowestFit size xs)
+abbrev pub FindsLowest : ℕ → List ℕ → ℕ → ℕ → Option ℕ → Type 0
+FindsLowest size xs from to r = MatchOption r (AreUnder size xs from to) (IsLowestFit size xs from to)
 
--- the numbers from here to there are 0
-abbrev pub AreNone : List ℕ → ℕ → ℕ → Type 0
-AreNone xs from to = (j : ℕ) → from ≤ j → j < to → slice_index xs j ≡ 0
-
--- the last place below this one whose number is not 0
-pub record IsLastBelow (end : ℕ) (xs : List ℕ) (k : ℕ) : Type 0 where
-  pub below : k < end
+-- the last place from here to there whose number is not 0
+pub record IsLastSome (xs : List ℕ) (from to k : ℕ) : Type 0 where
+  pub from_here : from ≤ k
+  pub below : k < to
   pub some : 0 < slice_index xs k
-  pub last : (j : ℕ) → k < j → j < end → slice_index xs j ≡ 0
+  pub last : AreUpTo 0 xs (k + 1) to
 
--- that place, or none where each number below is 0
-abbrev pub FindsLast : ℕ → List ℕ → Option ℕ → Type 0
-FindsLast end xs r = MatchOption r (AreNone xs 0 end) (IsLastBelow end xs)
+-- that place, or none where each number is 0
+abbrev pub FindsLast : List ℕ → ℕ → ℕ → Option ℕ → Type 0
+FindsLast xs from to r = MatchOption r (AreUpTo 0 xs from to) (IsLastSome xs from to)

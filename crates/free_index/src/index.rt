@@ -1,131 +1,138 @@
 //! The index.
 
-ghost use Rattle.std.specs.Prelude.{◌≡◌, ◌+◌, ◌*◌, ◌<◌, ◌≤◌, ◌==◌, [], ◌++◌, length, replicate, slice_index, slice_set, IfOk, OnErr, OnOk};
-ghost use Rattle.free_index.specs.Sizes.{FindsLast, FindsLowest};
+ghost use Rattle.std.specs.Prelude.{◌≡◌, ◌+◌, ◌*◌, ◌/◌, ◌<◌, ◌≤◌, ◌++◌, length, max, replicate, slice_index, slice_set, IfOk, OnErr, OnOk};
+ghost use Rattle.free_index.specs.Sizes.{AreTops, FindsLast, FindsLowest, IsTop};
 
-use crate::search::{first_fit, last_some, top_of};
+use crate::search::{Numbers, first_fit, last_some, top_of};
 use std::alloc::{AllocError, Global};
 use std::marker::Model;
 
-/// The sizes, and for each page of 512 slots the greatest of them.
+/// For each page of 512 slots the greatest of its sizes.
 #[derive(Drop)]
 pub struct FreeIndex {
-    sizes: Vec<u32>,
     tops: Vec<u32>,
 }
 
 impl Model for FreeIndex {
     ghost use Rattle.std.specs.Prelude.{ℕ, List};
-    ghost use Rattle.free_index.specs.Sizes.{IsKept};
 
     ghost Value = { List ℕ };
 
-    ghost view = { λ a. a.sizes.items };
-
-    ghost invariant = { λ a. IsKept a.sizes.items a.tops.items };
+    ghost view = { λ a. a.tops.items };
 }
 
-fn copied(alloc: Global, numbers: &[u32]) -> Result<Vec<u32>, AllocError>
-    ensures { IfOk result (λ v. v.items ≡ numbers.now) }
+impl Numbers for FreeIndex {
+    ghost numbers = { λ tops. tops };
+
+    fn number_at(&self, place: usize) -> u32 {
+        self.tops[place]
+    }
+}
+
+/// The top of a page in which a size is gone: only where it was the top, the page is looked over.
+fn top_without<N: Numbers>(sizes: &N, page: usize, top: u32, old: u32) -> u32
+    requires few { page < 4096 }
+    requires within { 512 * page + 512 ≤ length (N.numbers sizes.now) }
+    ensures stays { (top ≡ old → ⊥) → result ≡ top }
+    ensures counted { top ≡ old → IsTop (N.numbers sizes.now) (512 * page) (512 * page + 512) result }
 {
-    let mut copy = Vec::new(alloc);
-    copy.extend_from_slice(numbers)?;
-    Ok(copy)
+    if top != old {
+        return top;
+    }
+    top_of(sizes, 512 * page, 512 * page + 512)
 }
 
 impl FreeIndex {
-    /// The index of no bytes.
-    pub fn new(alloc: Global) -> FreeIndex
-        ensures { result ≡ [] }
+    /// The index of the sizes of so many pages: one look at each.
+    pub fn of<N: Numbers>(alloc: Global, sizes: &N, pages: usize) -> Result<FreeIndex, AllocError>
+        requires whole { length (N.numbers sizes.now) ≡ 512 * pages }
+        requires few { pages ≤ 4096 }
+        ensures { IfOk result (AreTops (N.numbers sizes.now)) }
     {
-        FreeIndex {
-            sizes: Vec::new(alloc),
-            tops: Vec::new(alloc),
+        let mut tops = Vec::with_capacity(alloc, pages)?;
+        for page in 0..pages {
+            tops.push(top_of(sizes, 512 * page, 512 * page + 512))?;
         }
+        Ok(FreeIndex { tops })
     }
 
     /// The same index in room of its own.
     pub fn copy(&self, alloc: Global) -> Result<FreeIndex, AllocError>
         ensures { IfOk result (λ index. index ≡ self.now) }
     {
-        let sizes = copied(alloc, self.sizes.as_slice())?;
-        let tops = copied(alloc, self.tops.as_slice())?;
-        Ok(FreeIndex { sizes, tops })
+        let mut tops = Vec::new(alloc);
+        tops.extend_from_slice(self.tops.as_slice())?;
+        Ok(FreeIndex { tops })
     }
 
-    /// Appends pages of slots at which no free cell begins. Nothing changes where there is no memory.
+    /// Says that so many pages follow at which no free cell begins. Nothing changes where there is no memory.
     pub fn grow(&mut self, pages: usize) -> Result<(), AllocError>
-        requires { length self.old + 512 * pages ≤ 2097152 }
-        ensures ok { OnOk result (self.new ≡ self.old ++ replicate (512 * pages) 0) }
+        requires { length self.old + pages ≤ 4096 }
+        ensures ok { OnOk result (self.new ≡ self.old ++ replicate pages 0) }
         ensures err { OnErr result (self.new ≡ self.old) }
     {
-        self.tops.reserve(pages)?;
-        self.sizes.resize(self.sizes.len() + 512 * pages, 0)?;
-        let grown = self.tops.resize(self.tops.len() + pages, 0).is_ok();
-        prove!(grown);
-        Ok(())
+        self.tops.resize(self.tops.len() + pages, 0)
     }
 
-    /// How many slots there are.
-    pub fn len(&self) -> usize
+    /// How many pages there are.
+    fn pages(&self) -> usize
         ensures { result ≡ length self.now }
     {
-        self.sizes.len()
+        self.tops.len()
     }
 
-    /// Is there no slot?
-    pub fn is_empty(&self) -> bool
-        ensures { result ≡ (length self.now == 0) }
+    /// This page has this top.
+    fn put(&mut self, page: usize, top: u32)
+        requires { page < length self.old }
+        ensures { self.new ≡ slice_set self.old page top }
     {
-        self.sizes.is_empty()
+        self.tops[page] = top;
     }
 
-    /// The size of the free cell that begins at this slot, or 0.
-    pub fn size(&self, slot: usize) -> u32
-        requires { slot < length self.now }
-        ensures { result ≡ slice_index self.now slot }
-    {
-        self.sizes[slot]
-    }
-
-    /// Says that a free cell of this size begins at this slot; 0 says that none does.
-    pub fn set(&mut self, slot: usize, size: u32)
-        requires { slot < length self.old }
-        ensures { self.new ≡ slice_set self.old slot size }
+    /// Says that the size at this slot is this one now, and was no greater.
+    pub fn raise(&mut self, slot: usize, size: u32)
+        requires { slot < 512 * length self.old }
+        ensures { self.new ≡ slice_set self.old (slot / 512) (max (slice_index self.old (slot / 512)) size) }
     {
         let page = slot / 512;
-        let top = self.tops[page];
-        let old = self.sizes[slot];
-        self.sizes[slot] = size;
-        if top <= size {
-            self.tops[page] = size;
-        } else if old == top {
-            self.tops[page] = top_of(&self.sizes.as_slice()[512 * page..512 * page + 512]);
-        }
+        let top = self.number_at(page).max(size);
+        self.put(page, top);
+    }
+
+    /// Says that the size at this slot was this one and is 0 now.
+    pub fn lower<N: Numbers>(&mut self, sizes: &N, slot: usize, old: u32)
+        requires inside { slot < length (N.numbers sizes.now) }
+        requires gone { slice_index (N.numbers sizes.now) slot ≡ 0 }
+        requires kept { AreTops (slice_set (N.numbers sizes.now) slot old) self.old }
+        ensures { AreTops (N.numbers sizes.now) self.new }
+    {
+        let page = slot / 512;
+        let top = self.number_at(page);
+        let new = top_without(sizes, page, top, old);
+        self.put(page, new);
     }
 
     /// The lowest slot at which a free cell of at least this size begins.
-    pub fn lowest_fit(&self, size: u32) -> Option<usize>
-        ensures { FindsLowest size self.now result }
+    pub fn lowest_fit<N: Numbers>(&self, sizes: &N, size: u32) -> Option<usize>
+        requires { AreTops (N.numbers sizes.now) self.now }
+        ensures { FindsLowest size (N.numbers sizes.now) 0 (length (N.numbers sizes.now)) result }
     {
-        let page = first_fit(self.tops.as_slice(), size)?;
-        let place = first_fit(&self.sizes.as_slice()[512 * page..512 * page + 512], size)?;
-        Some(512 * page + place)
+        let page = first_fit(self, 0, self.pages(), size)?;
+        first_fit(sizes, 512 * page, 512 * page + 512, size)
     }
 
     /// The last slot below this one at which a free cell begins.
-    pub fn last_below(&self, slot: usize) -> Option<usize>
-        requires { slot ≤ length self.now }
-        ensures { FindsLast slot self.now result }
+    pub fn last_below<N: Numbers>(&self, sizes: &N, slot: usize) -> Option<usize>
+        requires kept { AreTops (N.numbers sizes.now) self.now }
+        requires inside { slot ≤ length (N.numbers sizes.now) }
+        ensures { FindsLast (N.numbers sizes.now) 0 slot result }
     {
-        let sizes = self.sizes.as_slice();
         let own = slot / 512;
-        match last_some(&sizes[512 * own..slot]) {
-            Some(place) => return Some(512 * own + place),
+        match last_some(sizes, 512 * own, slot) {
+            Some(place) => return Some(place),
             None => {}
         }
-        let page = last_some(&self.tops.as_slice()[..own])?;
-        let place = last_some(&sizes[512 * page..512 * page + 512])?;
-        Some(512 * page + place)
+        let page = last_some(self, 0, own)?;
+        last_some(sizes, 512 * page, 512 * page + 512)
     }
 }

@@ -1,27 +1,41 @@
-//! Searches in a list of numbers, each in a time of its length.
+//! Searches in numbers, from a place up to another, each in a time of what is between.
 
-ghost use Rattle.std.specs.Prelude.{◌≡◌, length};
-ghost use Rattle.free_index.specs.Sizes.{FindsLast, FindsLowest, greatest};
+ghost use Rattle.std.specs.Prelude.{◌≡◌, ◌<◌, ◌≤◌, ℕ, List, length, slice_index};
+ghost use Rattle.free_index.specs.Sizes.{FindsLast, FindsLowest, IsTop};
+
+/// Numbers by place, as a search reads them.
+pub trait Numbers {
+    /// The numbers.
+    ghost numbers: { Self → List ℕ };
+
+    /// The number at this place.
+    fn number_at(&self, place: usize) -> u32
+        requires { place < length (numbers self.now) }
+        ensures { result ≡ slice_index (numbers self.now) place };
+}
 
 /// The greatest number, or 0 where there is none.
-pub(crate) fn top_of(numbers: &[u32]) -> u32
-    ensures { result ≡ greatest numbers.now }
+#[tactic(auto, using(crate::proofs::TopLemmas::top_next))]
+pub(crate) fn top_of<N: Numbers>(list: &N, from: usize, to: usize) -> u32
+    requires ordered { from ≤ to }
+    requires within { to ≤ length (N.numbers list.now) }
+    ensures { IsTop (N.numbers list.now) from to result }
 {
     let mut top = 0;
-    for number in numbers {
-        if top < *number {
-            top = *number;
-        }
+    for place in from..to {
+        top = top.max(list.number_at(place));
     }
     top
 }
 
 /// The first place whose number is at least this size.
-pub(crate) fn first_fit(numbers: &[u32], size: u32) -> Option<usize>
-    ensures { FindsLowest size numbers.now result }
+pub(crate) fn first_fit<N: Numbers>(list: &N, from: usize, to: usize, size: u32) -> Option<usize>
+    requires ordered { from ≤ to }
+    requires within { to ≤ length (N.numbers list.now) }
+    ensures { FindsLowest size (N.numbers list.now) from to result }
 {
-    for (place, number) in numbers.iter().enumerate() {
-        if size <= *number {
+    for place in from..to {
+        if size <= list.number_at(place) {
             return Some(place);
         }
     }
@@ -29,13 +43,15 @@ pub(crate) fn first_fit(numbers: &[u32], size: u32) -> Option<usize>
 }
 
 /// The last place whose number is not 0.
-pub(crate) fn last_some(numbers: &[u32]) -> Option<usize>
-    ensures { FindsLast (length numbers.now) numbers.now result }
+pub(crate) fn last_some<N: Numbers>(list: &N, from: usize, to: usize) -> Option<usize>
+    requires ordered { from ≤ to }
+    requires within { to ≤ length (N.numbers list.now) }
+    ensures { FindsLast (N.numbers list.now) from to result }
 {
-    let mut end = numbers.len();
-    while end > 0 {
+    let mut end = to;
+    while end > from {
         end -= 1;
-        if numbers[end] != 0 {
+        if list.number_at(end) != 0 {
             return Some(end);
         }
     }

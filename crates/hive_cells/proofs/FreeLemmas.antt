@@ -18,7 +18,7 @@ use Rattle.hive_cells.specs.Frees.{EndsAt, Neighbours, IsFreeOf}
 use Rattle.hive_cells.proofs.Indexed.{IsIndexed}
 use Rattle.hive_cells.proofs.PlaceLemmas.{Place, place_of, bin_with, bins_here, Edited, edited, bytes_before, marks_before, rooms_before, marks_long}
 use Rattle.hive_cells.proofs.SizeLemmas.{length_bins, room_at, some_room}
-use Rattle.free_index.specs.Sizes.{AreNone, IsLastBelow}
+use Rattle.free_index.specs.Sizes.{AreUpTo, IsLastSome}
 use Rattle.hive_cells.proofs.FillLemmas.{put_front, payload_back}
 use Rattle.hive_cells.proofs.FilledLemmas.{lookup_over, lookup_under}
 
@@ -399,6 +399,20 @@ room_is text starts rooms slot held =
     ap (λ (r : List ℕ). get_or r slot 0) held.index
     ∙ room_at (bins_of text) slot (kept_seen text starts held.kept).0.each
 
+-- it is no more than the size of a cell that begins there
+pub room_most : (text : List ℕ) (starts : List Bool) (rooms : List ℕ) (at : ℕ) (c : Cell)
+    → IsIndexed text starts rooms → cell_at (bins_of text) at ≡ Some c → get_or rooms (at / 8) 0 ≤ cell_size c
+room_most text starts rooms at c held here =
+    let h = here_is text starts rooms at c held here in
+    let place : 8 * (at / 8) ≡ at = omega (arith, h.whole) in
+    by_flag c.allocated
+    (room_is text starts rooms (at / 8) held ∙ ap (λ (o : ℕ). free_size (cell_at (bins_of text) o)) place
+    ∙ ap free_size here)
+  where
+    by_flag : (u : Bool) → get_or rooms (at / 8) 0 ≡ cond u 0 (cell_size c) → get_or rooms (at / 8) 0 ≤ cell_size c
+    by_flag true e = omega (arith, e)
+    by_flag false e = omega (arith, e)
+
 pub room_bound : (text : List ℕ) (starts : List Bool) (rooms : List ℕ) (slot : ℕ) → IsIndexed text starts rooms
     → 8 * slot ≤ length text → length text ≤ 16777216 → 8 * slot + get_or rooms slot 0 ≤ 16777216
 room_bound text starts rooms slot held inside small =
@@ -440,18 +454,18 @@ ends_room text starts rooms at from size held e =
     )
 
 pub no_room_before : (text : List ℕ) (starts : List Bool) (rooms : List ℕ) (at : ℕ) → IsIndexed text starts rooms
-    → AreNone rooms 0 (at / 8) → (from size : ℕ) → EndsAt at from size (bins_of text) → ⊥
+    → AreUpTo 0 rooms 0 (at / 8) → (from size : ℕ) → EndsAt at from size (bins_of text) → ⊥
 no_room_before text starts rooms at held none from size e =
     let r = ends_room text starts rooms at from size held e in
     omega (arith, r.0, r.1, r.2, none (from / 8) (omega arith) (omega (arith, r.0, r.1, e.ends)))
 
 pub not_before : (text : List ℕ) (starts : List Bool) (rooms : List ℕ) (at k : ℕ) → IsIndexed text starts rooms
-    → IsLastBelow (at / 8) rooms k → (8 * k + get_or rooms k 0 ≡ at → ⊥) → (from size : ℕ)
+    → IsLastSome rooms 0 (at / 8) k → (8 * k + get_or rooms k 0 ≡ at → ⊥) → (from size : ℕ)
     → EndsAt at from size (bins_of text) → ⊥
 not_before text starts rooms at k held last apart from size e =
     let r = ends_room text starts rooms at from size held e in
     elim (cases_lt k (from / 8)) as (λ _. ⊥) [
-      | inl over ↦ omega (arith, r.0, r.1, r.2, last.last (from / 8) over (omega (arith, r.0, r.1, e.ends)))
+      | inl over ↦ omega (arith, r.0, r.1, r.2, last.last (from / 8) (omega (arith, over)) (omega (arith, r.0, r.1, e.ends)))
       | inr under ↦
           elim (cases_eq k (from / 8)) as (λ _. ⊥) [
             | inl same ↦ apart (omega (arith, same, r.0, r.2, e.ends, ap (λ (j : ℕ). get_or rooms j 0) same))
@@ -468,7 +482,7 @@ not_before text starts rooms at k held last apart from size e =
     not_both c e = cc
 
 pub ends_here : (text : List ℕ) (starts : List Bool) (rooms : List ℕ) (at k : ℕ) → IsIndexed text starts rooms
-    → IsLastBelow (at / 8) rooms k → 8 * k + get_or rooms k 0 ≡ at → EndsAt at (8 * k) (get_or rooms k 0) (bins_of text)
+    → IsLastSome rooms 0 (at / 8) k → 8 * k + get_or rooms k 0 ≡ at → EndsAt at (8 * k) (get_or rooms k 0) (bins_of text)
 ends_here text starts rooms at k held last ends =
     let is = room_is text starts rooms k held in
     let f = some_room (cell_at (bins_of text) (8 * k)) (omega (arith, is, last.some)) in

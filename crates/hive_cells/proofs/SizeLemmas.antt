@@ -9,7 +9,7 @@ use Rattle.hive_cells.specs.Reading.{cells_in, or_none}
 use Rattle.hive_cells.proofs.Tools.{length_cells}
 use Rattle.hive_cells.proofs.Again.{cells_again}
 use Rattle.hive_cells.proofs.Spots.{cells_before, bins_before, cells_past, spot, bin_round, all_first, sizes_whole, bins_whole}
-use Rattle.free_index.specs.Sizes.{IsLowestFit}
+use Rattle.free_index.specs.Sizes.{AreUnder, IsLowestFit}
 use Rattle.hive_cells.specs.Held.{run_cells}
 use Rattle.hive_cells.specs.Holes.{cell_free_sizes, bin_free_sizes, free_sizes, free_size, IsLowestHole}
 
@@ -157,16 +157,16 @@ free_room bs o c h here free =
 -- ---- the fit
 
 pub none_fits : (bs : List Bin) (size : ℕ) → AllByRecursion IsBin bs → 0 < size
-    → ((j : ℕ) → j < length (free_sizes bs) → get_or (free_sizes bs) j 0 < size)
+    → AreUnder size (free_sizes bs) 0 (length (free_sizes bs))
     → (o : ℕ) (c : Cell) → cell_at bs o ≡ Some c → c.allocated ≡ false → cell_size c < size
 none_fits bs size h some none o c here free =
     let r = free_room bs o c h here free in
     elim (leb_tells (length (free_sizes bs)) (o / 8)) as (λ _. cell_size c < size) [
       | inl past ↦ omega (arith, r.1, r.2, get_or_past (free_sizes bs) (o / 8) 0 past.1)
-      | inr within ↦ omega (arith, r.2, none (o / 8) within.1)
+      | inr within ↦ omega (arith, r.2, none (o / 8) (omega arith) within.1)
     ]
 
-pub fit_is : (bs : List Bin) (size k : ℕ) → AllByRecursion IsBin bs → 0 < size → IsLowestFit size (free_sizes bs) k
+pub fit_is : (bs : List Bin) (size k : ℕ) → AllByRecursion IsBin bs → 0 < size → IsLowestFit size (free_sizes bs) 0 (length (free_sizes bs)) k
     → IsLowestHole size bs (8 * k)
 fit_is bs size k h some fit =
     let room = room_at bs k h in
@@ -174,5 +174,5 @@ fit_is bs size k h some fit =
     record {
       hole = record { cell = f.cell; here = f.is; free = f.free; fits = omega (arith, room, fit.fits, f.sized) };
       lowest = λ o c below here free. let r = free_room bs o c h here free in
-          omega (arith, r.2, fit.lowest (o / 8) (omega (arith, r.0)));
+          omega (arith, r.2, fit.lowest (o / 8) (omega arith) (omega (arith, r.0)));
     }

@@ -1,10 +1,10 @@
 -- Which free cell is taken? The lowest that is large enough, or that of a new bin.
-use Rattle.std.specs.Prelude.{◌≡◌, ◌⊎◌, ℕ, ◌+◌, ◌-◌, ◌/◌, ◌<◌, ◌≤◌, false, if◌then◌else◌, List, [], ◌∷◌, ◌++◌, replicate, slice_index, Option, Some, None, MatchOption}
+use Rattle.std.specs.Prelude.{◌≡◌, ◌⊎◌, ℕ, ◌+◌, ◌-◌, ◌/◌, ◌<◌, ◌≤◌, false, if◌then◌else◌, List, [], ◌∷◌, ◌++◌, replicate, Option, Some, None, MatchOption}
 use Rattle.std.specs.List.{flat_map}
 use Rattle.hive_model.specs.Bins.{Cell, Bin, cell_size, bins_size, cell_at}
 use Rattle.hive_model.specs.Packed.{rounded}
 
--- ---- the index
+-- ---- the sizes of the free cells
 
 -- the size of a free cell, or 0
 abbrev pub free_size : Option Cell → ℕ
@@ -22,11 +22,6 @@ bin_free_sizes b = replicate 4 0 ++ flat_map cell_free_sizes b.cells
 -- the same of bins
 abbrev pub free_sizes : List Bin → List ℕ
 free_sizes bins = flat_map bin_free_sizes bins
-
--- the index has these sizes for the slots below this one, and 0 for the others
-pub record IndexedBelow (sizes free : List ℕ) (slot : ℕ) : Type 0 where
-  pub below : (j : ℕ) → j < slot → slice_index free j ≡ slice_index sizes j
-  pub above : (j : ℕ) → slot ≤ j → slice_index free j ≡ 0
 
 -- ---- free cells
 

@@ -3,7 +3,8 @@
 ghost use Rattle.std.specs.Prelude.{◌≡◌, ◌%◌, IfOk};
 ghost use Rattle.hive_model.specs.Bins.{payload_at, with_place, spelled, Sees};
 
-use crate::lookup::head;
+use crate::lookup::{free_at, head};
+use free_index::Numbers;
 use nt_bytes::{Bytes, HiveFault, HiveFaultKind};
 use std::marker::Model;
 
@@ -29,6 +30,17 @@ impl Model for CellHeap {
     ghost view = { λ a. bins_of a.bytes.items };
 
     ghost invariant = { λ a. IsKept a.bytes.items a.starts.items };
+}
+
+impl Numbers for CellHeap {
+    ghost use Rattle.hive_cells.specs.Holes.{free_sizes};
+
+    ghost numbers = { free_sizes };
+
+    /// The size of the free cell that begins at this slot of eight bytes, or 0.
+    fn number_at(&self, slot: usize) -> u32 {
+        free_at(self.bytes.as_slice(), self.starts.as_slice(), slot)
+    }
 }
 
 impl CellHeap {

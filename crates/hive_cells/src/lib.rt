@@ -8,7 +8,6 @@
 
 mod changes;
 mod heap;
-mod index;
 mod laws;
 mod lookup;
 mod marks;

@@ -1,9 +1,10 @@
 //! Where cells begin, and what stands there.
 
-ghost use Rattle.std.specs.Prelude.{◌≡◌, ◌+◌, ◌%◌, ◌≤◌, false, length, slice_index_or};
+ghost use Rattle.std.specs.Prelude.{◌≡◌, ◌+◌, ◌%◌, ◌<◌, ◌≤◌, false, length, slice_index, slice_index_or};
 ghost use Rattle.std.specs.Option.{IfSome, option_map};
 ghost use Rattle.hive_model.specs.Bins.{cell_at};
 ghost use Rattle.hive_cells.specs.Reading.{bins_of, head_of, IsKept};
+ghost use Rattle.hive_cells.specs.Holes.{free_sizes};
 
 use nt_bytes::u32_at;
 
@@ -36,5 +37,18 @@ pub(crate) fn head(bytes: &[u8], starts: &[bool], at: usize) -> Option<(bool, us
         Some((false, head as usize))
     } else {
         Some((true, (0x1_0000_0000 - u64::from(head)) as usize))
+    }
+}
+
+/// The size of the free cell that begins at this slot of eight bytes, or 0.
+pub(crate) fn free_at(bytes: &[u8], starts: &[bool], slot: usize) -> u32
+    requires kept { IsKept bytes.now starts.now }
+    requires inside { slot < length starts.now }
+    ensures { result ≡ slice_index (free_sizes (bins_of bytes.now)) slot }
+{
+    match head(bytes, starts, 8 * slot) {
+        None => 0,
+        Some((true, _size)) => 0,
+        Some((false, size)) => size as u32,
     }
 }

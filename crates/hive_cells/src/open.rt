@@ -11,7 +11,6 @@ ghost use Rattle.hive_cells.specs.Frees.{IsFreed};
 ghost use Rattle.saved_pages.specs.Overlay.{before, IsCovered};
 
 use crate::heap::CellHeap;
-use crate::index::index_of;
 use crate::pushes::zero_run;
 use crate::spare::{begin_anew, longer, widen_to};
 use free_index::FreeIndex;
@@ -33,7 +32,7 @@ pub struct OpenHeap {
 }
 
 impl Model for OpenHeap {
-    ghost use Rattle.std.specs.Prelude.{◌≡◌};
+    ghost use Rattle.free_index.specs.Sizes.{AreTops};
     ghost use Rattle.hive_model.specs.Bins.{bins_size};
     ghost use Rattle.hive_cells.specs.Holes.{free_sizes};
     ghost use Rattle.hive_cells.specs.Opened.{HaveRoom, Opened, coded_opened, opened_of};
@@ -45,17 +44,17 @@ impl Model for OpenHeap {
 
     ghost view = { λ a. opened_of a.pages a.cells };
 
-    ghost invariant = { λ a. (a.free ≡ free_sizes a.cells) × IsCovered a.pages (bins_size a.cells) × HaveRoom a.pages a.spare (bins_size a.cells) };
+    ghost invariant = { λ a. AreTops (free_sizes a.cells) a.free × IsCovered a.pages (bins_size a.cells) × HaveRoom a.pages a.spare (bins_size a.cells) };
 }
 
 impl CellHeap {
-    /// The same heap, with an index of its free cells: one look at each cell. The base is the bins data. Room for its
+    /// The same heap, with an index of its free cells: one look at each slot. The base is the bins data. Room for its
     /// pages is taken here, as long as the bins data, and touched where a page changes.
     pub fn opened(self, alloc: Global) -> Result<OpenHeap, AllocError>
         ensures bins { IfOk result (λ heap. heap.bins ≡ self) }
         ensures base { IfOk result (λ heap. heap.base ≡ spelled 0 self) }
     {
-        let free = index_of(alloc, self.bytes.as_slice(), self.starts.as_slice())?;
+        let free = FreeIndex::of(alloc, &self, self.starts.len() / 512)?;
         let pages = SavedPages::new(alloc, self.bytes.len() / 4096)?;
         let spare = SavedPages::new(alloc, 0)?;
         Ok(OpenHeap {
@@ -146,7 +145,10 @@ impl OpenHeap {
         ensures long { bins_size self.new.bins ≡ bins_size self.old.bins }
         ensures base { self.new.base ≡ self.old.base }
     {
-        self.cells.fill(&mut self.free, &mut self.pages, at, run);
+        let size = self
+            .cells
+            .fill(&mut self.free, &mut self.pages, at, run);
+        self.free.lower(&self.cells, at as usize / 8, size);
     }
 
     /// Appends a bin of the fewest whole 4096 bytes that hold a cell of this size, one free cell in

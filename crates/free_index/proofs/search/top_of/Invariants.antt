@@ -1,6 +1,5 @@
-use Rattle.std.proofs.Common.{◌≡◌, drop, max}
-use Rattle.free_index.specs.Sizes.{greatest}
+use Rattle.free_index.specs.Sizes.{IsTop}
 use Rattle.free_index.proofs.search.top_of.Given as goal
 
-abbrev pub invariant-loop-number : goal.invariant-loop-number
-invariant-loop-number l = max l.top (greatest (drop l.number-index l.numbers)) ≡ greatest l.numbers
+abbrev pub invariant-loop-place : goal.invariant-loop-place
+invariant-loop-place g l = IsTop (g.N.Numbers.numbers l.list) l.from l.place l.top

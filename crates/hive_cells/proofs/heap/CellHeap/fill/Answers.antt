@@ -1,6 +1,5 @@
-use Rattle.std.proofs.Common.{◌≡◌, ℕ, ◌+◌, ◌-◌, ◌/◌, ◌<◌, ◌≤◌, None, true, set, length, ap, refl, sym, ◌∙◌, arith}
-use Rattle.std.proofs.lemmas.List.{length-set}
-use Rattle.hive_model.specs.Bins.{or_else, bins_size}
+use Rattle.std.proofs.Common.{◌≡◌, ℕ, ◌+◌, ◌-◌, ◌/◌, ◌<◌, ◌≤◌, None, true, set, length, ap, refl, sym, ◌∙◌, arith, List, get_or}
+use Rattle.hive_model.specs.Bins.{or_else, bins_size, cell_size}
 use Rattle.hive_cells.specs.Reading.{bins_of}
 use Rattle.hive_cells.specs.Held.{run_cells, held_at, held_among}
 use Rattle.hive_cells.specs.Changes.{at_cell, with_run}
@@ -13,22 +12,31 @@ use Rattle.hive_cells.proofs.KeptLemmas.{seen_long, base_seen}
 use Rattle.saved_pages.specs.Overlay.{before}
 use Rattle.saved_pages.proofs.OverlayLemmas.{before_written}
 use Rattle.saved_pages.proofs.CoveredLemmas.{covered_more}
+use Rattle.hive_cells.specs.Holes.{free_sizes}
+use Rattle.hive_cells.proofs.IndexLemmas.{IsGone, within_none, index_gone, index_moved, gone_alone, gone_moved}
 use Rattle.hive_cells.proofs.heap.CellHeap.fill.Goals as goal
-use Rattle.hive_cells.proofs.heap.CellHeap.fill.Goals.{After-self, After-put, Then-left-eq0, After-set-2}
+use Rattle.hive_cells.proofs.heap.CellHeap.fill.Goals.{After-self, After-free_at-size, After-put, Then-left-eq0, After-raise}
 
 -- what the code knows before it writes
-known : (c : After-self) → Filling c.self.inside.bytes.items c.self.inside.starts.items c.args.free.now c.args.at
+known : (c : After-self) → Filling c.self.inside.bytes.items c.self.inside.starts.items (free_sizes c.args.self.now) c.args.at
     c.args.run.now
-known c = filling c.self.inside.bytes.items c.self.inside.starts.items c.args.free.now c.args.at c.args.run.now
-    c.args.self.now (indexed c.self.invariant c.self.view_is c.requires.index)
+known c = filling c.self.inside.bytes.items c.self.inside.starts.items (free_sizes c.args.self.now) c.args.at c.args.run.now
+    c.args.self.now (indexed c.self.invariant c.self.view_is refl)
     c.self.view_is c.requires.hole c.requires.run
+
+-- the size that is read is that of the cell
+sized : (c : After-free_at-size) → c.free_at-size.result ≡ get_or (free_sizes c.args.self.now) (c.args.at / 8) 0
+sized c =
+    c.free_at-size.ensures
+    ∙ ap (λ (t : List ℕ). get_or (free_sizes (bins_of t)) (c.args.at / 8) 0) c.as_slice-text.ensures.value
+    ∙ ap (λ b. get_or (free_sizes b) (c.args.at / 8) 0) c.self.view_is
 
 -- the edit holds the run's cells at their places, and what was held elsewhere
 held : (c : After-self) (o : ℕ) → held_at (at_cell c.args.at (with_run (run_cells c.args.run.now))
     (bins_of c.self.inside.bytes.items)) o
     ≡ or_else (held_among o c.args.at (run_cells c.args.run.now)) (held_at c.args.self.now o)
 held c o =
-    filled_held c.self.inside.bytes.items c.self.inside.starts.items c.args.free.now c.args.at c.args.run.now (known c)
+    filled_held c.self.inside.bytes.items c.self.inside.starts.items (free_sizes c.args.self.now) c.args.at c.args.run.now (known c)
     o
     ∙ ap (λ b. or_else (held_among o c.args.at (run_cells c.args.run.now)) (held_at b o)) c.self.view_is
 
@@ -37,35 +45,46 @@ unused : (c : After-self) (o : ℕ) → c.args.at ≤ o → o < c.args.at + leng
     None
 unused c o ge lt =
     ap (λ b. held_at b o) (sym c.self.view_is)
-    ∙ none_in_hole c.self.inside.bytes.items c.self.inside.starts.items c.args.free.now c.args.at c.args.run.now
+    ∙ none_in_hole c.self.inside.bytes.items c.self.inside.starts.items (free_sizes c.args.self.now) c.args.at c.args.run.now
     (known c) o ge lt
 
 -- the run takes the whole cell
 whole : (c : Then-left-eq0) → Edited c.self.inside.bytes.items c.args.at (with_run (run_cells c.args.run.now))
-    c.put.new.bytes.items c.mark_run.new.starts.items c.set.new.self
+    c.put.new.bytes.items c.mark_run.new.starts.items (set (free_sizes c.args.self.now) (c.args.at / 8) 0)
 whole c =
     let f = known (goal.at.Then-left-eq0 c).After-self in
-    filled_whole c.self.inside.bytes.items c.self.inside.starts.items c.args.free.now c.args.at c.args.run.now f
-    c.put.new.bytes.items c.mark_run.new.starts.items c.set.new.self
-    (omega (arith, f.fits, f.room, c.size-size.ensures, c.if-left-eq0.true))
-    c.put.ensures.exact c.mark_run.ensures.exact c.set.ensures
+    filled_whole c.self.inside.bytes.items c.self.inside.starts.items (free_sizes c.args.self.now) c.args.at c.args.run.now f
+    c.put.new.bytes.items c.mark_run.new.starts.items _
+    (omega (arith, f.fits, f.room, sized (goal.at.Then-left-eq0 c).After-free_at-size, c.if-left-eq0.true))
+    c.put.ensures.exact c.mark_run.ensures.exact refl
 
 -- a part of the cell remains free
-part : (c : After-set-2) → Edited c.self.inside.bytes.items c.args.at (with_run (run_cells c.args.run.now))
+part : (c : After-raise) → Edited c.self.inside.bytes.items c.args.at (with_run (run_cells c.args.run.now))
     c.put_word.new.bytes.items (set c.mark_run.new.starts.items ((c.args.at + length c.args.run.now) / 8) true)
-    c.set-2.new.self
+    (set (set (free_sizes c.args.self.now) (c.args.at / 8) 0) ((c.args.at + length c.args.run.now) / 8)
+    (c.free_at-size.result - length c.args.run.now))
 part c =
-    let f = known (goal.at.After-set-2 c).After-self in
-    filled_part c.self.inside.bytes.items c.self.inside.starts.items c.args.free.now c.args.at c.args.run.now f
-    c.put.new.bytes.items c.put_word.new.bytes.items c.mark_run.new.starts.items _ c.set.new.self c.set-2.new.self
-    (c.size-size.result - length c.args.run.now)
-    (omega (arith, f.fits, f.room, c.size-size.ensures)) (omega (arith, c.if-left-eq0.false))
-    c.put.ensures.exact c.put_word.ensures c.mark_run.ensures.exact refl c.set.ensures c.set-2.ensures
+    let f = known (goal.at.After-raise c).After-self in
+    filled_part c.self.inside.bytes.items c.self.inside.starts.items (free_sizes c.args.self.now) c.args.at c.args.run.now f
+    c.put.new.bytes.items c.put_word.new.bytes.items c.mark_run.new.starts.items _ _ _
+    (c.free_at-size.result - length c.args.run.now)
+    (omega (arith, f.fits, f.room, sized (goal.at.After-raise c).After-free_at-size)) (omega (arith, c.if-left-eq0.false))
+    c.put.ensures.exact c.put_word.ensures c.mark_run.ensures.exact refl refl refl
 
-pub size-size-requires : goal.size-size-requires
-size-size-requires c =
-    let f = known (goal.at.size-size-requires c).After-self in
-    omega (arith, f.slots, f.flags, f.within, f.whole, f.fits, f.run_some, f.run_whole, f.cell_whole)
+pub free_at-size-requires-clause-inside : goal.free_at-size-requires-clause-inside
+free_at-size-requires-clause-inside c =
+    let f = known (goal.at.free_at-size-requires-clause-inside c).After-self in
+    omega (
+      arith,
+      f.flags,
+      f.within,
+      f.whole,
+      f.fits,
+      f.run_some,
+      f.run_whole,
+      f.cell_whole,
+      ap length c.as_slice-starts.ensures.value,
+    )
 
 pub put-requires : goal.put-requires
 put-requires c = let f = known (goal.at.put-requires c).After-self in omega (arith, f.within, f.fits)
@@ -75,14 +94,9 @@ mark_run-requires-clause-within c =
     let f = known (goal.at.mark_run-requires-clause-within c).After-self in
     omega (arith, f.slots, f.flags, f.within, f.whole, f.fits, f.run_some, f.run_whole)
 
-pub set-requires : goal.set-requires
-set-requires c =
-    let f = known (goal.at.set-requires c).After-self in
-    omega (arith, f.slots, f.within, f.whole, f.fits, f.run_some)
-
 pub overflow_sub-left : goal.overflow_sub-left
 overflow_sub-left c =
-    let f = known (goal.at.overflow_sub-left c).After-self in omega (arith, f.fits, f.room, c.size-size.ensures)
+    let f = known (goal.at.overflow_sub-left c).After-self in omega (arith, f.fits, f.room, sized (goal.at.overflow_sub-left c).After-free_at-size)
 
 pub invariant_of-self : goal.invariant_of-self
 invariant_of-self c = (whole (goal.at.invariant_of-self c).Then-left-eq0).kept.kept
@@ -110,7 +124,7 @@ put_word-requires c =
       f.run_whole,
       f.cell_whole,
       f.room,
-      c.size-size.ensures,
+      sized (goal.at.put_word-requires c).After-free_at-size,
       c.if-left-eq0.false,
     )
 
@@ -124,15 +138,15 @@ index_mut-requires c =
       f.whole,
       f.fits,
       f.room,
-      c.size-size.ensures,
+      sized (goal.at.index_mut-requires c).After-free_at-size,
       c.if-left-eq0.false,
       c.mark_run.ensures.long,
       c.mark_run.new.starts.ok.0,
     )
 
-pub set-requires-2 : goal.set-requires-2
-set-requires-2 c =
-    let f = known (goal.at.set-requires-2 c).After-self in
+pub raise-requires : goal.raise-requires
+raise-requires c =
+    let f = known (goal.at.raise-requires c).After-self in
     omega (
       arith,
       f.slots,
@@ -140,40 +154,86 @@ set-requires-2 c =
       f.whole,
       f.fits,
       f.room,
-      c.size-size.ensures,
+      sized (goal.at.raise-requires c).After-free_at-size,
       c.if-left-eq0.false,
-      ap length c.set.ensures,
-      length-set c.args.free.now (c.args.at / 8) 0,
+      c.requires.index.whole,
     )
 
 pub invariant_of-self-2 : goal.invariant_of-self-2
-invariant_of-self-2 c = (part (goal.at.invariant_of-self-2 c).After-set-2).kept.kept
+invariant_of-self-2 c = (part (goal.at.invariant_of-self-2 c).After-raise).kept.kept
 
 pub returns-clause-exact : goal.returns-clause-exact
 returns-clause-exact c =
-    (part (goal.at.returns-clause-exact c).After-set-2).seen
+    (part (goal.at.returns-clause-exact c).After-raise).seen
     ∙ ap (at_cell c.args.at (with_run (run_cells c.args.run.now))) c.self.view_is
 
 pub returns-clause-held : goal.returns-clause-held
 returns-clause-held c o =
-    ap (λ b. held_at b o) (part (goal.at.returns-clause-held c).After-set-2).seen
+    ap (λ b. held_at b o) (part (goal.at.returns-clause-held c).After-raise).seen
     ∙ held (goal.at.returns-clause-held c).After-self o
 
 pub returns-clause-fresh : goal.returns-clause-fresh
 returns-clause-fresh c = unused (goal.at.returns-clause-fresh c).After-self
 
 pub returns-then-left-eq0-clause-index : goal.returns-then-left-eq0-clause-index
-returns-then-left-eq0-clause-index c = (whole (goal.at.returns-then-left-eq0-clause-index c).Then-left-eq0).kept.index
+returns-then-left-eq0-clause-index c =
+    index_gone (free_sizes c.args.self.now) (free_sizes (bins_of c.put.new.bytes.items)) c.args.free.now
+    c.requires.index (c.args.at / 8) c.free_at-size.result (sized (goal.at.returns-then-left-eq0-clause-index c).After-free_at-size)
+    (whole (goal.at.returns-then-left-eq0-clause-index c).Then-left-eq0).kept.index
+
+-- the slot is there, and has no size
+alone_gone : (c : Then-left-eq0) → IsGone (free_sizes (bins_of c.put.new.bytes.items)) (c.args.at / 8)
+alone_gone c =
+    let f = known (goal.at.Then-left-eq0 c).After-self in
+    gone_alone (free_sizes c.args.self.now) (free_sizes (bins_of c.put.new.bytes.items)) (c.args.at / 8)
+    (omega (arith, f.slots, f.within, f.whole, f.fits, f.run_some)) (whole c).kept.index
+
+pub returns-then-left-eq0-clause-slot : goal.returns-then-left-eq0-clause-slot
+returns-then-left-eq0-clause-slot c = (alone_gone (goal.at.returns-then-left-eq0-clause-slot c).Then-left-eq0).there
+
+pub returns-then-left-eq0-clause-none : goal.returns-then-left-eq0-clause-none
+returns-then-left-eq0-clause-none c = (alone_gone (goal.at.returns-then-left-eq0-clause-none c).Then-left-eq0).none
+
+-- the slot of what remains is another, and no free cell began there
+apart : (c : After-self) → (c.args.at / 8 ≡ (c.args.at + length c.args.run.now) / 8 → ⊥)
+apart c e = let f = known c in omega (arith, e, f.run_some)
 
 pub returns-clause-index : goal.returns-clause-index
-returns-clause-index c = (part (goal.at.returns-clause-index c).After-set-2).kept.index
+returns-clause-index c =
+    let s = (goal.at.returns-clause-index c).After-self in
+    let f = known s in
+    let rest = (c.args.at + length c.args.run.now) / 8 in
+    let size : c.free_at-size.result ≡ cell_size f.cell =
+    sized (goal.at.returns-clause-index c).After-free_at-size ∙ f.room in
+    let none = within_none c.self.inside.bytes.items c.self.inside.starts.items (free_sizes c.args.self.now) c.args.at
+    f.cell f.spot rest (omega (arith, f.run_some))
+    (omega (arith, f.run_whole, f.cell_whole, f.whole, f.fits, size, c.if-left-eq0.false)) in
+    index_moved (free_sizes c.args.self.now) (free_sizes (bins_of c.put_word.new.bytes.items)) c.args.free.now
+    c.requires.index (c.args.at / 8) c.free_at-size.result (sized (goal.at.returns-clause-index c).After-free_at-size)
+    c.raise.new.self rest (c.free_at-size.result - length c.args.run.now)
+    (omega (arith, f.slots, f.within, f.whole, f.fits, size, c.if-left-eq0.false)) (apart s) (omega (arith, none))
+    c.raise.ensures (part (goal.at.returns-clause-index c).After-raise).kept.index
+
+part_gone : (c : After-raise) → IsGone (free_sizes (bins_of c.put_word.new.bytes.items)) (c.args.at / 8)
+part_gone c =
+    let s = (goal.at.After-raise c).After-self in
+    let f = known s in
+    gone_moved (free_sizes c.args.self.now) (free_sizes (bins_of c.put_word.new.bytes.items)) (c.args.at / 8)
+    ((c.args.at + length c.args.run.now) / 8) (c.free_at-size.result - length c.args.run.now)
+    (omega (arith, f.slots, f.within, f.whole, f.fits, f.run_some)) (apart s) (part c).kept.index
+
+pub returns-clause-slot : goal.returns-clause-slot
+returns-clause-slot c = (part_gone (goal.at.returns-clause-slot c).After-raise).there
+
+pub returns-clause-none : goal.returns-clause-none
+returns-clause-none c = (part_gone (goal.at.returns-clause-none c).After-raise).none
 
 pub returns-then-left-eq0-clause-long : goal.returns-then-left-eq0-clause-long
 returns-then-left-eq0-clause-long c =
     (whole (goal.at.returns-then-left-eq0-clause-long c).Then-left-eq0).long ∙ ap bins_size c.self.view_is
 
 pub returns-clause-long : goal.returns-clause-long
-returns-clause-long c = (part (goal.at.returns-clause-long c).After-set-2).long ∙ ap bins_size c.self.view_is
+returns-clause-long c = (part (goal.at.returns-clause-long c).After-raise).long ∙ ap bins_size c.self.view_is
 
 -- the bytes are as many as the bins have
 long : (c : After-self) → length c.self.inside.bytes.items ≡ bins_size c.args.self.now
@@ -232,7 +292,7 @@ touch-requires-2-clause-within c =
       f.run_whole,
       f.cell_whole,
       f.room,
-      c.size-size.ensures,
+      sized (goal.at.touch-requires-2-clause-within c).After-free_at-size,
       c.if-left-eq0.false,
       ap length c.as_slice-2.ensures.value,
     )
@@ -242,9 +302,9 @@ returns-clause-base c =
     let f = known (goal.at.returns-clause-base c).After-self in
     base_seen c.args.pages.now c.touch-2.new.pages c.self.inside.bytes.items c.put_word.new.bytes.items
     c.self.inside.starts.items _ c.args.self.now c.self.invariant c.self.view_is
-    (part (goal.at.returns-clause-base c).After-set-2).kept.kept
+    (part (goal.at.returns-clause-base c).After-raise).kept.kept
     (before_written c.touch.new.pages c.touch-2.new.pages c.put.new.bytes.items c.as_slice-2.result.now
-    (to_le_bytes w32 (c.size-size.result - length c.args.run.now)) c.put_word.new.bytes.items
+    (to_le_bytes w32 (c.free_at-size.result - length c.args.run.now)) c.put_word.new.bytes.items
     (c.args.at + length c.args.run.now) c.as_slice-2.ensures.value c.put_word.ensures
     (omega (
       arith,
@@ -253,7 +313,7 @@ returns-clause-base c =
       f.run_whole,
       f.cell_whole,
       f.room,
-      c.size-size.ensures,
+      sized (goal.at.returns-clause-base c).After-free_at-size,
       c.if-left-eq0.false,
     ))
     c.touch-2.ensures.before c.touch-2.ensures.count c.touch-2.ensures.kept
@@ -261,7 +321,7 @@ returns-clause-base c =
 
 pub returns-clause-covered : goal.returns-clause-covered
 returns-clause-covered c =
-    let p = part (goal.at.returns-clause-covered c).After-set-2 in
+    let p = part (goal.at.returns-clause-covered c).After-raise in
     covered_more c.touch-2.new.pages (length c.as_slice-2.result.now) (bins_size (bins_of c.put_word.new.bytes.items))
     c.touch-2.ensures.covered (omega (
       arith,

@@ -6,8 +6,8 @@ use Rattle.hive_cells.proofs.open.OpenHeap.fill.Goals as goal
 pub invariant_of-self : goal.invariant_of-self
 invariant_of-self c =
     let i = c.self.inside in (
-      c.fill.ensures.index,
-      c.fill.ensures.covered,
-      room_stays i.pages c.fill.new.pages i.spare i.spare (bins_size i.cells) (bins_size c.fill.new.self) c.self.invariant.2
-          c.fill.ensures.count (omega arith) c.fill.ensures.long,
+      c.lower.ensures,
+      c.fill-size.ensures.covered,
+      room_stays i.pages c.fill-size.new.pages i.spare i.spare (bins_size i.cells) (bins_size c.fill-size.new.self) c.self.invariant.2
+          c.fill-size.ensures.count (omega arith) c.fill-size.ensures.long,
     )

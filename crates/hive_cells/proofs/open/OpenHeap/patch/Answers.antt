@@ -1,4 +1,4 @@
-use Rattle.std.proofs.Common.{sym, ◌∙◌, arith}
+use Rattle.std.proofs.Common.{arith}
 use Rattle.hive_model.specs.Bins.{bins_size}
 use Rattle.hive_cells.proofs.RoomLemmas.{room_stays}
 use Rattle.hive_cells.proofs.open.OpenHeap.patch.Goals as goal
@@ -6,7 +6,7 @@ use Rattle.hive_cells.proofs.open.OpenHeap.patch.Goals as goal
 pub invariant_of-self : goal.invariant_of-self
 invariant_of-self c =
     let i = c.self.inside in (
-      c.self.invariant.0 ∙ sym c.patch.ensures.sizes,
+      rw c.patch.ensures.sizes c.self.invariant.0,
       c.patch.ensures.covered,
       room_stays i.pages c.patch.new.pages i.spare i.spare (bins_size i.cells) (bins_size c.patch.new.self) c.self.invariant.2
           c.patch.ensures.count (omega arith) c.patch.ensures.long,
