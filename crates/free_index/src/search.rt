@@ -15,7 +15,6 @@ pub trait Numbers {
 }
 
 /// The greatest number, or 0 where there is none.
-#[tactic(auto, using(crate::proofs::TopLemmas::top_next))]
 pub(crate) fn top_of<N: Numbers>(list: &N, from: usize, to: usize) -> u32
     requires ordered { from ≤ to }
     requires within { to ≤ length (N.numbers list.now) }

@@ -16,4 +16,4 @@ returns-in_err-page g c =
 pub returns : goal.returns
 returns g c =
     last_in (g.N.Numbers.numbers c.args.sizes.now) c.args.self.now c.requires.kept c.args.slot c.in_ok-page.page
-    c.requires.inside c.in-None.ensures c.in_ok-page.ensures c.last_some-2.result c.last_some-2.ensures
+    c.requires.inside c.in-None.ensures c.in_ok-page.ensures c.last_some-3.result c.last_some-3.ensures

@@ -10,4 +10,4 @@ returns-in_err-page g c =
 pub returns : goal.returns
 returns g c =
     fits_in (g.N.Numbers.numbers c.args.sizes.now) c.args.self.now c.requires c.args.size c.pages.result
-    c.in_ok-page.page c.pages.ensures c.in_ok-page.ensures c.first_fit.result c.first_fit.ensures
+    c.in_ok-page.page c.pages.ensures c.in_ok-page.ensures c.first_fit-2.result c.first_fit-2.ensures
