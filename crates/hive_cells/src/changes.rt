@@ -53,7 +53,13 @@ impl CellHeap {
 
     /// Puts allocated cells into the free one that begins here. What remains of it stays free. Answers
     /// the size that it had, which the index counts still.
-    pub(crate) fn fill(&mut self, free: &mut FreeIndex, pages: &mut SavedPages, at: u32, run: &[u8]) -> u32
+    pub(crate) fn fill(
+        &mut self,
+        free: &mut FreeIndex,
+        pages: &mut SavedPages,
+        at: u32,
+        run: &[u8],
+    ) -> u32
         requires index { AreTops (free_sizes self.old) free.old }
         requires hole { IsHole (length run.now) self.old at }
         requires run { IsRun run.now }
@@ -264,7 +270,14 @@ impl CellHeap {
 
     /// The cell and the one after it become one free cell. Answers the size that the second had if it
     /// was free, or 0, which the index counts still.
-    fn merge(&mut self, free: &mut FreeIndex, pages: &mut SavedPages, at: u32, size: u32, more: u32) -> u32
+    fn merge(
+        &mut self,
+        free: &mut FreeIndex,
+        pages: &mut SavedPages,
+        at: u32,
+        size: u32,
+        more: u32,
+    ) -> u32
         requires index { AreTops (free_sizes self.old) free.old }
         requires cells { Neighbours at size more self.old }
         requires saved { IsCovered pages.old (bins_size self.old) }

@@ -145,9 +145,7 @@ impl OpenHeap {
         ensures long { bins_size self.new.bins ≡ bins_size self.old.bins }
         ensures base { self.new.base ≡ self.old.base }
     {
-        let size = self
-            .cells
-            .fill(&mut self.free, &mut self.pages, at, run);
+        let size = self.cells.fill(&mut self.free, &mut self.pages, at, run);
         self.free.lower(&self.cells, at as usize / 8, size);
     }
 

@@ -18,7 +18,7 @@ returns-in-None c =
 
 pub returns-in-Some-true-default : goal.returns-in-Some-true-default
 returns-in-Some-true-default c =
-    sym (slot_cell c.args.bytes.now c.args.starts.now c.args.slot true c.in-Some-true-default.size c.requires.kept
+    sym (slot_cell c.args.bytes.now c.args.starts.now c.args.slot true c.in-Some-true-default._size c.requires.kept
     (rw c.in-Some-true-default.field-0-0-test at c.in-Some-true-default.ensures.exact))
 
 pub returns-in-Some-false-default : goal.returns-in-Some-false-default

@@ -1,4 +1,4 @@
-use Rattle.std.proofs.Common.{◌≡◌, ℕ, ◌+◌, ◌-◌, ◌≤◌, ◌++◌, ◌∷◌, [], Bool, List, length, set, ap, sym, ◌∙◌, arith, ◌*◌, ◌/◌, replicate, refl}
+use Rattle.std.proofs.Common.{◌≡◌, ℕ, ◌+◌, ◌-◌, ◌≤◌, ◌++◌, ◌∷◌, [], Bool, List, length, set, ap, ◌∙◌, arith, ◌*◌, ◌/◌, replicate, refl}
 use Rattle.std.proofs.lemmas.List.{length-append, length-replicate}
 use Rattle.hive_model.specs.Bins.{bins_size, bin_bytes}
 use Rattle.hive_cells.specs.Reading.{bins_of, bin_marks}

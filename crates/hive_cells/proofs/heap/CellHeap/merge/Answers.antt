@@ -1,4 +1,4 @@
-use Rattle.std.proofs.Common.{◌≡◌, ℕ, ◌+◌, ◌/◌, List, false, set, length, ap, refl, sym, subst, ◌∙◌, arith, ◌<◌, get_or}
+use Rattle.std.proofs.Common.{◌≡◌, ℕ, ◌+◌, ◌/◌, List, false, set, length, ap, refl, sym, subst, ◌∙◌, arith, get_or}
 use Rattle.hive_model.specs.Bins.{cell_at, bins_size}
 use Rattle.hive_cells.specs.Reading.{bins_of}
 use Rattle.hive_cells.specs.Changes.{at_cell, with_next}

@@ -45,12 +45,12 @@ new-requires c =
 
 pub invariant_of-result : goal.invariant_of-result
 invariant_of-result c = (
-      c.in_ok-free.ensures,
-      covered_now c.in_ok-pages.pages c.args.self (c.len-2.result / 4096) c.in_ok-pages.ensures
-          (pages (goal.at.invariant_of-result c).After-len-2),
-      room_now c.in_ok-pages.pages c.in_ok-spare.spare (c.len-2.result / 4096) (bins_size c.args.self) c.in_ok-pages.ensures
-          (pages (goal.at.invariant_of-result c).After-len-2),
-    )
+  c.in_ok-free.ensures,
+  covered_now c.in_ok-pages.pages c.args.self (c.len-2.result / 4096) c.in_ok-pages.ensures
+      (pages (goal.at.invariant_of-result c).After-len-2),
+  room_now c.in_ok-pages.pages c.in_ok-spare.spare (c.len-2.result / 4096) (bins_size c.args.self) c.in_ok-pages.ensures
+      (pages (goal.at.invariant_of-result c).After-len-2),
+)
 
 pub returns-clause-base : goal.returns-clause-base
 returns-clause-base c =

@@ -1,4 +1,4 @@
-use Rattle.std.proofs.Common.{◌≡◌, length, Some, ap, sym, subst, ◌∙◌, arith, ℕ, ◌/◌, set, refl}
+use Rattle.std.proofs.Common.{◌≡◌, length, Some, ap, sym, subst, ◌∙◌, arith, ◌/◌, set, refl}
 use Rattle.hive_model.specs.Bins.{Cell, cell_size, cell_at, bins_size}
 use Rattle.hive_cells.specs.Reading.{bins_of}
 use Rattle.hive_cells.specs.Changes.{at_cell, with_free}
