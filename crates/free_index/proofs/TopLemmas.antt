@@ -41,9 +41,6 @@ pub record TopsSoFar (sizes tops : List ℕ) (page : ℕ) : Type 0 where
   pub long : length tops ≡ page
   pub each : (p : ℕ) → p < page → IsTop sizes (512 * p) (512 * p + 512) (get_or tops p 0)
 
-pub tops_none : (sizes tops : List ℕ) → tops ≡ [] → TopsSoFar sizes tops 0
-tops_none sizes tops is = record { long = ap length is; each = λ p lt. absurd (omega (arith, lt)) }
-
 pub tops_more : (sizes tops new : List ℕ) (page next top : ℕ) → TopsSoFar sizes tops page → next ≡ page + 1
     → IsTop sizes (512 * page) (512 * page + 512) top → new ≡ tops ++ top ∷ [] → TopsSoFar sizes new next
 tops_more sizes tops new page next top so step is more =
