@@ -1,4 +1,4 @@
-use Rattle.std.proofs.Common.{◌≡◌, ◌≤◌, ◌+◌, ◌×◌, ℕ, List, sym, subst, ap, ◌∙◌, arith}
+use Rattle.std.proofs.Common.{◌≡◌, ◌≤◌, ◌+◌, ℕ, List, sym, subst, ap, ◌∙◌, arith}
 use Rattle.hive_model.specs.Bins.{look_up}
 use Rattle.hive_model.specs.KeyNode.{key_node_at}
 use Rattle.hive_model.specs.Lists.{AreOffsets}

@@ -1,4 +1,4 @@
-use Rattle.std.proofs.Common.{◌≡◌, ◌≤◌, ◌+◌, ◌-◌, ◌×◌, List, arith, sym, subst}
+use Rattle.std.proofs.Common.{◌≡◌, ◌≤◌, ◌+◌, ◌-◌, List, arith, sym, subst}
 use Rattle.hive_model.specs.Bins.{Bin, look_up}
 use Rattle.hive_model.specs.Edit.{without_key}
 use Rattle.hive_model.specs.Size.{bulk_of}

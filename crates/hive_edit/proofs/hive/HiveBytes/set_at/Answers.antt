@@ -1,4 +1,4 @@
-use Rattle.std.proofs.Common.{ℕ, None, sym, ap, subst, ◌∙◌}
+use Rattle.std.proofs.Common.{◌≡◌, ℕ, None, sym, ap, subst, ◌∙◌}
 use Rattle.std.specs.Option.{option_and_then}
 use Rattle.std.specs.Prelude.{Contains}
 use Rattle.hive_cells.specs.Held.{held_at}

@@ -35,8 +35,8 @@ value_at-value-requires c =
     (key_seen i.cells c.cells.result.now i.root i.version c.args.self.now c.args.path.now c.in-Some.key c.cells.ensures
     c.self.view_is c.in-Some.ensures.place)
 
-pub returns-in-Some-clause-may : goal.returns-in-Some-clause-may
-returns-in-Some-clause-may c =
+pub returns-else-bytes-gt-LONGEST_DATA-clause-may : goal.returns-else-bytes-gt-LONGEST_DATA-clause-may
+returns-else-bytes-gt-LONGEST_DATA-clause-may c =
     let i = c.self.inside in
     record {
       key = key_seen i.cells c.cells.result.now i.root i.version c.args.self.now c.args.path.now c.in-Some.key
