@@ -106,7 +106,8 @@ returns-in_err-read_bin_sector-clause-bins g c = λ tells.
     rw (p.1, p.2)
     (fault_on c.in_err-read_bin_sector.field-0.0 _ (gathered at 0 c.args.count)
     (λ f is. read_fault at c.args.count c.loop-i.bytes i c.loop-i-test.true (c.loop-i.invariant.read tells) f
-    (mixed_off h c.args.run.now _ i (bit_off g (goal.at.returns-in_err-read_bin_sector-clause-bins g c).Else-has_bit)
+    (mixed_off h c.args.run.now (bit c.args.bitmap.now) i
+    (bit_off g (goal.at.returns-in_err-read_bin_sector-clause-bins g c).Else-has_bit)
     ∙ ap (λ (m : Image). read_bin m i) (sym (c.loop-i.invariant.look.held tells)) ∙ is))
     (c.in_err-read_bin_sector.ensures.bytes tells))
 
