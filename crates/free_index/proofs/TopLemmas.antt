@@ -1,5 +1,5 @@
 -- Pages and their tops: what a search of both finds, and what a change does.
-use Rattle.std.proofs.Common.{◌≡◌, inl, inr, ℕ, ◌+◌, ◌-◌, ◌*◌, ◌/◌, ◌<◌, ◌≤◌, max, List, [], ◌∷◌, ◌++◌, length, get_or, set, replicate, Option, Some, None, refl, sym, ap, subst, ◌∙◌, arith}
+use Rattle.std.proofs.Common.{◌≡◌, inl, inr, ℕ, ◌+◌, ◌-◌, ◌*◌, ◌/◌, ◌<◌, ◌≤◌, max, List, ◌++◌, length, get_or, set, replicate, Option, Some, None, refl, sym, ap, subst, ◌∙◌, arith}
 use Rattle.std.proofs.lemmas.Bool.{cases_lt, cases_eq}
 use Rattle.std.proofs.lemmas.List.{length-set, length-append, length-replicate, get_or-set_same, get_or-set_other, get_or_append_left, get_or-append_right, get_or-replicate}
 use Rattle.free_index.specs.Sizes.{AreUpTo, AreUnder, AreTops, IsTop, IsLowestFit, IsLastSome, FindsLowest, FindsLast}
@@ -36,41 +36,38 @@ top_same xs ys from to top same is =
 
 -- ---- the index of what was read
 
--- the first pages have their tops
-pub record TopsSoFar (sizes tops : List ℕ) (page : ℕ) : Type 0 where
-  pub long : length tops ≡ page
+-- of that many pages the first have their tops
+pub record TopsSoFar (sizes tops : List ℕ) (pages page : ℕ) : Type 0 where
+  pub long : length tops ≡ pages
   pub each : (p : ℕ) → p < page → IsTop sizes (512 * p) (512 * p + 512) (get_or tops p 0)
 
-pub tops_more : (sizes tops new : List ℕ) (page next top : ℕ) → TopsSoFar sizes tops page → next ≡ page + 1
-    → IsTop sizes (512 * page) (512 * page + 512) top → new ≡ tops ++ top ∷ [] → TopsSoFar sizes new next
-tops_more sizes tops new page next top so step is more =
+pub tops_more : (sizes tops new : List ℕ) (pages page next top : ℕ) → TopsSoFar sizes tops pages page → next ≡ page + 1
+    → page < pages → IsTop sizes (512 * page) (512 * page + 512) top → new ≡ set tops page top
+    → TopsSoFar sizes new pages next
+tops_more sizes tops new pages page next top so step inside is put =
     record {
-      long = omega (arith, ap length more, length-append tops (top ∷ []), so.long, step);
+      long = omega (arith, ap length put, length-set tops page top, so.long);
       each = λ p lt.
-          subst (λ (l : List ℕ). IsTop sizes (512 * p) (512 * p + 512) (get_or l p 0)) (sym more)
-          (elim (cases_lt p page)
-          as (λ _. IsTop sizes (512 * p) (512 * p + 512) (get_or (tops ++ top ∷ []) p 0)) [
-            | inl before ↦
-                subst (IsTop sizes (512 * p) (512 * p + 512))
-                (sym (get_or_append_left tops (top ∷ []) 0 p (omega (arith, before, so.long)))) (so.each p before)
-            | inr here ↦
-                let same : page ≡ p = omega (arith, lt, step, here) in
-                let place : p - page ≡ 0 = omega (arith, same) in
-                let first : get_or (tops ++ top ∷ []) p 0 ≡ top =
-                get_or-append_right tops (top ∷ []) page p 0 so.long here
-                ∙ ap (λ (k : ℕ). get_or (top ∷ []) k 0) place in
-                subst (IsTop sizes (512 * p) (512 * p + 512)) (sym first)
-                (subst (λ (k : ℕ). IsTop sizes (512 * k) (512 * k + 512) top) same is)
+          subst (λ (l : List ℕ). IsTop sizes (512 * p) (512 * p + 512) (get_or l p 0)) (sym put)
+          (elim (cases_eq p page)
+          as (λ _. IsTop sizes (512 * p) (512 * p + 512) (get_or (set tops page top) p 0)) [
+            | inl same ↦
+                subst (λ (k : ℕ). IsTop sizes (512 * k) (512 * k + 512) (get_or (set tops page top) k 0)) (sym same)
+                (subst (IsTop sizes (512 * page) (512 * page + 512))
+                (sym (get_or-set_same tops page top 0 (omega (arith, inside, so.long)))) is)
+            | inr other ↦
+                subst (IsTop sizes (512 * p) (512 * p + 512)) (sym (get_or-set_other tops page p top 0 other))
+                (so.each p (omega (arith, lt, step, other)))
           ]);
     }
 
-pub tops_done : (sizes tops : List ℕ) (page pages : ℕ) → TopsSoFar sizes tops page → page ≡ pages
+pub tops_done : (sizes tops : List ℕ) (pages page : ℕ) → TopsSoFar sizes tops pages page → pages ≤ page
     → length sizes ≡ 512 * pages → pages ≤ 4096 → AreTops sizes tops
-tops_done sizes tops page pages so all whole few =
+tops_done sizes tops pages page so all whole few =
     record {
-      whole = omega (arith, so.long, all, whole);
-      few = omega (arith, so.long, all, few);
-      each = λ p lt. so.each p (omega (arith, lt, so.long));
+      whole = omega (arith, so.long, whole);
+      few = omega (arith, so.long, few);
+      each = λ p lt. so.each p (omega (arith, lt, so.long, all));
     }
 
 -- ---- searches

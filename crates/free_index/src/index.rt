@@ -43,17 +43,31 @@ fn top_without<N: Numbers>(sizes: &N, page: usize, top: u32, old: u32) -> u32
 }
 
 impl FreeIndex {
-    /// The index of the sizes of so many pages: one look at each.
+    /// The index of the sizes of that many pages: one look at each.
     pub fn of<N: Numbers>(alloc: Global, sizes: &N, pages: usize) -> Result<FreeIndex, AllocError>
         requires whole { length (N.numbers sizes.now) ≡ 512 * pages }
         requires few { pages ≤ 4096 }
         ensures { IfOk result (AreTops (N.numbers sizes.now)) }
     {
         let mut tops = Vec::with_capacity(alloc, pages)?;
+        tops.resize(pages, 0)?;
+        let mut index = FreeIndex { tops };
+        index.recount(sizes, pages);
+        Ok(index)
+    }
+
+    /// The index of the sizes of that many pages, which are not more than before: one look at each. No memory is taken.
+    pub fn recount<N: Numbers>(&mut self, sizes: &N, pages: usize)
+        requires whole { length (N.numbers sizes.now) ≡ 512 * pages }
+        requires few { pages ≤ 4096 }
+        requires within { pages ≤ length self.old }
+        ensures { AreTops (N.numbers sizes.now) self.new }
+    {
+        self.tops.truncate(pages);
         for page in 0..pages {
-            tops.push(top_of(sizes, 512 * page, 512 * page + 512))?;
+            let top = top_of(sizes, 512 * page, 512 * page + 512);
+            self.put(page, top);
         }
-        Ok(FreeIndex { tops })
     }
 
     /// The same index in room of its own.
@@ -65,7 +79,7 @@ impl FreeIndex {
         Ok(FreeIndex { tops })
     }
 
-    /// Says that so many pages follow at which no free cell begins. Nothing changes where there is no memory.
+    /// Says that this many pages follow at which no free cell begins. Nothing changes where there is no memory.
     pub fn grow(&mut self, pages: usize) -> Result<(), AllocError>
         requires { length self.old + pages ≤ 4096 }
         ensures ok { OnOk result (self.new ≡ self.old ++ replicate pages 0) }

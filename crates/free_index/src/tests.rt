@@ -15,7 +15,7 @@ impl Numbers for Vec<u32> {
     }
 }
 
-/// Sizes of so many pages, each 0.
+/// Sizes of that many pages, each 0.
 fn none(alloc: Global, pages: usize) -> Result<Vec<u32>, AllocError>
     requires { pages ≤ 4096 }
     ensures { IfOk result (λ sizes. length sizes.items ≡ 512 * pages) }
@@ -59,5 +59,11 @@ fn free_cells_are_found(rt: HostRuntime) -> Result<(), Fail> {
     assert_eq!(rt; old.lowest_fit(&sizes, 8), Some(4));
     change(&mut sizes, &mut index, 4, 0);
     assert_eq!(rt; index.lowest_fit(&sizes, 8), Some(511));
+    index.recount(&sizes, 3);
+    assert_eq!(rt; index.lowest_fit(&sizes, 9), Some(1100));
+    sizes.truncate(512);
+    index.recount(&sizes, 1);
+    assert_eq!(rt; index.lowest_fit(&sizes, 8), Some(511));
+    assert_eq!(rt; index.lowest_fit(&sizes, 9), None);
     Ok(())
 }

@@ -399,7 +399,7 @@ room_is text starts rooms slot held =
     ap (λ (r : List ℕ). get_or r slot 0) held.index
     ∙ room_at (bins_of text) slot (kept_seen text starts held.kept).0.each
 
--- it is no more than the size of a cell that begins there
+-- it is at most the size of a cell that begins there
 pub room_most : (text : List ℕ) (starts : List Bool) (rooms : List ℕ) (at : ℕ) (c : Cell)
     → IsIndexed text starts rooms → cell_at (bins_of text) at ≡ Some c → get_or rooms (at / 8) 0 ≤ cell_size c
 room_most text starts rooms at c held here =

@@ -11,7 +11,7 @@ pub room_stays : (ps qs spare later : List (List ℕ)) (n m : ℕ) → HaveRoom 
 room_stays ps qs spare later n m (inl le) same more is = inl (omega (arith, le, same, is))
 room_stays ps qs spare later n m (inr le) same more is = inr (omega (arith, le, more, is))
 
--- a base of so many pages
+-- a base of that many pages
 pub room_now : (ps spare : List (List ℕ)) (n long : ℕ) → ps ≡ replicate n [] → 4096 * n ≡ long → HaveRoom ps spare long
 room_now ps spare n long is e = inl (omega (arith, ap length is ∙ length-replicate n [], e))
 

@@ -20,6 +20,6 @@ coded_opened =
     code_by (List Bin × List ℕ) (coded× (coded_list coded_bin) (coded_list coded_ℕ)) (λ o. (o.bins, o.base))
     (λ p. record { bins = p.0; base = p.1 }) (λ _. refl)
 
--- one of the two has as many pages as so many bytes, or more
+-- one of the two has as many pages as that many bytes, or more
 abbrev pub HaveRoom : List (List ℕ) → List (List ℕ) → ℕ → Type 0
 HaveRoom pages spare long = (long ≤ 4096 * length pages) ⊎ (long ≤ 4096 * length spare)

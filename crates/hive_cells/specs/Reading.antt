@@ -70,12 +70,12 @@ pub record BinRead (at : ℕ) (bytes : List ℕ) (old new : List Bool) (size : �
   pub sized : size ≡ bin_size bin
   pub table : new ≡ old ++ bin_marks bin
 
--- such a bin was read where each flag of the table from it on is off, and each behind it is off still
+-- such a bin was read where each flag of the table from it on is off, and each after it is still off
 pub record BinMarked (at : ℕ) (bytes : List ℕ) (old new : List Bool) (size : ℕ) : Type 0 where
   pub read : BinRead at bytes (take (at / 8) old) (take ((at + size) / 8) new) size
   pub off : drop ((at + size) / 8) new ≡ replicate ((length bytes - size) / 8) false
 
--- and with no table, for each that it may stand behind
+-- and with no table, for each that it may come after
 abbrev pub IsBinRead : ℕ → List ℕ → ℕ → Type 0
 IsBinRead at bytes size = (old : List Bool) → (new : List Bool) × BinRead at bytes old new size
 

@@ -1,11 +1,16 @@
 //! The heap of cells.
 
-ghost use Rattle.std.specs.Prelude.{◌≡◌, ◌%◌, IfOk};
-ghost use Rattle.hive_model.specs.Bins.{payload_at, with_place, spelled, Sees};
+ghost use Rattle.std.specs.Prelude.{◌≡◌, ◌*◌, ◌%◌, ◌≤◌, List, length, IfOk};
+ghost use Rattle.hive_model.specs.Bins.{bins_size, payload_at, with_place, spelled, Bin, IsBins, Sees};
+ghost use Rattle.saved_pages.specs.Overlay.{before};
 
 use crate::lookup::{free_at, head};
+use crate::marks::unmark;
+use crate::pushes::put_pages;
+use crate::read::mark_bins;
 use free_index::Numbers;
 use nt_bytes::{Bytes, HiveFault, HiveFaultKind};
+use saved_pages::SavedPages;
 use std::marker::Model;
 
 /// Cells, in the bytes of their bins: at most 16,777,216 bytes. One flag for eight bytes says
@@ -78,5 +83,19 @@ impl CellHeap {
         ensures { result ≡ spelled 0 self }
     {
         Bytes::from_vec(self.bytes)
+    }
+
+    /// The cells as they were, by the pages that were kept of the bins data, which were no longer then. No memory is taken.
+    pub(crate) fn restore(&mut self, pages: &SavedPages)
+        requires long { 4096 * length pages.now ≤ bins_size self.old }
+        requires bins { (bins : List Bin) × IsBins (before pages.now (spelled 0 self.old)) bins }
+        ensures { IsBins (before pages.now (spelled 0 self.old)) self.new }
+    {
+        put_pages(&mut self.bytes, pages);
+        unmark(&mut self.starts, self.bytes.len() / 8);
+        match mark_bins(self.bytes.as_slice(), &mut self.starts) {
+            Ok(()) => {}
+            Err(_) => unreachable!(),
+        }
     }
 }

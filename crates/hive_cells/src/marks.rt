@@ -17,7 +17,16 @@ fn clear(starts: &mut Vec<bool>, from: usize, to: usize)
     starts[from..to].fill(false);
 }
 
-/// Says where the cells of a run begin that lies at this slot, in place of what was said before.
+/// That many flags, each off, where there are as many or more.
+pub(crate) fn unmark(starts: &mut Vec<bool>, count: usize)
+    requires { count ≤ length starts.old.items }
+    ensures { starts.new.items ≡ replicate count false }
+{
+    starts.truncate(count);
+    starts.fill(false);
+}
+
+/// Says where the cells of a run begin that lies at this slot, in place of what was marked before.
 pub(crate) fn mark_run(starts: &mut Vec<bool>, slot: usize, run: &[u8])
     requires run { IsRun run.now }
     requires within { slot + length run.now / 8 ≤ length starts.old.items }

@@ -1,8 +1,8 @@
 //! A heap that can change.
 
-ghost use Rattle.std.specs.Prelude.{◌≡◌, ℕ, ◌+◌, ◌-◌, ◌%◌, ◌<◌, ◌≤◌, length, replicate, Some, None, IfOk, OnErr};
+ghost use Rattle.std.specs.Prelude.{◌≡◌, ℕ, ◌+◌, ◌-◌, ◌%◌, ◌<◌, ◌≤◌, List, length, replicate, Some, None, IfOk, OnErr};
 ghost use Rattle.std.specs.Option.{IfSome, IsSome, IsSomeAnd, option_map};
-ghost use Rattle.hive_model.specs.Bins.{spelled, or_else, bins_size, payload_at, with_place, IsHeap, Sees};
+ghost use Rattle.hive_model.specs.Bins.{spelled, or_else, bins_size, payload_at, with_place, Bin, IsBins, IsHeap, Sees};
 ghost use Rattle.hive_model.specs.Size.{cell};
 ghost use Rattle.hive_cells.specs.Held.{held_at, held_among, patched, run_cells, IsRun};
 ghost use Rattle.hive_cells.specs.Holes.{new_bin_size, FindsHole, Grows, IsHole, MakesRoom};
@@ -268,6 +268,20 @@ impl OpenHeap {
     {
         self.cells.opens();
         &self.pages
+    }
+
+    /// The cells as they were when they were settled last, by the pages that were kept. No memory is taken.
+    pub fn restore(&mut self)
+        requires long { length self.old.base ≤ bins_size self.old.bins }
+        requires bins { (bins : List Bin) × IsBins self.old.base bins }
+        ensures bins { IsBins self.old.base self.new.bins }
+        ensures base { self.new.base ≡ self.old.base }
+    {
+        self.cells.opens();
+        let count = self.pages.len();
+        self.cells.restore(&self.pages);
+        self.pages.clear(count);
+        self.free.recount(&self.cells, count);
     }
 
     /// From now on the base is the bins data that are there. No memory is taken.

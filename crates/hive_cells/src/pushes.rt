@@ -1,7 +1,7 @@
 //! Bytes written over others, and a bin appended. Room for it has been made, so that no bin wants
 //! memory here.
 
-ghost use Rattle.std.specs.Prelude.{◌≡◌, ◌+◌, ◌/◌, ◌%◌, ◌≤◌, [], ◌∷◌, ◌++◌, length, take, drop, replicate, IfOk};
+ghost use Rattle.std.specs.Prelude.{◌≡◌, ◌+◌, ◌*◌, ◌/◌, ◌%◌, ◌≤◌, [], ◌∷◌, ◌++◌, length, take, drop, replicate, IfOk};
 ghost use Rattle.std.specs.Int.{w32, to_le_bytes};
 ghost use Rattle.std.specs.Vec.{vec_capacity};
 ghost use Rattle.hive_model.specs.Bins.{bin_bytes};
@@ -10,8 +10,10 @@ ghost use Rattle.hive_cells.specs.Reading.{bin_marks};
 ghost use Rattle.hive_cells.specs.Held.{run_cells, IsRun};
 ghost use Rattle.hive_cells.specs.Holes.{free_bin};
 ghost use Rattle.hive_cells.specs.Changes.{zero_cell};
+ghost use Rattle.saved_pages.specs.Overlay.{before};
 
 use nt_bytes::put_u32;
+use saved_pages::SavedPages;
 use std::alloc::{AllocError, Global};
 
 pub(crate) fn put(bytes: &mut Vec<u8>, at: usize, part: &[u8])
@@ -20,6 +22,17 @@ pub(crate) fn put(bytes: &mut Vec<u8>, at: usize, part: &[u8])
     ensures exact { bytes.new.items ≡ take at bytes.old.items ++ (part.now ++ drop (at + length part.now) bytes.old.items) }
 {
     bytes[at..at + part.len()].copy_from_slice(part);
+}
+
+/// Puts the pages back that were kept, and cuts off what follows them.
+pub(crate) fn put_pages(bytes: &mut Vec<u8>, pages: &SavedPages)
+    requires { 4096 * length pages.now ≤ length bytes.old.items }
+    ensures long { length bytes.new.items ≡ 4096 * length pages.now }
+    ensures few { length pages.now ≤ 4096 }
+    ensures exact { bytes.new.items ≡ before pages.now bytes.old.items }
+{
+    bytes.truncate(4096 * pages.len());
+    pages.restore(bytes.as_mut_slice());
 }
 
 pub(crate) fn put_word(bytes: &mut Vec<u8>, at: usize, number: u32)

@@ -2,7 +2,7 @@
 
 ghost use Rattle.std.specs.Prelude.{◌≡◌, ◌+◌, ◌/◌, ◌%◌, ◌<◌, ◌≤◌, List, false, length, drop, replicate, IfOk, MatchResult};
 ghost use Rattle.hive_model.specs.Bins.{Bin, header_at, size_at, with_place, Sees, BinFails, BinsFault, IsBins};
-ghost use Rattle.hive_cells.specs.Reading.{BinMarked, IsBinRead, Stops};
+ghost use Rattle.hive_cells.specs.Reading.{BinMarked, IsBinRead, IsKept, Stops};
 
 use crate::heap::CellHeap;
 use nt_bytes::{Bytes, HiveFault, HiveFaultKind, ReadStop, u32_at};
@@ -157,6 +157,20 @@ fn flags_off(alloc: Global, count: usize) -> Result<Vec<bool>, AllocError>
     Ok(starts)
 }
 
+/// Turns the flags on where the cells of these bins begin, or the first check that fails. No memory is taken.
+pub(crate) fn mark_bins(all: &[u8], starts: &mut Vec<bool>) -> Result<(), HiveFault>
+    requires small { length all.now ≤ 16777216 }
+    requires off { starts.old.items ≡ replicate (length all.now / 8) false }
+    ensures { MatchResult result (λ done. IsKept all.now starts.new.items) (BinsFault all.now) }
+{
+    let mut at = 0;
+    'reading: while at < all.len() {
+        let size = read_bin(&all[at..], at as u32, starts)?;
+        at += size;
+    }
+    Ok(())
+}
+
 /// The heap that these bytes are, or the first check that fails. `Memory` comes only where none fails.
 pub fn read_cells(alloc: Global, bins: Bytes) -> Result<CellHeap, ReadStop>
     requires { length bins ≤ 16777216 }
@@ -168,10 +182,6 @@ pub fn read_cells(alloc: Global, bins: Bytes) -> Result<CellHeap, ReadStop>
         check_bins(all)?;
         return Err(ReadStop::Memory);
     };
-    let mut at = 0;
-    'reading: while at < all.len() {
-        let size = read_bin(&all[at..], at as u32, &mut starts)?;
-        at += size;
-    }
+    mark_bins(all, &mut starts)?;
     Ok(CellHeap { bytes, starts })
 }

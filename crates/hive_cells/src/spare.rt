@@ -6,7 +6,7 @@ use saved_pages::SavedPages;
 use std::alloc::AllocError;
 use std::mem::swap;
 
-/// Makes room for so many pages, where bins data may have so many.
+/// Makes room for that many pages, where bins data may have that many.
 pub(crate) fn widen_to(spare: &mut SavedPages, wanted: u64) -> Result<(), AllocError>
     ensures ok { OnOk result (wanted ≤ 4096 → wanted ≤ length spare.new) }
     ensures more { length spare.old ≤ length spare.new }
@@ -19,7 +19,7 @@ pub(crate) fn widen_to(spare: &mut SavedPages, wanted: u64) -> Result<(), AllocE
     Ok(())
 }
 
-/// Nothing is kept any more, of so many pages, in the one of the two that has room for them. No memory is taken.
+/// Nothing is kept any more, of that many pages, in the one of the two that has room for them. No memory is taken.
 pub(crate) fn begin_anew(pages: &mut SavedPages, spare: &mut SavedPages, count: usize)
     requires { (count ≤ length pages.old) ⊎ (count ≤ length spare.old) }
     ensures { pages.new ≡ replicate count [] }

@@ -5,7 +5,7 @@ use Rattle.hive_model.specs.Bins.{Cells}
 use Rattle.hive_model.specs.Walk.{nowhere}
 use Rattle.hive_model.specs.Stands.{security_of}
 
--- a node's descriptor is told by where its cell is
+-- a node's descriptor follows from where its cell is
 same-cell : (cells : Cells) (a b : KeyNode) → a.security ≡ b.security → security_of cells a ≡ security_of cells b
 unfolding security_of
 same-cell cells a b e = rw e refl

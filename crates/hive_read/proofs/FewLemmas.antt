@@ -152,7 +152,7 @@ pub fresh-so : {names seen : List (List ℕ)} (known : Bool) (name : List ℕ) �
     → names ≡ seen → not known ≡ not (has_name seen name)
 fresh-so known name k same = ap not (sym k) ∙ ap (λ (ks : List (List ℕ)). not (has_name ks name)) same
 
--- and one that is put behind them is added
+-- and one that is put after them is added
 pub added-so : {seen : List (List ℕ)} (names new : List StoredName) (name : StoredName) → new ≡ names ++ name ∷ []
     → map folded_name names ≡ seen
     → (n : List ℕ) → has_name (map folded_name new) n ≡ (has_name seen n || folds_same n (name_of name))

@@ -16,7 +16,7 @@ use Rattle.hive_read.proofs.Walks.{walk-on, walk-off, walk-below, not-same}
 
 -- ---- a key
 
--- with no level left a key is too deep, whatever is there
+-- with no level left a key is too deep, no matter what is there
 pub key-deep : (left : ℕ) (cells : Cells) (root : Bool) (seen : Seen) (names : List (List ℕ)) (at : ℕ) → left ≡ 0
     → walk cells seen (key_checks left cells root names at) ≡ fault TooDeep at
 unfolding key_checks

@@ -30,7 +30,7 @@ pub same-bits : (words others : List ℕ) → HaveSame words others → (slot : 
 unfolding has_bit
 same-bits words others h slot = ap (λ word. eqb (bit_at word (slot % 64)) 1) (h (slot / 64))
 
--- a word with one bit more, put back in its place
+-- a word with one bit more, in its place again
 pub set-bit : (words : List ℕ) (slot word : ℕ) → slot / 64 < length words → bit_at word (slot % 64) ≡ 1
     → ((i : ℕ) → i ≢ slot % 64 → bit_at word i ≡ bit_at (get_or words (slot / 64) 0) i)
     → (i : ℕ) → has_bit (set words (slot / 64) word) i ≡ (eqb i slot || has_bit words i)

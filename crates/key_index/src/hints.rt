@@ -41,7 +41,7 @@ fn hash_narrow(stored: &[u8]) -> u32
     }
 }
 
-/// The byte at a place, or 0 behind the last.
+/// The byte at a place, or 0 after the last.
 fn byte_or_zero(bytes: &[u8], at: usize) -> u8
     ensures { result ≡ slice_index bytes.now at }
 {

@@ -1,4 +1,4 @@
--- Where each page of which nothing was kept is there, the old bytes have as many pages as are told of, and each is known.
+-- Where each page of which nothing was kept is there, the old bytes have as many pages as were given, and each is known.
 use Rattle.std.proofs.Common.{◌≡◌, ◌<◌, ◌≤◌, ◌*◌, inl, inr, ℕ, zero, suc, List, [], ◌∷◌, length, take, drop, sym, ◌∙◌, ap, arith, length-take, length-drop, length-append}
 use Rattle.saved_pages.specs.Overlay.{page_at, kept_at, page_or, before, IsWhole, AreWhole, IsCovered}
 use Rattle.saved_pages.proofs.OverlayLemmas.{page_next, all_of, none_of, before_same}
@@ -37,7 +37,7 @@ pub all_kept : (ps : List (List ℕ)) (xs ys : List ℕ) → ((k : ℕ) → k < 
     → before ps xs ≡ before ps ys
 all_kept ps xs ys kept = before_same ps xs ys (λ k lt e. absurd (kept k lt e))
 
--- what stays covered: where more is kept, where more bytes are there, and where nothing is kept of so many pages
+-- what stays covered: where more is kept, where more bytes are there, and where nothing is kept of that many pages
 pub covered_kept : (ps qs : List (List ℕ)) (n : ℕ) → IsCovered ps n → length qs ≡ length ps
     → ((k : ℕ) → kept_at qs k ≡ [] → kept_at ps k ≡ []) → IsCovered qs n
 covered_kept ps qs n there count stays k lt e = there k (omega (arith, lt, count)) (stays k e)

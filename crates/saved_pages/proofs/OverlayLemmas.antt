@@ -1,10 +1,10 @@
 -- Old bytes by the pages that were kept of them.
-use Rattle.std.proofs.Common.{◌≡◌, ◌<◌, ◌≤◌, ◌+◌, ◌-◌, ◌*◌, ℕ, zero, suc, Bool, true, false, List, [], ◌∷◌, ◌++◌, length, take, drop, replicate, refl, sym, ◌∙◌, ap, arith, length-take, length-drop, length-append, append_assoc, take-append-drop}
+use Rattle.std.proofs.Common.{◌≡◌, ◌<◌, ◌≤◌, ◌+◌, ◌-◌, ◌*◌, inl, inr, ℕ, zero, suc, Bool, true, false, List, [], ◌∷◌, ◌++◌, length, take, drop, replicate, refl, sym, ◌∙◌, ap, arith, length-take, length-drop, length-append, append_assoc, take-append-drop}
 use Rattle.std.specs.Prelude.{nat_lt}
 use Rattle.std.proofs.Math.Seq.{take-length, drop-append-add}
 use Rattle.std.proofs.lemmas.List.{drop-drop, drop-take, take-take, take-append-le, drop-append-le}
-use Rattle.std.proofs.lemmas.Bool.{ltb-true, ltb-false}
-use Rattle.saved_pages.specs.Overlay.{page_at, kept_at, with_kept, page_or, before, IsCovered}
+use Rattle.std.proofs.lemmas.Bool.{cases_lt, cases_eq, ltb-true, ltb-false}
+use Rattle.saved_pages.specs.Overlay.{page_at, kept_at, none_kept, with_kept, page_or, before, IsCovered}
 
 -- ---- pages
 
@@ -45,6 +45,14 @@ with_stays (p ∷ ps) zero q e (suc j) f = f
 with_stays (p ∷ ps) (suc k) q e zero f = f
 with_stays (p ∷ ps) (suc k) q e (suc j) f = with_stays ps k q e j f
 
+pub with_others : (ps : List (List ℕ)) (k : ℕ) (q : List ℕ) (j : ℕ) → (j ≡ k → ⊥)
+    → kept_at (with_kept ps k q) j ≡ kept_at ps j
+with_others [] k q j other = refl
+with_others (p ∷ ps) zero q zero other = absurd (other refl)
+with_others (p ∷ ps) zero q (suc j) other = refl
+with_others (p ∷ ps) (suc k) q zero other = refl
+with_others (p ∷ ps) (suc k) q (suc j) other = with_others ps k q j (λ e. other (ap suc e))
+
 or_self : (q : List ℕ) → page_or q q ≡ q
 or_self [] = refl
 or_self (x ∷ xs) = refl
@@ -82,6 +90,17 @@ before_none zero (x ∷ xs) e = absurd (omega (arith, e))
 before_none (suc n) xs e =
     ap (λ (l : List ℕ). take 4096 xs ++ l) (before_none n (drop 4096 xs) (omega (arith, length-drop 4096 xs, e)))
     ∙ take-append-drop 4096 xs
+
+-- where nothing is kept of any page the bytes are as they were
+pub none_kept_is : (ps : List (List ℕ)) → none_kept ps ≡ true → ps ≡ replicate (length ps) []
+none_kept_is [] none = refl
+none_kept_is ([] ∷ ps) none = ap (λ (l : List (List ℕ)). [] ∷ l) (none_kept_is ps none)
+none_kept_is ((x ∷ xs) ∷ ps) none = absurd cc
+
+pub before_clear : (ps : List (List ℕ)) (xs : List ℕ) → none_kept ps ≡ true → length xs ≡ 4096 * length ps
+    → before ps xs ≡ xs
+before_clear ps xs none long =
+    ap (λ (l : List (List ℕ)). before l xs) (none_kept_is ps none) ∙ before_none (length ps) xs long
 
 -- ---- writes
 
@@ -129,7 +148,75 @@ before_put ps xs part at fits kept =
     go k lt e false l c r = page_right k at part xs fits (ltb-false (4096 * k) (at + length part) l)
     go k lt e true l false r = page_left k at part xs fits (ltb-false at (4096 * k + 4096) r)
 
--- so do bytes that are appended
+-- ---- pages restored
+
+pub some_kept : (p q : List ℕ) → p ≡ q → length p ≡ 4096 → q ≡ [] → ⊥
+some_kept p q e four none = absurd (omega (arith, four, ap length (e ∙ none)))
+
+-- the page that was kept of this number is there, and else nothing changed
+pub record IsPut (ps : List (List ℕ)) (k : ℕ) (old new : List ℕ) : Type 0 where
+  pub here : page_or (kept_at ps k) (page_at k new) ≡ page_at k new
+  pub others : (j : ℕ) → (j ≡ k → ⊥) → page_at j new ≡ page_at j old
+  pub base : before ps new ≡ before ps old
+
+page_written : (k : ℕ) (page xs rest : List ℕ) → length page ≡ 4096 → 4096 * k ≤ length xs
+    → page_at k (take (4096 * k) xs ++ (page ++ rest)) ≡ page
+page_written k page xs rest four le =
+    ap (take 4096) (none_of (4096 * k) (take (4096 * k) xs) (page ++ rest) (omega (arith, le, length-take (4096 * k) xs)))
+    ∙ all_of 4096 page rest four
+
+or_kept : (page now : List ℕ) → length page ≡ 4096 → page_or page now ≡ page
+or_kept [] now four = absurd (omega (arith, four))
+or_kept (x ∷ xs) now four = refl
+
+pub page_put : (ps : List (List ℕ)) (k : ℕ) (page old new : List ℕ) → page ≡ kept_at ps k → length page ≡ 4096
+    → 4096 * k + length page ≤ length old
+    → new ≡ take (4096 * k) old ++ (page ++ drop (4096 * k + length page) old) → IsPut ps k old new
+page_put ps k page old new is four fits e =
+    let there : page_at k new ≡ page =
+    ap (page_at k) e ∙ page_written k page old (drop (4096 * k + length page) old) four (omega (arith, fits)) in
+    let apart : (j : ℕ) → (j ≡ k → ⊥) → page_at j new ≡ page_at j old =
+    λ j other. ap (page_at j) e ∙ elim (cases_lt j k)
+    as (λ _. page_at j (take (4096 * k) old ++ (page ++ drop (4096 * k + length page) old)) ≡ page_at j old) [
+      | inl less ↦ page_left j (4096 * k) page old fits (omega (arith, less))
+      | inr more ↦ page_right j (4096 * k) page old fits (omega (arith, four, after j other more))
+    ] in
+    record {
+      here = ap (λ (q : List ℕ). page_or q (page_at k new)) (sym is) ∙ or_kept page (page_at k new) four ∙ sym there;
+      others = apart;
+      base = before_same ps new old (λ j lt none. apart j (λ same. some_kept page (kept_at ps j)
+          (is ∙ ap (kept_at ps) (sym same)) four none));
+    }
+  where
+    after : (j : ℕ) → (j ≡ k → ⊥) → k ≤ j → k < j
+    after j other le = elim (cases_eq j k) as (λ _. k < j) [
+      | inl same ↦ absurd (other same)
+      | inr apart ↦ omega (arith, le, apart)
+    ]
+
+-- once all are, the bytes are as they were
+pub all_put : (ps : List (List ℕ)) (xs : List ℕ) → length xs ≡ 4096 * length ps
+    → ((k : ℕ) → k < length ps → page_or (kept_at ps k) (page_at k xs) ≡ page_at k xs) → before ps xs ≡ xs
+all_put [] [] long there = refl
+all_put [] (x ∷ xs) long there = absurd (omega (arith, long))
+all_put (p ∷ ps) xs long there =
+    let first = there 0 (omega arith) in
+    let rest = all_put ps (drop 4096 xs) (omega (arith, long, length-drop 4096 xs))
+    (λ k lt. ap (page_or (kept_at ps k)) (page_next k xs) ∙ there (suc k) (omega (arith, lt)) ∙ sym (page_next k xs)) in
+    (λ i. first i ++ rest i) ∙ take-append-drop 4096 xs
+
+-- bytes that follow the pages do not count
+pub before_front : (ps : List (List ℕ)) (xs : List ℕ) (n : ℕ) → 4096 * length ps ≤ n
+    → before ps (take n xs) ≡ before ps xs
+before_front ps xs n le = before_same ps (take n xs) xs (λ k lt none.
+    let split : n ≡ 4096 * k + (n - 4096 * k) = omega (arith, le, lt) in
+    ap (λ (m : ℕ). page_at k (take m xs)) split
+    ∙ ap (take 4096) (drop-take (4096 * k) (n - 4096 * k) xs)
+    ∙ take-take 4096 (n - 4096 * k) (drop (4096 * k) xs) (omega (arith, le, lt)))
+
+-- ---- bytes appended
+
+-- bytes that are appended leave them too
 pub before_more : (ps : List (List ℕ)) (xs more : List ℕ) → IsCovered ps (length xs)
     → before ps (xs ++ more) ≡ before ps xs
 before_more ps xs more there =
@@ -143,9 +230,6 @@ pub kept_page_there : (ps : List (List ℕ)) (k : ℕ) (q : List ℕ) → k < le
     → kept_at (with_kept ps k q) k ≡ [] → ⊥
 kept_page_there ps k q lt four none =
     absurd (omega (arith, four, ap length (sym (kept_with ps k q lt) ∙ none)))
-
-pub some_kept : (p q : List ℕ) → p ≡ q → length p ≡ 4096 → q ≡ [] → ⊥
-some_kept p q e four none = absurd (omega (arith, four, ap length (e ∙ none)))
 
 -- a write, once the pages that it touches are kept
 pub before_written : (ps qs : List (List ℕ)) (old seen part new : List ℕ) (at : ℕ) → seen ≡ old

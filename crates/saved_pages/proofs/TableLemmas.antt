@@ -1,8 +1,10 @@
 -- Pages that were kept, in memory.
-use Rattle.std.proofs.Common.{◌≡◌, ◌<◌, ◌≤◌, ◌+◌, ◌-◌, ◌*◌, inl, inr, ℕ, zero, suc, List, [], ◌∷◌, ◌++◌, length, take, drop, get_or, set, replicate, refl, sym, ◌∙◌, ap, subst, arith, length-append, length-take, length-drop}
+use Rattle.std.proofs.Common.{◌≡◌, ◌<◌, ◌≤◌, ◌+◌, ◌-◌, ◌*◌, inl, inr, ℕ, zero, suc, true, false, List, [], ◌∷◌, ◌++◌, length, take, drop, get_or, set, replicate, refl, sym, ◌∙◌, ap, subst, arith, length-append, length-take, length-drop}
 use Rattle.std.proofs.Math.Seq.{take-length, drop-append-add}
 use Rattle.std.proofs.lemmas.List.{take_all, take-append-le, drop-append-le, length-replicate}
-use Rattle.saved_pages.specs.Overlay.{page_at, kept_at, with_kept, IsWhole, AreWhole}
+use Rattle.std.specs.Prelude.{nat_eq}
+use Rattle.std.proofs.lemmas.Bool.{cases_eq, eq-eqb, ne_eqb}
+use Rattle.saved_pages.specs.Overlay.{page_at, kept_at, none_kept, with_kept, IsWhole, AreWhole}
 use Rattle.saved_pages.specs.Table.{taken, named_in, pages_in, AreNamed, IsTable}
 
 pub kept_named : (room slots : List ℕ) (k : ℕ) → k < length slots
@@ -24,6 +26,34 @@ pub all_whole : (n : ℕ) (room slots : List ℕ) → length room ≡ 4096 * n �
 all_whole n room [] e a k = inl refl
 all_whole n room (s ∷ slots) e a zero = named_long n room s e a.0
 all_whole n room (s ∷ slots) e a (suc k) = all_whole n room slots e a.1 k
+
+-- nothing is kept of any page exactly where no slot names one
+none_kept_where : (room slots : List ℕ) → taken slots ≡ 0 → none_kept (pages_in room slots) ≡ true
+none_kept_where room [] none = refl
+none_kept_where room (zero ∷ slots) none = none_kept_where room slots none
+none_kept_where room (suc s ∷ slots) none = absurd (omega (arith, none))
+
+some_kept : (p : List ℕ) (ps : List (List ℕ)) → length p ≡ 4096 → none_kept (p ∷ ps) ≡ false
+some_kept [] ps four = absurd (omega (arith, four))
+some_kept (x ∷ p) ps four = refl
+
+some_kept_where : (n : ℕ) (room slots : List ℕ) → length room ≡ 4096 * n → AreNamed n slots → 0 < taken slots
+    → none_kept (pages_in room slots) ≡ false
+some_kept_where n room [] e a some = absurd (omega (arith, some))
+some_kept_where n room (zero ∷ slots) e a some = some_kept_where n room slots e a.1 some
+some_kept_where n room (suc s ∷ slots) e a some =
+    some_kept (named_in room (suc s)) (pages_in room slots)
+    (omega (arith, length-take 4096 (drop (4096 * s) room), length-drop (4096 * s) room, e, a.0))
+
+pub clear_seen : (room slots : List ℕ) (now : List (List ℕ)) (len : ℕ) → pages_in room slots ≡ now
+    → length room ≡ 4096 * taken slots → AreNamed (taken slots) slots → len ≡ length room
+    → nat_eq len 0 ≡ none_kept now
+clear_seen room slots now len is long named e =
+    elim (cases_eq len 0) as (λ _. nat_eq len 0 ≡ none_kept now) [
+      | inl none ↦ eq-eqb len 0 none ∙ sym (none_kept_where room slots (omega (arith, none, e, long))) ∙ ap none_kept is
+      | inr some ↦ ne_eqb len 0 some
+          ∙ sym (some_kept_where (taken slots) room slots long named (omega (arith, some, e, long))) ∙ ap none_kept is
+    ]
 
 pub taken_most : (slots : List ℕ) → taken slots ≤ length slots
 taken_most [] = omega arith
@@ -63,9 +93,9 @@ named_more m n (s ∷ slots) zero v le w a = (w, named_wider m n slots le a.1)
 named_more m n (s ∷ slots) (suc k) v le w a = (omega (arith, a.0), named_more m n slots k v le w a.1)
 
 -- nothing is kept
-pub none_kept : (room : List ℕ) (n : ℕ) → pages_in room (replicate n 0) ≡ replicate n []
-none_kept room zero = refl
-none_kept room (suc n) = ap (λ (l : List (List ℕ)). [] ∷ l) (none_kept room n)
+pub none_in : (room : List ℕ) (n : ℕ) → pages_in room (replicate n 0) ≡ replicate n []
+none_in room zero = refl
+none_in room (suc n) = ap (λ (l : List (List ℕ)). [] ∷ l) (none_in room n)
 
 pub empty_table : (slots room : List ℕ) (n room_for : ℕ) → slots ≡ replicate n 0 → room ≡ [] → n ≤ 4096
     → length slots ≡ n → 4096 * n ≤ room_for → IsTable slots room room_for
@@ -78,7 +108,7 @@ empty_table slots room n room_for is empty few many fits =
       fits = omega (arith, many, fits);
     }
 
--- so many pages more
+-- that many pages more
 pub resized : (xs : List ℕ) (long len more : ℕ) → length xs ≡ long → len ≡ long
     → take (len + more) xs ++ replicate (len + more - long) 0 ≡ xs ++ replicate more 0
 resized xs long len more is same =
@@ -86,7 +116,7 @@ resized xs long len more is same =
     ∙ ap (λ (n : ℕ). xs ++ replicate {A = ℕ} n 0) (omega arith)
 
 pub pages_wider : (room slots : List ℕ) (n : ℕ) → pages_in room (slots ++ replicate n 0) ≡ pages_in room slots ++ replicate n []
-pages_wider room [] n = none_kept room n
+pages_wider room [] n = none_in room n
 pages_wider room (s ∷ slots) n = ap (λ (l : List (List ℕ)). named_in room s ∷ l) (pages_wider room slots n)
 
 taken_wider : (slots : List ℕ) (n : ℕ) → taken (slots ++ replicate n 0) ≡ taken slots

@@ -1,6 +1,6 @@
 -- What were the bytes, by what was kept of them? For each of their pages of 4096 bytes the old page was kept, or nothing
 -- where it is still there. (This project's own.)
-use Rattle.std.specs.Prelude.{◌≡◌, ◌⊎◌, ◌<◌, ◌≤◌, ◌+◌, ◌*◌, ℕ, zero, suc, List, [], ◌∷◌, ◌++◌, length, take, drop}
+use Rattle.std.specs.Prelude.{◌≡◌, ◌⊎◌, ◌<◌, ◌≤◌, ◌+◌, ◌*◌, ℕ, zero, suc, Bool, true, false, List, [], ◌∷◌, ◌++◌, length, take, drop}
 
 -- the page of this number
 abbrev pub page_at : ℕ → List ℕ → List ℕ
@@ -17,6 +17,12 @@ abbrev pub with_kept : List (List ℕ) → ℕ → List ℕ → List (List ℕ)
 with_kept [] k page = []
 with_kept (p ∷ ps) zero page = page ∷ ps
 with_kept (p ∷ ps) (suc k) page = p ∷ with_kept ps k page
+
+-- whether nothing was kept of any page
+abbrev pub none_kept : List (List ℕ) → Bool
+none_kept [] = true
+none_kept ([] ∷ ps) = none_kept ps
+none_kept ((x ∷ xs) ∷ ps) = false
 
 -- the page that was kept, or else the one that is there
 abbrev pub page_or : List ℕ → List ℕ → List ℕ
@@ -36,6 +42,6 @@ IsWhole page = (page ≡ []) ⊎ (length page ≡ 4096)
 abbrev pub AreWhole : List (List ℕ) → Type 0
 AreWhole pages = (k : ℕ) → IsWhole (kept_at pages k)
 
--- each page of which nothing was kept is there, among so many bytes
+-- each page of which nothing was kept is there, among that many bytes
 abbrev pub IsCovered : List (List ℕ) → ℕ → Type 0
 IsCovered pages long = (k : ℕ) → k < length pages → kept_at pages k ≡ [] → 4096 * k + 4096 ≤ long

@@ -17,7 +17,7 @@ named_in room (suc n) = page_at n room
 abbrev pub pages_in : List ℕ → List ℕ → List (List ℕ)
 pages_in room slots = map (named_in room) slots
 
--- each slot names one of so many pages, or none
+-- each slot names one of that many pages, or none
 abbrev pub AreNamed : ℕ → List ℕ → Type 0
 AreNamed n [] = Unit {0}
 AreNamed n (s ∷ slots) = (s ≤ n) × AreNamed n slots

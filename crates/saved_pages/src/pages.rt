@@ -1,7 +1,7 @@
 //! Old pages, each kept once.
 
-ghost use Rattle.std.specs.Prelude.{◌≡◌, ◌+◌, ◌*◌, ◌<◌, ◌≤◌, [], ◌++◌, ℕ, List, length, replicate, IfOk, OnErr, OnOk, MatchOption};
-ghost use Rattle.saved_pages.specs.Overlay.{kept_at, with_kept, AreWhole};
+ghost use Rattle.std.specs.Prelude.{◌≡◌, ◌+◌, ◌*◌, ◌<◌, ◌≤◌, [], ◌++◌, ℕ, List, length, take, drop, replicate, IfOk, OnErr, OnOk, MatchOption};
+ghost use Rattle.saved_pages.specs.Overlay.{before, kept_at, none_kept, page_at, page_or, with_kept, AreWhole};
 
 use std::alloc::{AllocError, Global};
 use std::marker::Model;
@@ -26,8 +26,17 @@ impl Model for SavedPages {
     ghost invariant = { λ a. IsTable a.slots.items a.room.items (vec_capacity a.room) };
 }
 
+/// Writes a part over what stands from a place on.
+fn write_over(bytes: &mut [u8], at: usize, part: &[u8])
+    requires { at + length part.now ≤ length bytes.old }
+    ensures long { length bytes.new ≡ length bytes.old }
+    ensures exact { bytes.new ≡ take at bytes.old ++ (part.now ++ drop (at + length part.now) bytes.old) }
+{
+    bytes[at..at + part.len()].copy_from_slice(part);
+}
+
 impl SavedPages {
-    /// Of so many pages none is kept.
+    /// Of that many pages none is kept.
     pub fn new(alloc: Global, count: usize) -> Result<SavedPages, AllocError>
         requires { count ≤ 4096 }
         ensures { IfOk result (λ pages. pages ≡ replicate count []) }
@@ -50,7 +59,7 @@ impl SavedPages {
         Ok(SavedPages { slots, room })
     }
 
-    /// So many pages more, of which none is kept. Where there is no memory all is as it was.
+    /// That many pages more, of which none is kept. Where there is no memory all is as it was.
     pub fn widen(&mut self, more: usize) -> Result<(), AllocError>
         requires { length self.old + more ≤ 4096 }
         ensures ok { OnOk result (self.new ≡ self.old ++ replicate more []) }
@@ -69,6 +78,13 @@ impl SavedPages {
         ensures whole { AreWhole self.now }
     {
         self.slots.len()
+    }
+
+    /// Whether nothing is kept of any page.
+    pub fn is_clear(&self) -> bool
+        ensures { result ≡ none_kept self.now }
+    {
+        self.room.len() == 0
     }
 
     /// What was kept of a page.
@@ -96,7 +112,7 @@ impl SavedPages {
         self.slots[k] = slot as u16;
     }
 
-    /// Nothing is kept any more, of so many pages, which are no more than before. No memory is taken.
+    /// Nothing is kept any more, of that many pages, which are not more than before. No memory is taken.
     pub fn clear(&mut self, count: usize)
         requires { count ≤ length self.old }
         ensures { self.new ≡ replicate count [] }
@@ -105,5 +121,29 @@ impl SavedPages {
         self.slots.truncate(0);
         let done = self.slots.resize(count, 0).is_ok();
         prove!(done);
+    }
+
+    /// Writes each page that was kept over the one that is there: the bytes are the old ones then. No memory is taken.
+    pub fn restore(&self, bytes: &mut [u8])
+        requires { length bytes.old ≡ 4096 * length self.now }
+        ensures { bytes.new ≡ before self.now bytes.old }
+    {
+        for k in 0..self.len() {
+            self.restore_page(bytes, k);
+        }
+    }
+
+    /// Writes this page over the one that is there, if it was kept.
+    fn restore_page(&self, bytes: &mut [u8], k: usize)
+        requires inside { k < length self.now }
+        requires whole { length bytes.old ≡ 4096 * length self.now }
+        ensures here { page_or (kept_at self.now k) (page_at k bytes.new) ≡ page_at k bytes.new }
+        ensures others { (j : ℕ) → (j ≡ k → ⊥) → page_at j bytes.new ≡ page_at j bytes.old }
+        ensures before { before self.now bytes.new ≡ before self.now bytes.old }
+        ensures long { length bytes.new ≡ length bytes.old }
+    {
+        if let Some(page) = self.kept(k) {
+            write_over(bytes, 4096 * k, page);
+        }
     }
 }

@@ -30,3 +30,22 @@ fn a_page_is_kept_as_it_was_at_first(rt: HostRuntime) -> Result<(), Fail> {
     assert_eq!(rt; pages.kept(0).is_none(), true);
     Ok(())
 }
+
+#[test]
+fn what_was_kept_is_restored(rt: HostRuntime) -> Result<(), Fail> {
+    let mut bytes = [1; 8192];
+    let mut pages = SavedPages::new(rt.alloc(), 2)?;
+    assert_eq!(rt; pages.is_clear(), true);
+    touch(&mut pages, &bytes, 4096, 4098);
+    assert_eq!(rt; pages.is_clear(), false);
+    bytes[4095] = 2;
+    bytes[4096] = 2;
+    bytes[8191] = 2;
+    pages.restore(&mut bytes);
+    assert_eq!(rt; bytes[4095], 2);
+    assert_eq!(rt; bytes[4096], 1);
+    assert_eq!(rt; bytes[8191], 1);
+    pages.clear(2);
+    assert_eq!(rt; pages.is_clear(), true);
+    Ok(())
+}

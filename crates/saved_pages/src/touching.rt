@@ -1,6 +1,6 @@
 //! Pages kept before they change.
 
-ghost use Rattle.std.specs.Prelude.{◌≡◌, ◌+◌, ◌*◌, ◌<◌, ◌≤◌, [], ℕ, length};
+ghost use Rattle.std.specs.Prelude.{◌≡◌, ◌⊎◌, ◌+◌, ◌*◌, ◌<◌, ◌≤◌, [], ℕ, length};
 ghost use Rattle.saved_pages.specs.Overlay.{before, kept_at, page_at, IsCovered};
 
 use crate::pages::SavedPages;
@@ -14,6 +14,7 @@ pub fn touch(pages: &mut SavedPages, bytes: &[u8], from: usize, to: usize)
     ensures count { length pages.new ≡ length pages.old }
     ensures covered { IsCovered pages.new (length bytes.now) }
     ensures kept { (k : ℕ) → 4096 * k < to → from < 4096 * k + 4096 → k < length pages.old → kept_at pages.new k ≡ [] → ⊥ }
+    ensures others { (k : ℕ) → (4096 * k + 4096 ≤ from) ⊎ (to ≤ 4096 * k) → kept_at pages.new k ≡ kept_at pages.old k }
 {
     for k in from / 4096..(to + 4095) / 4096 {
         touch_page(pages, bytes, k);
@@ -28,6 +29,7 @@ fn touch_page(pages: &mut SavedPages, bytes: &[u8], k: usize)
     ensures covered { IsCovered pages.new (length bytes.now) }
     ensures kept { k < length pages.old → kept_at pages.new k ≡ [] → ⊥ }
     ensures stays { (j : ℕ) → kept_at pages.new j ≡ [] → kept_at pages.old j ≡ [] }
+    ensures others { (j : ℕ) → (j ≡ k → ⊥) → kept_at pages.new j ≡ kept_at pages.old j }
 {
     if k >= pages.len() {
         return;

@@ -1,4 +1,4 @@
-use Rattle.std.proofs.Common.{◌≡◌, ◌≤◌, ◌<◌, ◌/◌, ℕ, [], length}
+use Rattle.std.proofs.Common.{◌≡◌, ◌⊎◌, ◌≤◌, ◌<◌, ◌+◌, ◌*◌, ◌/◌, ℕ, [], length}
 use Rattle.saved_pages.specs.Overlay.{before, kept_at, IsCovered}
 use Rattle.saved_pages.proofs.touching.touch.Given as goal
 
@@ -9,4 +9,5 @@ invariant-loop-k l = record {
   count : length l.pages ≡ length l.fn.pages;
   covered : IsCovered l.pages (length l.bytes);
   kept : (j : ℕ) → l.from / 4096 ≤ j → j < l.k → j < length l.fn.pages → kept_at l.pages j ≡ [] → ⊥;
+  others : (j : ℕ) → (4096 * j + 4096 ≤ l.from) ⊎ (l.to ≤ 4096 * j) → kept_at l.pages j ≡ kept_at l.fn.pages j;
 }

@@ -1,6 +1,6 @@
 use Rattle.std.proofs.Common.{◌≡◌, List, ℕ, [], length, ap, subst, ◌∙◌, arith}
 use Rattle.saved_pages.specs.Overlay.{before, with_kept, kept_at}
-use Rattle.saved_pages.proofs.OverlayLemmas.{before_with, with_length, kept_page_there, with_stays, some_kept}
+use Rattle.saved_pages.proofs.OverlayLemmas.{before_with, with_length, kept_page_there, with_stays, with_others, some_kept}
 use Rattle.saved_pages.proofs.CoveredLemmas.{covered_kept}
 use Rattle.saved_pages.proofs.touching.touch_page.Goals as goal
 
@@ -36,6 +36,11 @@ returns-in-None-clause-stays c = λ j none.
     with_stays c.args.pages.now c.args.k c.page_of.result.now
     c.in-None.ensures j
     (subst (λ (ps : List (List ℕ)). kept_at ps j ≡ []) c.keep.ensures none)
+
+pub returns-in-None-clause-others : goal.returns-in-None-clause-others
+returns-in-None-clause-others c = λ j other.
+    ap (λ (ps : List (List ℕ)). kept_at ps j) c.keep.ensures
+    ∙ with_others c.args.pages.now c.args.k c.page_of.result.now j other
 
 pub returns-in-Some-clause-kept : goal.returns-in-Some-clause-kept
 returns-in-Some-clause-kept c = λ lt none. some_kept _ _ c.in-Some.ensures.0 c.in-Some.ensures.1 none

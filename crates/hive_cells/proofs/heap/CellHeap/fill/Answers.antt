@@ -239,7 +239,7 @@ returns-clause-long c = (part (goal.at.returns-clause-long c).After-raise).long 
 long : (c : After-self) → length c.self.inside.bytes.items ≡ bins_size c.args.self.now
 long c = seen_long c.self.inside.bytes.items c.self.inside.starts.items c.args.self.now c.self.invariant c.self.view_is
 
--- the old bytes are told after the run was put
+-- the old bytes are known after the run was put
 told : (c : After-put) → before c.touch.new.pages c.put.new.bytes.items
     ≡ before c.args.pages.now c.self.inside.bytes.items
 told c =

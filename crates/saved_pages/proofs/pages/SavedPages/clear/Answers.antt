@@ -3,7 +3,7 @@ use Rattle.std.proofs.lemmas.Grind.{common_steps}
 use Rattle.std.proofs.lemmas.List.{length-replicate}
 use Rattle.std.specs.Vec.{vec_capacity}
 use Rattle.saved_pages.specs.Table.{pages_in}
-use Rattle.saved_pages.proofs.TableLemmas.{empty_table, none_kept, seen_many}
+use Rattle.saved_pages.proofs.TableLemmas.{empty_table, none_in, seen_many}
 use Rattle.saved_pages.proofs.pages.SavedPages.clear.Goals as goal
 
 pub prove-unreachable-requires : goal.prove-unreachable-requires
@@ -26,4 +26,4 @@ invariant_of-self c =
 pub returns : goal.returns
 returns c =
     let slots : c.resize.new.self.items ≡ replicate c.args.count 0 = grind (arith, common_steps) in
-    ap (pages_in c.truncate.new.self.items) slots ∙ none_kept c.truncate.new.self.items c.args.count
+    ap (pages_in c.truncate.new.self.items) slots ∙ none_in c.truncate.new.self.items c.args.count

@@ -3,7 +3,7 @@ use Rattle.std.proofs.lemmas.Grind.{common_steps}
 use Rattle.std.proofs.lemmas.List.{length-replicate}
 use Rattle.std.specs.Vec.{vec_capacity}
 use Rattle.saved_pages.specs.Table.{pages_in}
-use Rattle.saved_pages.proofs.TableLemmas.{empty_table, none_kept}
+use Rattle.saved_pages.proofs.TableLemmas.{empty_table, none_in}
 use Rattle.saved_pages.proofs.pages.SavedPages.new.Goals as goal
 
 pub invariant_of-result : goal.invariant_of-result
@@ -16,4 +16,4 @@ invariant_of-result c =
 pub returns : goal.returns
 returns c =
     let slots : c.resize.new.self.items ≡ replicate c.args.count 0 = grind (arith, common_steps) in
-    ap (pages_in _) slots ∙ none_kept _ c.args.count
+    ap (pages_in _) slots ∙ none_in _ c.args.count

@@ -1,6 +1,6 @@
 use Rattle.std.proofs.Common.{◌≡◌, ◌-◌, ◌/◌, ◌%◌, ◌≤◌, false, length, take, drop, replicate}
 use Rattle.hive_cells.specs.Reading.{BinsRead}
-use Rattle.hive_cells.proofs.read.read_cells.Given as goal
+use Rattle.hive_cells.proofs.read.mark_bins.Given as goal
 
 abbrev pub invariant-reading : goal.invariant-reading
 invariant-reading l = record {
