@@ -316,6 +316,15 @@ still_or old new root x host left version bulk above shared k at is r (inl e) =
 still_or old new root x host left version bulk above shared k at is r (inr put) =
     still_hive old new root x host left version bulk above shared k at is r put
 
+-- and the bins data are no shorter
+pub no_shorter : (old : Opened) (new : List Bin) (root : ℕ) (version : HiveVersion) (h : HiveCells) (x : ℕ) (above : Above)
+    (shared : List ℕ) (k : Tree) (at : ℕ) → hive_of old root version ≡ h
+    → (new ≡ old.bins) ⊎ IsRunPut version x above shared k at old.bins new → bins_size h.bins ≤ bins_size new
+no_shorter old new root version h x above shared k at view (inl e) =
+    omega (arith, ap bins_size e, ap (λ (g : HiveCells). bins_size g.bins) view)
+no_shorter old new root version h x above shared k at view (inr put) =
+    let least = put.put.least in omega (arith, least, ap (λ (g : HiveCells). bins_size g.bins) view)
+
 -- ---- there is no room
 
 pub lacks_bins : (old new : List Bin) (root x : ℕ) (host : Tree) (left : ℕ) (version : HiveVersion) (above : Above)

@@ -7,6 +7,7 @@ pub mod ItemLemmas
 pub mod ScanLemmas
 pub mod FoundLemmas
 pub mod HiveLemmas
+pub mod SettledLemmas
 pub mod InPlaceLemmas
 pub mod EditLemmas
 pub mod GivenUpLemmas

@@ -310,7 +310,7 @@ held_below bins o p e = go (cell_at bins o) refl e
     go None f g = absurd cc
     go (Some c) f g = let l = bins_below bins o 0 c f in omega (arith, l)
 
--- numbers below a bound, no two one, are no more than it
+-- numbers below a bound, no two one, are at most that
 few_below : (xs : List ℕ) (n : ℕ) → Pairwise (λ p q. p ≡ q → ⊥) xs → ((x : ℕ) → In xs x → x < n) → length xs ≤ n
 few_below xs n apart below =
     length-le_from_distinct_below xs n

@@ -28,7 +28,7 @@ use Rattle.hive_edit.specs.Edits.{IsEditedInPlace, IsPackedAnew, IsPackedForRoom
 use Rattle.hive_edit.specs.Hive.{HiveCells, cells_in, hive_of, IsHive}
 use Rattle.hive_edit.specs.Standing.{tree_of}
 use Rattle.hive_edit.specs.Stepped.{IsStepped, LacksStepRoom}
-use Rattle.hive_edit.specs.Steps.{AreStepped, AreStrained}
+use Rattle.hive_edit.specs.Steps.{AreMadeOrNone, AreStepped, AreStrained}
 use Rattle.hive_edit.specs.Tells.{IsToldStep}
 use Rattle.hive_edit.proofs.EditLemmas.{the_tree}
 use Rattle.hive_edit.proofs.HiveLemmas.{hive_opened}
@@ -322,6 +322,18 @@ pub ordered_full : (steps : List Step) (h g : HiveCells) (n : ℕ) → AreSteppe
 ordered_full steps h g n m e over =
     steps_full h.version h.tree g.tree steps (ordered_tree steps h g m)
     (subst (λ (b : ℕ). 16773120 < b) (bulk_seen steps h g n m e) over)
+
+-- ---- all or none
+
+pub all_made : (h g : HiveCells) (steps : List Step) (d : Bool) → d ≡ true → AreMadeOrNone h steps (Ok d) g
+    → AreStepped h steps g × (bulk_of g.version g.tree ≤ 16773120)
+all_made h g steps true e m = m
+all_made h g steps false e m = absurd cc
+
+pub none_made : (h g : HiveCells) (steps : List Step) (d : Bool) → d ≡ false → AreMadeOrNone h steps (Ok d) g
+    → AreStrained h steps × (g ≡ h)
+none_made h g steps true e m = absurd cc
+none_made h g steps false e m = m
 
 -- ---- a step after others
 

@@ -3,7 +3,7 @@ use Rattle.std.specs.Prelude.{◌≡◌, ℕ, Bool, true, false, List, Some, Non
 use Rattle.std.specs.Coded.{Coded, code_by, coded×, coded_ℕ, coded_bool, coded_list}
 use Rattle.nt_bytes.specs.declared.version.HiveVersion.{HiveVersion}
 use Rattle.nt_bytes.specs.declared.version.HiveVersion.TheVariants.{V3, V5}
-use Rattle.hive_model.specs.Bins.{Bin, Cells, look_up, spelled}
+use Rattle.hive_model.specs.Bins.{Bin, Cells, look_up, spelled, IsBins}
 use Rattle.hive_model.specs.Codes.{coded_bin, coded_tree}
 use Rattle.hive_model.specs.Tree.{Tree}
 use Rattle.hive_model.specs.Size.{bulk_of}
@@ -42,6 +42,12 @@ pub record IsHive (bins : List Bin) (root : ℕ) (version : HiveVersion) (bulk :
   pub stands : IsWellFormed (look_up version bins) root (tree_of (look_up version bins) root)
   pub valid : IsValid (tree_of (look_up version bins) root)
   pub counted : bulk ≡ bulk_of version (tree_of (look_up version bins) root)
+
+-- the bytes are bins, in which there was such a hive
+pub record WasHive (base : List ℕ) (root : ℕ) (version : HiveVersion) (bulk : ℕ) : Type 0 where
+  pub bins : List Bin
+  pub is : IsBins base bins
+  pub hive : IsHive bins root version bulk
 
 -- whether a version is the newer one
 abbrev pub is_newer : HiveVersion → Bool

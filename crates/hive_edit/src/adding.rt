@@ -2,6 +2,7 @@
 
 ghost use Rattle.std.specs.Prelude.{◌≡◌, ◌≤◌, ◌<◌, ◌+◌, ◌-◌, length, Ok, IfOk, MatchBool, MatchResult};
 ghost use Rattle.std.specs.Option.{MatchOption};
+ghost use Rattle.hive_model.specs.Bins.{bins_size};
 ghost use Rattle.hive_model.specs.Edit.{make_key, new_key, is_bad_name, after_step};
 ghost use Rattle.hive_model.specs.Size.{cell, list_size, name_bytes};
 ghost use Rattle.reg_tree.specs.Makes.{IsRefused};
@@ -180,6 +181,7 @@ impl HiveBytes {
         ensures made { IfOk result (λ done. MatchBool done (IsToldStep self.old (make_key parent.now name.now) self.new)
             (LacksStepRoom self.old (make_key parent.now name.now))) }
         ensures base { self.new.base ≡ self.old.base }
+        ensures grown { bins_size self.old.bins ≤ bins_size self.new.bins }
     {
         self.stands();
         let source = Source {
@@ -223,7 +225,7 @@ impl HiveBytes {
     /// Gives the key that a path leads to a child of this name, unless it has one, whatever the bulk of the tree then: with
     /// its stamp and its security, and nothing else, in the order of folded names. Its node is put into a cell that was
     /// none, the parent's lists are rewritten, and the security, if there is any, counts one key more. `false` where there is no room for
-    /// the node or the lists. The hive is a draft, to be dropped then, and after an `Err`.
+    /// the node or the lists. The hive is to be dropped or restored then, and after an `Err`.
     pub(crate) fn make_key_step(
         &mut self,
         alloc: Global,
@@ -234,6 +236,7 @@ impl HiveBytes {
             (λ done. MatchBool done (IsToldStep self.old (make_key parent.now name.now) self.new) (LacksStepRoom self.old (make_key parent.now name.now)))
             (IsRefused (after_step (make_key parent.now name.now) self.old.tree)) }
         ensures base { self.new.base ≡ self.old.base }
+        ensures grown { bins_size self.old.bins ≤ bins_size self.new.bins }
     {
         match self.open_place(parent, name) {
             Err(stop) => Err(stop),

@@ -3,6 +3,7 @@
 ghost use Rattle.std.specs.Prelude.{◌≡◌, ◌≤◌, ◌<◌, ◌^◌, ◌+◌, ◌-◌, ◌*◌, [], min, true, Ok, IfOk, MatchBool, MatchResult};
 ghost use Rattle.std.specs.Option.{IfSome, MatchOption};
 ghost use Rattle.std.specs.Result.{IsOk};
+ghost use Rattle.hive_model.specs.Bins.{bins_size};
 ghost use Rattle.hive_model.specs.Tree.{head};
 ghost use Rattle.hive_model.specs.Size.{list_size, security_size, size};
 ghost use Rattle.hive_model.specs.Edit.{add_child, after_step, is_bad_name, renamed};
@@ -120,7 +121,7 @@ impl HiveBytes {
     }
 
     /// Puts a key below the root, at a place for its run, whatever the bulk then. `false` where there is no room for the root's
-    /// lists. The hive is a draft, to be dropped then, and after an `Err`.
+    /// lists. The hive is to be dropped or restored then, and after an `Err`.
     fn graft_at(
         &mut self,
         alloc: Global,
@@ -140,6 +141,7 @@ impl HiveBytes {
         ensures grafted { IfOk result (λ done. MatchBool done (IsGraftedIn self.old above.security shared.now key.now self.new)
             (LacksGraftRoom self.old shared.now key.now)) }
         ensures base { self.new.base ≡ self.old.base }
+        ensures grown { bins_size self.old.bins ≤ bins_size self.new.bins }
     {
         let bulk = grafted_bulk(self.bulk, above.count, own);
         let version = self.version;
@@ -192,6 +194,7 @@ impl HiveBytes {
         ensures grafted { IfOk result (λ done. MatchBool done (IsGraftedIn self.old above.security shared.now key.now self.new)
             (LacksGraftRoom self.old shared.now key.now)) }
         ensures base { self.new.base ≡ self.old.base }
+        ensures grown { bins_size self.old.bins ≤ bins_size self.new.bins }
     {
         match place_for(&self.cells, bytes) {
             None => Ok(false),
@@ -205,6 +208,7 @@ impl HiveBytes {
         ensures added { IfOk result (λ done. MatchBool done (IsAddedIn self.old key.now self.new)
             (LacksGraftRoom self.old (head self.old.tree).security key.now)) }
         ensures base { self.new.base ≡ self.old.base }
+        ensures grown { bins_size self.old.bins ≤ bins_size self.new.bins }
     {
         let source = Source {
             heap: self.cells.cells(),
@@ -230,6 +234,7 @@ impl HiveBytes {
             (λ done. MatchBool done (IsToldStep self.old (add_child name.now key.now) self.new) (LacksStepRoom self.old (add_child name.now key.now)))
             (IsRefused (after_step (add_child name.now key.now) self.old.tree)) }
         ensures base { self.new.base ≡ self.old.base }
+        ensures grown { bins_size self.old.bins ≤ bins_size self.new.bins }
     {
         self.stands();
         if key.is_deeper(511) {
@@ -249,7 +254,7 @@ impl HiveBytes {
 
     /// Gives the root a child of this name, which is this key with all below it, whatever the bulk of the tree then: one run of
     /// cells, new lists of the root, and that many uses more of the root's security as keys share it. `false` where there is no
-    /// room for the run or for the lists. The hive is a draft, to be dropped then, and after an `Err`.
+    /// room for the run or for the lists. The hive is to be dropped or restored then, and after an `Err`.
     pub(crate) fn add_child_step(
         &mut self,
         alloc: Global,
@@ -261,6 +266,7 @@ impl HiveBytes {
             (λ done. MatchBool done (IsToldStep self.old (add_child name.now key.now) self.new) (LacksStepRoom self.old (add_child name.now key.now)))
             (IsRefused (after_step (add_child name.now key.now) self.old.tree)) }
         ensures base { self.new.base ≡ self.old.base }
+        ensures grown { bins_size self.old.bins ≤ bins_size self.new.bins }
     {
         match self.judge_name(name) {
             Err(stop) => Err(stop),

@@ -1,6 +1,7 @@
 //! A child of the root copied with all below it: what was read of it is added under the other name, and shares its descriptor.
 
 ghost use Rattle.std.specs.Prelude.{◌≡◌, ◌≤◌, [], ◌∷◌, true, find, Some, Ok, IfOk, MatchBool, MatchResult};
+ghost use Rattle.hive_model.specs.Bins.{bins_size};
 ghost use Rattle.hive_model.specs.Tree.{children, head, is_named};
 ghost use Rattle.hive_model.specs.Valid.{HoldsKeys, levels};
 ghost use Rattle.hive_model.specs.Size.{size};
@@ -81,6 +82,7 @@ impl HiveBytes {
         ensures grafted { IfOk result (λ done. MatchBool done (IsGraftedIn self.old above.security (head key.now).security key.now self.new)
             (LacksGraftRoom self.old (head key.now).security key.now)) }
         ensures base { self.new.base ≡ self.old.base }
+        ensures grown { bins_size self.old.bins ≤ bins_size self.new.bins }
     {
         match size_below(self.version, key.security(), key) {
             None => Ok(false),
@@ -100,6 +102,7 @@ impl HiveBytes {
         ensures copied { IfOk result (λ done. MatchBool done (IsCopiedIn self.old from.now key.now self.new)
             (LacksGraftRoom self.old (head self.old.tree).security key.now)) }
         ensures base { self.new.base ≡ self.old.base }
+        ensures grown { bins_size self.old.bins ≤ bins_size self.new.bins }
     {
         let place = self.shared_of(from);
         let source = Source {
@@ -136,6 +139,7 @@ impl HiveBytes {
             (λ done. MatchBool done (IsToldStep self.old (copy_child from.now to.now) self.new) (LacksStepRoom self.old (copy_child from.now to.now)))
             (IsRefused (after_step (copy_child from.now to.now) self.old.tree)) }
         ensures base { self.new.base ≡ self.old.base }
+        ensures grown { bins_size self.old.bins ≤ bins_size self.new.bins }
     {
         self.stands();
         let child = renamed(alloc, key, to)?;
@@ -152,7 +156,7 @@ impl HiveBytes {
 
     /// Gives the root a child of the name `to` that is as its child of the name `from`, with all below it, whatever the bulk of the
     /// tree then: one run of cells, new lists of the root, and that many uses more of the security of `from` as keys share it.
-    /// `false` where there is no room for the run or for the lists. The hive is a draft, to be dropped then, and after an `Err`.
+    /// `false` where there is no room for the run or for the lists. The hive is to be dropped or restored then, and after an `Err`.
     pub(crate) fn copy_child_step(
         &mut self,
         alloc: Global,
@@ -163,6 +167,7 @@ impl HiveBytes {
             (λ done. MatchBool done (IsToldStep self.old (copy_child from.now to.now) self.new) (LacksStepRoom self.old (copy_child from.now to.now)))
             (IsRefused (after_step (copy_child from.now to.now) self.old.tree)) }
         ensures base { self.new.base ≡ self.old.base }
+        ensures grown { bins_size self.old.bins ≤ bins_size self.new.bins }
     {
         let path = path_of(alloc, from)?;
         match self.subtree(alloc, &path)? {

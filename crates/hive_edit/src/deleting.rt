@@ -2,6 +2,7 @@
 
 ghost use Rattle.std.specs.Prelude.{◌≡◌, ◌≤◌, ◌<◌, ◌⊎◌, [], ◌∷◌, length, map, true, false, Some, Ok, Err, IfOk, IfErr, OnOk, OnErr, MatchBool, MatchOption, MatchResult};
 ghost use Rattle.std.specs.List.{All};
+ghost use Rattle.hive_model.specs.Bins.{bins_size};
 ghost use Rattle.hive_model.specs.Size.{bulk_of};
 ghost use Rattle.hive_model.specs.Edit.{after_step, delete_key, edited, no_key, without_key};
 ghost use Rattle.hive_cells.specs.Sources.{cells_of};
@@ -196,6 +197,7 @@ impl HiveBytes {
         ensures kept { result ≡ Ok false → self.new ≡ self.old }
         ensures refused { OnErr result (self.new ≡ self.old) }
         ensures base { self.new.base ≡ self.old.base }
+        ensures grown { bins_size self.old.bins ≤ bins_size self.new.bins }
     {
         match self.key_pair(path) {
             None => Err(EditStop::NoKey),

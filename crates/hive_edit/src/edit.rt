@@ -1,11 +1,12 @@
 //! A value set, where it stands or with all cells repacked, and steps in order.
 
-ghost use Rattle.std.specs.Prelude.{◌≡◌, ◌≤◌, ◌<◌, ℕ, ◌+◌, ◌⊎◌, [], ◌∷◌, length, map, is_some, true, Some, Ok, IfOk, IfErr, OnOk, OnErr, MatchResult};
+ghost use Rattle.std.specs.Prelude.{◌≡◌, ◌≤◌, ◌<◌, ℕ, ◌+◌, ◌⊎◌, [], ◌∷◌, length, map, is_some, true, Some, Ok, Err, IfOk, IfErr, OnOk, OnErr, MatchResult};
 ghost use Rattle.std.specs.List.{All};
 ghost use Rattle.std.specs.Int.{w32, from_le_bytes};
 ghost use Rattle.hive_model.specs.Edit.{edited, set_value};
 ghost use Rattle.reg_tree.specs.Fitting.{Fits};
 ghost use Rattle.hive_model.specs.Size.{bulk_of};
+ghost use Rattle.hive_model.specs.Tree.{Tree};
 ghost use Rattle.hive_model.specs.Valid.{IsValid};
 ghost use Rattle.hive_model.specs.Stands.{IsWellFormed};
 ghost use Rattle.reg_tree.specs.Makes.{IsRefused, Makes, step_of};
@@ -139,8 +140,7 @@ impl HiveBytes {
         Ok(())
     }
 
-    /// Makes the steps in order, all or none, in a copy of the cells; where one of them is not made there, packs the tree
-    /// again.
+    /// Makes the steps in order, all or none, in the cells; where there is no room there for one of them, repacks the tree.
     fn apply_in_order(&mut self, alloc: Global, steps: Steps) -> Result<(), EditStop>
         requires fits { All Fits (map step_of steps) }
         ensures made { Makes self.old.tree self.new.tree result (edited self.old.version self.old.tree (map step_of steps)) }
@@ -151,20 +151,15 @@ impl HiveBytes {
         ensures base { self.new.base ≡ self.old.base }
     {
         self.stands();
-        let mut draft = self.copy(alloc)?;
-        if draft.make_steps(alloc, steps.as_slice())? {
-            if draft.bulk() > MOST_BULK {
-                return Err(EditStop::Full);
-            }
-            *self = draft;
+        let done = self.make_all(alloc, steps.as_slice())?;
+        if done {
             return Ok(());
         }
         self.apply_anew(alloc, steps)
     }
 
     /// Makes the steps in order, all or none. Each value list that is rewritten takes a page of the strain at the least: where
-    /// so many steps set a value that the strain is over the limit, the tree is repacked at once, with no copy of the
-    /// cells.
+    /// so many steps set a value that the strain is over the limit, the tree is repacked at once.
     fn apply_many(&mut self, alloc: Global, steps: Steps) -> Result<(), EditStop>
         requires fits { All Fits (map step_of steps) }
         ensures made { Makes self.old.tree self.new.tree result (edited self.old.version self.old.tree (map step_of steps)) }
@@ -183,8 +178,8 @@ impl HiveBytes {
 
     /// Makes the steps in order, all or none. A hive can hold each key that a step brings along. One value that is set
     /// or deleted and one key that is deleted change few cells, as `set_value`, `delete_value` and `delete_key` say; other
-    /// steps do so in a copy of the cells, in sequence, where there is room, and else repack the tree. After an
-    /// `Err` the hive is as before.
+    /// steps do so in sequence, where there is room, and else repack the tree. The cells are copied only where they are not
+    /// settled. After an `Err` the hive is as before.
     pub fn apply(&mut self, alloc: Global, steps: Steps) -> Result<(), EditStop>
         requires fits { All Fits (map step_of steps) }
         ensures made { Makes self.old.tree self.new.tree result (edited self.old.version self.old.tree (map step_of steps)) }
@@ -248,6 +243,7 @@ impl HiveBytes {
         ensures parents { OnOk result (KeepsParents self.old self.new) }
         ensures freed { OnOk result (FreesData self.old path.now name.now self.new
             ⊎ IsPackedForRoom self.old (set_value path.now name.now kind bytes.now ∷ []) self.new) }
+        ensures only_made { result ≡ Err Memory → (t : Tree) × (edited self.old.version self.old.tree (set_value path.now name.now kind bytes.now ∷ []) ≡ Ok t) }
         ensures base { self.new.base ≡ self.old.base }
     {
         let bulk = self.bulk_set(path, name, place, kind, bytes);
@@ -278,6 +274,7 @@ impl HiveBytes {
         ensures parents { OnOk result (KeepsParents self.old self.new) }
         ensures freed { OnOk result (FreesData self.old path.now name.now self.new
             ⊎ IsPackedForRoom self.old (set_value path.now name.now kind bytes.now ∷ []) self.new) }
+        ensures only_made { result ≡ Err Memory → (t : Tree) × (edited self.old.version self.old.tree (set_value path.now name.now kind bytes.now ∷ []) ≡ Ok t) }
         ensures base { self.new.base ≡ self.old.base }
     {
         match self.settable(path, name, bytes) {
@@ -321,7 +318,7 @@ impl HiveBytes {
     /// value itself, and so are the new, no memory is wanted. For a value of a new name one run of cells takes the list
     /// with it, its own cell and those of its data, eight bytes of the key's node say so, and the old list is freed.
     /// Where the node told smaller greatest lengths of its values, it tells these. What there is no room for repacks the
-    /// tree. After an `Err` the hive is as before.
+    /// tree. After an `Err` the hive is as before; that it is out of memory is reported only where the edit would be made.
     pub fn set_value(
         &mut self,
         alloc: Global,
@@ -345,6 +342,7 @@ impl HiveBytes {
             → OnOk result (WritesValue self.old path.now at (value_fields (2147483648 + length bytes.now) (from_le_bytes w32 bytes.now) kind) (length bytes.now) self.new) }
         ensures no_memory { is_some (inside_place (cells_in self.old) path.now name.now self.old.root) ≡ true → length bytes.now ≤ 4
             → IfErr result (λ stop. stop ≡ Full) }
+        ensures only_made { result ≡ Err Memory → (t : Tree) × (edited self.old.version self.old.tree (set_value path.now name.now kind bytes.now ∷ []) ≡ Ok t) }
         ensures base { self.new.base ≡ self.old.base }
     {
         let size = bytes.len();

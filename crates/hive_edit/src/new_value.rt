@@ -450,6 +450,7 @@ impl HiveBytes {
             (LacksStepRoom self.old (set_value path.now name.now kind bytes.now)))
             (IsRefused (after_step (set_value path.now name.now kind bytes.now) self.old.tree)) }
         ensures base { self.new.base ≡ self.old.base }
+        ensures grown { bins_size self.old.bins ≤ bins_size self.new.bins }
     {
         match self.settable(path, name, bytes) {
             Err(stop) => Err(stop),

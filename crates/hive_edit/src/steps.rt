@@ -1,27 +1,32 @@
-//! Steps in order, made on a draft of the cells.
+//! Steps in order: made in the cells as they are, and undone by the pages that were kept, or on a draft of them.
 
-ghost use Rattle.std.specs.Prelude.{◌≡◌, map, MatchBool, MatchResult};
+ghost use Rattle.std.specs.Prelude.{◌≡◌, ◌≤◌, map, length, true, Ok, MatchBool, MatchResult};
 ghost use Rattle.std.specs.List.{All};
-ghost use Rattle.hive_model.specs.Edit.{after_step, after_steps};
+ghost use Rattle.hive_model.specs.Bins.{bins_size, IsBins};
+ghost use Rattle.hive_model.specs.Edit.{after_step, after_steps, edited};
+ghost use Rattle.hive_model.specs.Size.{bulk_of};
 ghost use Rattle.reg_tree.specs.Fitting.{Fits};
 ghost use Rattle.reg_tree.specs.Makes.{IsRefused, step_of};
+ghost use Rattle.hive_edit.specs.Hive.{hive_of, settled, WasHive};
 ghost use Rattle.hive_edit.specs.Stepped.{LacksStepRoom};
-ghost use Rattle.hive_edit.specs.Steps.{AreStepped, AreStrained};
+ghost use Rattle.hive_edit.specs.Steps.{AreMadeOrNone, AreStepped, AreStrained};
 ghost use Rattle.hive_edit.specs.Tells.{IsToldStep};
 
 use crate::cells::MOST_BINS;
 use crate::hive::HiveBytes;
-use reg_tree::{EditStop, TreeStep};
+use nt_bytes::HiveVersion;
+use reg_tree::{EditStop, MOST_BULK, TreeStep};
 use std::alloc::Global;
 
 impl HiveBytes {
-    /// Makes one step, whatever the bulk of the tree then. `false` where there is no room for it. The hive is a draft, to be
-    /// dropped then, and after an `Err`.
+    /// Makes one step, whatever the bulk of the tree then. `false` where there is no room for it. The hive is to be
+    /// dropped or restored then, and after an `Err`.
     fn make_step(&mut self, alloc: Global, step: &TreeStep) -> Result<bool, EditStop>
         requires fits { Fits (step_of step.now) }
         ensures made { MatchResult result (λ done. MatchBool done (IsToldStep self.old (step_of step.now) self.new) (LacksStepRoom self.old (step_of step.now)))
             (IsRefused (after_step (step_of step.now) self.old.tree)) }
         ensures base { self.new.base ≡ self.old.base }
+        ensures grown { bins_size self.old.bins ≤ bins_size self.new.bins }
     {
         match step {
             TreeStep::SetValue {
@@ -44,14 +49,15 @@ impl HiveBytes {
 
     /// Makes the steps in order, whatever the bulk of the tree then. `false` where one of them has no room, and where the lists
     /// that were rewritten say that the strain is over the greatest size of bins data: long lists that are written for
-    /// each of many steps take longer than the whole tree packed once. The hive is a draft, to be dropped then, and after
-    /// an `Err`.
-    pub(crate) fn make_steps(&mut self, alloc: Global, steps: &[TreeStep]) -> Result<bool, EditStop>
+    /// each of many steps take longer than the whole tree packed once. The hive is to be dropped or restored then, and
+    /// after an `Err`.
+    fn make_steps(&mut self, alloc: Global, steps: &[TreeStep]) -> Result<bool, EditStop>
         requires fits { All Fits (map step_of steps.now) }
         ensures made { MatchResult result
             (λ done. MatchBool done (AreStepped self.old (map step_of steps.now) self.new) (AreStrained self.old (map step_of steps.now)))
             (IsRefused (after_steps self.old.tree (map step_of steps.now))) }
         ensures base { self.new.base ≡ self.old.base }
+        ensures grown { bins_size self.old.bins ≤ bins_size self.new.bins }
     {
         let mut room: u64 = 0;
         for step in steps {
@@ -66,5 +72,103 @@ impl HiveBytes {
             }
         }
         Ok(true)
+    }
+
+    /// The same, within the greatest bulk: `Full` where the tree takes more.
+    fn make_within(&mut self, alloc: Global, steps: &[TreeStep]) -> Result<bool, EditStop>
+        requires fits { All Fits (map step_of steps.now) }
+        ensures made { MatchResult result
+            (λ done. MatchBool done (AreStepped self.old (map step_of steps.now) self.new) (AreStrained self.old (map step_of steps.now)))
+            (IsRefused (edited self.old.version self.old.tree (map step_of steps.now))) }
+        ensures within { result ≡ Ok true → bulk_of self.new.version self.new.tree ≤ 16773120 }
+        ensures base { self.new.base ≡ self.old.base }
+        ensures grown { bins_size self.old.bins ≤ bins_size self.new.bins }
+    {
+        if !self.make_steps(alloc, steps)? {
+            return Ok(false);
+        }
+        if self.bulk() > MOST_BULK {
+            return Err(EditStop::Full);
+        }
+        Ok(true)
+    }
+
+    /// Whether the bins data are as they were when they were settled last: nothing was kept of any page.
+    fn is_settled(&self) -> bool
+        ensures { result ≡ true → IsBins self.now.base self.now.bins }
+    {
+        let size = self.bytes().len();
+        let pages = self.pages();
+        if !pages.is_clear() {
+            return false;
+        }
+        let long = 4096 * pages.len();
+        if long != size {
+            return false;
+        }
+        true
+    }
+
+    /// The hive as it was when its cells were settled last, with the root, the version and the bulk that it had then. No memory
+    /// is taken.
+    fn restore(&mut self, root: u32, version: HiveVersion, bulk: u64)
+        requires was { WasHive self.old.base root version bulk }
+        requires long { length self.old.base ≤ bins_size self.old.bins }
+        ensures { (was : WasHive self.old.base root version bulk) → self.new ≡ hive_of (settled was.bins) root version }
+    {
+        self.cells.restore();
+        self.root = root;
+        self.version = version;
+        self.bulk = bulk;
+    }
+
+    /// Makes the steps in order in the cells as they are, which are settled. Where one of them is not made, the cells are restored.
+    fn make_settled(&mut self, alloc: Global, steps: &[TreeStep]) -> Result<bool, EditStop>
+        requires fits { All Fits (map step_of steps.now) }
+        requires settled { IsBins self.old.base self.old.bins }
+        ensures all { AreMadeOrNone self.old (map step_of steps.now) result self.new }
+        ensures base { self.new.base ≡ self.old.base }
+    {
+        let root = self.root;
+        let version = self.version;
+        let bulk = self.bulk;
+        match self.make_within(alloc, steps) {
+            Ok(true) => Ok(true),
+            Ok(false) => {
+                self.restore(root, version, bulk);
+                Ok(false)
+            }
+            Err(stop) => {
+                self.restore(root, version, bulk);
+                Err(stop)
+            }
+        }
+    }
+
+    /// Makes the steps in order on a draft of the cells, which is taken where all of them are made.
+    fn make_in_copy(&mut self, alloc: Global, steps: &[TreeStep]) -> Result<bool, EditStop>
+        requires fits { All Fits (map step_of steps.now) }
+        ensures all { AreMadeOrNone self.old (map step_of steps.now) result self.new }
+        ensures base { self.new.base ≡ self.old.base }
+    {
+        let mut draft = self.copy(alloc)?;
+        if !draft.make_within(alloc, steps)? {
+            return Ok(false);
+        }
+        *self = draft;
+        Ok(true)
+    }
+
+    /// Makes the steps in order, all or none, within the greatest bulk: with no copy of the cells where these are settled. `false`
+    /// where there is no room for them, as `make_steps` says; the hive is as before then, and after an `Err`.
+    pub(crate) fn make_all(&mut self, alloc: Global, steps: &[TreeStep]) -> Result<bool, EditStop>
+        requires fits { All Fits (map step_of steps.now) }
+        ensures all { AreMadeOrNone self.old (map step_of steps.now) result self.new }
+        ensures base { self.new.base ≡ self.old.base }
+    {
+        if self.is_settled() {
+            return self.make_settled(alloc, steps);
+        }
+        self.make_in_copy(alloc, steps)
     }
 }

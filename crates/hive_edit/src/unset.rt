@@ -364,6 +364,7 @@ impl HiveBytes {
             (λ done. MatchBool done (IsStepped self.old (delete_value path.now name.now) self.new) (LacksStepRoom self.old (delete_value path.now name.now)))
             (IsRefused (after_step (delete_value path.now name.now) self.old.tree)) }
         ensures base { self.new.base ≡ self.old.base }
+        ensures grown { bins_size self.old.bins ≤ bins_size self.new.bins }
     {
         match self.named(path, name) {
             Ok((key, value)) => {

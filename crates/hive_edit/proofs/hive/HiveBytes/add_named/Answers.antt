@@ -1,4 +1,4 @@
-use Rattle.std.proofs.Common.{◌≤◌, subst, sym}
+use Rattle.std.proofs.Common.{◌≤◌, subst, sym, arith}
 use Rattle.hive_model.specs.Tree.{Tree, head}
 use Rattle.hive_model.specs.Valid.{levels}
 use Rattle.hive_edit.specs.Children.{IsNewChild, IsAddedIn, LacksGraftRoom}
@@ -42,3 +42,8 @@ returns-in-Ok-false-clause-made c =
     (subst (λ (k : Tree). LacksGraftRoom c.args.self.now (head c.args.self.now.tree).security k)
     c.in_ok-child.ensures
     (if_undone _ _ _ c.in-Ok-false.field-0-test c.in-Ok-false.ensures.added))
+
+pub returns-in-Ok-true-clause-grown : goal.returns-in-Ok-true-clause-grown
+returns-in-Ok-true-clause-grown c =
+    let grown = c.in-Ok-true.ensures.grown in
+    omega (arith, grown, c.tell_child.ensures.told.long)

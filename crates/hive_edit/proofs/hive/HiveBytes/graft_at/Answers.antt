@@ -1,9 +1,11 @@
-use Rattle.std.proofs.Common.{◌∙◌}
+use Rattle.std.proofs.Common.{inr, ◌∙◌}
+use Rattle.hive_edit.specs.Children.{IsGraftedIn}
+use Rattle.hive_edit.specs.Hive.{hive_of}
 use Rattle.hive_edit.specs.Grafted.{LacksGraftLists}
 use Rattle.hive_edit.proofs.SteppedLemmas.{if_done, if_undone}
-use Rattle.hive_edit.proofs.ChildLemmas.{ReadyAt, ready_at, can_graft, graft_made, still_hive, still_or, lacks_lists}
+use Rattle.hive_edit.proofs.ChildLemmas.{ReadyAt, ready_at, can_graft, graft_made, no_shorter, still_hive, still_or, lacks_lists}
 use Rattle.hive_edit.proofs.hive.HiveBytes.graft_at.Goals as goal
-use Rattle.hive_edit.proofs.hive.HiveBytes.graft_at.Goals.{After-offset_fits}
+use Rattle.hive_edit.proofs.hive.HiveBytes.graft_at.Goals.{After-are_bytes, After-offset_fits, Then-not-done}
 
 -- what is known of the root, the key and its place
 known : (c : After-offset_fits) → ReadyAt c.self.inside.version c.self.inside.cells c.self.inside.root c.args.above
@@ -20,6 +22,11 @@ known c =
       place = c.requires.place;
     })
     c.offset_fits.ensures
+
+-- there is no room for the root's lists
+lacks : (c : Then-not-done) → let i = c.self.inside in LacksGraftLists i.version i.root c.args.above c.args.shared.now
+    c.args.key.now c.args.at i.cells.bins c.graft_cells.new.heap.bins
+lacks c = if_undone _ _ _ c.if-not-done.true c.in_ok-done.ensures.grafted
 
 pub cells_below-requires-clause-valid : goal.cells_below-requires-clause-valid
 cells_below-requires-clause-valid c = c.requires.new.holds
@@ -47,10 +54,9 @@ pub invariant_of-self-then-not-done : goal.invariant_of-self-then-not-done
 invariant_of-self-then-not-done c =
     let i = c.self.inside in
     let r = known (goal.at.invariant_of-self-then-not-done c).After-offset_fits in
-    let lacks : LacksGraftLists i.version i.root c.args.above c.args.shared.now c.args.key.now c.args.at i.cells.bins
-    c.graft_cells.new.heap.bins = if_undone _ _ _ c.if-not-done.true c.in_ok-done.ensures.grafted in
+    let l = lacks (goal.at.invariant_of-self-then-not-done c).Then-not-done in
     still_hive i.cells.bins c.graft_cells.new.heap.bins i.root i.root _ 511 i.version i.bulk c.args.above c.args.shared.now
-    c.args.key.now c.args.at c.self.invariant r.ready lacks.put
+    c.args.key.now c.args.at c.self.invariant r.ready l.put
 
 pub returns-then-not-done-clause-grafted : goal.returns-then-not-done-clause-grafted
 returns-then-not-done-clause-grafted c =
@@ -58,7 +64,7 @@ returns-then-not-done-clause-grafted c =
     let r = known (goal.at.returns-then-not-done-clause-grafted c).After-offset_fits in
     lacks_lists i.cells c.graft_cells.new.heap.bins i.root i.version c.args.self.now c.args.above
     c.args.shared.now c.args.key.now c.args.at c.self.view_is r.ready
-    (if_undone _ _ _ c.if-not-done.true c.in_ok-done.ensures.grafted)
+    (lacks (goal.at.returns-then-not-done-clause-grafted c).Then-not-done)
 
 pub invariant_of-self-2 : goal.invariant_of-self-2
 invariant_of-self-2 c =
@@ -69,11 +75,32 @@ invariant_of-self-2 c =
     r.child (if_done _ _ _ c.if-not-done.false c.in_ok-done.ensures.grafted) c.are_bytes.ensures r.own_is
     c.grafted_bulk-bulk.ensures).hive
 
-pub returns-clause-grafted : goal.returns-clause-grafted
-returns-clause-grafted c =
+-- the key is the root's child
+grafted : (c : After-are_bytes) → IsGraftedIn c.args.self.now c.args.above.security c.args.shared.now c.args.key.now
+    (hive_of c.graft_cells.new.heap c.self.inside.root c.self.inside.version)
+grafted c =
     let i = c.self.inside in
-    let r = known (goal.at.returns-clause-grafted c).After-offset_fits in
+    let r = known (goal.at.After-are_bytes c).After-offset_fits in
     (graft_made i.cells c.graft_cells.new.heap i.root i.version i.bulk c.args.own c.grafted_bulk-bulk.result
     c.args.self.now c.args.above c.args.shared.now c.args.key.now c.args.at c.self.invariant c.self.view_is r.ready
     r.child (if_done _ _ _ c.if-not-done.false c.in_ok-done.ensures.grafted) c.are_bytes.ensures r.own_is
     c.grafted_bulk-bulk.ensures).made
+
+pub returns-clause-grafted : goal.returns-clause-grafted
+returns-clause-grafted c = grafted (goal.at.returns-clause-grafted c).After-are_bytes
+
+pub returns-in_err-done-clause-grown : goal.returns-in_err-done-clause-grown
+returns-in_err-done-clause-grown c =
+    let i = c.self.inside in
+    no_shorter i.cells c.graft_cells.new.heap.bins i.root i.version c.args.self.now i.root c.args.above c.args.shared.now
+    c.args.key.now c.args.at c.self.view_is c.in_err-done.ensures.refused
+
+pub returns-then-not-done-clause-grown : goal.returns-then-not-done-clause-grown
+returns-then-not-done-clause-grown c =
+    let i = c.self.inside in
+    let l = lacks (goal.at.returns-then-not-done-clause-grown c).Then-not-done in
+    no_shorter i.cells c.graft_cells.new.heap.bins i.root i.version c.args.self.now i.root c.args.above c.args.shared.now
+    c.args.key.now c.args.at c.self.view_is (inr l.put)
+
+pub returns-clause-grown : goal.returns-clause-grown
+returns-clause-grown c = (grafted (goal.at.returns-clause-grown c).After-are_bytes).long

@@ -1,13 +1,15 @@
-use Rattle.std.proofs.Common.{◌∙◌, arith}
+use Rattle.std.proofs.Common.{inr, ◌∙◌, arith}
 use Rattle.hive_edit.specs.Grafted.{LacksGraftLists}
+use Rattle.hive_model.specs.Edit.{make_key}
 use Rattle.hive_edit.specs.Hive.{hive_of}
+use Rattle.hive_edit.specs.Tells.{IsToldStep}
 use Rattle.hive_edit.proofs.AskedLemmas.{open_stands}
-use Rattle.hive_edit.proofs.ChildLemmas.{can_graft, still_hive, still_or}
+use Rattle.hive_edit.proofs.ChildLemmas.{can_graft, no_shorter, still_hive, still_or}
 use Rattle.hive_edit.proofs.MakeLemmas.{Ready, ready, run_is, node_lacks, list_lacks, key_made}
 use Rattle.hive_edit.proofs.SteppedLemmas.{if_done, if_undone}
 use Rattle.hive_edit.proofs.ToldLemmas.{made_told}
 use Rattle.hive_edit.proofs.hive.HiveBytes.make_at.Goals as goal
-use Rattle.hive_edit.proofs.hive.HiveBytes.make_at.Goals.{In-Some}
+use Rattle.hive_edit.proofs.hive.HiveBytes.make_at.Goals.{After-tell, In-Some, Then-not-done}
 
 -- what is known where there is room for the node
 known : (c : In-Some) → Ready c.self.inside.cells.bins c.self.inside.root c.self.inside.version c.args.parent.now
@@ -19,6 +21,11 @@ known c =
     c.self.invariant c.self.view_is c.cells.ensures c.requires.may c.above_at-above.ensures c.in_ok-key.ensures
     c.security-shared.ensures c.offset_fits.ensures c.offset_fits-2.ensures c.node_len-size.ensures.exact
     c.in-Some.ensures
+
+-- there is no room for the lists
+lacks : (c : Then-not-done) → LacksGraftLists c.self.inside.version c.args.place.at c.above_at-above.result
+    c.security-shared.result.now c.in_ok-key.key c.in-Some.at c.self.inside.cells.bins c.graft_cells.new.heap.bins
+lacks c = if_undone _ _ _ c.if-not-done.true c.in_ok-done.ensures.grafted
 
 pub above_at-above-requires : goal.above_at-above-requires
 above_at-above-requires c =
@@ -79,11 +86,9 @@ pub invariant_of-self-then-not-done : goal.invariant_of-self-then-not-done
 invariant_of-self-then-not-done c =
     let i = c.self.inside in
     let r = known (goal.at.invariant_of-self-then-not-done c).In-Some in
-    let lacks : LacksGraftLists i.version c.args.place.at c.above_at-above.result c.security-shared.result.now
-    c.in_ok-key.key c.in-Some.at i.cells.bins c.graft_cells.new.heap.bins =
-    if_undone _ _ _ c.if-not-done.true c.in_ok-done.ensures.grafted in
+    let l = lacks (goal.at.invariant_of-self-then-not-done c).Then-not-done in
     still_hive i.cells.bins c.graft_cells.new.heap.bins i.root c.args.place.at r.host _ i.version i.bulk c.above_at-above.result
-    c.security-shared.result.now c.in_ok-key.key c.in-Some.at c.self.invariant r.ready lacks.put
+    c.security-shared.result.now c.in_ok-key.key c.in-Some.at c.self.invariant r.ready l.put
 
 pub returns-then-not-done-clause-made : goal.returns-then-not-done-clause-made
 returns-then-not-done-clause-made c =
@@ -91,7 +96,7 @@ returns-then-not-done-clause-made c =
     let r = known (goal.at.returns-then-not-done-clause-made c).In-Some in
     list_lacks i.cells c.graft_cells.new.heap.bins i.root i.version c.args.self.now c.args.parent.now c.args.name.now
     c.args.place c.above_at-above.result c.security-shared.result.now c.in_ok-key.key c.in-Some.at c.self.view_is r
-    (if_undone _ _ _ c.if-not-done.true c.in_ok-done.ensures.grafted)
+    (lacks (goal.at.returns-then-not-done-clause-made c).Then-not-done)
 
 pub invariant_of-self-2 : goal.invariant_of-self-2
 invariant_of-self-2 c =
@@ -101,10 +106,11 @@ invariant_of-self-2 c =
     c.args.place c.above_at-above.result c.security-shared.result.now c.in_ok-key.key c.in-Some.at c.self.invariant
     c.self.view_is r (if_done _ _ _ c.if-not-done.false c.in_ok-done.ensures.grafted) c.are_bytes.ensures).hive
 
-pub returns-clause-made : goal.returns-clause-made
-returns-clause-made c =
+-- the key is made
+told : (c : After-tell) → IsToldStep c.args.self.now (make_key c.args.parent.now c.args.name.now) c.tell.new.self
+told c =
     let i = c.self.inside in
-    let r = known (goal.at.returns-clause-made c).In-Some in
+    let r = known (goal.at.After-tell c).In-Some in
     made_told c.args.self.now (hive_of c.graft_cells.new.heap i.root i.version) c.tell.new.self
     c.args.parent.now c.args.name.now c.wide_len-wide.result c.stands.ensures
     (key_made i.cells c.graft_cells.new.heap i.root i.version i.bulk c.args.self.now c.args.parent.now
@@ -112,3 +118,22 @@ returns-clause-made c =
     c.self.invariant c.self.view_is r (if_done _ _ _ c.if-not-done.false c.in_ok-done.ensures.grafted)
     c.are_bytes.ensures).stepped
     c.wide_len-wide.ensures c.tell.ensures.told
+
+pub returns-clause-made : goal.returns-clause-made
+returns-clause-made c = told (goal.at.returns-clause-made c).After-tell
+
+pub returns-in_err-done-clause-grown : goal.returns-in_err-done-clause-grown
+returns-in_err-done-clause-grown c =
+    let i = c.self.inside in
+    no_shorter i.cells c.graft_cells.new.heap.bins i.root i.version c.args.self.now c.args.place.at c.above_at-above.result
+    c.security-shared.result.now c.in_ok-key.key c.in-Some.at c.self.view_is c.in_err-done.ensures.refused
+
+pub returns-then-not-done-clause-grown : goal.returns-then-not-done-clause-grown
+returns-then-not-done-clause-grown c =
+    let i = c.self.inside in
+    let l = lacks (goal.at.returns-then-not-done-clause-grown c).Then-not-done in
+    no_shorter i.cells c.graft_cells.new.heap.bins i.root i.version c.args.self.now c.args.place.at c.above_at-above.result
+    c.security-shared.result.now c.in_ok-key.key c.in-Some.at c.self.view_is (inr l.put)
+
+pub returns-clause-grown : goal.returns-clause-grown
+returns-clause-grown c = (told (goal.at.returns-clause-grown c).After-tell).stepped.long

@@ -12,7 +12,7 @@ use Rattle.hive_edit.proofs.StrainedLemmas.{step_grown, all_taken}
 use Rattle.hive_edit.proofs.hive.HiveBytes.make_steps.Goals as goal
 use Rattle.hive_edit.proofs.hive.HiveBytes.make_steps.Goals.{After-make_step, Else-not-branch, After-saturating_add-room}
 
--- this step, between those before it and those behind it
+-- this step, between those before it and those after it
 parts : (c : After-make_step) → let k = c.loop-step.step-index in map step_of c.args.steps.now
     ≡ map step_of (take k c.args.steps.now) ++ step_of c.step-item.result ∷ map step_of (drop (suc k) c.args.steps.now)
 parts c =
@@ -82,4 +82,5 @@ loop-step-preserved c =
           (bins_size h.bins + c.saturating_add-room.result) c.make_step.new.self.tree) (sym more)
           (grown way.After-saturating_add-room);
       base = c.in_ok-make_step.ensures.base ∙ c.loop-step.invariant.base;
+      longer = omega (arith, c.loop-step.invariant.longer, c.in_ok-make_step.ensures.grown);
     }

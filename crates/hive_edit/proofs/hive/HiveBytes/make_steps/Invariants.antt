@@ -1,4 +1,4 @@
-use Rattle.std.proofs.Common.{◌≡◌, ◌+◌, map, take}
+use Rattle.std.proofs.Common.{◌≡◌, ◌≤◌, ◌+◌, map, take}
 use Rattle.hive_model.specs.Bins.{bins_size}
 use Rattle.reg_tree.specs.Makes.{step_of}
 use Rattle.edit_laws.specs.Sizes.{AreGrown}
@@ -13,4 +13,5 @@ invariant-loop-step l =
       made : AreStepped h front l.self;
       grown : AreGrown h.version (bins_size h.bins) h.tree front (bins_size h.bins + l.room) l.self.tree;
       base : l.self.base ≡ h.base;
+      longer : bins_size h.bins ≤ bins_size l.self.bins;
     }

@@ -10,3 +10,6 @@ returns-in-Err-clause-made c =
           (c.in-Err.ensures.refused c.args.kind),
       refl,
     )
+
+pub returns-in-Err-clause-only_made : goal.returns-in-Err-clause-only_made
+returns-in-Err-clause-only_made c = λ e. absurd (c.in-Err.ensures.no_memory cc)

@@ -1,13 +1,15 @@
 use Rattle.std.proofs.Common.{◌≡◌, Bool, [], ◌∷◌, Ok, ap, subst, inl, refl, arith}
 use Rattle.std.specs.Prelude.{◌⊎◌, OnOk}
 use Rattle.hive_model.specs.Edit.{edited, set_value}
+use Rattle.hive_model.specs.Tree.{Tree}
 use Rattle.reg_tree.specs.Makes.{Makes}
 use Rattle.hive_edit.specs.Edits.{IsEditedInPlace, IsPackedForRoom}
 use Rattle.hive_edit.specs.Hive.{HiveCells}
+use Rattle.hive_edit.specs.NewValue.{set_tree}
 use Rattle.hive_edit.specs.Tells.{IsToldStep}
-use Rattle.hive_edit.proofs.SteppedLemmas.{if_done, if_undone, lacks_strained, names_anew, packed_for_room, step_full, stepped_edit, stepped_kept}
+use Rattle.hive_edit.proofs.SteppedLemmas.{if_done, if_undone, lacks_strained, names_anew, packed_for_room, step_full, step_within, stepped_edit, stepped_kept}
 use Rattle.hive_edit.proofs.hive.HiveBytes.set_or_pack.Goals as goal
-use Rattle.hive_edit.proofs.hive.HiveBytes.set_or_pack.Goals.{After-set_anew, Then-branch}
+use Rattle.hive_edit.proofs.hive.HiveBytes.set_or_pack.Goals.{After-set_anew, Else-bulk-gt-MOST_BULK, Then-branch}
 
 -- the value was set in place
 told : (c : Then-branch) → IsToldStep c.args.self.now
@@ -31,6 +33,16 @@ packed c P =
     (edited g.version g.tree (step ∷ []))) same c.set_anew.ensures.made)
     c.set_anew.ensures.anew
     (λ u e. lacks_strained h u step (if_undone _ _ _ c.if-branch.false c.in_ok-set_at.ensures.stepped) e)
+
+-- the edit is not refused
+allowed : (c : Else-bulk-gt-MOST_BULK) → (t : Tree) × (edited c.args.self.now.version c.args.self.now.tree
+    (set_value c.args.path.now c.args.name.now c.args.kind c.args.bytes.now ∷ []) ≡ Ok t)
+allowed c =
+    let h = c.args.self.now in (
+      set_tree c.args.path.now c.args.name.now c.args.kind c.args.bytes.now h.tree,
+      step_within h.version h.tree _ (set_value c.args.path.now c.args.name.now c.args.kind c.args.bytes.now)
+          c.bulk_set-bulk.ensures.step (omega (arith, c.bulk_set-bulk.ensures.bulk, c.if-bulk-gt-MOST_BULK.false)),
+    )
 
 pub returns-then-bulk-gt-MOST_BULK-clause-made : goal.returns-then-bulk-gt-MOST_BULK-clause-made
 returns-then-bulk-gt-MOST_BULK-clause-made c =
@@ -72,3 +84,10 @@ returns-clause-freed c = packed (goal.at.returns-clause-freed c).After-set_anew 
 
 pub returns-clause-parents : goal.returns-clause-parents
 returns-clause-parents c = names_anew c.args.self.now c.set_anew.new.self c.set_anew.result c.set_anew.ensures.anew
+
+pub returns-in_err-set_at-clause-only_made : goal.returns-in_err-set_at-clause-only_made
+returns-in_err-set_at-clause-only_made c = λ e.
+    allowed (goal.at.returns-in_err-set_at-clause-only_made c).Else-bulk-gt-MOST_BULK
+
+pub returns-clause-only_made : goal.returns-clause-only_made
+returns-clause-only_made c = λ e. allowed (goal.at.returns-clause-only_made c).Else-bulk-gt-MOST_BULK
