@@ -2,7 +2,7 @@
 use Rattle.std.proofs.Common.{◌≡◌, List, ℕ, [], Result, Ok, sym, ◌∙◌, ap, subst, ⊎_elim}
 use Rattle.hive_model.specs.Base.{Base}
 use Rattle.hive_model.specs.Image.{Image, Write, IsCrashImage, IsInFlight}
-use Rattle.hive_model.specs.Recovery.{Recovered, recovered_of, log_in}
+use Rattle.hive_model.specs.Recovery.{Recovered, log_in}
 use Rattle.hive_model.specs.Carries.{IsRecoveredAs}
 use Rattle.nt_bytes.specs.declared.fault.HiveFault.{HiveFault}
 use Rattle.nt_edge.specs.Disk.{DiskState}
@@ -46,16 +46,3 @@ recovered_along image base found bins read is other s each c crash =
     let same = one_recovery image base found bins read is other in
     subst (λ (b : Base). IsRecoveredAs c b bins) same.0
     (subst (λ (l : List ℕ). IsRecoveredAs c found l) same.1 (each c crash))
-
--- what a restoring leaves, where it was given what was read
-pub crash_restored : (old new : DiskState) (base : Base) (bins : List ℕ) (view : Recovered) (closed : Base)
-    (data_read : List ℕ) → recovered_of old.held ≡ Ok view → closed ≡ view.base → data_read ≡ view.bins
-    → IsRecoveredAs old.held base bins
-    → EachCrash new (λ (c : Image). IsRecoveredAs c closed data_read)
-    → EachCrash new (λ (c : Image). IsRecoveredAs c base bins)
-crash_restored old new base bins view closed data_read exact closed_is data_is is each =
-    recovered_along old.held base closed bins data_read is
-    (record {
-      dirty = view.dirty;
-      recovered = exact ∙ (λ i. Ok (record { base = (sym closed_is) i; bins = (sym data_is) i; dirty = view.dirty }));
-    }) new each

@@ -85,6 +85,14 @@ module _ (a b : List Made → Type 0) (which : List Made → Type 0) (sectors : 
     are = is;
   }
 
+-- a prefix of the last calls is one of all
+pub front_behind : (first whole : List Made) {last front : List Made} → first ++ last ≡ whole → IsFront last front
+    → IsFront whole (first ++ front)
+front_behind first whole {last} {front} is cut = record {
+  rest = cut.rest;
+  cut = sym is ∙ ap (λ (l : List Made). first ++ l) cut.cut ∙ sym (append_assoc first front cut.rest);
+}
+
 -- the disk refused a write or a sync
 pub stopped_by : {T : Type 0} (r : Result T LoadStop) (stop : DiskStop) (whole calls : List Made)
     → IsErrAnd r (λ made. made ≡ load_stop_of stop) → IsFront whole calls → AreAll whole r calls
@@ -144,8 +152,4 @@ module _ (image : Image) where
 
       pub restored_front : (front : List Made) → IsFront (closing_calls closed (bit bitmap) bins) front
           → IsFront (recovery_calls image) (reads_of sectors ++ front)
-      restored_front front cut = record {
-        rest = cut.rest;
-        cut = sym restored_all ∙ ap (λ (l : List Made). reads_of sectors ++ l) cut.cut
-            ∙ sym (append_assoc (reads_of sectors) front cut.rest);
-      }
+      restored_front front cut = front_behind (reads_of sectors) (recovery_calls image) restored_all cut

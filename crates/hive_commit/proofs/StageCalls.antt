@@ -1,59 +1,43 @@
 -- The calls of a stage by those of its steps, and those of a change by its stages.
-use Rattle.std.proofs.Common.{◌≡◌, ◌<◌, ◌+◌, ◌*◌, ◌/◌, ◌++◌, ◌∷◌, ℕ, true, List, [], length, ◌∙◌, ap, arith, append_assoc}
+use Rattle.std.proofs.Common.{◌≡◌, ◌<◌, ◌*◌, ◌/◌, ◌++◌, ◌∷◌, ℕ, true, List, [], length, ◌∙◌, ap, arith, append_assoc}
 use Rattle.hive_model.specs.Base.{Base, is_bins_size}
 use Rattle.hive_model.specs.Recovery.{bit}
 use Rattle.hive_model.specs.Log.{dirty, log_of}
 use Rattle.nt_edge.specs.Calls.{Made, Synced, Makes, MakesFront, writes_of}
 use Rattle.hive_log.proofs.Appending.{sized, log_same}
 use Rattle.hive_commit.specs.Calls.{log_writes, bins_writes, block_calls, change_calls}
-use Rattle.hive_commit.specs.Growing.{log_part}
 use Rattle.hive_commit.specs.Stages.{opened_of, closed_of}
 use Rattle.hive_commit.proofs.CallLemmas.{front_longer, front_as, front_then, made_as, made_then}
-use Rattle.hive_commit.proofs.WriteCalls.{log_cut, marked_same}
+use Rattle.hive_commit.proofs.WriteCalls.{marked_same}
 
--- the log, in four steps
-module _ (log : List ℕ) (bitmap run : ℕ) (long : length log ≡ 512 * (1 + bitmap + run)) (a b : List Made → Type 0) where
-  abbrev block_part : List Made
-  block_part = writes_of (log_part log 0 1)
+-- four steps, one after another
+module _ (one two three four whole : List Made) (is : ((one ++ two) ++ three) ++ four ≡ whole)
+    (a b : List Made → Type 0) where
+  pub in_first : MakesFront a b one → MakesFront a b whole
+  in_first f = front_as a b _ whole is
+      (front_longer a b _ four (front_longer a b _ three (front_longer a b one two f)))
 
-  abbrev bitmap_part : List Made
-  bitmap_part = writes_of (log_part log 1 bitmap)
+  module _ (c : List Made → Type 0) (first : Makes a b one) where
+    pub in_second : MakesFront b c two → MakesFront a c whole
+    in_second f = front_as a c _ whole is
+        (front_longer a c _ four (front_longer a c _ three (front_then a b c one two first f)))
 
-  abbrev run_part : List Made
-  run_part = writes_of (log_part log (1 + bitmap) run)
+    module _ (d : List Made → Type 0) (second : Makes b c two) where
+      both : Makes a c (one ++ two)
+      both = made_then a b c one two first second
 
-  abbrev log_calls : List Made
-  log_calls = writes_of (log_writes log) ++ Synced ∷ []
+      pub in_third : MakesFront c d three → MakesFront a d whole
+      in_third f = front_as a d _ whole is (front_longer a d _ four (front_then a c d (one ++ two) three both f))
 
-  -- stopped in the three parts
-  in_parts : (c : List Made → Type 0) → MakesFront a c ((block_part ++ bitmap_part) ++ run_part)
-      → MakesFront a c log_calls
-  in_parts c f = front_longer a c (writes_of (log_writes log)) (Synced ∷ [])
-      (front_as a c ((block_part ++ bitmap_part) ++ run_part) (writes_of (log_writes log)) (log_cut log bitmap run long)
-      f)
+      module _ (e : List Made → Type 0) (third : Makes c d three) where
+        each : Makes a d ((one ++ two) ++ three)
+        each = made_then a c d (one ++ two) three both third
 
-  pub in_log_block : MakesFront a b block_part → MakesFront a b log_calls
-  in_log_block f = in_parts b
-      (front_longer a b (block_part ++ bitmap_part) run_part (front_longer a b block_part bitmap_part f))
+        pub in_fourth : MakesFront d e four → MakesFront a e whole
+        in_fourth f = front_as a e _ whole is (front_then a d e ((one ++ two) ++ three) four each f)
 
-  module _ (c : List Made → Type 0) (one : Makes a b block_part) where
-    pub in_log_bitmap : MakesFront b c bitmap_part → MakesFront a c log_calls
-    in_log_bitmap f = in_parts c
-        (front_longer a c (block_part ++ bitmap_part) run_part (front_then a b c block_part bitmap_part one f))
-
-    module _ (d : List Made → Type 0) (two : Makes b c bitmap_part) where
-      both : Makes a c (block_part ++ bitmap_part)
-      both = made_then a b c block_part bitmap_part one two
-
-      pub in_log_run : MakesFront c d run_part → MakesFront a d log_calls
-      in_log_run f = in_parts d (front_then a c d (block_part ++ bitmap_part) run_part both f)
-
-      pub log_made : (e : List Made → Type 0) → Makes c d run_part → Makes d e (Synced ∷ []) → Makes a e log_calls
-      log_made e three four =
-          made_then a d e (writes_of (log_writes log)) (Synced ∷ [])
-          (made_as a d ((block_part ++ bitmap_part) ++ run_part) (writes_of (log_writes log))
-          (log_cut log bitmap run long) (made_then a c d (block_part ++ bitmap_part) run_part both three))
-          four
+        pub all_four : Makes d e four → Makes a e whole
+        all_four fourth = made_as a e _ whole is (made_then a d e ((one ++ two) ++ three) four each fourth)
 
 -- the bins sectors and the base block
 module _ (bins block : List Made) (a b : List Made → Type 0) where
@@ -73,31 +57,28 @@ module _ (bins block : List Made) (a b : List Made → Type 0) where
     closing_made two = made_as a c ((bins ++ Synced ∷ []) ++ block) (bins ++ Synced ∷ block) closing_cut
         (made_then a b c (bins ++ Synced ∷ []) block one two)
 
--- a change, in four stages: what is written is what is asked, and a bit is on where a sector differs
+-- what is written in the four stages of a change
+abbrev pub staged : (new bitmap : List ℕ) (opened closed : Base) → List Made
+staged new bitmap opened closed =
+    (((writes_of (log_writes (log_of (bit bitmap) new closed)) ++ Synced ∷ []) ++ block_calls opened)
+    ++ (writes_of (bins_writes (bit bitmap) new) ++ Synced ∷ [])) ++ block_calls closed
+
+-- it is what is asked, where a bit is on where a sector differs
 module _ (base : Base) (old new : List ℕ) (root : ℕ) (bitmap : List ℕ) (opened closed : Base)
     (opened_is : opened ≡ opened_of base) (closed_is : closed ≡ closed_of base new root)
     (size : is_bins_size (length new) ≡ true) (marks : (i : ℕ) → i < length new / 512 → bit bitmap i ≡ dirty old new i)
   where
-    abbrev log_stage : List Made
-    log_stage = writes_of (log_writes (log_of (bit bitmap) new closed)) ++ Synced ∷ []
-
-    abbrev bins_stage : List Made
-    bins_stage = writes_of (bins_writes (bit bitmap) new) ++ Synced ∷ []
-
-    abbrev staged : List Made
-    staged = ((log_stage ++ block_calls opened) ++ bins_stage) ++ block_calls closed
-
     bits_same : (i : ℕ) → 512 * i < length new → bit bitmap i ≡ dirty old new i
     bits_same i small = marks i (omega (arith, (sized (length new) size).pages))
 
-    staged_is : staged ≡ change_calls base old new root
+    pub staged_is : staged new bitmap opened closed ≡ change_calls base old new root
     staged_is =
         let log = writes_of (log_writes (log_of (bit bitmap) new closed)) in
         let bins = writes_of (bins_writes (bit bitmap) new) in
         let whole = λ (log bins : List Made) (opened closed : Base). (log ++ Synced ∷ block_calls opened)
         ++ (bins ++ Synced ∷ block_calls closed) in
-        append_assoc (log_stage ++ block_calls opened) bins_stage (block_calls closed)
-        ∙ ap (λ (l : List Made). l ++ (bins_stage ++ block_calls closed))
+        append_assoc ((log ++ Synced ∷ []) ++ block_calls opened) (bins ++ Synced ∷ []) (block_calls closed)
+        ∙ ap (λ (l : List Made). l ++ ((bins ++ Synced ∷ []) ++ block_calls closed))
         (append_assoc log (Synced ∷ []) (block_calls opened))
         ∙ ap (λ (l : List Made). (log ++ Synced ∷ block_calls opened) ++ l)
         (append_assoc bins (Synced ∷ []) (block_calls closed))
@@ -109,41 +90,3 @@ module _ (base : Base) (old new : List ℕ) (root : ℕ) (bitmap : List ℕ) (op
         ∙ ap (λ w. whole (writes_of (log_writes (log_of (dirty old new) new (closed_of base new root)))) (writes_of w)
         (opened_of base) (closed_of base new root))
         (marked_same (bit bitmap) (dirty old new) new (length new / 512) marks)
-
-    module _ (a b : List Made → Type 0) where
-      pub in_log_stage : MakesFront a b log_stage → MakesFront a b (change_calls base old new root)
-      in_log_stage f =
-          front_as a b staged (change_calls base old new root) staged_is
-          (front_longer a b ((log_stage ++ block_calls opened) ++ bins_stage) (block_calls closed)
-          (front_longer a b (log_stage ++ block_calls opened) bins_stage
-          (front_longer a b log_stage (block_calls opened) f)))
-
-      module _ (c : List Made → Type 0) (one : Makes a b log_stage) where
-        pub in_opened_stage : MakesFront b c (block_calls opened) → MakesFront a c (change_calls base old new root)
-        in_opened_stage f =
-            front_as a c staged (change_calls base old new root) staged_is
-            (front_longer a c ((log_stage ++ block_calls opened) ++ bins_stage) (block_calls closed)
-            (front_longer a c (log_stage ++ block_calls opened) bins_stage
-            (front_then a b c log_stage (block_calls opened) one f)))
-
-        module _ (d : List Made → Type 0) (two : Makes b c (block_calls opened)) where
-          open_made : Makes a c (log_stage ++ block_calls opened)
-          open_made = made_then a b c log_stage (block_calls opened) one two
-
-          pub in_bins_stage : MakesFront c d bins_stage → MakesFront a d (change_calls base old new root)
-          in_bins_stage f =
-              front_as a d staged (change_calls base old new root) staged_is
-              (front_longer a d ((log_stage ++ block_calls opened) ++ bins_stage) (block_calls closed)
-              (front_then a c d (log_stage ++ block_calls opened) bins_stage open_made f))
-
-          module _ (e : List Made → Type 0) (three : Makes c d bins_stage) where
-            bins_made : Makes a d ((log_stage ++ block_calls opened) ++ bins_stage)
-            bins_made = made_then a c d (log_stage ++ block_calls opened) bins_stage open_made three
-
-            pub in_closed_stage : MakesFront d e (block_calls closed) → MakesFront a e (change_calls base old new root)
-            in_closed_stage f = front_as a e staged (change_calls base old new root) staged_is
-                (front_then a d e ((log_stage ++ block_calls opened) ++ bins_stage) (block_calls closed) bins_made f)
-
-            pub change_made : Makes d e (block_calls closed) → Makes a e (change_calls base old new root)
-            change_made four = made_as a e staged (change_calls base old new root) staged_is
-                (made_then a d e ((log_stage ++ block_calls opened) ++ bins_stage) (block_calls closed) bins_made four)

@@ -1,29 +1,28 @@
 use Rattle.std.proofs.Common.{◌∷◌, [], ℕ, List, subst}
 use Rattle.hive_model.specs.Base.{base_text}
 use Rattle.nt_edge.specs.Calls.{Wrote, Synced, Makes}
-use Rattle.hive_commit.specs.Calls.{block_calls}
 use Rattle.hive_model.specs.Asked.{primary_at}
 use Rattle.hive_commit.proofs.CallLemmas.{all_made, stopped, front_made, made_then}
+use Rattle.hive_commit.proofs.stages.write_block.Given.{Over}
 use Rattle.hive_commit.proofs.stages.write_block.Goals as goal
+use Rattle.hive_commit.proofs.stages.write_block.Goals.{After-write}
+
+-- the sector that was written is the base block
+one : (g : Over) (c : After-write g) → Makes (g.D.Disk.calls c.args.disk.now) (g.D.Disk.calls c.write.new.self)
+    (Wrote (primary_at 0, base_text c.args.base.now) ∷ [])
+one g c = subst (λ (l : List ℕ). Makes (g.D.Disk.calls c.args.disk.now) (g.D.Disk.calls c.write.new.self)
+    (Wrote (primary_at 0, l) ∷ [])) c.base_bytes.ensures c.write.ensures.made
 
 pub returns-in_err-write-clause-made : goal.returns-in_err-write-clause-made
 returns-in_err-write-clause-made g c =
-    let before = g.D.Disk.calls c.args.disk.now in
-    let after = g.D.Disk.calls c.write.new.self in
-    let base = c.args.base.now in
-    let one = subst (λ (l : List ℕ). Makes before after (Wrote (primary_at 0, l) ∷ []))
-    c.base_bytes.ensures c.write.ensures.made in
-    stopped before after c.from_residual.result (block_calls base) c.from_residual.ensures.0
-    (front_made before after (Wrote (primary_at 0, base_text base) ∷ []) (Synced ∷ []) one)
+    stopped _ _ _ _ c.from_residual.ensures.0
+    (front_made _ (g.D.Disk.calls c.write.new.self) (Wrote (primary_at 0, base_text c.args.base.now) ∷ []) (Synced ∷ [])
+    (one g (goal.at.returns-in_err-write-clause-made g c).After-write))
 
 pub returns-clause-made : goal.returns-clause-made
 returns-clause-made g c =
     let before = g.D.Disk.calls c.args.disk.now in
-    let written = g.D.Disk.calls c.write.new.self in
     let after = g.D.Disk.calls c.sync.new.self in
-    let base = c.args.base.now in
-    let one = subst (λ (l : List ℕ). Makes before written (Wrote (primary_at 0, l) ∷ []))
-    c.base_bytes.ensures c.write.ensures.made in
-    all_made before after c.sync.result (block_calls base)
-    (made_then before written after (Wrote (primary_at 0, base_text base) ∷ []) (Synced ∷ [])
-    one c.sync.ensures.made)
+    all_made before after _ _
+    (made_then before (g.D.Disk.calls c.write.new.self) after (Wrote (primary_at 0, base_text c.args.base.now) ∷ [])
+    (Synced ∷ []) (one g (goal.at.returns-clause-made g c).After-write) c.sync.ensures.made)

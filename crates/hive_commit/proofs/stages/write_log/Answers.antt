@@ -1,11 +1,15 @@
-use Rattle.std.proofs.Common.{◌≡◌, ◌<◌, ◌+◌, ◌*◌, ◌/◌, ℕ, Bool, true, List, length, refl, arith}
+use Rattle.std.proofs.Common.{◌≡◌, ◌<◌, ◌+◌, ◌*◌, ◌/◌, ◌++◌, ◌∷◌, [], ℕ, Bool, true, List, length, ap, refl, arith}
 use Rattle.hive_model.specs.Base.{base_text}
 use Rattle.hive_model.specs.Recovery.{bit, rank, sector, first_dirty, bitmap_sectors}
 use Rattle.hive_model.specs.Log.{bitmap_text, log_of}
 use Rattle.nt_edge.specs.Disk.{now_of}
+use Rattle.nt_edge.specs.Calls.{Made, Synced, writes_of}
+use Rattle.hive_commit.specs.Calls.{log_writes}
+use Rattle.hive_commit.specs.Growing.{log_part}
 use Rattle.hive_log.proofs.LogParts.{log_long, log_block, log_bitmap, log_marked}
 use Rattle.hive_commit.proofs.CallLemmas.{all_made, stopped}
-use Rattle.hive_commit.proofs.StageCalls.{in_log_block, in_log_bitmap, in_log_run, log_made}
+use Rattle.hive_commit.proofs.StageCalls.{in_first, in_second, in_third, all_four}
+use Rattle.hive_commit.proofs.WriteCalls.{log_cut}
 use Rattle.hive_commit.proofs.LogSectors as sectors
 use Rattle.hive_commit.proofs.Growth.{logged_from}
 use Rattle.nt_edge.specs.Crash.{Writing}
@@ -42,6 +46,18 @@ module _ (g : Over) (c : After-write_log_block g) where
       → sector log (first_dirty (length new) + rank bits i) ≡ sector new i
   marked = sectors.log_marked bits new c.args.base.now c.write_log_block.ensures.long whole
 
+  abbrev bitmap_part : List Made
+  bitmap_part = writes_of (log_part log 1 (bitmap_sectors (length new)))
+
+  abbrev run_part : List Made
+  run_part = writes_of (log_part log (first_dirty (length new)) (rank bits (length new / 512)))
+
+  -- its three parts and the sync are the calls of the stage
+  parts : ((writes_of (log_part log 0 1) ++ bitmap_part) ++ run_part) ++ Synced ∷ []
+      ≡ writes_of (log_writes log) ++ Synced ∷ []
+  parts = ap (λ (l : List Made). l ++ Synced ∷ [])
+      (log_cut log (bitmap_sectors (length new)) (rank bits (length new / 512)) long)
+
 -- each part writes in the log alone
 block_writing : (g : Over) (c : After-write_log_block g) → g.D.Disk.tells ≡ true
     → Writing in_log (g.D.Disk.state c.args.disk.now) (g.D.Disk.state c.write_log_block.new.disk)
@@ -64,40 +80,32 @@ run_writing g c tells =
 pub returns-in_err-write_log_block-clause-made : goal.returns-in_err-write_log_block-clause-made
 returns-in_err-write_log_block-clause-made g c =
     let s = (goal.at.returns-in_err-write_log_block-clause-made g c).After-write_log_block in
-    let one = g.D.Disk.calls c.write_log_block.new.disk in
-    stopped _ one _ _ c.from_residual.ensures.0
-    (in_log_block (log g s) (bitmap_sectors (length (new g s))) (rank (bits g s) (length (new g s) / 512)) (long g s)
-    (g.D.Disk.calls c.args.disk.now) one (c.in_err-write_log_block.ensures.made (log g s) (block g s)))
+    stopped _ _ _ _ c.from_residual.ensures.0
+    (in_first _ (bitmap_part g s) (run_part g s) (Synced ∷ []) _ (parts g s) _ _ (c.in_err-write_log_block.ensures.made (log g s) (block g s)))
 
 pub returns-in_err-write_log_bitmap-clause-made : goal.returns-in_err-write_log_bitmap-clause-made
 returns-in_err-write_log_bitmap-clause-made g c =
     let s = (goal.at.returns-in_err-write_log_bitmap-clause-made g c).After-write_log_block in
-    let two = g.D.Disk.calls c.write_log_bitmap.new.disk in
-    stopped _ two _ _ c.from_residual-in_err-write_log_bitmap.ensures.0
-    (in_log_bitmap (log g s) (bitmap_sectors (length (new g s))) (rank (bits g s) (length (new g s) / 512)) (long g s)
-    (g.D.Disk.calls c.args.disk.now) (g.D.Disk.calls c.write_log_block.new.disk) two
-    (c.in_ok-write_log_block.ensures.made (log g s) (block g s))
+    stopped _ _ _ _ c.from_residual-in_err-write_log_bitmap.ensures.0
+    (in_second _ _ _ _ _ (parts g s) _ _ _ (c.in_ok-write_log_block.ensures.made (log g s) (block g s))
     (c.in_err-write_log_bitmap.ensures.made (log g s) (bitmap g s)))
 
 pub returns-in_err-write_log_run-clause-made : goal.returns-in_err-write_log_run-clause-made
 returns-in_err-write_log_run-clause-made g c =
     let s = (goal.at.returns-in_err-write_log_run-clause-made g c).After-write_log_block in
-    let one = g.D.Disk.calls c.write_log_block.new.disk in
-    let three = g.D.Disk.calls c.write_log_run.new.disk in
-    stopped _ three _ _ c.from_residual-in_err-write_log_run.ensures.0
-    (in_log_run (log g s) (bitmap_sectors (length (new g s))) (rank (bits g s) (length (new g s) / 512)) (long g s)
-    (g.D.Disk.calls c.args.disk.now) one (g.D.Disk.calls c.write_log_bitmap.new.disk)
-    (c.in_ok-write_log_block.ensures.made (log g s) (block g s)) three
+    stopped _ _ _ _ c.from_residual-in_err-write_log_run.ensures.0
+    (in_third _ _ _ _ _ (parts g s) _ (g.D.Disk.calls c.write_log_block.new.disk) _
+    (c.in_ok-write_log_block.ensures.made (log g s) (block g s)) _
     (c.in_ok-write_log_bitmap.ensures.made (log g s) (bitmap g s))
     (c.in_err-write_log_run.ensures.made (log g s) (marked g s)))
 
 pub returns-clause-made : goal.returns-clause-made
 returns-clause-made g c =
     let s = (goal.at.returns-clause-made g c).After-write_log_block in
+    let start = g.D.Disk.calls c.args.disk.now in
     let last = g.D.Disk.calls c.settle.new.disk in
-    all_made _ last _ _
-    (log_made (log g s) (bitmap_sectors (length (new g s))) (rank (bits g s) (length (new g s) / 512)) (long g s)
-    (g.D.Disk.calls c.args.disk.now) (g.D.Disk.calls c.write_log_block.new.disk)
+    all_made start last _ _
+    (all_four _ _ _ _ _ (parts g s) start (g.D.Disk.calls c.write_log_block.new.disk)
     (g.D.Disk.calls c.write_log_bitmap.new.disk) (c.in_ok-write_log_block.ensures.made (log g s) (block g s))
     (g.D.Disk.calls c.write_log_run.new.disk) (c.in_ok-write_log_bitmap.ensures.made (log g s) (bitmap g s)) last
     (c.in_ok-write_log_run.ensures.made (log g s) (marked g s)) c.settle.ensures.made)
