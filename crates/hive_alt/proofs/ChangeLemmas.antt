@@ -95,6 +95,11 @@ kept_found stands image found is = record { dirty = found.dirty; kept = is }
 abbrev pub IsCleanAs : Standing → Base → List ℕ → Image → Type 0
 IsCleanAs stands base bins image = stands image ≡ Ok (record { base = base; bins = bins; dirty = false })
 
+-- what follows of a success
+pub on_ok_then : {T E A B : Type 0} (r : Result T E) → (A → B) → OnOk r A → OnOk r B
+on_ok_then (Ok x) each is = each is
+on_ok_then (Err e) each is = tt
+
 -- what was loaded is what was found
 pub of_found : (P : Recovered → Tree → Type 0) (stands : Standing) (image : Image) (found loaded : Recovered)
     (tree held : Tree) → IsFound stands image found tree → IsFound stands image loaded held → P loaded held
@@ -266,15 +271,13 @@ module _ (stands : Standing) (found : Recovered) (tree : Tree) (number : Option 
 
     -- by what the commit answered
     pub change_answers : (loaded : ℕ) (was_mended : Bool) → loaded ≡ found.base.first → was_mended ≡ found.dirty
-        → (image after : Image) → stands image ≡ Ok found
-        → (S : Type 0) → (S → IsCleanAs stands (closed_of given packed 32) packed after)
-        → (r : Result Changed ChangeStop)
+        → (image after : Image) → stands image ≡ Ok found → (r : Result Changed ChangeStop)
         → IfOk r (λ done. done ≡ committed_to loaded was_mended given) → IfErr r (IsCommitStop loaded was_mended)
-        → OnOk r S → Answers stands image after number r
-    change_answers loaded was_mended loaded_is mended_is image after read S clean (Ok done) answered refused stays =
+        → OnOk r (IsCleanAs stands (closed_of given packed 32) packed after) → Answers stands image after number r
+    change_answers loaded was_mended loaded_is mended_is image after read (Ok done) answered refused clean =
         subst (IsDone stands image after number) (sym answered)
-        (change_done loaded was_mended loaded_is mended_is image after read (clean stays))
-    change_answers loaded was_mended loaded_is mended_is image after read S clean (Err stop) answered refused stays =
+        (change_done loaded was_mended loaded_is mended_is image after read clean)
+    change_answers loaded was_mended loaded_is mended_is image after read (Err stop) answered refused clean =
         change_stopped loaded was_mended loaded_is mended_is image read stop refused
 
     -- what a commit leaves that was done
@@ -286,13 +289,13 @@ module _ (stands : Standing) (found : Recovered) (tree : Tree) (number : Option 
         (sym (only_held s c still crash)) (clean_new s.held clean))
 
     pub change_mended : (loaded : ℕ) (was_mended : Bool) (s : DiskState)
-        → (S : Type 0) → (S → IsCleanAs stands (closed_of given packed 32) packed s.held)
-        → (r : Result Changed ChangeStop) → IfErr r (IsCommitStop loaded was_mended) → OnOk r S
+        → (r : Result Changed ChangeStop) → IfErr r (IsCommitStop loaded was_mended)
+        → OnOk r (IsCleanAs stands (closed_of given packed 32) packed s.held)
         → OnOk r (s.flight ≡ []) → IsDecided r → EachCrash s (StandsAfter stands found tree number)
-    change_mended loaded was_mended s S clean (Ok done) refused stays still decided = done_mended s still (clean stays)
-    change_mended loaded was_mended s S clean (Err (stops.Fault f)) refused stays still decided = absurd refused
-    change_mended loaded was_mended s S clean (Err (stops.NoSelect n m)) refused stays still decided = absurd refused
-    change_mended loaded was_mended s S clean (Err (stops.Full n m)) refused stays still decided = absurd refused
-    change_mended loaded was_mended s S clean (Err (stops.PowerLost x)) refused stays still decided = absurd decided
-    change_mended loaded was_mended s S clean (Err (stops.Device x)) refused stays still decided = absurd decided
-    change_mended loaded was_mended s S clean (Err stops.Memory) refused stays still decided = absurd decided
+    change_mended loaded was_mended s (Ok done) refused clean still decided = done_mended s still clean
+    change_mended loaded was_mended s (Err (stops.Fault f)) refused clean still decided = absurd refused
+    change_mended loaded was_mended s (Err (stops.NoSelect n m)) refused clean still decided = absurd refused
+    change_mended loaded was_mended s (Err (stops.Full n m)) refused clean still decided = absurd refused
+    change_mended loaded was_mended s (Err (stops.PowerLost x)) refused clean still decided = absurd decided
+    change_mended loaded was_mended s (Err (stops.Device x)) refused clean still decided = absurd decided
+    change_mended loaded was_mended s (Err stops.Memory) refused clean still decided = absurd decided

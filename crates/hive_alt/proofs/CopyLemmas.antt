@@ -5,7 +5,6 @@ use Rattle.std.proofs.lemmas.Bool.{ne_eqb, le-leb, lt-ltb, and_from, and_right, 
 use Rattle.hive_model.specs.Base.{Base, IsBase, base_of, base_text}
 use Rattle.hive_model.specs.Image.{Image, File, Primary, Log, Address, Bytes, put, same_file}
 use Rattle.hive_model.specs.Recovery.{sector, base_at}
-use Rattle.hive_model.specs.Carries.{HasBins}
 use Rattle.hive_model.proofs.BaseLemmas.{base_back}
 use Rattle.nt_edge.specs.Crash.{AgreeOutside}
 use Rattle.nt_edge.proofs.Images.{put_here, put_other, same_address_true}
@@ -63,7 +62,7 @@ marked_more file image after bits bins bytes i so_far is put_is = record {
 
 -- ---- where images agree
 
-outside_block : (file : File) (x y : Image) → AgreeOutside (is_block file) x y → AgreeOutside (in_copy file) x y
+pub outside_block : (file : File) (x y : Image) → AgreeOutside (is_block file) x y → AgreeOutside (in_copy file) x y
 outside_block file x y agree a not = agree a (ap (λ b. b && (a.sector == 0)) not)
 
 outside_bin : (file : File) (size : ℕ) (bits : ℕ → Bool) (x y : Image) → AgreeOutside (is_bin file size bits) x y
@@ -101,69 +100,79 @@ copy_written file image base bins fits kind even size is =
 
 -- ---- a copy rewritten
 
-module _ (file : File) (h0 : Image) (opened closed : Base) (bits : ℕ → Bool) (new : List ℕ)
-    (stays : (i : ℕ) → 512 * i < length new → bits i ≡ false → h0 (copy_at file (8 + i)) ≡ Some (Bytes (sector new i)))
-  where
-    all_same : (c : Image) → AgreeOutside (is_block file) h0 c → c (copy_at file 0) ≡ h0 (copy_at file 0)
-        → (a : Address) → c a ≡ h0 a
-    all_same c agree same a =
-        let here : (b : Bool) → is_block file a ≡ b → c a ≡ h0 a =
-        elim [
-          | true ↦ λ is. let e = same_address_true a (copy_at file 0) is in ap c e ∙ same ∙ sym (ap h0 e)
-          | false ↦ λ is. agree a is
-        ] in
-        here (is_block file a) refl
+-- a copy was opened, and all else is as it was
+pub record IsOpen (file : File) (before : Image) (opened : Base) (image : Image) : Type 0 where
+  pub agree : AgreeOutside (is_block file) before image
+  pub block : image (copy_at file 0) ≡ Some (Bytes (base_text opened))
 
-    pub opened_cut : (c : Image) → AgreeOutside (is_block file) h0 c → BlockIsBeforeOr file h0 opened c
-        → IsRewriting file h0 opened closed new c
-    opened_cut c agree block = ⊎_elim (λ same. inl (all_same c agree same)) (λ left. inr (inl left)) block
+-- and it has the new bins data
+pub record IsFilled (file : File) (before : Image) (opened : Base) (new : List ℕ) (image : Image) : Type 0 where
+  pub other : AgreeOutside (in_copy file) before image
+  pub written : IsWritten file image opened new
 
-    pub opened_other : (c : Image) → AgreeOutside (is_block file) h0 c → AgreeOutside (in_copy file) h0 c
-    opened_other c agree = outside_block file h0 c agree
+all_same : (file : File) (h0 c : Image) → AgreeOutside (is_block file) h0 c
+    → c (copy_at file 0) ≡ h0 (copy_at file 0) → (a : Address) → c a ≡ h0 a
+all_same file h0 c agree same a =
+    let here : (b : Bool) → is_block file a ≡ b → c a ≡ h0 a =
+    elim [
+      | true ↦ λ is. let e = same_address_true a (copy_at file 0) is in ap c e ∙ same ∙ sym (ap h0 e)
+      | false ↦ λ is. agree a is
+    ] in
+    here (is_block file a) refl
 
-    module _ (h1 : Image) (agree1 : AgreeOutside (is_block file) h0 h1)
-        (block1 : h1 (copy_at file 0) ≡ Some (Bytes (base_text opened))) where
-      pub bins_cut : (c : Image) → AgreeOutside (is_bin file (length new) bits) h1 c
-          → IsRewriting file h0 opened closed new c
-      bins_cut c agree = inr (inl (inl (agree (copy_at file 0) (no_bin file (length new) bits) ∙ block1)))
+-- a cut while it is opened
+pub opened_cut : (file : File) (h0 : Image) (opened closed : Base) (new : List ℕ) (c : Image)
+    → AgreeOutside (is_block file) h0 c → BlockIsBeforeOr file h0 opened c → IsRewriting file h0 opened closed new c
+opened_cut file h0 opened closed new c agree block =
+    ⊎_elim (λ same. inl (all_same file h0 c agree same)) (λ left. inr (inl left)) block
 
-      pub bins_other : (c : Image) → AgreeOutside (is_bin file (length new) bits) h1 c
-          → AgreeOutside (in_copy file) h0 c
-      bins_other c agree a not =
-          outside_bin file (length new) bits h1 c agree a not ∙ outside_block file h0 h1 agree1 a not
+-- while its bins sectors are written, or after that
+module _ {file : File} {h0 h1 : Image} {opened : Base} (is : IsOpen file h0 opened h1) (bits : ℕ → Bool)
+    (new : List ℕ) (c : Image) (agree : AgreeOutside (is_bin file (length new) bits) h1 c) where
+  pub bins_cut : (closed : Base) → IsRewriting file h0 opened closed new c
+  bins_cut closed = inr (inl (inl (agree (copy_at file 0) (no_bin file (length new) bits) ∙ is.block)))
 
-      module _ (h2 : Image) (agree2 : AgreeOutside (is_bin file (length new) bits) h1 h2)
-          (written : HasMarked (copy_in file h2) bits new) where
-        all_new : HasBins (copy_in file h2) new
-        all_new i small = ⊎_elim
-            (λ on. written i small on)
-            (λ off. agree2 (copy_at file (8 + i)) (unmarked_at file (length new) bits i off)
-            ∙ agree1 (copy_at file (8 + i)) (no_block file i) ∙ stays i small off)
-            (cases_Bool (bits i))
+  pub bins_other : AgreeOutside (in_copy file) h0 c
+  bins_other a not =
+      outside_bin file (length new) bits h1 c agree a not ∙ outside_block file h0 h1 is.agree a not
 
-        pub closed_written : (c : Image) → AgreeOutside (is_block file) h2 c
-            → c (copy_at file 0) ≡ Some (Bytes (base_text closed)) → IsWritten file c closed new
-        closed_written c agree block =
-            record {
-              block = block;
-              bins_there = λ i small. agree (copy_at file (8 + i)) (no_block file i)
-                  ∙ all_new i small;
-            }
+  pub all_filled : ((i : ℕ) → 512 * i < length new → bits i ≡ false
+      → h0 (copy_at file (8 + i)) ≡ Some (Bytes (sector new i)))
+      → HasMarked (copy_in file c) bits new → IsFilled file h0 opened new c
+  all_filled stays marked = record {
+    other = bins_other;
+    written = record {
+      block = agree (copy_at file 0) (no_bin file (length new) bits) ∙ is.block;
+      bins_there = λ i small. ⊎_elim
+          (λ on. marked i small on)
+          (λ off. agree (copy_at file (8 + i)) (unmarked_at file (length new) bits i off)
+          ∙ is.agree (copy_at file (8 + i)) (no_block file i) ∙ stays i small off)
+          (cases_Bool (bits i));
+    };
+  }
 
-        pub closed_cut : (c : Image) → AgreeOutside (is_block file) h2 c → BlockIsBeforeOr file h2 closed c
-            → IsRewriting file h0 opened closed new c
-        closed_cut c agree block = ⊎_elim
-            (λ same. inr (inl (inl (same ∙ agree2 (copy_at file 0) (no_bin file (length new) bits) ∙ block1))))
-            (⊎_elim (λ there. inr (inr (closed_written c agree there))) (λ torn. inr (inl (inr torn))))
-            block
+-- while it is closed, or after that
+module _ {file : File} {h0 h2 : Image} {opened : Base} {new : List ℕ} (is : IsFilled file h0 opened new h2) (c : Image)
+    (agree : AgreeOutside (is_block file) h2 c) where
+  closed_written : (closed : Base) → c (copy_at file 0) ≡ Some (Bytes (base_text closed)) → IsWritten file c closed new
+  closed_written closed block = record {
+    block = block;
+    bins_there = λ i small. agree (copy_at file (8 + i)) (no_block file i) ∙ is.written.bins_there i small;
+  }
 
-        pub closed_other : (c : Image) → AgreeOutside (is_block file) h2 c → AgreeOutside (in_copy file) h0 c
-        closed_other c agree a not = outside_block file h2 c agree a not ∙ bins_other h2 agree2 a not
+  pub closed_cut : (closed : Base) → BlockIsBeforeOr file h2 closed c → IsRewriting file h0 opened closed new c
+  closed_cut closed block = ⊎_elim
+      (λ same. inr (inl (inl (same ∙ is.written.block))))
+      (⊎_elim (λ there. inr (inr (closed_written closed there))) (λ torn. inr (inl (inr torn))))
+      block
 
-        pub closed_ok : {T E : Type 0} (r : Result T E) (c : Image) → AgreeOutside (is_block file) h2 c
-            → OnOk r (c (copy_at file 0) ≡ Some (Bytes (base_text closed))) → OnOk r (IsWritten file c closed new)
-        closed_ok (Ok x) c agree block = closed_written c agree block
-        closed_ok (Err e) c agree block = tt
+  pub closed_other : AgreeOutside (in_copy file) h0 c
+  closed_other a not = outside_block file h2 c agree a not ∙ is.other a not
+
+  pub closed_ok : {T E : Type 0} (closed : Base) (r : Result T E)
+      → OnOk r (c (copy_at file 0) ≡ Some (Bytes (base_text closed))) → OnOk r (IsWritten file c closed new)
+  closed_ok closed (Ok x) block = closed_written closed block
+  closed_ok closed (Err e) block = tt
 
 -- what was said of a base block that is this one
 pub written_as : (file : File) (image : Image) (made base : Base) (bins : List ℕ) → made ≡ base

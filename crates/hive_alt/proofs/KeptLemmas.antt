@@ -1,5 +1,5 @@
 -- What stands stays: of a disk that was only read, and of one that was repaired.
-use Rattle.std.proofs.Common.{◌≡◌, ℕ, List, [], Result, Ok, sym, ◌∙◌, ap, subst}
+use Rattle.std.proofs.Common.{◌≡◌, ℕ, List, [], Result, Ok, sym, ◌∙◌, subst}
 use Rattle.nt_bytes.specs.declared.fault.HiveFault.{HiveFault}
 use Rattle.hive_model.specs.Base.{Base}
 use Rattle.hive_model.specs.Image.{Image}
@@ -26,11 +26,9 @@ module _ (stands : Standing) where
         ok_is {E = HiveFault} found (record { base = base; bins = bins; dirty = is.dirty }) (sym exact ∙ is.kept)
 
     -- a repair leaves what was read, and that is what stood
-    pub kept_mended : (given : Base) (data_given : List ℕ) → given ≡ found.base → data_given ≡ found.bins
-        → (new : DiskState) → EachCrash new (IsKeptAs stands given data_given)
+    pub kept_mended : (given : List ℕ) → given ≡ found.bins → (new : DiskState)
+        → EachCrash new (IsKeptAs stands found.base given)
         → (base : Base) (bins : List ℕ) → IsKeptAs stands base bins image → EachCrash new (IsKeptAs stands base bins)
-    kept_mended given data_given given_is data_is new each base bins is c crash =
-        let one = same_found base bins is in
-        subst (λ (b : Base). IsKeptAs stands b bins c) (given_is ∙ ap (λ (r : Recovered). r.base) one)
-        (subst (λ (l : List ℕ). IsKeptAs stands given l c) (data_is ∙ ap (λ (r : Recovered). r.bins) one)
-        (each c crash))
+    kept_mended given given_is new each base bins is c crash =
+        subst (λ (r : Recovered). IsKeptAs stands r.base r.bins c) (same_found base bins is)
+        (subst (λ (l : List ℕ). IsKeptAs stands found.base l c) given_is (each c crash))

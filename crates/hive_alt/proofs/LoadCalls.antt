@@ -1,14 +1,13 @@
 -- The calls of a load of two copies: sectors are read, and then the copy that does not stand is repaired.
-use Rattle.std.proofs.Common.{◌≡◌, ◌++◌, inl, inr, Bool, true, false, ℕ, List, [], Option, Some, None, Result, Ok, Err, refl, sym, ◌∙◌, ap, subst, append_assoc}
+use Rattle.std.proofs.Common.{◌≡◌, ◌++◌, inl, inr, Bool, true, false, ℕ, List, [], Option, Some, None, Result, Ok, Err, refl, sym, ◌∙◌, ap, subst}
 use Rattle.std.specs.Prelude.{not, if◌then◌else◌}
 use Rattle.std.specs.Result.{IsErrAnd}
 use Rattle.std.proofs.lemmas.Bool.{eq-eqb, ne_eqb}
 use Rattle.std.proofs.lemmas.List.{append-nil}
-use Rattle.nt_bytes.specs.Front.{IsFront}
 use Rattle.hive_model.specs.Base.{Base}
 use Rattle.hive_model.specs.Image.{Image, Address}
 use Rattle.hive_model.specs.Recovery.{Recovered, base_in}
-use Rattle.nt_edge.specs.Calls.{Made, Makes, MakesFront, reads_of}
+use Rattle.nt_edge.specs.Calls.{Made, MakesFront, reads_of}
 use Rattle.nt_edge.specs.declared.disk.DiskStop.{DiskStop}
 use Rattle.nt_edge.specs.declared.disk.DiskStop.TheVariants as disk
 use Rattle.hive_log.specs.Found.{IsUnfinished}
@@ -16,36 +15,37 @@ use Rattle.hive_log.specs.Stops.{IsFaultOf, load_stop_of}
 use Rattle.hive_log.specs.declared.stops.LoadStop.{LoadStop}
 use Rattle.hive_log.specs.declared.stops.LoadStop.TheVariants as load
 use Rattle.hive_commit.proofs.CallLemmas.{made_as, made_then}
+use Rattle.hive_commit.proofs.RecoveryCalls.{front_behind}
 use Rattle.hive_alt.specs.Calls.{IsMending, IsPairLoad, mend_calls, mending_as, second_stands}
 use Rattle.hive_alt.specs.Copies.{StandsBy}
-use Rattle.hive_alt.specs.Schemes.{AreOf, IsFrontOf, MakesLoad}
+use Rattle.hive_alt.specs.Schemes.{AreOf, IsFrontOf, MakesLoad, OnlyReads}
 use Rattle.hive_alt.specs.Twin.{twin_of}
 
-module _ (a b : List Made → Type 0) (which : List Made → Type 0) (sectors : List Address)
-    (read : Makes a b (reads_of sectors)) where
+module _ {a b : List Made → Type 0} (asked : OnlyReads a b) (which : List Made → Type 0) where
   -- nothing was written
-  pub only_read : which (reads_of sectors ++ []) → MakesLoad a b IsMending which
+  pub only_read : which (reads_of asked.sectors ++ []) → MakesLoad a b IsMending which
   only_read is = record {
-    sectors = sectors;
+    sectors = asked.sectors;
     writes = [];
     written = inl refl;
-    made = made_as a b (reads_of sectors) (reads_of sectors ++ []) (sym (append-nil (reads_of sectors))) read;
+    made = made_as a b (reads_of asked.sectors) (reads_of asked.sectors ++ []) (sym (append-nil (reads_of asked.sectors)))
+        asked.made;
     are = is;
   }
 
   -- and then a prefix of a repair was written
   pub read_then : (c : List Made → Type 0) (second : Bool) (base : Base) (bins : List ℕ)
-      (f : MakesFront b c (mend_calls second base bins)) → which (reads_of sectors ++ f.front)
+      (f : MakesFront b c (mend_calls second base bins)) → which (reads_of asked.sectors ++ f.front)
       → MakesLoad a c IsMending which
   read_then c second base bins f is = record {
-    sectors = sectors;
+    sectors = asked.sectors;
     writes = f.front;
     written = inr (record {
       whole = mend_calls second base bins;
       is = record { second = second; base = base; bins = bins; calls_are = refl };
       front = record { rest = f.rest; cut = f.cut };
     });
-    made = made_then a b c (reads_of sectors) f.front read f.made;
+    made = made_then a b c (reads_of asked.sectors) f.front asked.made f.made;
     are = is;
   }
 
@@ -108,7 +108,7 @@ module _ (image : Image) where
       elim [ disk.PowerLost ↦ front | disk.Failed ↦ front | disk.Memory ↦ front ] in
       subst (λ (s : LoadStop). AreOf {T = T} (IsPairLoad image) (Err s) calls) (sym err) (by_disk stop)
 
-  module _ (found : Recovered) (second : Bool) (is : StandsBy image found second) (sectors : List Address) where
+  module _ {found : Recovered} {second : Bool} (is : StandsBy image found second) (sectors : List Address) where
     mends_as : (dirty : Bool) → found.dirty ≡ dirty
         → mends ≡ (if dirty then mend_calls second found.base found.bins else [])
     mends_as dirty dirty_is =
@@ -123,28 +123,21 @@ module _ (image : Image) where
       calls_are = ap (λ (l : List Made). reads_of sectors ++ l) (sym (mends_as false clean));
     }
 
-    module _ (dirty : found.dirty ≡ true) (base : Base) (bins : List ℕ) (base_is : base ≡ found.base)
-        (bins_is : bins ≡ found.bins) where
-      given_is : mend_calls second base bins ≡ mends
-      given_is = ap (λ (b : Base). mend_calls second b bins) base_is
-          ∙ ap (λ (l : List ℕ). mend_calls second found.base l) bins_is ∙ sym (mends_as true dirty)
-
+    module _ (dirty : found.dirty ≡ true) (bins : List ℕ) (bins_is : bins ≡ found.bins) where
       -- what was found was repaired
-      pub mended_all : IsPairLoad image (reads_of sectors ++ mend_calls second base bins)
+      pub mended_all : IsPairLoad image (reads_of sectors ++ mend_calls second found.base bins)
       mended_all = record {
         sectors = sectors;
-        calls_are = ap (λ (l : List Made). reads_of sectors ++ l) given_is;
+        calls_are = ap (λ (l : List Made). reads_of sectors ++ l)
+            (ap (mend_calls second found.base) bins_is ∙ sym (mends_as true dirty));
       }
 
       -- or up to a stop
-      pub mended_front : (front : List Made) → IsFront (mend_calls second base bins) front
-          → IsFrontOf (IsPairLoad image) (reads_of sectors ++ front)
-      mended_front front cut = record {
-        whole = reads_of sectors ++ mend_calls second base bins;
+      pub mended_front : {a b : List Made → Type 0} (f : MakesFront a b (mend_calls second found.base bins))
+          → IsFrontOf (IsPairLoad image) (reads_of sectors ++ f.front)
+      mended_front f = record {
+        whole = reads_of sectors ++ mend_calls second found.base bins;
         is = mended_all;
-        front = record {
-          rest = cut.rest;
-          cut = ap (λ (l : List Made). reads_of sectors ++ l) cut.cut
-              ∙ sym (append_assoc (reads_of sectors) front cut.rest);
-        };
+        front = front_behind (reads_of sectors) (reads_of sectors ++ mend_calls second found.base bins) refl
+            (record { rest = f.rest; cut = f.cut });
       }

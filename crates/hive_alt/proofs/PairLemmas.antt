@@ -5,6 +5,7 @@ use Rattle.std.proofs.lemmas.Bool.{eq-eqb, and_from}
 use Rattle.hive_model.specs.Base.{Base, IsBase, base_text}
 use Rattle.hive_model.specs.Image.{Image, File, Primary, Log, Bytes, Unreadable, IsLeftBy}
 use Rattle.hive_model.specs.Recovery.{sector, base_at}
+use Rattle.hive_model.specs.Carries.{HasBins}
 use Rattle.hive_model.proofs.BaseLemmas.{IsChecked, base_in_checked}
 use Rattle.nt_edge.specs.Crash.{AgreeOutside}
 use Rattle.regf_base.specs.Fitting.{NumbersFit, TextsFit}
@@ -61,50 +62,69 @@ second_mended h0 h1 base bins is numbers texts other written = record {
 
 -- ---- the primary is repaired
 
+-- the second copy stands, and the primary has its bins data
+pub record IsReady (base : Base) (bins : List ℕ) (image : Image) : Type 0 where
+  pub behind : IsBehind image base
+  pub second : HasCopy Log image base bins
+  pub bins_there : HasBins (copy_in Primary image) bins
+  pub fits : IsBase base
+  pub whole : 512 * (length bins / 512) ≡ length bins
+
+behind_along : (h0 c : Image) (base : Base) → IsBehind h0 base → c (copy_at Primary 0) ≡ h0 (copy_at Primary 0)
+    → IsBehind c base
+behind_along h0 c base behind same = record {
+  opened = behind.opened;
+  block = ap base_at same ∙ behind.block;
+  unfinished = behind.unfinished;
+  goes = behind.goes;
+}
+
 module _ (h0 : Image) (base : Base) (bins : List ℕ) (bits : ℕ → Bool) (behind : IsBehind h0 base)
-    (is : HasCopy Log h0 base bins) (whole : 512 * (length bins / 512) ≡ length bins) where
-  behind_along : (c : Image) → c (copy_at Primary 0) ≡ h0 (copy_at Primary 0) → IsBehind c base
-  behind_along c same = record {
-    opened = behind.opened;
-    block = ap base_at same ∙ behind.block;
-    unfinished = behind.unfinished;
-    goes = behind.goes;
+    (is : HasCopy Log h0 base bins) (whole : 512 * (length bins / 512) ≡ length bins) (c : Image)
+    (agree : AgreeOutside (is_bin Primary (length bins) bits) h0 c) where
+  behind_still : IsBehind c base
+  behind_still = behind_along h0 c base behind (agree (copy_at Primary 0) refl)
+
+  second_still : HasCopy Log c base bins
+  second_still = copy_along Log h0 c base bins (λ n. agree (copy_at Log n) refl) is
+
+  pub bins_mending : IsKeptAs twin_of base bins c
+  bins_mending = kept_second c base bins behind_still second_still whole
+
+  pub bins_mended : NumbersFit base → TextsFit base → ((i : ℕ) → 512 * i < length bins → bits i ≡ true)
+      → HasMarked (copy_in Primary c) bits bins → IsReady base bins c
+  bins_mended numbers texts all written = record {
+    behind = behind_still;
+    second = second_still;
+    bins_there = λ i small. written i small (all i small);
+    fits = fits_of Log h0 base bins is numbers texts;
+    whole = whole;
   }
 
-  pub bins_mending : (c : Image) → AgreeOutside (is_bin Primary (length bins) bits) h0 c → IsKeptAs twin_of base bins c
-  bins_mending c agree = kept_second c base bins (behind_along c (agree (copy_at Primary 0) refl))
-      (copy_along Log h0 c base bins (λ n. agree (copy_at Log n) refl) is) whole
+module _ {base : Base} {bins : List ℕ} {h1 : Image} (is : IsReady base bins h1) (c : Image)
+    (agree : AgreeOutside (is_block Primary) h1 c) where
+  second_of : HasCopy Log c base bins
+  second_of = copy_along Log h1 c base bins (λ n. agree (copy_at Log n) refl) is.second
 
-  module _ (numbers : NumbersFit base) (texts : TextsFit base) (all : (i : ℕ) → 512 * i < length bins → bits i ≡ true)
-      (h1 : Image) (agree1 : AgreeOutside (is_bin Primary (length bins) bits) h0 h1)
-      (written : HasMarked (copy_in Primary h1) bits bins) where
-    second_of : (c : Image) → AgreeOutside (is_block Primary) h1 c → HasCopy Log c base bins
-    second_of c agree = copy_along Log h0 c base bins (λ n. agree (copy_at Log n) refl ∙ agree1 (copy_at Log n) refl) is
+  first_of : c (copy_at Primary 0) ≡ Some (Bytes (base_text base)) → HasCopy Primary c base bins
+  first_of there =
+      copy_written Primary c base bins is.fits (checked_of Log h1 base bins is.second).kind_is is.second.clean
+      is.second.size
+      (record {
+        block = there;
+        bins_there = λ i small. agree (copy_at Primary (8 + i)) (no_block Primary i) ∙ is.bins_there i small;
+      })
 
-    first_of : (c : Image) → AgreeOutside (is_block Primary) h1 c
-        → c (copy_at Primary 0) ≡ Some (Bytes (base_text base)) → HasCopy Primary c base bins
-    first_of c agree there =
-        copy_written Primary c base bins (fits_of Log h0 base bins is numbers texts)
-        (checked_of Log h0 base bins is).kind_is is.clean is.size
-        (record {
-          block = there;
-          bins_there = λ i small. agree (copy_at Primary (8 + i)) (no_block Primary i)
-              ∙ written i small (all i small);
-        })
+  pub block_mending : BlockIsBeforeOr Primary h1 base c → IsKeptAs twin_of base bins c
+  block_mending block = ⊎_elim
+      (λ same. kept_second c base bins (behind_along h1 c base is.behind same) second_of is.whole)
+      (⊎_elim
+      (λ there. kept_first c base bins (first_of there) is.whole)
+      (λ torn. kept_second c base bins (torn_behind c base is.second.clean torn) second_of is.whole))
+      block
 
-    pub block_mending : (c : Image) → AgreeOutside (is_block Primary) h1 c → BlockIsBeforeOr Primary h1 base c
-        → IsKeptAs twin_of base bins c
-    block_mending c agree block = ⊎_elim
-        (λ same. kept_second c base bins (behind_along c (same ∙ agree1 (copy_at Primary 0) refl)) (second_of c agree)
-        whole)
-        (⊎_elim
-        (λ there. kept_first c base bins (first_of c agree there) whole)
-        (λ torn. kept_second c base bins (torn_behind c base is.clean torn) (second_of c agree) whole))
-        block
-
-    pub first_mended : (c : Image) → AgreeOutside (is_block Primary) h1 c
-        → c (copy_at Primary 0) ≡ Some (Bytes (base_text base)) → IsPair c base bins
-    first_mended c agree there = record { first = first_of c agree there; second = second_of c agree }
+  pub first_mended : c (copy_at Primary 0) ≡ Some (Bytes (base_text base)) → IsPair c base bins
+  first_mended there = record { first = first_of there; second = second_of }
 
 -- ---- a commit
 

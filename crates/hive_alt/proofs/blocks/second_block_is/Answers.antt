@@ -1,20 +1,14 @@
-use Rattle.hive_model.specs.Image.{Log}
-use Rattle.hive_alt.specs.Twin.{copy_at}
 use Rattle.hive_alt.proofs.ReadingLemmas.{reads_one}
 use Rattle.hive_alt.proofs.blocks.second_block_is.Goals as goal
 
 pub returns-in_err-read-clause-asked : goal.returns-in_err-read-clause-asked
-returns-in_err-read-clause-asked g c =
-    reads_one (g.D.Disk.calls c.args.disk.now) (g.D.Disk.calls c.read.new.self) (copy_at Log 0) c.read.ensures.made
+returns-in_err-read-clause-asked g c = reads_one _ _ _ c.read.ensures.made
 
 pub returns-in-Whole-clause-asked : goal.returns-in-Whole-clause-asked
-returns-in-Whole-clause-asked g c =
-    reads_one (g.D.Disk.calls c.args.disk.now) (g.D.Disk.calls c.read.new.self) (copy_at Log 0) c.read.ensures.made
+returns-in-Whole-clause-asked g c = reads_one _ _ _ c.read.ensures.made
 
 pub returns-in-Absent-clause-asked : goal.returns-in-Absent-clause-asked
-returns-in-Absent-clause-asked g c =
-    reads_one (g.D.Disk.calls c.args.disk.now) (g.D.Disk.calls c.read.new.self) (copy_at Log 0) c.read.ensures.made
+returns-in-Absent-clause-asked g c = reads_one _ _ _ c.read.ensures.made
 
 pub returns-in-Unreadable-clause-asked : goal.returns-in-Unreadable-clause-asked
-returns-in-Unreadable-clause-asked g c =
-    reads_one (g.D.Disk.calls c.args.disk.now) (g.D.Disk.calls c.read.new.self) (copy_at Log 0) c.read.ensures.made
+returns-in-Unreadable-clause-asked g c = reads_one _ _ _ c.read.ensures.made

@@ -14,16 +14,12 @@ returns-in_err-loaded-clause-crash g c = λ tells found tree is.
 
 pub returns-clause-mended : goal.returns-clause-mended
 returns-clause-mended g c = λ tells decided found tree is.
-    let s = g.D.Disk.state c.change_loaded.new.disk in
-    of_found (λ (r : Recovered) (t : Tree). EachCrash s (StandsAfter g.S.Scheme.stands r t c.args.number))
-    g.S.Scheme.stands
-    (g.D.Disk.state c.args.disk.now).held found c.in_ok-loaded.loaded.found tree c.in_ok-loaded.loaded.tree
-    is (c.in_ok-loaded.ensures.exact tells) (c.change_loaded.ensures.mended tells decided)
+    of_found (λ (r : Recovered) (t : Tree). EachCrash (g.D.Disk.state c.change_loaded.new.disk)
+    (StandsAfter g.S.Scheme.stands r t c.args.number)) _ _ found _ tree _ is (c.in_ok-loaded.ensures.exact tells)
+    (c.change_loaded.ensures.mended tells decided)
 
 pub returns-clause-crash : goal.returns-clause-crash
 returns-clause-crash g c = λ tells found tree is.
-    let s = g.D.Disk.state c.change_loaded.new.disk in
-    of_found (λ (r : Recovered) (t : Tree). EachCrash s (IsEitherOf g.S.Scheme.stands r t c.args.number))
-    g.S.Scheme.stands
-    (g.D.Disk.state c.args.disk.now).held found c.in_ok-loaded.loaded.found tree c.in_ok-loaded.loaded.tree
-    is (c.in_ok-loaded.ensures.exact tells) (c.change_loaded.ensures.crash tells)
+    of_found (λ (r : Recovered) (t : Tree). EachCrash (g.D.Disk.state c.change_loaded.new.disk)
+    (IsEitherOf g.S.Scheme.stands r t c.args.number)) _ _ found _ tree _ is (c.in_ok-loaded.ensures.exact tells)
+    (c.change_loaded.ensures.crash tells)
