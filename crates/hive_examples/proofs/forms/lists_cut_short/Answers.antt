@@ -1,36 +1,19 @@
 use Rattle.std.proofs.Common.{refl}
-use Rattle.hive_model.specs.Forms.{bytes_in}
-use Rattle.hive_model.specs.StoredNames.{key_name_at, value_name_at}
-use Rattle.hive_model.specs.KeyNode.{key_node_at, key_node_text}
-use Rattle.hive_model.specs.KeyValue.{key_value_at, key_value_text}
-use Rattle.hive_model.specs.BigData.{big_data_at, big_data_text}
-use Rattle.hive_model.specs.Security.{security_at, security_text}
-use Rattle.hive_model.specs.Lists.{list_of, list_at, li_text, lf_text, lh_text, ri_text, offsets_in}
-use Rattle.hive_model.specs.Bins.{header_at, size_at}
-use Rattle.hive_model.specs.Walk.{node_at, big_data_of, leaf_at}
-use Rattle.hive_laws.specs.Samples.{root_alone}
+use Rattle.hive_model.specs.Lists.{list_of, list_at, li_text, lf_text, lh_text, offsets_in}
 use Rattle.hive_examples.proofs.forms.lists_cut_short.Goals as goal
 
 pub returns-clause-list : goal.returns-clause-list
-unfolding key_name_at value_name_at key_node_at key_node_text key_value_at key_value_text bytes_in security_at
-    security_text list_of list_at big_data_at big_data_text li_text lf_text lh_text ri_text offsets_in header_at size_at
-    node_at big_data_of leaf_at root_alone
+unfolding list_at list_of li_text
 returns-clause-list c = refl
 
 pub returns-clause-hinted_list : goal.returns-clause-hinted_list
-unfolding key_name_at value_name_at key_node_at key_node_text key_value_at key_value_text bytes_in security_at
-    security_text list_of list_at big_data_at big_data_text li_text lf_text lh_text ri_text offsets_in header_at size_at
-    node_at big_data_of leaf_at root_alone
+unfolding list_at list_of lf_text
 returns-clause-hinted_list c = refl
 
 pub returns-clause-values : goal.returns-clause-values
-unfolding key_name_at value_name_at key_node_at key_node_text key_value_at key_value_text bytes_in security_at
-    security_text list_of list_at big_data_at big_data_text li_text lf_text lh_text ri_text offsets_in header_at size_at
-    node_at big_data_of leaf_at root_alone
+unfolding offsets_in
 returns-clause-values c = refl
 
 pub returns-clause-hashed_list : goal.returns-clause-hashed_list
-unfolding key_name_at value_name_at key_node_at key_node_text key_value_at key_value_text bytes_in security_at
-    security_text list_of list_at big_data_at big_data_text li_text lf_text lh_text ri_text offsets_in header_at size_at
-    node_at big_data_of leaf_at root_alone
+unfolding list_at list_of lh_text
 returns-clause-hashed_list c = refl

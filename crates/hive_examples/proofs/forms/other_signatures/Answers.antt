@@ -1,44 +1,27 @@
 use Rattle.std.proofs.Common.{refl}
-use Rattle.hive_model.specs.Forms.{bytes_in}
-use Rattle.hive_model.specs.StoredNames.{key_name_at, value_name_at}
-use Rattle.hive_model.specs.KeyNode.{key_node_at, key_node_text}
-use Rattle.hive_model.specs.KeyValue.{key_value_at, key_value_text}
-use Rattle.hive_model.specs.BigData.{big_data_at, big_data_text}
-use Rattle.hive_model.specs.Security.{security_at, security_text}
-use Rattle.hive_model.specs.Lists.{list_of, list_at, li_text, lf_text, lh_text, ri_text, offsets_in}
-use Rattle.hive_model.specs.Bins.{header_at, size_at}
-use Rattle.hive_model.specs.Walk.{node_at, big_data_of, leaf_at}
-use Rattle.hive_laws.specs.Samples.{root_alone}
+use Rattle.hive_model.specs.KeyNode.{key_node_at}
+use Rattle.hive_model.specs.KeyValue.{key_value_at}
+use Rattle.hive_model.specs.BigData.{big_data_at}
+use Rattle.hive_model.specs.Security.{security_at}
+use Rattle.hive_model.specs.Lists.{list_at}
 use Rattle.hive_examples.proofs.forms.other_signatures.Goals as goal
 
--- what each clause says is computed
-computed : goal.returns-clause-node
-    × goal.returns-clause-value
-    × goal.returns-clause-security
-    × goal.returns-clause-list
-    × goal.returns-clause-big_data
-unfolding key_name_at value_name_at key_node_at key_node_text key_value_at key_value_text bytes_in security_at
-    security_text list_of list_at big_data_at big_data_text li_text lf_text lh_text ri_text offsets_in header_at size_at
-    node_at big_data_of leaf_at root_alone
-computed = (
-  λ c. refl,
-  λ c. refl,
-  λ c. refl,
-  λ c. refl,
-  λ c. refl,
-)
-
 pub returns-clause-node : goal.returns-clause-node
-returns-clause-node = computed.0
+unfolding key_node_at
+returns-clause-node c = refl
 
 pub returns-clause-value : goal.returns-clause-value
-returns-clause-value = computed.1
+unfolding key_value_at
+returns-clause-value c = refl
 
 pub returns-clause-security : goal.returns-clause-security
-returns-clause-security = computed.2
+unfolding security_at
+returns-clause-security c = refl
 
 pub returns-clause-list : goal.returns-clause-list
-returns-clause-list = computed.3
+unfolding list_at
+returns-clause-list c = refl
 
 pub returns-clause-big_data : goal.returns-clause-big_data
-returns-clause-big_data = computed.4
+unfolding big_data_at
+returns-clause-big_data c = refl

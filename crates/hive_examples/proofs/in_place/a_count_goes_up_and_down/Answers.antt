@@ -1,5 +1,5 @@
 use Rattle.std.specs.List.{All}
-use Rattle.std.proofs.Common.{ℕ, true, false, [], ◌∷◌, refl, arith}
+use Rattle.std.proofs.Common.{ℕ, Bool, true, false, [], ◌∷◌, refl, arith}
 use Rattle.std.proofs.lemmas.List.Elements.{All-cons, All-contains}
 use Rattle.nt_bytes.specs.declared.version.HiveVersion.{HiveVersion}
 use Rattle.hive_model.specs.Bins.{look_up}
@@ -9,8 +9,8 @@ use Rattle.hive_model.specs.KeyNode.{key_node_at, key_node_text}
 use Rattle.hive_model.specs.Security.{security_at, security_text}
 use Rattle.hive_model.specs.Lists.{list_of, list_at, li_text}
 use Rattle.hive_model.specs.Packed.{filled}
-use Rattle.hive_model.specs.Walk.{node_at, leaf_at, entries_at, class_checks, security_checks, data_checks, value_checks, values_checks, entries_checks, children_checks, key_checks, all_checks}
-use Rattle.hive_model.specs.InPlace.{IsKeptSecurity}
+use Rattle.hive_model.specs.Walk.{node_at, entries_at, class_checks, security_checks, values_checks, entries_checks, children_checks, key_checks, all_checks}
+use Rattle.hive_model.specs.InPlace.{IsKeptSecurity, KeepsSecurity, recounted}
 use Rattle.hive_examples.specs.SmallCells.{plain_security, kin, kin_used}
 use Rattle.hive_examples.proofs.in_place.a_count_goes_up_and_down.Goals as goal
 
@@ -18,32 +18,29 @@ use Rattle.hive_examples.proofs.in_place.a_count_goes_up_and_down.Goals as goal
 both : (P : ℕ → Type 0) → P 224 → All P (224 ∷ 224 ∷ [])
 both P here = All-cons P 224 (224 ∷ []) here (All-cons P 224 [] here (λ k d below. absurd (omega arith)))
 
-kept : (version : HiveVersion)
-    → IsKeptSecurity (look_up version (kin 224 224 256)) (look_up version (kin_used 2 224 224 256)) (true ∷ []) 224
+-- the cell is kept, whether one key more uses it or one less
+one : (version : HiveVersion) (more : Bool)
+    → IsKeptSecurity (look_up version (kin 224 224 256)) (look_up version (kin_used (recounted more 1) 224 224 256))
+    (more ∷ []) 224
 unfolding key_name_at key_node_at key_node_text bytes_in security_at security_text list_of list_at li_text filled
     kin_used
-kept version = record { cell = plain_security (1 ∷ 2 ∷ []); was = refl; stays = refl }
+one version true = record { cell = plain_security (1 ∷ 2 ∷ []); was = refl; stays = refl }
+one version false = record { cell = plain_security (1 ∷ 2 ∷ []); was = refl; stays = refl }
 
-lowered : (version : HiveVersion)
-    → IsKeptSecurity (look_up version (kin 224 224 256)) (look_up version (kin_used 0 224 224 256)) (false ∷ []) 224
+-- and no other cell is asked for
+kept : (version : HiveVersion) (more : Bool)
+    → KeepsSecurity 32 (λ at. more ∷ []) (look_up version (kin 224 224 256))
+    (look_up version (kin_used (recounted more 1) 224 224 256))
 unfolding key_name_at key_node_at key_node_text bytes_in security_at security_text list_of list_at li_text filled
+    node_at entries_at class_checks security_checks values_checks entries_checks children_checks key_checks all_checks
     kin_used
-lowered version = record { cell = plain_security (1 ∷ 2 ∷ []); was = refl; stays = refl }
+kept version more = λ at there.
+    let is_kept : ℕ → Type 0 =
+    IsKeptSecurity (look_up version (kin 224 224 256)) (look_up version (kin_used (recounted more 1) 224 224 256)) (more ∷ []) in
+    All-contains is_kept (224 ∷ 224 ∷ []) at (both is_kept (one version more)) there
 
 pub returns-clause-up : goal.returns-clause-up
-unfolding key_name_at key_node_at key_node_text bytes_in security_at security_text list_of list_at li_text filled
-    node_at leaf_at entries_at class_checks security_checks data_checks value_checks values_checks entries_checks
-    children_checks key_checks all_checks kin_used
-returns-clause-up c = λ version at there.
-    let kept_at : ℕ → Type 0 =
-    IsKeptSecurity (look_up version (kin 224 224 256)) (look_up version (kin_used 2 224 224 256)) (true ∷ []) in
-    All-contains kept_at (224 ∷ 224 ∷ []) at (both kept_at (kept version)) there
+returns-clause-up c = λ version. kept version true
 
 pub returns-clause-down : goal.returns-clause-down
-unfolding key_name_at key_node_at key_node_text bytes_in security_at security_text list_of list_at li_text filled
-    node_at leaf_at entries_at class_checks security_checks data_checks value_checks values_checks entries_checks
-    children_checks key_checks all_checks kin_used
-returns-clause-down c = λ version at there.
-    let kept_at : ℕ → Type 0 =
-    IsKeptSecurity (look_up version (kin 224 224 256)) (look_up version (kin_used 0 224 224 256)) (false ∷ []) in
-    All-contains kept_at (224 ∷ 224 ∷ []) at (both kept_at (lowered version)) there
+returns-clause-down c = λ version. kept version false

@@ -10,8 +10,6 @@ use Rattle.hive_examples.specs.Rings.{ring_of_three_bin}
 use Rattle.hive_examples.proofs.packing.a_ring_of_three_is_packed.Goals as goal
 
 pub returns-clause-bulk : goal.returns-clause-bulk
-unfolding key_node_text key_value_text lf_text ri_text security_text filled cell_text item_cells items_cells class_cells
-    security_cells head_cells list_cells packed_bins packed cell_bytes head_bytes ring_of_three_bin
 returns-clause-bulk c = elim [ V3 ↦ refl | V5 ↦ refl ]
 
 pub returns-clause-bytes : goal.returns-clause-bytes
