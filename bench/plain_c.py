@@ -124,6 +124,7 @@ def main(words):
         table.row("`import` of one value", ["import", "--hive", large, "--reg", "reg.one", "--save-hive", "out"], ["judge", large])
         steps(table, "an edit of one value and its commit", "set A V dword {}", large)
         steps(table, "`make` of a key and its commit", "make A\\K{}", large)
+        steps(table, "`make` and `remove` of a key, each with its commit", "make A\\K{0}\nflush\nremove A\\K{0}", large)
         made = put(room, "made", hives.with_services(1_000))
         starting(table, made, " of 1,000 services, without a commit")
         starting(table, put(room, "guarded", hives.with_services(1_000, good=1)), " of 1,000 services, with the guard's commit")
