@@ -1,7 +1,6 @@
 //! The log as bytes.
 
 ghost use Rattle.std.specs.Prelude.{◌≡◌, ◌≤◌, ◌++◌, ◌*◌, ◌/◌, true, length, IfOk, OnOk};
-ghost use Rattle.hive_model.specs.Limits.{most_bins};
 ghost use Rattle.hive_model.specs.Base.{is_bins_size};
 ghost use Rattle.hive_model.specs.Recovery.{bit};
 ghost use Rattle.hive_model.specs.Log.{bitmap_text, marked_sectors, log_of, dirty};
@@ -36,7 +35,7 @@ pub fn log_sectors(
 
 fn append_bitmap(log: &mut Bytes, bitmap: &[u8], size: usize) -> Result<(), AllocError>
     requires bits { size / 4096 ≤ length bitmap.now }
-    requires few { size ≤ most_bins }
+    requires few { size ≤ 16777216 }
     ensures { OnOk result (log.new ≡ log.old ++ bitmap_text (bit bitmap.now) size) }
 {
     let mut sector = [0; 512];

@@ -1,4 +1,3 @@
-pub mod Limits
 pub mod Tree
 pub mod Forms
 pub mod StoredNames
