@@ -1,6 +1,6 @@
 //! Bits in words: one for each slot.
 
-ghost use Rattle.std.specs.Prelude.{◌≡◌, ◌≢◌, ◌<◌, ℕ, ◌==◌, not, ◌||◌, length, IfOk, OnOk, OnErr};
+ghost use Rattle.std.specs.Prelude.{◌≡◌, ◌≢◌, ◌<◌, ℕ, ◌==◌, not, ◌||◌, ◌/◌, length, IfOk, OnOk, OnErr};
 ghost use Rattle.std.specs.Int.{bit_at};
 ghost use Rattle.hive_read.specs.Marks.{has_bit, HaveSame};
 
@@ -34,13 +34,13 @@ pub(crate) fn is_set(words: &[u64], slot: usize) -> bool
     }
 }
 
-// Zeros after the words until one is at this place.
-fn widen(words: &mut Vec<u64>, place: usize) -> Result<(), AllocError>
+// Zeros after the words until one has the bit of this slot.
+fn widen(words: &mut Vec<u64>, slot: usize) -> Result<(), AllocError>
     ensures same { HaveSame words.old.items words.new.items }
-    ensures there { OnOk result (place < length words.new.items) }
+    ensures there { OnOk result (slot / 64 < length words.new.items) }
 {
-    'widening: while words.len() <= place {
-        words.push(0)?;
+    if words.len() <= slot / 64 {
+        return words.resize(slot / 64 + 1, 0);
     }
     Ok(())
 }
@@ -51,7 +51,7 @@ pub(crate) fn set(words: &mut Vec<u64>, slot: usize) -> Result<bool, AllocError>
     ensures ok { OnOk result ((i : ℕ) → has_bit words.new.items i ≡ (i == slot || has_bit words.old.items i)) }
     ensures err { OnErr result ((i : ℕ) → has_bit words.new.items i ≡ has_bit words.old.items i) }
 {
-    widen(words, slot / 64)?;
+    widen(words, slot)?;
     let place = (slot % 64) as u32;
     let word = words[slot / 64];
     words[slot / 64] = with_bit(word, place);
