@@ -2,6 +2,7 @@
 use Rattle.std.specs.Prelude.{◌≡◌, ◌≤◌, ◌+◌, ℕ, List, [], length, take, min, Option, Some, None, unwrap_or}
 use Rattle.nt_edge.specs.Disk.{DiskState, new_state}
 use Rattle.nt_edge.specs.Bench.{placed}
+use Rattle.hive_model.specs.Limits.{most_file}
 use Rattle.hive_model.specs.Image.{Log, Image, image_of}
 use Rattle.command_parts.specs.declared.inputs.HiveFiles.{HiveFiles}
 use Rattle.command_parts.specs.declared.status.Status.{Status}
@@ -19,7 +20,7 @@ placed_disk files = record new_state { held = image_in files; history = record n
 -- with the first 32 MiB of a log placed after, where there is one
 abbrev pub with_log : Option (List ℕ) → DiskState → DiskState
 with_log None disk = disk
-with_log (Some log) disk = placed Log (take (min (length log) 33554432) log) disk
+with_log (Some log) disk = placed Log (take (min (length log) most_file) log) disk
 
 -- nothing was done to a new disk but that at most one file was placed
 pub record IsUnrun (disk : DiskState) : Type 0 where

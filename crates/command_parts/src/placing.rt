@@ -1,6 +1,7 @@
 //! A hive and its log, checked and placed on the disk.
 
 ghost use Rattle.std.specs.Prelude.{◌≡◌, false, [], length, min, take, unwrap_or, IfOk, OnOk, OnErr};
+ghost use Rattle.hive_model.specs.Limits.{most_file};
 ghost use Rattle.hive_model.specs.Valid.{IsValid};
 ghost use Rattle.hive_store.specs.Checks.{ChecksAs, ChecksCells, JudgesAs};
 ghost use Rattle.nt_edge.specs.Disk.{new_state};
@@ -19,7 +20,7 @@ const MOST: usize = 33_554_432;
 
 /// The bytes that are placed of a file.
 fn front(bytes: &[u8]) -> &[u8]
-    ensures { result.now ≡ take (min (length bytes.now) 33554432) bytes.now }
+    ensures { result.now ≡ take (min (length bytes.now) most_file) bytes.now }
 {
     &bytes[..bytes.len().min(MOST)]
 }

@@ -2,6 +2,7 @@
 
 ghost use Rattle.std.specs.Prelude.{◌≡◌, ◌≤◌, true, [], length, IfOk};
 ghost use Rattle.commit_tests.specs.Traced.{traced_state};
+ghost use Rattle.hive_model.specs.Limits.{most_file};
 
 use super::*;
 use crate::files::{LOGGED, block, file, log, marked, primary};
@@ -59,8 +60,8 @@ fn written(alloc: Global, calls: &[Call]) -> Result<Bytes, AllocError> {
 
 /// A disk with these files that is on and keeps its calls.
 fn traced(alloc: Global, primary: &[u8], log: &[u8]) -> Result<Traced, DiskStop>
-    requires primary { length primary.now ≤ 33554432 }
-    requires log { length log.now ≤ 33554432 }
+    requires primary { length primary.now ≤ most_file }
+    requires log { length log.now ≤ most_file }
     ensures on { IfOk result (λ disk. (traced_state disk).on ≡ true) }
     ensures still { IfOk result (λ disk. (traced_state disk).flight ≡ []) }
 {
@@ -98,8 +99,8 @@ fn taken(found: Result<Recovered, LoadStop>) -> Taken {
 }
 
 fn looked(rt: &impl Abort, alloc: Global, primary: &[u8], log: &[u8]) -> Result<Made, LoadStop>
-    requires primary { length primary.now ≤ 33554432 }
-    requires log { length log.now ≤ 33554432 }
+    requires primary { length primary.now ≤ most_file }
+    requires log { length log.now ≤ most_file }
 {
     let mut disk = traced(alloc, primary, log)?;
     let found = look_kept(alloc, &mut disk);
@@ -111,8 +112,8 @@ fn looked(rt: &impl Abort, alloc: Global, primary: &[u8], log: &[u8]) -> Result<
 }
 
 fn recovered(rt: &impl Abort, alloc: Global, primary: &[u8], log: &[u8]) -> Result<Made, LoadStop>
-    requires primary { length primary.now ≤ 33554432 }
-    requires log { length log.now ≤ 33554432 }
+    requires primary { length primary.now ≤ most_file }
+    requires log { length log.now ≤ most_file }
 {
     let mut disk = traced(alloc, primary, log)?;
     let found = recover_kept(alloc, &mut disk);

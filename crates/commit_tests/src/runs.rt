@@ -1,6 +1,7 @@
 //! A commit on a bench, with one stop ordered, and the start after it.
 
 ghost use Rattle.std.specs.Prelude.{◌≡◌, ◌≤◌, true, false, [], length, OnOk};
+ghost use Rattle.hive_model.specs.Limits.{most_file};
 ghost use Rattle.hive_model.specs.Base.{is_bins_size};
 
 use crate::before_after::{Change, Found};
@@ -23,7 +24,7 @@ pub type Ends = (Result<u32, CommitStop>, Result<Found, LoadStop>);
 pub fn start<B: Bench>(bench: &mut B, file: &[u8]) -> Result<(), DiskStop>
     requires off { (B.state bench.old).on ≡ false }
     requires still { (B.state bench.old).flight ≡ [] }
-    requires few { length file.now ≤ 33554432 }
+    requires few { length file.now ≤ most_file }
     ensures on { OnOk result ((B.state bench.new).on ≡ true) }
     ensures still { OnOk result ((B.state bench.new).flight ≡ []) }
     ensures uncut { (B.state bench.new).history.cut_calls ≡ (B.state bench.old).history.cut_calls }
@@ -112,7 +113,7 @@ pub fn play<B: Bench>(
 ) -> Result<Ends, LoadStop>
     requires off { (B.state bench.old).on ≡ false }
     requires still { (B.state bench.old).flight ≡ [] }
-    requires few { length whole.now.file ≤ 33554432 }
+    requires few { length whole.now.file ≤ most_file }
     requires sized { is_bins_size (length whole.now.new) ≡ true }
     requires from_one { 1 ≤ order.n }
     ensures uncut { (B.state bench.new).history.cut_calls ≡ (B.state bench.old).history.cut_calls }

@@ -1,6 +1,7 @@
 //! The bytes of a packed root with nothing below it.
 
 ghost use Rattle.std.specs.Prelude.{◌≡◌, ◌≤◌, IfOk, length};
+ghost use Rattle.hive_model.specs.Edit.{most_bulk};
 ghost use Rattle.hive_model.specs.Valid.{IsValid};
 ghost use Rattle.hive_model.specs.Size.{bulk_of};
 
@@ -14,7 +15,7 @@ use std::test::Fail;
 /// A root with nothing below it.
 pub(crate) fn root(alloc: Global) -> Result<Key, AllocError>
     ensures valid { IfOk result IsValid }
-    ensures small { IfOk result (λ k. bulk_of HiveVersion.V3 k ≤ 16773120) }
+    ensures small { IfOk result (λ k. bulk_of HiveVersion.V3 k ≤ most_bulk) }
 {
     Ok(Key {
         name: narrow(alloc, b"R")?,

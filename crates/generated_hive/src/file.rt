@@ -2,6 +2,7 @@
 
 ghost use Rattle.std.specs.Prelude.{◌≡◌, ◌≤◌, [], false, length, IfOk};
 ghost use Rattle.nt_bytes.specs.declared.version.HiveVersion.TheVariants.{V3};
+ghost use Rattle.hive_model.specs.Limits.{most_bins};
 ghost use Rattle.hive_model.specs.Image.{image_of};
 ghost use Rattle.hive_model.specs.Load.{Loads, state_of};
 ghost use Rattle.generated_hive.specs.File.{clean_base, clean_file, generated_file};
@@ -34,7 +35,7 @@ fn block(size: u32) -> BaseBlock
 /// The primary file with these bins data.
 #[tactic(auto, unfolding(crate::specs::File::clean_file))]
 fn file(alloc: Global, bins: &[u8]) -> Result<Bytes, AllocError>
-    requires { length bins.now ≤ 16777216 }
+    requires { length bins.now ≤ most_bins }
     ensures { IfOk result (λ b. b ≡ clean_file bins.now) }
 {
     let mut sector = [0; 512];

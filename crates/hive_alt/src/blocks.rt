@@ -1,6 +1,7 @@
 //! Reading the second copy's base block, and comparing the second copy. Nothing is written.
 
 ghost use Rattle.std.specs.Prelude.{◌≡◌, ◌≤◌, ◌+◌, ◌*◌, ◌/◌, true, [], length, IfOk};
+ghost use Rattle.hive_model.specs.Limits.{most_bins};
 ghost use Rattle.hive_model.specs.Base.{is_bins_size, base_of};
 ghost use Rattle.hive_model.specs.Recovery.{log_in, as_log_base, sector};
 ghost use Rattle.hive_log.specs.Stops.{Reads, IsLookAt};
@@ -89,7 +90,7 @@ fn second_block_is<D: Disk>(disk: &mut D, base: &BaseBlock) -> Result<bool, Load
 fn second_sector_is<D: Disk>(disk: &mut D, bins: &[u8], i: usize) -> Result<bool, LoadStop>
     requires on { (D.state disk.old).on ≡ true }
     requires still { D.tells ≡ true → (D.state disk.old).flight ≡ [] }
-    requires few { length bins.now ≤ 16777216 }
+    requires few { length bins.now ≤ most_bins }
     requires inside { 512 * i + 512 ≤ length bins.now }
     ensures asked { OnlyReads (D.calls disk.old) (D.calls disk.new) }
     ensures same { D.tells ≡ true → Reads result (Ok (has_bytes (sector bins.now i) (log_in (D.state disk.old).held (8 + i)))) }
@@ -113,7 +114,7 @@ fn second_sector_is<D: Disk>(disk: &mut D, bins: &[u8], i: usize) -> Result<bool
 fn second_bins_are<D: Disk>(disk: &mut D, bins: &[u8]) -> Result<bool, LoadStop>
     requires on { (D.state disk.old).on ≡ true }
     requires still { D.tells ≡ true → (D.state disk.old).flight ≡ [] }
-    requires few { length bins.now ≤ 16777216 }
+    requires few { length bins.now ≤ most_bins }
     ensures asked { OnlyReads (D.calls disk.old) (D.calls disk.new) }
     ensures same { D.tells ≡ true → Reads result (Ok (second_has (D.state disk.old).held bins.now (length bins.now / 512))) }
     ensures look { IsLookAt D.tells (D.state disk.old) (D.state disk.new) result }
@@ -136,7 +137,7 @@ pub(crate) fn second_is<D: Disk>(
 ) -> Result<bool, LoadStop>
     requires on { (D.state disk.old).on ≡ true }
     requires still { D.tells ≡ true → (D.state disk.old).flight ≡ [] }
-    requires few { length bins.now ≤ 16777216 }
+    requires few { length bins.now ≤ most_bins }
     ensures asked { OnlyReads (D.calls disk.old) (D.calls disk.new) }
     ensures same { D.tells ≡ true → Reads result (Ok (is_second (D.state disk.old).held base.now bins.now)) }
     ensures look { IsLookAt D.tells (D.state disk.old) (D.state disk.new) result }

@@ -2,6 +2,7 @@
 
 ghost use Rattle.std.specs.Prelude.{◌≡◌, ◌≤◌, true, map, is_some, length, IfOk, IsErrOf};
 ghost use Rattle.reg_tree.specs.declared.stop.EditStop.TheVariants.{Full};
+ghost use Rattle.hive_model.specs.Edit.{most_bulk};
 ghost use Rattle.hive_model.specs.Base.{is_bins_size};
 ghost use Rattle.hive_model.specs.Size.{bulk_of};
 ghost use Rattle.hive_model.specs.Tree.{find_key};
@@ -86,7 +87,7 @@ fn is_number(number: u32, found: Option<u32>) -> bool
 /// A changed tree, packed.
 fn plan_pack(alloc: Global, work: &Key, version: HiveVersion) -> Result<Plan, EditStop>
     requires valid { IsValid work.now }
-    requires room { bulk_of version work.now ≤ 16773120 }
+    requires room { bulk_of version work.now ≤ most_bulk }
     ensures plan { IfOk result (IsPlanOf version (changed work.now)) }
     ensures full { IsErrOf result Full → ⊥ }
 {

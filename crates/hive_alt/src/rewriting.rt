@@ -1,6 +1,7 @@
 //! A copy rewritten: opened, its bins sectors, closed.
 
 ghost use Rattle.std.specs.Prelude.{◌≡◌, ◌<◌, ◌≤◌, ◌+◌, ◌*◌, ◌/◌, true, false, ℕ, Some, [], length, OnOk};
+ghost use Rattle.hive_model.specs.Limits.{most_bins};
 ghost use Rattle.hive_model.specs.Image as book;
 ghost use Rattle.hive_model.specs.Recovery.{bit, sector};
 ghost use Rattle.nt_edge.specs.Book.{file_of};
@@ -28,7 +29,7 @@ pub(crate) fn rewrite<D: Disk>(
     requires on { (D.state disk.old).on ≡ true }
     requires still { D.tells ≡ true → (D.state disk.old).flight ≡ [] }
     requires whole { 512 * (length new.now / 512) ≡ length new.now }
-    requires few { length new.now ≤ 16777216 }
+    requires few { length new.now ≤ most_bins }
     requires stays { D.tells ≡ true → (i : ℕ) → 512 * i < length new.now → bit bitmap.now i ≡ false
         → (D.state disk.old).held (copy_at (file_of file) (8 + i)) ≡ Some (book.Bytes (sector new.now i)) }
     // Each stage's writes and its sync, and no other call; after a refusal a prefix of them.

@@ -1,6 +1,7 @@
 //! The two stages of a copy, its base block and its bins sectors.
 
 ghost use Rattle.std.specs.Prelude.{◌≡◌, ◌<◌, ◌≤◌, ◌+◌, ◌*◌, ◌/◌, true, Some, [], ◌∷◌, ◌++◌, length, OnOk};
+ghost use Rattle.hive_model.specs.Limits.{most_bins};
 ghost use Rattle.hive_model.specs.Base.{base_text};
 ghost use Rattle.hive_model.specs.Image as book;
 ghost use Rattle.hive_model.specs.Recovery.{bit, sector};
@@ -29,7 +30,7 @@ fn write_copy_marked<D: Disk>(
 ) -> Result<(), DiskStop>
     requires on { (D.state disk.old).on ≡ true }
     requires whole { 512 * (length new.now / 512) ≡ length new.now }
-    requires few { length new.now ≤ 16777216 }
+    requires few { length new.now ≤ most_bins }
     ensures made { MakesUntil (D.calls disk.old) (D.calls disk.new)
         (writes_of (copy_writes (file_of file) (bit bitmap.now) new.now)) result }
     ensures writing { D.tells ≡ true → (first : DiskState)
@@ -64,7 +65,7 @@ pub(crate) fn write_copy_bins<D: Disk>(
     requires on { (D.state disk.old).on ≡ true }
     requires still { D.tells ≡ true → (D.state disk.old).flight ≡ [] }
     requires whole { 512 * (length new.now / 512) ≡ length new.now }
-    requires few { length new.now ≤ 16777216 }
+    requires few { length new.now ≤ most_bins }
     ensures made { MakesUntil (D.calls disk.old) (D.calls disk.new)
         (writes_of (copy_writes (file_of file) (bit bitmap.now) new.now) ++ Synced ∷ []) result }
     // Whatever a cut leaves has all else as it was.

@@ -1,6 +1,7 @@
 -- Which free cell is taken? The lowest that is large enough, or that of a new bin.
 use Rattle.std.specs.Prelude.{◌≡◌, ◌⊎◌, ℕ, ◌+◌, ◌-◌, ◌/◌, ◌<◌, ◌≤◌, false, if◌then◌else◌, List, [], ◌∷◌, ◌++◌, replicate, Option, Some, None, MatchOption}
 use Rattle.std.specs.List.{flat_map}
+use Rattle.hive_model.specs.Limits.{most_bins}
 use Rattle.hive_model.specs.Bins.{Cell, Bin, cell_size, bins_size, cell_at}
 use Rattle.hive_model.specs.Packed.{rounded}
 
@@ -57,13 +58,13 @@ free_bin size = record { ignored = replicate 20 0; cells = record { allocated = 
 
 -- a bin for a cell of this size stands after the others, and its free cell begins here
 pub record HasGrown (size : ℕ) (old new : List Bin) (at : ℕ) : Type 0 where
-  pub fits : bins_size old + new_bin_size size ≤ 16777216
+  pub fits : bins_size old + new_bin_size size ≤ most_bins
   pub place : at ≡ bins_size old + 32
   pub bins : new ≡ old ++ free_bin (new_bin_size size) ∷ []
 
 -- the bins data would be longer than 16 MiB by such a bin, and are as they were
 abbrev pub IsFull : ℕ → List Bin → List Bin → Type 0
-IsFull size old new = (16777216 < bins_size old + new_bin_size size) × (new ≡ old)
+IsFull size old new = (most_bins < bins_size old + new_bin_size size) × (new ≡ old)
 
 -- a bin for a cell of this size, or none exactly where it would make the bins data longer than 16 MiB
 abbrev pub Grows : ℕ → List Bin → List Bin → Option ℕ → Type 0

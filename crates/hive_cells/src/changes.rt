@@ -5,6 +5,7 @@
 ghost use Rattle.std.specs.Prelude.{◌≡◌, ℕ, ◌+◌, ◌/◌, ◌%◌, ◌<◌, ◌≤◌, ◌∷◌, [], ◌++◌, List, length, None, slice_index, slice_set, IfOk, OnErr, OnOk};
 ghost use Rattle.std.specs.Option.{IfSome, IsSome, IsSomeAnd, MatchOption, option_map};
 ghost use Rattle.free_index.specs.Sizes.{AreTops};
+ghost use Rattle.hive_model.specs.Limits.{most_bins};
 ghost use Rattle.hive_model.specs.Bins.{or_else, cell_at, cell_size, bins_size, spelled, IsHeap};
 ghost use Rattle.hive_cells.specs.Held.{held_at, held_among, patched, run_cells, IsRun};
 ghost use Rattle.hive_cells.specs.Holes.{free_bin, free_size, free_sizes, new_bin_size, FindsHole, Grows, IsHole};
@@ -173,7 +174,7 @@ impl CellHeap {
         requires index { AreTops (free_sizes self.old) free.old }
         requires least { 4096 ≤ size }
         requires whole { size % 4096 ≡ 0 }
-        requires fits { bins_size self.old + size ≤ 16777216 }
+        requires fits { bins_size self.old + size ≤ most_bins }
         ensures index { AreTops (free_sizes self.new) free.new }
         ensures ok { OnOk result (self.new ≡ self.old ++ free_bin size ∷ []) }
         ensures err { OnErr result (self.new ≡ self.old) }
@@ -202,7 +203,7 @@ impl CellHeap {
     fn free_behind(&self, at: u32, size: u32) -> u32
         requires { IsSomeAnd (cell_at self.now at) (λ c. cell_size c ≡ size) }
         ensures value { result ≡ free_size (cell_at self.now (at + size)) }
-        ensures within { at + size + result ≤ 16777216 }
+        ensures within { at + size + result ≤ most_bins }
     {
         let _bytes = &self.bytes;
         let slot = (at as usize + size as usize) / 8;

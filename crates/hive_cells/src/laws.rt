@@ -2,6 +2,7 @@
 
 ghost use Rattle.std.specs.Prelude.{◌≡◌, ◌⊎◌, ◌<◌, ◌≤◌, ℕ, List, length, slice_index_or};
 ghost use Rattle.nt_bytes.specs.declared.fault.HiveFault.{HiveFault as HiveFaultModel};
+ghost use Rattle.hive_model.specs.Limits.{most_bins};
 ghost use Rattle.hive_model.specs.Bins.{Bin, IsHeap, IsBins, BinsFault, spelled};
 
 /// A text has at most one list of bins.
@@ -16,11 +17,11 @@ pub fn list_or_fault()
 
 /// A text has at most one fault.
 pub fn one_fault()
-    ensures { (text : List ℕ) (fault other : HiveFaultModel) → length text ≤ 16777216 → BinsFault text fault → BinsFault text other → fault ≡ other }
+    ensures { (text : List ℕ) (fault other : HiveFaultModel) → length text ≤ most_bins → BinsFault text fault → BinsFault text other → fault ≡ other }
 {}
 
 /// Each text has a list of bins or a fault.
 pub fn one_of_the_two()
-    ensures { (text : List ℕ) → ((i : ℕ) → slice_index_or text i 0 < 256) → length text ≤ 16777216
+    ensures { (text : List ℕ) → ((i : ℕ) → slice_index_or text i 0 < 256) → length text ≤ most_bins
         → ((bins : List Bin) × IsBins text bins) ⊎ ((fault : HiveFaultModel) × BinsFault text fault) }
 {}

@@ -2,6 +2,7 @@
 
 ghost use Rattle.std.specs.Prelude.{◌≡◌, ℕ, ◌+◌, ◌-◌, ◌%◌, ◌<◌, ◌≤◌, List, length, replicate, Some, None, IfOk, OnErr};
 ghost use Rattle.std.specs.Option.{IfSome, IsSome, IsSomeAnd, option_map};
+ghost use Rattle.hive_model.specs.Limits.{most_bins};
 ghost use Rattle.hive_model.specs.Bins.{spelled, or_else, bins_size, payload_at, with_place, Bin, IsBins, IsHeap, Sees};
 ghost use Rattle.hive_model.specs.Size.{cell};
 ghost use Rattle.hive_cells.specs.Held.{held_at, held_among, patched, run_cells, IsRun};
@@ -192,7 +193,7 @@ impl OpenHeap {
     /// `None` exactly where each free cell is smaller and the bins data would pass 16,777,216 bytes
     /// by the new bin. The heap is as it was at `None` and where there is no memory.
     pub fn alloc(&mut self, alloc: Global, payload: u32) -> Result<Option<u32>, AllocError>
-        requires { payload ≤ 16777216 }
+        requires { payload ≤ most_bins }
         ensures exact { IfOk result (Allocates payload self.old.bins self.new.bins) }
         ensures refused { OnErr result (self.new ≡ self.old) }
         ensures here { IfOk result (λ r. IfSome r (λ at. held_at self.new.bins at ≡ Some (replicate (cell payload - 4) 0))) }

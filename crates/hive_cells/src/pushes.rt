@@ -4,6 +4,7 @@
 ghost use Rattle.std.specs.Prelude.{◌≡◌, ◌+◌, ◌*◌, ◌/◌, ◌%◌, ◌≤◌, [], ◌∷◌, ◌++◌, length, take, drop, replicate, IfOk};
 ghost use Rattle.std.specs.Int.{w32, to_le_bytes};
 ghost use Rattle.std.specs.Vec.{vec_capacity};
+ghost use Rattle.hive_model.specs.Limits.{most_bins, most_file};
 ghost use Rattle.hive_model.specs.Bins.{bin_bytes};
 ghost use Rattle.hive_model.specs.Size.{cell};
 ghost use Rattle.hive_cells.specs.Reading.{bin_marks};
@@ -53,7 +54,7 @@ fn push_word(bytes: &mut Vec<u8>, number: u32)
 
 fn push_zeros(bytes: &mut Vec<u8>, count: usize)
     requires room { length bytes.old.items + count ≤ vec_capacity bytes.old }
-    requires few { length bytes.old.items + count ≤ 33554432 }
+    requires few { length bytes.old.items + count ≤ most_file }
     ensures items { bytes.new.items ≡ bytes.old.items ++ replicate count 0 }
     ensures room { vec_capacity bytes.old ≤ vec_capacity bytes.new }
 {
@@ -65,7 +66,7 @@ fn push_zeros(bytes: &mut Vec<u8>, count: usize)
 pub(crate) fn push_bin(bytes: &mut Vec<u8>, size: u32)
     requires room { length bytes.old.items + size ≤ vec_capacity bytes.old }
     requires least { 4096 ≤ size }
-    requires few { length bytes.old.items + size ≤ 16777216 }
+    requires few { length bytes.old.items + size ≤ most_bins }
     ensures { bytes.new.items ≡ bytes.old.items ++ bin_bytes (length bytes.old.items) (free_bin size) }
 {
     let at = bytes.len() as u32;
@@ -82,7 +83,7 @@ pub(crate) fn push_marks(starts: &mut Vec<bool>, size: u32)
     requires room { length starts.old.items + size / 8 ≤ vec_capacity starts.old }
     requires least { 4096 ≤ size }
     requires whole { size % 4096 ≡ 0 }
-    requires few { length starts.old.items + size / 8 ≤ 16777216 }
+    requires few { length starts.old.items + size / 8 ≤ most_bins }
     ensures { starts.new.items ≡ starts.old.items ++ bin_marks (free_bin size) }
 {
     let slot = starts.len();
@@ -93,7 +94,7 @@ pub(crate) fn push_marks(starts: &mut Vec<bool>, size: u32)
 
 /// The bytes of an allocated cell for a payload of this many bytes, all zero.
 pub(crate) fn zero_run(alloc: Global, payload: u32) -> Result<Vec<u8>, AllocError>
-    requires { payload ≤ 16777216 }
+    requires { payload ≤ most_bins }
     ensures run { IfOk result (λ v. IsRun v.items) }
     ensures cells { IfOk result (λ v. run_cells v.items ≡ zero_cell payload ∷ []) }
     ensures long { IfOk result (λ v. length v.items ≡ cell payload) }

@@ -1,6 +1,7 @@
 //! Bins and cells checked.
 
 ghost use Rattle.std.specs.Prelude.{◌≡◌, ◌+◌, ◌/◌, ◌%◌, ◌<◌, ◌≤◌, List, false, length, drop, replicate, IfOk, MatchResult};
+ghost use Rattle.hive_model.specs.Limits.{most_bins};
 ghost use Rattle.hive_model.specs.Bins.{Bin, header_at, size_at, with_place, Sees, BinFails, BinsFault, IsBins};
 ghost use Rattle.hive_cells.specs.Reading.{BinMarked, IsBinRead, IsKept, Stops};
 
@@ -102,7 +103,7 @@ fn size(rest: &[u8], room: usize, at: u32) -> Result<usize, HiveFault>
 
 /// Reads a bin, turns the flags on where its cells begin, and says how long it is.
 fn read_bin(rest: &[u8], at: u32, starts: &mut Vec<bool>) -> Result<usize, HiveFault>
-    requires small { at + length rest.now ≤ 16777216 }
+    requires small { at + length rest.now ≤ most_bins }
     requires some { 0 < length rest.now }
     requires off { drop (at / 8) starts.old.items ≡ replicate (length rest.now / 8) false }
     ensures exact { MatchResult result (BinMarked at rest.now starts.old.items starts.new.items) (BinFails at rest.now) }
@@ -121,7 +122,7 @@ fn read_bin(rest: &[u8], at: u32, starts: &mut Vec<bool>) -> Result<usize, HiveF
 
 /// The size of the bin at the front, whose cells fill it, or the first check that fails. No memory is taken.
 fn check_bin(rest: &[u8], at: u32) -> Result<usize, HiveFault>
-    requires small { at + length rest.now ≤ 16777216 }
+    requires small { at + length rest.now ≤ most_bins }
     requires some { 0 < length rest.now }
     ensures exact { MatchResult result (IsBinRead at rest.now) (BinFails at rest.now) }
     ensures within { IfOk result (λ size. (0 < size) × (size ≤ length rest.now)) }
@@ -137,7 +138,7 @@ fn check_bin(rest: &[u8], at: u32) -> Result<usize, HiveFault>
 
 /// Checks that bytes are bins. No memory is taken.
 fn check_bins(all: &[u8]) -> Result<(), HiveFault>
-    requires { length all.now ≤ 16777216 }
+    requires { length all.now ≤ most_bins }
     ensures { MatchResult result (λ done. (bins : List Bin) × IsBins all.now bins) (BinsFault all.now) }
 {
     let mut at = 0;
@@ -159,7 +160,7 @@ fn flags_off(alloc: Global, count: usize) -> Result<Vec<bool>, AllocError>
 
 /// Turns the flags on where the cells of these bins begin, or the first check that fails. No memory is taken.
 pub(crate) fn mark_bins(all: &[u8], starts: &mut Vec<bool>) -> Result<(), HiveFault>
-    requires small { length all.now ≤ 16777216 }
+    requires small { length all.now ≤ most_bins }
     requires off { starts.old.items ≡ replicate (length all.now / 8) false }
     ensures { MatchResult result (λ done. IsKept all.now starts.new.items) (BinsFault all.now) }
 {
@@ -173,7 +174,7 @@ pub(crate) fn mark_bins(all: &[u8], starts: &mut Vec<bool>) -> Result<(), HiveFa
 
 /// The heap that these bytes are, or the first check that fails. `Memory` comes only where none fails.
 pub fn read_cells(alloc: Global, bins: Bytes) -> Result<CellHeap, ReadStop>
-    requires { length bins ≤ 16777216 }
+    requires { length bins ≤ most_bins }
     ensures { MatchResult result (IsBins bins) (Stops bins) }
 {
     let bytes = bins.into_vec();

@@ -1,6 +1,7 @@
 //! The steps of the stages: writes that stay in flight, and the sync that settles them.
 
 ghost use Rattle.std.specs.Prelude.{◌≡◌, ◌<◌, ◌≤◌, ◌+◌, ◌*◌, ◌/◌, true, Bool, ℕ, List, [], ◌∷◌, length, OnOk};
+ghost use Rattle.hive_model.specs.Limits.{most_bins};
 ghost use Rattle.hive_model.specs.Base.{base_text};
 ghost use Rattle.hive_model.specs.Image as book;
 ghost use Rattle.hive_model.specs.Image.{put};
@@ -68,7 +69,7 @@ pub fn write_log_block<D: Disk>(disk: &mut D, base: &BaseBlock) -> Result<(), Di
 /// The log's bitmap, after its base block.
 pub fn write_log_bitmap<D: Disk>(disk: &mut D, bitmap: &[u8], size: usize) -> Result<(), DiskStop>
     requires on { (D.state disk.old).on ≡ true }
-    requires few { size ≤ 16777216 }
+    requires few { size ≤ most_bins }
     requires bits { size / 4096 ≤ length bitmap.now }
     ensures made { (log : List ℕ)
         → HasBitmap log (bit bitmap.now) size
@@ -95,7 +96,7 @@ pub fn write_log_bitmap<D: Disk>(disk: &mut D, bitmap: &[u8], size: usize) -> Re
 pub fn write_log_run<D: Disk>(disk: &mut D, bitmap: &[u8], new: &[u8]) -> Result<(), DiskStop>
     requires on { (D.state disk.old).on ≡ true }
     requires whole { 512 * (length new.now / 512) ≡ length new.now }
-    requires few { length new.now ≤ 16777216 }
+    requires few { length new.now ≤ most_bins }
     ensures made { (log : List ℕ)
         → HasRun log (bit bitmap.now) new.now
         → MakesUntil (D.calls disk.old) (D.calls disk.new)
@@ -133,7 +134,7 @@ pub fn write_log_run<D: Disk>(disk: &mut D, bitmap: &[u8], new: &[u8]) -> Result
 pub fn write_marked<D: Disk>(disk: &mut D, bitmap: &[u8], new: &[u8]) -> Result<(), DiskStop>
     requires on { (D.state disk.old).on ≡ true }
     requires whole { 512 * (length new.now / 512) ≡ length new.now }
-    requires few { length new.now ≤ 16777216 }
+    requires few { length new.now ≤ most_bins }
     ensures made { MakesUntil (D.calls disk.old) (D.calls disk.new) (writes_of (bins_writes (bit bitmap.now) new.now)) result }
     ensures writing { D.tells ≡ true → (first : DiskState) → Writing (is_marked (length new.now) (bit bitmap.now)) first (D.state disk.old)
         → Writing (is_marked (length new.now) (bit bitmap.now)) first (D.state disk.new) }

@@ -1,6 +1,7 @@
 //! The writing half of a recovery.
 
 ghost use Rattle.std.specs.Prelude.{◌≡◌, ◌≤◌, ◌*◌, ◌/◌, [], true, length, OnOk};
+ghost use Rattle.hive_model.specs.Limits.{most_bins};
 ghost use Rattle.hive_model.specs.Image.{Image};
 ghost use Rattle.hive_model.specs.Recovery.{bit};
 ghost use Rattle.hive_model.specs.Carries.{Carries, IsRecoveredAs};
@@ -29,7 +30,7 @@ pub fn restore<D: Disk>(
     requires still { D.tells ≡ true → (D.state disk.old).flight ≡ [] }
     requires found { D.tells ≡ true → Found (D.state disk.old).held closed.now bitmap.now bins.now }
     requires whole { 512 * (length bins.now / 512) ≡ length bins.now }
-    requires few { length bins.now ≤ 16777216 }
+    requires few { length bins.now ≤ most_bins }
     ensures made { MakesUntil (D.calls disk.old) (D.calls disk.new) (closing_calls closed.now (bit bitmap.now) bins.now) result }
     ensures still { D.tells ≡ true → OnOk result ((D.state disk.new).flight ≡ []) }
     ensures carries { D.tells ≡ true → OnOk result (Carries (D.state disk.new).held closed.now bins.now) }

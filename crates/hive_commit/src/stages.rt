@@ -1,6 +1,7 @@
 //! The stages of a commit. Each ends with a sync, and says what a cut at its end may leave.
 
 ghost use Rattle.std.specs.Prelude.{◌≡◌, ◌<◌, ◌≤◌, ◌+◌, ◌*◌, ◌/◌, true, Some, [], ◌∷◌, ◌++◌, length, OnOk};
+ghost use Rattle.hive_model.specs.Limits.{most_bins};
 ghost use Rattle.hive_model.specs.Base.{IsBase, base_text};
 ghost use Rattle.hive_model.specs.Image.{Bytes};
 ghost use Rattle.hive_model.specs.Recovery.{primary_in, bit};
@@ -26,7 +27,7 @@ pub(crate) fn write_log<D: Disk>(
     requires on { (D.state disk.old).on ≡ true }
     requires still { D.tells ≡ true → (D.state disk.old).flight ≡ [] }
     requires pages { 4096 * (length new.now / 4096) ≡ length new.now }
-    requires few { length new.now ≤ 16777216 }
+    requires few { length new.now ≤ most_bins }
     requires bits { length new.now / 4096 ≤ length bitmap.now }
     requires fits { D.tells ≡ true → IsBase (record base.now { kind = 1 }) }
     ensures made { MakesUntil (D.calls disk.old) (D.calls disk.new)
@@ -70,7 +71,7 @@ pub(crate) fn write_bins<D: Disk>(disk: &mut D, bitmap: &[u8], new: &[u8]) -> Re
     requires on { (D.state disk.old).on ≡ true }
     requires still { D.tells ≡ true → (D.state disk.old).flight ≡ [] }
     requires whole { 512 * (length new.now / 512) ≡ length new.now }
-    requires few { length new.now ≤ 16777216 }
+    requires few { length new.now ≤ most_bins }
     ensures made { MakesUntil (D.calls disk.old) (D.calls disk.new)
         (writes_of (bins_writes (bit bitmap.now) new.now) ++ Synced ∷ []) result }
     // Whatever a cut leaves has all else as it was.

@@ -1,6 +1,7 @@
 -- What is asked where the root gets a child, and what remains? (This project's own.)
 use Rattle.std.specs.Prelude.{◌≡◌, ◌≤◌, ◌<◌, ℕ, ◌+◌, ◌==◌, Bool, false, if◌then◌else◌, List, [], ◌∷◌, ◌++◌, length, Ok, Err}
 use Rattle.std.specs.Option.{IfSome}
+use Rattle.hive_model.specs.Limits.{most_bins}
 use Rattle.hive_model.specs.Bins.{bins_size}
 use Rattle.hive_model.specs.Tree.{Tree, head, children}
 use Rattle.hive_model.specs.Valid.{HoldsKeys, levels, longest_key_name}
@@ -83,7 +84,7 @@ pub record IsGraftedIn (old : HiveCells) (security : ℕ) (shared : List ℕ) (k
 -- a bin for the run of the key, and one for each list with one child more, would make the bins data longer than 16,777,216 bytes
 abbrev pub LacksGraftRoom : HiveCells → List ℕ → Tree → Type 0
 LacksGraftRoom h shared k =
-    16777216 < bins_size h.bins + (new_bin_size (size h.version shared k) + room_of (list_sizes (length (children h.tree) + 1)))
+    most_bins < bins_size h.bins + (new_bin_size (size h.version shared k) + room_of (list_sizes (length (children h.tree) + 1)))
 
 -- the key is the root's child, and shares the root's descriptor
 pub record IsAddedIn (old : HiveCells) (k : Tree) (new : HiveCells) : Type 0 where

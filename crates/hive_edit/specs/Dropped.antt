@@ -4,6 +4,7 @@ use Rattle.std.specs.Option.{IsSome, IsSomeAnd}
 use Rattle.std.specs.Int.{w32, to_le_bytes}
 use Rattle.nt_bytes.specs.Fields.{u32_in}
 use Rattle.nt_bytes.specs.declared.version.HiveVersion.{HiveVersion}
+use Rattle.hive_model.specs.Limits.{most_bins}
 use Rattle.hive_model.specs.Bins.{Bin, bins_size, look_up}
 use Rattle.hive_model.specs.Security.{SecurityCell, security_at}
 use Rattle.hive_model.specs.InPlace.{recounted}
@@ -66,7 +67,7 @@ AreShortened version above child old new list =
 -- there is no room for lists without the child, and the cells are as they were
 abbrev pub LacksRoomWithout : HiveVersion → Above → ℕ → List Bin → List Bin → Type 0
 LacksRoomWithout version above child old new =
-    (16777216 < list_strain_of (bins_size old) (length (left_children version above child old))) × (new ≡ old)
+    (most_bins < list_strain_of (bins_size old) (length (left_children version above child old))) × (new ≡ old)
 
 -- what is asked of a parent and of the cells that a child and the keys below it use: the lists are sound, and none of these cells is
 -- the parent's node or one of its lists

@@ -3,6 +3,7 @@ use Rattle.std.specs.Prelude.{◌≡◌, ◌≤◌, ◌<◌, ◌++◌, ℕ, Bool
 use Rattle.std.specs.Option.{option_and_then}
 use Rattle.std.specs.Int.{w32, to_le_bytes}
 use Rattle.nt_bytes.specs.declared.fault.HiveFaultKind.{HiveFaultKind}
+use Rattle.hive_model.specs.Limits.{most_bins}
 use Rattle.hive_model.specs.Bins.{Bin, Cells, bins_size}
 use Rattle.hive_model.specs.KeyValue.{KeyValue, key_value_at, data_inside}
 use Rattle.hive_model.specs.Walk.{reading}
@@ -41,7 +42,7 @@ pub record IsPackedAnew (h : HiveCells) : Type 0 where
 -- repacked for want of room: the strain of the steps is over the greatest size of bins data
 pub record IsPackedForRoom (old : HiveCells) (steps : List Step) (new : HiveCells) : Type 0 where
   pub packed : IsPackedAnew new
-  pub strained : 16777216 < strain_of old.version (bins_size old.bins) old.tree steps
+  pub strained : most_bins < strain_of old.version (bins_size old.bins) old.tree steps
 
 -- the value that was read holds its data itself
 abbrev pub held_itself : Result KeyValue HiveFaultKind → Bool

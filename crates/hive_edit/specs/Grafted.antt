@@ -6,6 +6,7 @@ use Rattle.nt_bytes.specs.Fields.{u32_in}
 use Rattle.nt_bytes.specs.declared.version.HiveVersion.{HiveVersion}
 use Rattle.nt_bytes.specs.declared.fault.HiveFaultKind.{HiveFaultKind}
 use Rattle.edit_laws.specs.Relists.{descriptor_at, IsSecurityCell}
+use Rattle.hive_model.specs.Limits.{most_bins}
 use Rattle.hive_model.specs.Bins.{Bin, Cells, bins_size, look_up}
 use Rattle.hive_model.specs.Tree.{Tree}
 use Rattle.hive_model.specs.Valid.{HoldsKeys}
@@ -78,7 +79,7 @@ pub record IsGrafted (version : HiveVersion) (parent : ℕ) (above : Above) (sha
 pub record LacksGraftLists (version : HiveVersion) (parent : ℕ) (above : Above) (shared : List ℕ) (k : Tree) (at : ℕ) (old new : List Bin) : Type 0 where
   pub numbers : HasNumbers k
   pub put : IsRunPut version parent above shared k at old new
-  pub lacks : 16777216 < list_strain_of (bins_size new) (length (above_children version above at new))
+  pub lacks : most_bins < list_strain_of (bins_size new) (length (above_children version above at new))
 
 -- ---- the security that is shared
 

@@ -4,6 +4,7 @@ use Rattle.std.specs.Prelude.{◌≡◌, ◌≤◌, ◌<◌, ℕ, false, Contain
 use Rattle.std.specs.Option.{IsSomeAnd}
 use Rattle.std.specs.Int.{w32, to_le_bytes}
 use Rattle.nt_bytes.specs.declared.version.HiveVersion.{HiveVersion}
+use Rattle.hive_model.specs.Limits.{most_bins}
 use Rattle.hive_model.specs.Bins.{Bin, look_up, bins_size}
 use Rattle.hive_model.specs.Tree.{Tree, key, none}
 use Rattle.hive_model.specs.Size.{bulk_of}
@@ -57,7 +58,7 @@ pub record IsLinkable (version : HiveVersion) (parent : ℕ) (above : Above) (ch
 -- there is no room for lists with one child more, and the cells are as they were
 abbrev pub LacksListRoom : HiveVersion → Above → ℕ → List Bin → List Bin → Type 0
 LacksListRoom version above child old new =
-    (16777216 < list_strain_of (bins_size old) (length (above_children version above child old))) × (new ≡ old)
+    (most_bins < list_strain_of (bins_size old) (length (above_children version above child old))) × (new ≡ old)
 
 -- ---- the hive
 

@@ -2,6 +2,7 @@
 use Rattle.std.specs.Prelude.{◌≡◌, ◌≤◌, ◌<◌, ℕ, suc, ◌+◌, ◌*◌, List, [], ◌∷◌, ◌++◌, length, Some, None, Ok}
 use Rattle.std.specs.Option.{option_map}
 use Rattle.nt_bytes.specs.declared.version.HiveVersion.{HiveVersion}
+use Rattle.hive_model.specs.Limits.{most_bins}
 use Rattle.hive_model.specs.Bins.{Bin, Cells, bins_size, look_up}
 use Rattle.hive_model.specs.Tree.{Tree, Item}
 use Rattle.hive_model.specs.Size.{cell, item_size}
@@ -79,7 +80,7 @@ pub record PutsValue (version : HiveVersion) (old new : List Bin) (x : ℕ) (v :
 pub record LacksRoomForValue (version : HiveVersion) (bins : List Bin) (x : ℕ) (v : Item) : Type 0 where
   pub node : KeyNode
   pub read : reading key_node_at (look_up version bins) x ≡ Ok node
-  pub full : 16777216 < bins_size bins + new_bin_size (added_size version node.value_count v)
+  pub full : most_bins < bins_size bins + new_bin_size (added_size version node.value_count v)
 
 -- the key at a path is at an offset, and has no value of this name, which is not too long for one
 pub record IsNewIn (h : HiveCells) (path : List (List ℕ)) (name : List ℕ) (x : ℕ) : Type 0 where

@@ -1,5 +1,6 @@
 -- What one step makes of a hive's cells, whatever the bulk of the tree. (This project's own.)
 use Rattle.std.specs.Prelude.{◌≡◌, ◌≤◌, ◌<◌, ◌+◌, ℕ, List, None, Ok}
+use Rattle.hive_model.specs.Limits.{most_bins}
 use Rattle.hive_model.specs.Bins.{bins_size}
 use Rattle.hive_model.specs.Tree.{Tree}
 use Rattle.hive_model.specs.Edit.{Step, after_step}
@@ -33,4 +34,4 @@ pub record IsStepped (old : HiveCells) (step : Step) (new : HiveCells) : Type 0 
 -- there is no room for the cells that the step may need
 abbrev pub LacksStepRoom : HiveCells → Step → Type 0
 LacksStepRoom old step =
-    (u : Tree) → after_step step old.tree ≡ Ok u → 16777216 < bins_size old.bins + room_of (needed_sizes old.version old.tree step u)
+    (u : Tree) → after_step step old.tree ≡ Ok u → most_bins < bins_size old.bins + room_of (needed_sizes old.version old.tree step u)

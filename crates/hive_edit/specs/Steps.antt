@@ -1,10 +1,11 @@
 -- What do steps in order, made one by one, make of a hive's cells, whatever the bulk of the tree? (This project's own.)
 use Rattle.std.specs.Prelude.{◌≡◌, ◌≤◌, ◌<◌, ◌*◌, ◌/◌, ◌==◌, ℕ, nat_lt, Bool, if◌then◌else◌, true, false, List, [], ◌∷◌, length, sum_by, Result, Ok, Err}
 use Rattle.std.specs.Option.{option_map_or}
+use Rattle.hive_model.specs.Limits.{most_bins}
 use Rattle.hive_model.specs.Bins.{bins_size}
 use Rattle.hive_model.specs.Size.{bulk_of}
 use Rattle.hive_model.specs.Tree.{Tree, head, children, find_key}
-use Rattle.hive_model.specs.Edit.{Step, set_value, delete_value, make_key, delete_key, copy_child, add_child, edited}
+use Rattle.hive_model.specs.Edit.{Step, set_value, delete_value, make_key, delete_key, copy_child, add_child, edited, most_bulk}
 use Rattle.hive_model.specs.Footprint.{needed_sizes, parent_of, room_of, strain_of}
 use Rattle.reg_tree.specs.declared.stop.EditStop.{EditStop}
 use Rattle.reg_tree.specs.Makes.{IsRefused}
@@ -19,11 +20,11 @@ AreStepped old (step ∷ steps) new = (mid : HiveCells) × IsToldStep old step m
 -- where the steps are made at all, their strain is over the greatest size of bins data
 abbrev pub AreStrained : HiveCells → List Step → Type 0
 AreStrained old steps =
-    (u : Tree) → edited old.version old.tree steps ≡ Ok u → 16777216 < strain_of old.version (bins_size old.bins) old.tree steps
+    (u : Tree) → edited old.version old.tree steps ≡ Ok u → most_bins < strain_of old.version (bins_size old.bins) old.tree steps
 
 -- all steps were made within the greatest bulk; or none, since there is no room for them, or since the edit is refused: the hive is as it was
 abbrev pub AreMadeOrNone : HiveCells → List Step → Result Bool EditStop → HiveCells → Type 0
-AreMadeOrNone old steps (Ok true) new = AreStepped old steps new × (bulk_of new.version new.tree ≤ 16773120)
+AreMadeOrNone old steps (Ok true) new = AreStepped old steps new × (bulk_of new.version new.tree ≤ most_bulk)
 AreMadeOrNone old steps (Ok false) new = AreStrained old steps × (new ≡ old)
 AreMadeOrNone old steps (Err stop) new = IsRefused (edited old.version old.tree steps) stop × (new ≡ old)
 

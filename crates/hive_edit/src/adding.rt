@@ -2,6 +2,7 @@
 
 ghost use Rattle.std.specs.Prelude.{◌≡◌, ◌≤◌, ◌<◌, ◌+◌, ◌-◌, length, Ok, IfOk, MatchBool, MatchResult};
 ghost use Rattle.std.specs.Option.{MatchOption};
+ghost use Rattle.hive_model.specs.Limits.{most_bins};
 ghost use Rattle.hive_model.specs.Bins.{bins_size};
 ghost use Rattle.hive_model.specs.Edit.{make_key, new_key, is_bad_name, after_step};
 ghost use Rattle.hive_model.specs.Size.{cell, list_size, name_bytes};
@@ -107,7 +108,7 @@ fn node_len(name: &[u16]) -> u32
     requires { length name.now ≤ longest_key_name }
     ensures exact { result ≡ cell (76 + name_bytes name.now) }
     ensures some { 0 < result }
-    ensures few { result ≤ 16777216 }
+    ensures few { result ≤ most_bins }
 {
     cell_size(76 + name_len(name)) as u32
 }

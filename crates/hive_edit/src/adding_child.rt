@@ -3,6 +3,7 @@
 ghost use Rattle.std.specs.Prelude.{◌≡◌, ◌≤◌, ◌<◌, ◌^◌, ◌+◌, ◌-◌, ◌*◌, [], min, true, Ok, IfOk, MatchBool, MatchResult};
 ghost use Rattle.std.specs.Option.{IfSome, MatchOption};
 ghost use Rattle.std.specs.Result.{IsOk};
+ghost use Rattle.hive_model.specs.Limits.{most_bins};
 ghost use Rattle.hive_model.specs.Bins.{bins_size};
 ghost use Rattle.hive_model.specs.Tree.{head};
 ghost use Rattle.hive_model.specs.Size.{list_size, security_size, size};
@@ -47,8 +48,8 @@ fn spared(shared: &[u8], security: &[u8]) -> u64
 
 /// How many bytes the cells of a key and of all below it take, below one with a descriptor, where that is at most 16 MiB.
 pub(crate) fn size_below(version: HiveVersion, shared: &[u8], key: &Key) -> Option<u32>
-    ensures size { MatchOption result (16777216 < size version shared.now key.now) (λ n. n ≡ size version shared.now key.now) }
-    ensures few { IfSome result (λ n. n ≤ 16777216) }
+    ensures size { MatchOption result (most_bins < size version shared.now key.now) (λ n. n ≡ size version shared.now key.now) }
+    ensures few { IfSome result (λ n. n ≤ most_bins) }
 {
     let less = spared(shared, key.security());
     let size = key.bulk(version) - 32 - less;
@@ -87,7 +88,7 @@ pub(crate) fn descriptor(alloc: Global, cells: &Source, at: u32) -> Result<Bytes
 /// The bulk of a tree whose root, which had that many children, gets one that takes that many bytes.
 fn grafted_bulk(bulk: u64, count: u32, bytes: u32) -> u64
     requires few { count ≤ 2097150 }
-    requires small { bytes ≤ 16777216 }
+    requires small { bytes ≤ most_bins }
     ensures { result ≡ min (bulk + (bytes + (list_size (count + 1) - list_size count))) 18446744073709551615 }
 {
     let more = list_len(count as usize + 1) - list_len(count as usize);
@@ -135,7 +136,7 @@ impl HiveBytes {
         requires new { IsNewChild self.old key.now }
         requires may { MayGraft self.old above shared.now }
         requires own { own ≡ size self.old.version (head self.old.tree).security key.now }
-        requires few { own ≤ 16777216 }
+        requires few { own ≤ most_bins }
         requires size { bytes ≡ size self.old.version shared.now key.now }
         requires place { IsPlace bytes self.old.bins at }
         ensures grafted { IfOk result (λ done. MatchBool done (IsGraftedIn self.old above.security shared.now key.now self.new)
@@ -188,9 +189,9 @@ impl HiveBytes {
         requires new { IsNewChild self.old key.now }
         requires may { MayGraft self.old above shared.now }
         requires own { own ≡ size self.old.version (head self.old.tree).security key.now }
-        requires few { own ≤ 16777216 }
+        requires few { own ≤ most_bins }
         requires size { bytes ≡ size self.old.version shared.now key.now }
-        requires small { bytes ≤ 16777216 }
+        requires small { bytes ≤ most_bins }
         ensures grafted { IfOk result (λ done. MatchBool done (IsGraftedIn self.old above.security shared.now key.now self.new)
             (LacksGraftRoom self.old shared.now key.now)) }
         ensures base { self.new.base ≡ self.old.base }

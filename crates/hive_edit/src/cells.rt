@@ -1,6 +1,7 @@
 //! Runs of new cells put.
 
 ghost use Rattle.std.specs.Prelude.{◌≡◌, ◌≤◌, ◌<◌, ℕ, length, slice_index, OnOk, OnErr, MatchOption};
+ghost use Rattle.hive_model.specs.Limits.{most_bins};
 ghost use Rattle.hive_model.specs.Bins.{bins_size, spelled};
 ghost use Rattle.hive_cells.specs.Held.{run_cells, IsRun};
 ghost use Rattle.hive_edit.specs.Runs.{IsNewPlace, IsPlace, IsRunPutAt, LacksPlace};
@@ -14,7 +15,7 @@ pub(crate) const MOST_BINS: u64 = 16_777_216;
 /// How many bytes the bins data have, at most 16 MiB.
 pub(crate) fn long(heap: &OpenHeap) -> u32
     ensures long { result ≡ bins_size heap.now.bins }
-    ensures fits { bins_size heap.now.bins ≤ 16777216 }
+    ensures fits { bins_size heap.now.bins ≤ most_bins }
 {
     heap.bytes().len() as u32
 }
@@ -36,7 +37,7 @@ fn bytes_small(bytes: &[u8])
 /// Where a run of that many bytes is to be put, if there is room: nothing changes.
 pub(crate) fn place_for(heap: &OpenHeap, size: u32) -> Option<u32>
     requires some { 0 < size }
-    requires few { size ≤ 16777216 }
+    requires few { size ≤ most_bins }
     ensures { MatchOption result (LacksPlace size heap.now.bins) (IsPlace size heap.now.bins) }
 {
     let long = long(heap);
@@ -53,7 +54,7 @@ pub(crate) fn place_for(heap: &OpenHeap, size: u32) -> Option<u32>
 
 /// Puts a run into a new bin.
 fn put_behind(heap: &mut OpenHeap, at: u32, run: &[u8]) -> Result<(), AllocError>
-    requires few { length run.now ≤ 16777216 }
+    requires few { length run.now ≤ most_bins }
     requires place { IsNewPlace (length run.now) heap.old.bins at }
     requires run { IsRun run.now }
     ensures put { OnOk result (IsRunPutAt (length run.now) at (run_cells run.now) heap.old.bins heap.new.bins) }

@@ -1,6 +1,7 @@
 //! A child of the root copied with all below it: what was read of it is added under the other name, and shares its descriptor.
 
 ghost use Rattle.std.specs.Prelude.{◌≡◌, ◌≤◌, [], ◌∷◌, true, find, Some, Ok, IfOk, MatchBool, MatchResult};
+ghost use Rattle.hive_model.specs.Limits.{most_bins};
 ghost use Rattle.hive_model.specs.Bins.{bins_size};
 ghost use Rattle.hive_model.specs.Tree.{children, head, is_named};
 ghost use Rattle.hive_model.specs.Valid.{HoldsKeys, levels};
@@ -78,7 +79,7 @@ impl HiveBytes {
         requires new { IsNewChild self.old key.now }
         requires may { MayGraft self.old above (head key.now).security }
         requires own { own ≡ size self.old.version (head self.old.tree).security key.now }
-        requires few { own ≤ 16777216 }
+        requires few { own ≤ most_bins }
         ensures grafted { IfOk result (λ done. MatchBool done (IsGraftedIn self.old above.security (head key.now).security key.now self.new)
             (LacksGraftRoom self.old (head key.now).security key.now)) }
         ensures base { self.new.base ≡ self.old.base }

@@ -3,7 +3,7 @@
 ghost use Rattle.std.specs.Prelude.{◌≡◌, ◌≤◌, ◌<◌, ℕ, ◌+◌, ◌⊎◌, [], ◌∷◌, length, map, is_some, true, Some, Ok, Err, IfOk, IfErr, OnOk, OnErr, MatchResult};
 ghost use Rattle.std.specs.List.{All};
 ghost use Rattle.std.specs.Int.{w32, from_le_bytes};
-ghost use Rattle.hive_model.specs.Edit.{edited, set_value};
+ghost use Rattle.hive_model.specs.Edit.{edited, set_value, most_bulk};
 ghost use Rattle.reg_tree.specs.Fitting.{Fits};
 ghost use Rattle.hive_model.specs.Size.{bulk_of};
 ghost use Rattle.hive_model.specs.Tree.{Tree};
@@ -366,7 +366,7 @@ impl HiveBytes {
 /// The hive of a packed tree.
 fn of_packed(alloc: Global, tree: &Key, version: HiveVersion) -> Result<HiveBytes, EditStop>
     requires valid { IsValid tree.now }
-    requires room { bulk_of version tree.now ≤ 16773120 }
+    requires room { bulk_of version tree.now ≤ most_bulk }
     ensures tree { IfOk result (λ h. h.tree ≡ tree.now) }
     ensures version { IfOk result (λ h. h.version ≡ version) }
     ensures anew { IfOk result IsPackedAnew }

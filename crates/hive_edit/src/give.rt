@@ -4,6 +4,7 @@ ghost use Rattle.std.specs.Prelude.{◌≡◌, ◌≤◌, ◌<◌, ◌+◌, ℕ,
 ghost use Rattle.std.specs.Option.{IsSome, IsSomeAnd, option_map};
 ghost use Rattle.std.specs.List.{All};
 ghost use Rattle.std.specs.Int.{w32, from_le_bytes};
+ghost use Rattle.hive_model.specs.Limits.{most_bins};
 ghost use Rattle.hive_model.specs.Bins.{bins_size};
 ghost use Rattle.hive_model.specs.Size.{data_size};
 ghost use Rattle.hive_model.specs.Packed.{text, data_cells};
@@ -61,7 +62,7 @@ fn data_run(
     place: u32,
     bytes: &[u8],
 ) -> Result<Bytes, AllocError>
-    requires { place + data_size version bytes.now ≤ 16777216 }
+    requires { place + data_size version bytes.now ≤ most_bins }
     ensures { IfOk result (λ b. b ≡ text (data_cells version place bytes.now)) }
 {
     let mut run = Bytes::new(alloc);

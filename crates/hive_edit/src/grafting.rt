@@ -3,6 +3,7 @@
 
 ghost use Rattle.std.specs.Prelude.{◌≡◌, ◌≤◌, ◌<◌, ◌⊎◌, length, IfOk, MatchBool, OnErr};
 ghost use Rattle.std.specs.Option.{IsSomeAnd};
+ghost use Rattle.hive_model.specs.Limits.{most_bins};
 ghost use Rattle.hive_model.specs.Packed.{sharers};
 ghost use Rattle.hive_model.specs.Walk.{nowhere};
 ghost use Rattle.hive_cells.specs.Held.{held_at};
@@ -60,7 +61,7 @@ fn link_by(
 
 /// How many keys of a tree use the cell of a descriptor that is shared with the key above them; an empty one has no cell.
 fn sharing(shared: &[u8], key: &Key) -> u32
-    requires { sharers shared.now key.now ≤ 16777216 }
+    requires { sharers shared.now key.now ≤ most_bins }
     ensures { result ≡ sharing shared.now key.now }
 {
     if shared.len() == 0 {

@@ -1,6 +1,7 @@
 //! How many bytes a key and all below it take in packed form, by the cells that they are in.
 
 ghost use Rattle.std.specs.Prelude.{◌≡◌, ◌≤◌, length, IfOk};
+ghost use Rattle.hive_model.specs.Limits.{most_bins};
 ghost use Rattle.hive_model.specs.Bins.{bins_size};
 ghost use Rattle.hive_model.specs.Tree.{Tree, head};
 ghost use Rattle.hive_model.specs.Stands.{IsWellFormed};
@@ -71,7 +72,7 @@ pub(crate) fn descriptor_at<'a>(cells: &Source<'a>, at: u32) -> &'a [u8]
 /// The bulk of the key at an offset with all below it, as if it were a tree of its own.
 fn bulk_at(alloc: Global, cells: &Source, at: u32) -> Result<u64, AllocError>
     requires here { IsKeyAt (cells_of cells.now) at }
-    requires fits { bins_size cells.now.heap.now ≤ 16777216 }
+    requires fits { bins_size cells.now.heap.now ≤ most_bins }
     ensures exact { IfOk result (λ n. (t : Tree) → IsWellFormed (cells_of cells.now) at t → n ≡ bulk_of cells.now.version t) }
     ensures low { IfOk result (λ n. n ≤ 576460752303423488) }
 {
@@ -90,7 +91,7 @@ pub(crate) fn below_len(
     at: u32,
 ) -> Result<u64, AllocError>
     requires here { IsKeyAt (cells_of cells.now) at }
-    requires fits { bins_size cells.now.heap.now ≤ 16777216 }
+    requires fits { bins_size cells.now.heap.now ≤ most_bins }
     ensures exact { IfOk result (λ n. (t : Tree) → IsWellFormed (cells_of cells.now) at t → n ≡ size cells.now.version shared.now t) }
     ensures low { IfOk result (λ n. n ≤ 1152921504606846976) }
 {

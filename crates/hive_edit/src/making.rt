@@ -3,6 +3,7 @@
 ghost use Rattle.std.specs.Prelude.{◌≡◌, ◌≤◌, ◌<◌, ◌^◌, length, IfOk};
 ghost use Rattle.std.specs.Option.{IsSomeAnd};
 ghost use Rattle.nt_bytes.specs.Fields.{u32_in};
+ghost use Rattle.hive_model.specs.Limits.{most_bins};
 ghost use Rattle.hive_model.specs.Packed.{cell_text};
 ghost use Rattle.hive_cells.specs.Held.{held_at};
 ghost use Rattle.hive_edit.specs.Making.{child_fields, IsWritten};
@@ -23,7 +24,7 @@ pub(crate) struct Above {
 
 /// The bytes of an allocated cell with this payload.
 pub(crate) fn cell_bytes(alloc: Global, payload: &[u8]) -> Result<Bytes, AllocError>
-    requires { length payload.now ≤ 16777216 }
+    requires { length payload.now ≤ most_bins }
     ensures { IfOk result (λ b. b ≡ cell_text payload.now) }
 {
     let mut out = Bytes::new(alloc);

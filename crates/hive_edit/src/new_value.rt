@@ -2,6 +2,7 @@
 
 ghost use Rattle.std.specs.Prelude.{◌≡◌, ◌≤◌, ◌<◌, ◌+◌, ◌-◌, ◌*◌, ◌++◌, ◌∷◌, [], ℕ, List, suc, true, false, nat_lt, if◌then◌else◌, length, take, None, Some, Ok, IfOk, IfErr, OnErr, OnOk, MatchBool, MatchResult};
 ghost use Rattle.std.specs.Option.{IsSome, IsSomeAnd};
+ghost use Rattle.hive_model.specs.Limits.{most_bins};
 ghost use Rattle.hive_model.specs.Bins.{bins_size, look_up};
 ghost use Rattle.std.specs.Int.{w32, from_le_bytes};
 ghost use lib.ListN.{replicate};
@@ -111,7 +112,7 @@ fn value_form(
     kind: u32,
     bytes: &[u8],
 ) -> Result<VkForm, AllocError>
-    requires place { at ≤ 16777216 }
+    requires place { at ≤ most_bins }
     requires short { length name.now ≤ longest_value_name }
     requires few { length bytes.now ≤ longest_data }
     ensures { IfOk result (λ f. key_value_of f ≡ item_form at (item name.now kind bytes.now)) }
@@ -134,7 +135,7 @@ fn value_bytes(
     kind: u32,
     bytes: &[u8],
 ) -> Result<Bytes, AllocError>
-    requires place { at ≤ 16777216 }
+    requires place { at ≤ most_bins }
     requires short { length name.now ≤ longest_value_name }
     requires few { length bytes.now ≤ longest_data }
     ensures { IfOk result (λ b. b ≡ key_value_text (item_form at (item name.now kind bytes.now))) }
@@ -153,7 +154,7 @@ fn write_value(
     kind: u32,
     bytes: &[u8],
 ) -> Result<(), AllocError>
-    requires room { at + item_size version (item name.now kind bytes.now) ≤ 16777216 }
+    requires room { at + item_size version (item name.now kind bytes.now) ≤ most_bins }
     requires short { length name.now ≤ longest_value_name }
     requires few { length bytes.now ≤ longest_data }
     ensures { OnOk result (out.new ≡ out.old ++ text (item_cells version at (item name.now kind bytes.now))) }
@@ -176,7 +177,7 @@ fn added_run(
     bytes: &[u8],
 ) -> Result<Bytes, AllocError>
     requires list { 4 * count ≤ length old.now }
-    requires room { place + added_size version count (item name.now kind bytes.now) ≤ 16777216 }
+    requires room { place + added_size version count (item name.now kind bytes.now) ≤ most_bins }
     requires short { length name.now ≤ longest_value_name }
     requires few { length bytes.now ≤ longest_data }
     ensures { IfOk result (λ b. b ≡ text (added_cells version place (numbers_in 4 count old.now) (item name.now kind bytes.now))) }

@@ -3,7 +3,7 @@
 ghost use Rattle.std.specs.Prelude.{◌≡◌, ◌≤◌, map, length, true, Ok, MatchBool, MatchResult};
 ghost use Rattle.std.specs.List.{All};
 ghost use Rattle.hive_model.specs.Bins.{bins_size, IsBins};
-ghost use Rattle.hive_model.specs.Edit.{after_step, after_steps, edited};
+ghost use Rattle.hive_model.specs.Edit.{after_step, after_steps, edited, most_bulk};
 ghost use Rattle.hive_model.specs.Size.{bulk_of};
 ghost use Rattle.reg_tree.specs.Fitting.{Fits};
 ghost use Rattle.reg_tree.specs.Makes.{IsRefused, step_of};
@@ -80,7 +80,7 @@ impl HiveBytes {
         ensures made { MatchResult result
             (λ done. MatchBool done (AreStepped self.old (map step_of steps.now) self.new) (AreStrained self.old (map step_of steps.now)))
             (IsRefused (edited self.old.version self.old.tree (map step_of steps.now))) }
-        ensures within { result ≡ Ok true → bulk_of self.new.version self.new.tree ≤ 16773120 }
+        ensures within { result ≡ Ok true → bulk_of self.new.version self.new.tree ≤ most_bulk }
         ensures base { self.new.base ≡ self.old.base }
         ensures grown { bins_size self.old.bins ≤ bins_size self.new.bins }
     {

@@ -4,7 +4,7 @@ ghost use Rattle.std.specs.Prelude.{◌≡◌, ◌<◌, ℕ, List, [], ◌∷◌
 ghost use Rattle.nt_bytes.specs.declared.version.HiveVersion.{HiveVersion as Version};
 ghost use Rattle.nt_bytes.specs.declared.version.HiveVersion.TheVariants.{V3, V5};
 ghost use Rattle.hive_model.specs.Size.{bulk_of};
-ghost use Rattle.hive_model.specs.Edit.{edited, set_value, delete_value, make_key, delete_key, copy_child, add_child};
+ghost use Rattle.hive_model.specs.Edit.{edited, set_value, delete_value, make_key, delete_key, copy_child, add_child, most_bulk};
 ghost use Rattle.hive_model.specs.Edit.{no_key, no_value, bad_name, exists, name_too_long, too_deep, data_too_long, full};
 ghost use Rattle.hive_laws.specs.Both.{LeadTo};
 ghost use Rattle.hive_laws.specs.Trees.{folder, number, root_with, tagged, a_key, d_key, home, chain, steps_down, full_root, new_in_home};
@@ -99,7 +99,7 @@ pub fn a_full_hive()
     ensures fits { (block last : List ℕ) → length block ≡ 1048576 → length last ≡ 1043652
         → edited V3 (full_root (replicate 15 block)) (set_value [] (codes "P") 3 last ∷ []) ≡ Ok (full_root (replicate 15 block ++ last ∷ [])) }
     ensures bulk_then { (block last : List ℕ) → length block ≡ 1048576 → length last ≡ 1043652
-        → bulk_of V3 (full_root (replicate 15 block ++ last ∷ [])) ≡ 16773120 }
+        → bulk_of V3 (full_root (replicate 15 block ++ last ∷ [])) ≡ most_bulk }
     ensures refused { (block last : List ℕ) → length block ≡ 1048576 → length last ≡ 1043653
         → edited V3 (full_root (replicate 15 block)) (set_value [] (codes "P") 3 last ∷ []) ≡ Err full }
 {}
@@ -110,7 +110,7 @@ pub fn a_full_hive_of_segments()
     ensures fits { (block last : List ℕ) → length block ≡ 1048576 → length last ≡ 1030988
         → edited V5 (full_root (replicate 15 block)) (set_value [] (codes "P") 3 last ∷ []) ≡ Ok (full_root (replicate 15 block ++ last ∷ [])) }
     ensures bulk_then { (block last : List ℕ) → length block ≡ 1048576 → length last ≡ 1030988
-        → bulk_of V5 (full_root (replicate 15 block ++ last ∷ [])) ≡ 16773120 }
+        → bulk_of V5 (full_root (replicate 15 block ++ last ∷ [])) ≡ most_bulk }
     ensures refused { (block last : List ℕ) → length block ≡ 1048576 → length last ≡ 1030989
         → edited V5 (full_root (replicate 15 block)) (set_value [] (codes "P") 3 last ∷ []) ≡ Err full }
 {}

@@ -2,6 +2,7 @@
 -- is saved of it.
 -- (This project's own.)
 use Rattle.std.specs.Prelude.{◌≡◌, ◌<◌, ◌≤◌, ℕ, List, length, slice_index, Some}
+use Rattle.hive_model.specs.Limits.{most_file}
 use Rattle.hive_model.specs.Image.{Image, Address, Primary, Log, Bytes, IsFileOf}
 
 -- it has 512 numbers
@@ -17,5 +18,5 @@ pub record AreSaved (image : Image) (primary log : List ℕ) : Type 0 where
   pub whole : HasWholeSectors image
   pub primary_is : IsFileOf image Primary primary
   pub log_is : IsFileOf image Log log
-  pub primary_fits : length primary ≤ 33554432
-  pub log_fits : length log ≤ 33554432
+  pub primary_fits : length primary ≤ most_file
+  pub log_fits : length log ≤ most_file

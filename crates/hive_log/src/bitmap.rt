@@ -1,6 +1,7 @@
 //! The bitmap of a log: a bit for each sector of the new bins data.
 
 ghost use Rattle.std.specs.Prelude.{◌≡◌, ◌<◌, ◌≤◌, ◌+◌, ◌*◌, ◌/◌, ◌++◌, length, take, codes, slice_index};
+ghost use Rattle.hive_model.specs.Limits.{most_bins};
 ghost use Rattle.hive_model.specs.Recovery as book;
 ghost use Rattle.hive_model.specs.Recovery.{bit, sector};
 ghost use Rattle.hive_model.specs.Log.{bitmap_text};
@@ -19,7 +20,7 @@ pub fn has_bit(bitmap: &[u8], i: usize) -> bool
 
 /// How many sectors `DIRT` and the bits take for bins data of this size in bytes.
 pub fn bitmap_sectors(size: usize) -> usize
-    requires { size ≤ 16777216 }
+    requires { size ≤ most_bins }
     ensures { result ≡ book.bitmap_sectors size }
 {
     (size / 4096 + 515) / 512
@@ -27,7 +28,7 @@ pub fn bitmap_sectors(size: usize) -> usize
 
 /// The number in the log of the first sector whose bit is on, for bins data of this size in bytes.
 pub fn first_dirty(size: usize) -> u32
-    requires { size ≤ 16777216 }
+    requires { size ≤ most_bins }
     ensures value { result ≡ book.first_dirty size }
     ensures small { result ≤ 100 }
 {
@@ -38,7 +39,7 @@ pub fn first_dirty(size: usize) -> u32
 pub fn bitmap_sector(bitmap: &[u8], size: usize, k: usize, into: &mut [u8; 512])
     requires bits { size / 4096 ≤ length bitmap.now }
     requires inside { k < book.bitmap_sectors size }
-    requires few { size ≤ 16777216 }
+    requires few { size ≤ most_bins }
     ensures { into.new ≡ sector (bitmap_text (bit bitmap.now) size) k }
 {
     for j in 0..512 {

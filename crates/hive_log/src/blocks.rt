@@ -1,6 +1,7 @@
 //! Reading the base blocks and the bitmap of a disk. Nothing is written.
 
 ghost use Rattle.std.specs.Prelude.{◌≡◌, ◌<◌, ◌≤◌, ◌*◌, true, Some, [], length, drop, IfOk};
+ghost use Rattle.hive_model.specs.Limits.{most_bins};
 ghost use Rattle.hive_model.specs.Asked.{log_at, primary_at};
 ghost use Rattle.hive_model.specs.Base.{Base, is_bins_size, base_of};
 ghost use Rattle.hive_model.specs.Recovery.{bit, rank, as_log_base, base_in, logged_in, front_in, bitmap_in};
@@ -111,7 +112,7 @@ pub(crate) fn read_bitmap<D: Disk>(
 ) -> Result<Bytes, LoadStop>
     requires on { (D.state disk.old).on ≡ true }
     requires still { D.tells ≡ true → (D.state disk.old).flight ≡ [] }
-    requires few { size ≤ 16777216 }
+    requires few { size ≤ most_bins }
     ensures text { D.tells ≡ true → Reads result (bitmap_in (D.state disk.old).held size) }
     ensures asked { AsksFirst (D.calls disk.old) (D.calls disk.new) D.tells
         (asked_bitmap (D.state disk.old).held size) result }

@@ -1,6 +1,7 @@
 //! What a disk is recovered as, by reading alone.
 
 ghost use Rattle.std.specs.Prelude.{◌≡◌, ◌<◌, ◌≤◌, ◌+◌, ◌*◌, ◌/◌, ℕ, true, false, Some, Ok, [], length, IfOk};
+ghost use Rattle.hive_model.specs.Limits.{most_bins};
 ghost use Rattle.hive_model.specs.Asked.{run_at, one_by_one, asked_log, asked_behind_base, asked_of};
 ghost use Rattle.hive_model.specs.Base.{is_bins_size};
 ghost use Rattle.hive_model.specs.Image.{Primary, Bytes as Held};
@@ -174,7 +175,7 @@ fn read_by_bits<D: Disk>(
 ) -> Result<Bytes, LoadStop>
     requires on { (D.state disk.old).on ≡ true }
     requires still { D.tells ≡ true → (D.state disk.old).flight ≡ [] }
-    requires few { size ≤ 16777216 }
+    requires few { size ≤ most_bins }
     ensures bins { D.tells ≡ true → Reads result (bins_by (D.state disk.old).held size (bit bitmap.now)) }
     ensures asked { AsksFirst (D.calls disk.old) (D.calls disk.new) D.tells
         (asked_by_bits (D.state disk.old).held size (bit bitmap.now)) result }

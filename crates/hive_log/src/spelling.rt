@@ -1,6 +1,7 @@
 //! The log as bytes.
 
 ghost use Rattle.std.specs.Prelude.{◌≡◌, ◌≤◌, ◌++◌, ◌*◌, ◌/◌, true, length, IfOk, OnOk};
+ghost use Rattle.hive_model.specs.Limits.{most_bins};
 ghost use Rattle.hive_model.specs.Base.{is_bins_size};
 ghost use Rattle.hive_model.specs.Recovery.{bit};
 ghost use Rattle.hive_model.specs.Log.{bitmap_text, marked_sectors, log_of, dirty};
@@ -35,7 +36,7 @@ pub fn log_sectors(
 
 fn append_bitmap(log: &mut Bytes, bitmap: &[u8], size: usize) -> Result<(), AllocError>
     requires bits { size / 4096 ≤ length bitmap.now }
-    requires few { size ≤ 16777216 }
+    requires few { size ≤ most_bins }
     ensures { OnOk result (log.new ≡ log.old ++ bitmap_text (bit bitmap.now) size) }
 {
     let mut sector = [0; 512];

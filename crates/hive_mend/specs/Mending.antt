@@ -1,5 +1,6 @@
 -- What does a repair make of a loaded hive? (This project's own.)
 use Rattle.std.specs.Prelude.{◌&&◌, nat_le, nat_lt, Bool, ℕ, List, length, Option, Some, None, Result, if◌then◌else◌}
+use Rattle.hive_model.specs.Edit.{most_bulk}
 use Rattle.hive_model.specs.Base.{version_of}
 use Rattle.hive_model.specs.Image.{Image}
 use Rattle.hive_model.specs.Size.{bulk_of}
@@ -16,7 +17,7 @@ packed_of h = packed (version_of h.base.minor) h.tree
 
 -- the tree is small enough to be packed, and its packed form is shorter than the bins data
 abbrev pub is_worth : Loaded → Bool
-is_worth h = nat_le (bulk_of (version_of h.base.minor) h.tree) 16773120 && nat_lt (length (packed_of h)) (length h.bins)
+is_worth h = nat_le (bulk_of (version_of h.base.minor) h.tree) most_bulk && nat_lt (length (packed_of h)) (length h.bins)
 
 -- what a repair writes: the packed form where that is worth while, and else nothing
 abbrev pub shorter : Loaded → Option (List ℕ)

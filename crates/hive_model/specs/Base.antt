@@ -24,6 +24,7 @@ use Rattle.nt_bytes.specs.declared.version.HiveVersion.TheVariants.{V3, V5}
 use Rattle.nt_bytes.specs.declared.fault.HiveFault.{HiveFault}
 use Rattle.nt_bytes.specs.declared.fault.HiveFaultKind.{HiveFaultKind}
 use Rattle.nt_bytes.specs.declared.fault.HiveFaultKind.TheVariants.{NotRegf, Checksum, Version, FileType, Size}
+use Rattle.hive_model.specs.Limits.{most_bins}
 
 -- the fields of a base block that are kept
 pub record Base : Type 0 where
@@ -53,7 +54,7 @@ checksum_of sector = moved_off (mixed_words 127 sector)
 
 -- bins data are whole bins: 4096 bytes to 16 MiB in steps of 4096
 abbrev pub is_bins_size : ℕ → Bool
-is_bins_size size = (size % 4096 == 0) && (nat_le 4096 size && nat_le size 16777216)
+is_bins_size size = (size % 4096 == 0) && (nat_le 4096 size && nat_le size most_bins)
 
 -- the minor versions that are read and written
 abbrev pub is_minor : ℕ → Bool

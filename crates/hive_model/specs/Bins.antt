@@ -4,6 +4,7 @@ use Rattle.std.specs.Prelude.{◌≡◌, ◌⊎◌, ℕ, ◌+◌, ◌-◌, ◌%�
 use Rattle.std.specs.List.{AllByRecursion, flat_map}
 use Rattle.std.specs.Int.{w32, to_le_bytes}
 use Rattle.nt_bytes.specs.Fields.{u32_in}
+use Rattle.hive_model.specs.Limits.{most_bins}
 use Rattle.nt_bytes.specs.declared.version.HiveVersion.{HiveVersion}
 use Rattle.nt_bytes.specs.declared.fault.HiveFaultKind.{HiveFaultKind}
 use Rattle.nt_bytes.specs.declared.fault.HiveFaultKind.TheVariants.{BinSign, BinOffset, BinSize, CellSize, CellPastBin, OutOfRange, FreeCell}
@@ -77,7 +78,7 @@ pub record IsBin (b : Bin) : Type 0 where
 -- bins that can be spelled as the bins data of a hive: at most 16,777,216 bytes together
 pub record IsHeap (bins : List Bin) : Type 0 where
   pub each : AllByRecursion IsBin bins
-  pub small : bins_size bins ≤ 16777216
+  pub small : bins_size bins ≤ most_bins
 
 -- the text is these bins from its first byte to its last
 abbrev pub IsBins : List ℕ → List Bin → Type 0

@@ -3,6 +3,7 @@
 use Rattle.std.specs.Prelude.{◌≤◌, ◌<◌, ◌^◌, ℕ, slice_index}
 use Rattle.std.specs.List.{AllByRecursion}
 use Rattle.nt_bytes.specs.declared.version.HiveVersion.{HiveVersion}
+use Rattle.hive_model.specs.Edit.{most_bulk}
 use Rattle.hive_model.specs.Tree.{Item, Head, Tree, Trees, key, none, more}
 use Rattle.hive_model.specs.Valid.{IsValid}
 use Rattle.hive_model.specs.Size.{bulk_of}
@@ -35,13 +36,13 @@ abbrev mutual
 -- In the bins of a packed tree the tree is at 32.
 abbrev pub PackedStands : Type 0
 PackedStands =
-    (version : HiveVersion) (t : Tree) → IsValid t → HasNumbers t → bulk_of version t ≤ 16773120 → Stands (look_up version (packed_bins version t)) 32 t
+    (version : HiveVersion) (t : Tree) → IsValid t → HasNumbers t → bulk_of version t ≤ most_bulk → Stands (look_up version (packed_bins version t)) 32 t
 
 -- The cells of a packed tree are well-formed at 32, and the tree is the one that stands there.
 abbrev pub PackedIsWellFormed : Type 0
 PackedIsWellFormed =
-    (version : HiveVersion) (t : Tree) → IsValid t → HasNumbers t → bulk_of version t ≤ 16773120 → IsWellFormed (look_up version (packed_bins version t)) 32 t
+    (version : HiveVersion) (t : Tree) → IsValid t → HasNumbers t → bulk_of version t ≤ most_bulk → IsWellFormed (look_up version (packed_bins version t)) 32 t
 
 -- The packed form is the bytes of these bins.
 abbrev pub PackedIsBins : Type 0
-PackedIsBins = (version : HiveVersion) (t : Tree) → bulk_of version t ≤ 16773120 → IsBins (packed version t) (packed_bins version t)
+PackedIsBins = (version : HiveVersion) (t : Tree) → bulk_of version t ≤ most_bulk → IsBins (packed version t) (packed_bins version t)

@@ -1,6 +1,7 @@
 -- Which places the nodes of a packed tree name as those of their descriptors, and how often.
 use Rattle.std.specs.Prelude.{◌≡◌, ◌≤◌, ℕ, ◌+◌, ◌==◌, true, if◌then◌else◌, List, [], ◌∷◌, ◌++◌}
 use Rattle.nt_bytes.specs.declared.version.HiveVersion.{HiveVersion}
+use Rattle.hive_model.specs.Edit.{most_bulk}
 use Rattle.hive_model.specs.Tree.{Tree, Trees, key, none, more, listed}
 use Rattle.hive_model.specs.Size.{has_own, count, size, bulk_of}
 use Rattle.hive_model.specs.Packed.{Above, top, below, node_of, descriptor_place, children_place, ring, sharers_of_all}
@@ -37,5 +38,5 @@ abbrev mutual
 
 -- Each security cell of a packed tree counts the keys whose nodes name it.
 abbrev pub PackedCountsUses : Type 0
-PackedCountsUses = (version : HiveVersion) (t : Tree) → bulk_of version t ≤ 16773120 →
+PackedCountsUses = (version : HiveVersion) (t : Tree) → bulk_of version t ≤ most_bulk →
     let above = top (ring version [] 32 t) in AreCounted version (named version above 32 t) above 32 t

@@ -1,6 +1,7 @@
 //! The cells of a key that is to be below another one, in bins data that are there.
 
 ghost use Rattle.std.specs.Prelude.{◌≡◌, ◌≤◌, ◌+◌, IfOk};
+ghost use Rattle.hive_model.specs.Limits.{most_bins};
 ghost use Rattle.hive_model.specs.Valid.{HoldsKeys};
 ghost use Rattle.hive_model.specs.Size.{size};
 ghost use Rattle.hive_model.specs.Packed.{text, cells_of, sharers};
@@ -24,7 +25,7 @@ pub fn tree_fits(key: &Key)
 
 /// How many keys of a tree use this descriptor's cell with the key above it: those that have it, as each key between does.
 pub fn sharing_keys(security: &[u8], key: &Key) -> u32
-    requires { sharers security.now key.now ≤ 16777216 }
+    requires { sharers security.now key.now ≤ most_bins }
     ensures { result ≡ sharers security.now key.now }
 {
     sharers(security, key)
@@ -43,7 +44,7 @@ pub fn cells_below(
     key: &Key,
 ) -> Result<Bytes, AllocError>
     requires valid { HoldsKeys key.now }
-    requires room { at + size version shared.now key.now ≤ 16777216 }
+    requires room { at + size version shared.now key.now ≤ most_bins }
     ensures { IfOk result (λ b. b ≡ text (cells_of version (beside version parent shared.now shared_at at key.now) at key.now)) }
 {
     let mut ring = Vec::new(alloc);

@@ -3,6 +3,7 @@
 ghost use Rattle.std.specs.Prelude.{◌≡◌, ◌≤◌, ◌<◌, ◌%◌, ◌++◌, true, length, IfOk, OnOk};
 ghost use Rattle.std.specs.List.{flat_map};
 ghost use lib.ListN.{replicate};
+ghost use Rattle.hive_model.specs.Edit.{most_bulk};
 ghost use Rattle.hive_model.specs.Base.{is_bins_size};
 ghost use Rattle.hive_model.specs.Valid.{IsValid};
 ghost use Rattle.hive_model.specs.Size.{bulk_of};
@@ -24,7 +25,7 @@ use std::alloc::{AllocError, Global};
 #[tactic(auto, unfolding(hive_model::specs::Packed::packed))]
 pub fn pack(alloc: Global, tree: &Key, version: HiveVersion) -> Result<Bytes, AllocError>
     requires valid { IsValid tree.now }
-    requires room { bulk_of version tree.now ≤ 16773120 }
+    requires room { bulk_of version tree.now ≤ most_bulk }
     ensures bytes { IfOk result (λ b. b ≡ packed version tree.now) }
     ensures sized { IfOk result (λ b. is_bins_size (length b) ≡ true) }
     ensures bins { IfOk result (λ b. IsBins b (packed_bins version tree.now)) }

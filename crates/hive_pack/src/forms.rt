@@ -4,6 +4,7 @@ ghost use Rattle.std.specs.Prelude.{◌≡◌, ◌≤◌, ◌<◌, ◌+◌, ◌*
 ghost use Rattle.std.specs.Int.{w32, from_le_bytes};
 ghost use Rattle.std.specs.Prelude.{◌++◌, ◌-◌};
 ghost use lib.ListN.{replicate};
+ghost use Rattle.hive_model.specs.Limits.{most_bins};
 ghost use Rattle.hive_model.specs.Tree.{Item, Tree, head, children};
 ghost use Rattle.hive_model.specs.Valid.{HoldsKeys};
 ghost use Rattle.hive_model.specs.Size.{head_size, list_size};
@@ -32,7 +33,7 @@ fn own_number(alloc: Global, bytes: &[u8]) -> Result<u32, AllocError>
 }
 
 fn size_field(bytes: &[u8]) -> u32
-    requires { length bytes.now ≤ 16777216 }
+    requires { length bytes.now ≤ most_bins }
     ensures { result ≡ (if nat_lt 4 (length bytes.now) then length bytes.now else 2147483648 + length bytes.now) }
 {
     if bytes.len() > 4 {
@@ -43,7 +44,7 @@ fn size_field(bytes: &[u8]) -> u32
 }
 
 fn offset_field(alloc: Global, at: usize, value: &Value) -> Result<u32, AllocError>
-    requires { data_place at value.now ≤ 16777216 }
+    requires { data_place at value.now ≤ most_bins }
     ensures { IfOk result (λ n. n ≡ (item_form at value.now).offset) }
 {
     let data = value.data();
@@ -56,8 +57,8 @@ fn offset_field(alloc: Global, at: usize, value: &Value) -> Result<u32, AllocErr
 
 /// What the cell of a value says that stands here.
 pub(crate) fn value_form(alloc: Global, at: usize, value: &Value) -> Result<VkForm, AllocError>
-    requires place { data_place at value.now ≤ 16777216 }
-    requires bytes { length value.now.bytes ≤ 16777216 }
+    requires place { data_place at value.now ≤ most_bins }
+    requires bytes { length value.now.bytes ≤ most_bins }
     ensures { IfOk result (λ f. key_value_of f ≡ item_form at value.now) }
 {
     Ok(VkForm {
@@ -145,7 +146,7 @@ fn node_flags(key: &Key) -> u16
 }
 
 fn place_of_some(n: usize, at: usize) -> u32
-    requires { at ≤ 16777216 }
+    requires { at ≤ most_bins }
     ensures { result ≡ place_of_some n at }
 {
     if n == 0 { NOWHERE } else { at as u32 }
@@ -160,7 +161,7 @@ pub(crate) fn node_form(
     key: &Key,
 ) -> Result<NkForm, AllocError>
     requires valid { HoldsKeys key.now }
-    requires room { at + head_size version up.security.now (head key.now) + list_size (length (children key.now)) ≤ 16777216 }
+    requires room { at + head_size version up.security.now (head key.now) + list_size (length (children key.now)) ≤ most_bins }
     ensures { IfOk result (λ f. key_node_of f ≡ node_of version (above up.entry) at (head key.now) (children key.now)) }
 {
     let keys = key.subkeys();

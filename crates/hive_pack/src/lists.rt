@@ -2,6 +2,7 @@
 
 ghost use Rattle.std.specs.Prelude.{◌≡◌, ◌≤◌, ◌<◌, ◌+◌, ◌*◌, ◌++◌, length, map, OnOk, IfOk};
 ghost use Rattle.std.specs.Prelude.{slice_index, true};
+ghost use Rattle.hive_model.specs.Limits.{most_bins};
 ghost use Rattle.hive_model.specs.Size.{cell, is_narrow, part_count, list_size};
 ghost use Rattle.hive_model.specs.Lists.{AreHints, hint_of};
 ghost use Rattle.hive_model.specs.Packed.{text, cell_text, hint, name_hint, part_places, list_text, parts, list_cells};
@@ -159,8 +160,8 @@ fn part_starts(alloc: Global, count: usize, at: usize) -> Result<Vec<u32>, Alloc
 
 /// Where the first list of a list of lists begins that is at this offset in bytes, with that many children.
 pub fn first_part(n: usize, at: usize) -> usize
-    requires few { n ≤ 16777216 }
-    requires room { at ≤ 16777216 }
+    requires few { n ≤ most_bins }
+    requires room { at ≤ most_bins }
     ensures { result ≡ at + cell (4 + 4 * part_count n) }
 {
     at + cell_size(4 + 4 * part_count(n))
@@ -178,7 +179,7 @@ fn write_list_of_lists(
 ) -> Result<(), AllocError>
     requires same { length places.now ≡ length hints.now }
     requires four { AreHints hints.now }
-    requires room { at + list_size (length places.now) ≤ 16777216 }
+    requires room { at + list_size (length places.now) ≤ most_bins }
     requires many { 501 ≤ length places.now }
     ensures { OnOk result (out.new ≡ out.old ++ text (list_cells version at places.now hints.now)) }
 {
@@ -202,7 +203,7 @@ pub fn write_lists(
 ) -> Result<(), AllocError>
     requires same { length places.now ≡ length hints.now }
     requires four { AreHints hints.now }
-    requires room { at + list_size (length places.now) ≤ 16777216 }
+    requires room { at + list_size (length places.now) ≤ most_bins }
     ensures { OnOk result (out.new ≡ out.old ++ text (list_cells version at places.now hints.now)) }
 {
     if places.len() == 0 {
@@ -224,7 +225,7 @@ pub(crate) fn write_key_lists(
     keys: &[Key],
 ) -> Result<(), AllocError>
     requires same { length places.now ≡ length keys.now }
-    requires room { at + list_size (length places.now) ≤ 16777216 }
+    requires room { at + list_size (length places.now) ≤ most_bins }
     ensures { OnOk result (out.new ≡ out.old ++ text (list_cells version at places.now (map (hint version) keys.now))) }
 {
     let hints = hints(alloc, version, keys)?;

@@ -1,6 +1,7 @@
 //! The places of security cells, found before any cell is written.
 
 ghost use Rattle.std.specs.Prelude.{◌≡◌, ◌+◌, ◌≤◌, ◌++◌, OnOk, IfOk};
+ghost use Rattle.hive_model.specs.Limits.{most_bins};
 ghost use Rattle.hive_model.specs.Tree.{trees};
 ghost use Rattle.hive_model.specs.Size.{size, size_of_all};
 ghost use Rattle.hive_model.specs.Packed.{own_place, ring as places_of, ring_of_all as places_of_all};
@@ -19,7 +20,7 @@ pub(crate) fn ring_of(
     at: usize,
     key: &Key,
 ) -> Result<usize, AllocError>
-    requires { at + size version shared.now key.now ≤ 16777216 }
+    requires { at + size version shared.now key.now ≤ most_bins }
     ensures listed { OnOk result (ring.new.items ≡ ring.old.items ++ places_of version shared.now at key.now) }
     ensures end { IfOk result (λ e. e ≡ at + size version shared.now key.now) }
 {
@@ -33,7 +34,7 @@ pub(crate) fn ring_of(
 }
 
 fn add_own(ring: &mut Vec<u32>, shared: &[u8], at: usize, security: &[u8]) -> Result<(), AllocError>
-    requires { at ≤ 16777216 }
+    requires { at ≤ most_bins }
     ensures { OnOk result (ring.new.items ≡ ring.old.items ++ own_place shared.now at security.now) }
 {
     if is_own(shared, security) {
@@ -50,7 +51,7 @@ fn ring_of_all(
     at: usize,
     keys: &[Key],
 ) -> Result<usize, AllocError>
-    requires { at + size_of_all version shared.now (trees keys.now) ≤ 16777216 }
+    requires { at + size_of_all version shared.now (trees keys.now) ≤ most_bins }
     ensures listed { OnOk result (ring.new.items ≡ ring.old.items ++ places_of_all version shared.now at (trees keys.now)) }
     ensures end { IfOk result (λ e. e ≡ at + size_of_all version shared.now (trees keys.now)) }
 {

@@ -1,6 +1,7 @@
 //! Security cells: which descriptors have one, how many keys use it, and their ring.
 
 ghost use Rattle.std.specs.Prelude.{◌≡◌, ◌≤◌, ◌+◌, ◌++◌, length, OnOk};
+ghost use Rattle.hive_model.specs.Limits.{most_bins};
 ghost use Rattle.hive_model.specs.Tree.{head, trees};
 ghost use Rattle.hive_model.specs.Size.{node_size, class_size, security_size};
 ghost use Rattle.hive_model.specs.Packed.{below, security_place_of, security_cells, sharers, sharers_of_all, text, forward, backward};
@@ -40,7 +41,7 @@ pub(crate) fn security_place(up: Up<'_>, place: u32, security: &[u8]) -> u32
 
 /// What a key passes to its children whose cells begin here.
 pub(crate) fn below_up<'a>(up: Up<'a>, at: usize, key: &'a Key) -> Up<'a>
-    requires { at + node_size (head key.now) + class_size (head key.now).class ≤ 16777216 }
+    requires { at + node_size (head key.now) + class_size (head key.now).class ≤ most_bins }
     ensures { above result ≡ below (above up.entry) at (head key.entry.now) }
 {
     let own_at = at + node_len(key) + class_len(key.class());
@@ -55,7 +56,7 @@ pub(crate) fn below_up<'a>(up: Up<'a>, at: usize, key: &'a Key) -> Up<'a>
 /// How many keys use this descriptor with the key above them.
 #[cycle(sharers)]
 pub(crate) fn sharers(security: &[u8], key: &Key) -> u32
-    requires { sharers security.now key.now ≤ 16777216 }
+    requires { sharers security.now key.now ≤ most_bins }
     ensures { result ≡ sharers security.now key.now }
 {
     if security == key.security() {
@@ -67,7 +68,7 @@ pub(crate) fn sharers(security: &[u8], key: &Key) -> u32
 
 #[cycle(sharers)]
 fn sharers_of_all(security: &[u8], keys: &[Key]) -> u32
-    requires { sharers_of_all security.now (trees keys.now) ≤ 16777216 }
+    requires { sharers_of_all security.now (trees keys.now) ≤ most_bins }
     ensures { result ≡ sharers_of_all security.now (trees keys.now) }
 {
     let mut found = 0;
@@ -126,8 +127,8 @@ pub(crate) fn write_security(
     keys: &[Key],
 ) -> Result<(), AllocError>
     requires rising { IsRising up.ring.now }
-    requires room { length out.old + security_size up.security.now security.now ≤ 16777216 }
-    requires few { sharers_of_all security.now (trees keys.now) ≤ 16777216 }
+    requires room { length out.old + security_size up.security.now security.now ≤ most_bins }
+    requires few { sharers_of_all security.now (trees keys.now) ≤ most_bins }
     ensures { OnOk result (out.new ≡ out.old
         ++ text (security_cells (above up.entry) (length out.old) security.now (sharers_of_all security.now (trees keys.now)))) }
 {

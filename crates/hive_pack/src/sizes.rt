@@ -1,6 +1,7 @@
 //! How many bytes cells take.
 
 ghost use Rattle.std.specs.Prelude.{◌≡◌, ◌≤◌, ◌<◌, ◌+◌, length};
+ghost use Rattle.hive_model.specs.Limits.{most_bins};
 ghost use Rattle.hive_model.specs.Tree.{head};
 ghost use Rattle.hive_model.specs.Size.{cell, is_narrow, name_bytes, is_big, segment_count, cells_sum, data_sizes, item_size, items_size, class_size, has_own, security_size, node_size, part_count, list_size};
 ghost use Rattle.hive_pack.specs.Writes.{big_size};
@@ -31,7 +32,7 @@ pub fn is_narrow(name: &[u16]) -> bool
 
 /// How many bytes a name is stored in.
 pub fn name_len(name: &[u16]) -> usize
-    requires { length name.now ≤ 16777216 }
+    requires { length name.now ≤ most_bins }
     ensures { result ≡ name_bytes name.now }
 {
     if is_narrow(name) {
@@ -42,14 +43,14 @@ pub fn name_len(name: &[u16]) -> usize
 }
 
 pub(crate) fn node_len(key: &Key) -> usize
-    requires { node_size (head key.now) ≤ 16777216 }
+    requires { node_size (head key.now) ≤ most_bins }
     ensures { result ≡ node_size (head key.now) }
 {
     cell_size(76 + name_len(key.name()))
 }
 
 pub(crate) fn class_len(class: &[u8]) -> usize
-    requires { class_size class.now ≤ 16777216 }
+    requires { class_size class.now ≤ most_bins }
     ensures { result ≡ class_size class.now }
 {
     if class.len() == 0 {
@@ -70,7 +71,7 @@ pub(crate) fn is_own(shared: &[u8], security: &[u8]) -> bool
 }
 
 pub(crate) fn security_len(shared: &[u8], security: &[u8]) -> usize
-    requires { security_size shared.now security.now ≤ 16777216 }
+    requires { security_size shared.now security.now ≤ most_bins }
     ensures { result ≡ security_size shared.now security.now }
 {
     if is_own(shared, security) {
@@ -127,14 +128,14 @@ pub fn data_len(version: HiveVersion, n: usize) -> usize
 }
 
 fn value_len(version: HiveVersion, value: &Value) -> usize
-    requires { item_size version value.now ≤ 16777216 }
+    requires { item_size version value.now ≤ most_bins }
     ensures { result ≡ item_size version value.now }
 {
     cell_size(20 + name_len(value.name())) + data_len(version, value.data().len())
 }
 
 pub(crate) fn values_len(version: HiveVersion, values: &[Value]) -> usize
-    requires { items_size version values.now ≤ 16777216 }
+    requires { items_size version values.now ≤ most_bins }
     ensures { result ≡ items_size version values.now }
 {
     if values.is_empty() {
@@ -153,7 +154,7 @@ pub(crate) fn values_len(version: HiveVersion, values: &[Value]) -> usize
 
 /// How many lists that many children fill.
 pub fn part_count(n: usize) -> usize
-    requires { n ≤ 16777216 }
+    requires { n ≤ most_bins }
     ensures { result ≡ part_count n }
 {
     (n + 499) / 500
@@ -161,7 +162,7 @@ pub fn part_count(n: usize) -> usize
 
 /// How many bytes the lists of that many children take.
 pub fn list_len(n: usize) -> usize
-    requires { n ≤ 16777216 }
+    requires { n ≤ most_bins }
     ensures { result ≡ list_size n }
 {
     if n == 0 {

@@ -2,6 +2,7 @@
 
 ghost use Rattle.std.specs.Prelude.{◌≡◌, ◌≤◌, ◌<◌, ◌+◌, ◌*◌, ◌++◌, length, OnOk, IfOk};
 ghost use Rattle.std.specs.List.{All};
+ghost use Rattle.hive_model.specs.Limits.{most_bins};
 ghost use Rattle.hive_model.specs.Valid.{IsItem};
 ghost use Rattle.hive_model.specs.Size.{segment_count, data_size, item_size, items_sum, items_size, class_size};
 ghost use Rattle.hive_model.specs.Lists.{offsets_text};
@@ -18,7 +19,7 @@ use std::alloc::{AllocError, Global};
 /// Writes a cell with this payload, filled with zeros.
 #[tactic(auto, unfolding(hive_model::specs::Packed::filled), using(crate::proofs::Rows::cell_text_is))]
 pub fn put_cell(out: &mut Bytes, payload: &[u8]) -> Result<(), AllocError>
-    requires { length payload.now ≤ 16777216 }
+    requires { length payload.now ≤ most_bins }
     ensures { OnOk result (out.new ≡ out.old ++ cell_text payload.now) }
 {
     let size = cell_size(payload.len());
@@ -30,7 +31,7 @@ pub fn put_cell(out: &mut Bytes, payload: &[u8]) -> Result<(), AllocError>
 /// Writes the cell of a class, if it is not empty.
 #[tactic(auto, unfolding(hive_model::specs::Packed::class_cells))]
 pub(crate) fn write_class(out: &mut Bytes, class: &[u8]) -> Result<(), AllocError>
-    requires { class_size class.now ≤ 16777216 }
+    requires { class_size class.now ≤ most_bins }
     ensures { OnOk result (out.new ≡ out.old ++ text (class_cells class.now)) }
 {
     if class.len() == 0 {
@@ -73,8 +74,8 @@ fn write_segments(out: &mut Bytes, count: usize, bytes: &[u8]) -> Result<(), All
 
 /// Writes data in segments, to be at a place: `db`, the list of the segments, and the segments.
 fn write_big(alloc: Global, out: &mut Bytes, at: usize, bytes: &[u8]) -> Result<(), AllocError>
-    requires room { at + big_size (length bytes.now) ≤ 16777216 }
-    requires few { length bytes.now ≤ 16777216 }
+    requires room { at + big_size (length bytes.now) ≤ most_bins }
+    requires few { length bytes.now ≤ most_bins }
     ensures { OnOk result (out.new ≡ out.old ++ text (big_cells at (segment_count (length bytes.now)) bytes.now)) }
 {
     let count = segment_count(bytes.len());
@@ -99,7 +100,7 @@ pub fn write_data(
     at: usize,
     bytes: &[u8],
 ) -> Result<(), AllocError>
-    requires room { at + data_size version bytes.now ≤ 16777216 }
+    requires room { at + data_size version bytes.now ≤ most_bins }
     ensures { OnOk result (out.new ≡ out.old ++ text (data_cells version at bytes.now)) }
 {
     if is_big(version, bytes.len()) {
@@ -120,7 +121,7 @@ fn write_value(
     value: &Value,
 ) -> Result<(), AllocError>
     requires valid { IsItem value.now }
-    requires room { length out.old + item_size version value.now ≤ 16777216 }
+    requires room { length out.old + item_size version value.now ≤ most_bins }
     ensures { OnOk result (out.new ≡ out.old ++ text (item_cells version (length out.old) value.now)) }
 {
     let form = value_form(alloc, out.len(), value)?;
@@ -139,7 +140,7 @@ fn write_each_value(
     values: &[Value],
 ) -> Result<Bytes, AllocError>
     requires valid { All IsItem values.now }
-    requires room { length out.old + items_sum version values.now ≤ 16777216 }
+    requires room { length out.old + items_sum version values.now ≤ most_bins }
     ensures written { OnOk result (out.new ≡ out.old ++ text (cells_of_items version (length out.old) values.now)) }
     ensures places { IfOk result (λ p. p ≡ offsets_text (item_places version (length out.old) values.now)) }
 {
@@ -164,7 +165,7 @@ pub(crate) fn write_values(
     values: &[Value],
 ) -> Result<(), AllocError>
     requires valid { All IsItem values.now }
-    requires room { length out.old + items_size version values.now ≤ 16777216 }
+    requires room { length out.old + items_size version values.now ≤ most_bins }
     ensures { OnOk result (out.new ≡ out.old ++ text (items_cells version (length out.old) values.now)) }
 {
     if values.len() == 0 {

@@ -1,6 +1,7 @@
 //! The cells of a key, and of all below it: each function appends the cells that it is named for.
 
 ghost use Rattle.std.specs.Prelude.{◌≡◌, ◌+◌, ◌≤◌, ◌++◌, length, OnOk, IfOk};
+ghost use Rattle.hive_model.specs.Limits.{most_bins};
 ghost use Rattle.hive_model.specs.Tree.{head, children, trees};
 ghost use Rattle.hive_model.specs.Valid.{HoldsKeys, AllHoldKeys};
 ghost use Rattle.hive_model.specs.Size.{size, size_of_all};
@@ -27,7 +28,7 @@ fn write_node(
     key: &Key,
 ) -> Result<(), AllocError>
     requires valid { HoldsKeys key.now }
-    requires room { length out.old + size version up.security.now key.now ≤ 16777216 }
+    requires room { length out.old + size version up.security.now key.now ≤ most_bins }
     ensures { OnOk result (out.new ≡ out.old
         ++ cell_text (key_node_text (node_of version (above up.entry) (length out.old) (head key.now) (children key.now)))) }
 {
@@ -47,7 +48,7 @@ fn write_head(
 ) -> Result<(), AllocError>
     requires valid { HoldsKeys key.now }
     requires rising { IsRising up.ring.now }
-    requires room { length out.old + size version up.security.now key.now ≤ 16777216 }
+    requires room { length out.old + size version up.security.now key.now ≤ most_bins }
     ensures { OnOk result (out.new ≡ out.old ++ text (head_cells version (above up.entry) (length out.old) (head key.now) (trees (children key.now)))) }
 {
     write_node(alloc, out, version, up, key)?;
@@ -68,7 +69,7 @@ pub(crate) fn write_key(
 ) -> Result<(), AllocError>
     requires valid { HoldsKeys key.now }
     requires rising { IsRising up.ring.now }
-    requires room { length out.old + size version up.security.now key.now ≤ 16777216 }
+    requires room { length out.old + size version up.security.now key.now ≤ most_bins }
     ensures { OnOk result (out.new ≡ out.old ++ text (cells_of version (above up.entry) (length out.old) key.now)) }
 {
     let at = out.len();
@@ -95,7 +96,7 @@ fn write_children(
 ) -> Result<Vec<u32>, AllocError>
     requires valid { AllHoldKeys (trees keys.now) }
     requires rising { IsRising up.ring.now }
-    requires room { length out.old + size_of_all version up.security.now (trees keys.now) ≤ 16777216 }
+    requires room { length out.old + size_of_all version up.security.now (trees keys.now) ≤ most_bins }
     ensures written { OnOk result (out.new ≡ out.old ++ text (cells_of_all version (above up.entry) (length out.old) (trees keys.now))) }
     ensures places { IfOk result (λ p. p.items ≡ places version up.entry.security.now (length out.old) (trees keys.now)) }
 {

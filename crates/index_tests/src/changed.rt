@@ -1,6 +1,7 @@
 //! The lists of a root, with a child more or a child less.
 
 ghost use Rattle.std.specs.Prelude.{◌≡◌, ◌≤◌, Ok};
+ghost use Rattle.hive_model.specs.Edit.{most_bulk};
 ghost use Rattle.hive_model.specs.Bins.{look_up};
 ghost use Rattle.hive_model.specs.KeyNode.{key_node_at};
 ghost use Rattle.hive_model.specs.Size.{bulk_of};
@@ -103,7 +104,7 @@ pub fn with_one_more(
     version: HiveVersion,
 ) -> Result<Option<Changed>, AllocError>
     requires valid { IsValid tree.now }
-    requires room { bulk_of version tree.now ≤ 16773120 }
+    requires room { bulk_of version tree.now ≤ most_bulk }
 {
     let cells = packed_cells(alloc, tree, version)?;
     match root_node(alloc, &cells, version)? {
@@ -120,7 +121,7 @@ pub fn with_one_less(
     name: &[u16],
 ) -> Result<Option<Changed>, AllocError>
     requires valid { IsValid tree.now }
-    requires room { bulk_of version tree.now ≤ 16773120 }
+    requires room { bulk_of version tree.now ≤ most_bulk }
 {
     let cells = packed_cells(alloc, tree, version)?;
     let Some(node) = root_node(alloc, &cells, version)? else {

@@ -1,6 +1,7 @@
 //! The cells of a packed tree, and the node of its root.
 
 ghost use Rattle.std.specs.Prelude.{◌≡◌, ◌≤◌, ℕ, Ok, IfOk, IfSome};
+ghost use Rattle.hive_model.specs.Edit.{most_bulk};
 ghost use Rattle.hive_model.specs.Bins.{Cells, look_up};
 ghost use Rattle.hive_model.specs.KeyNode.{KeyNode, key_node_at};
 ghost use Rattle.hive_model.specs.Size.{bulk_of};
@@ -28,7 +29,7 @@ pub fn a_root_lists_siblings()
 /// The cells that a tree is packed to, whose root is at 32.
 pub fn packed_cells(alloc: Global, tree: &Key, version: HiveVersion) -> Result<CellHeap, AllocError>
     requires valid { IsValid tree.now }
-    requires room { bulk_of version tree.now ≤ 16773120 }
+    requires room { bulk_of version tree.now ≤ most_bulk }
     ensures { IfOk result (λ heap. IsWellFormed (look_up version heap) 32 tree.now) }
 {
     let bins = pack(alloc, tree, version)?;

@@ -2,6 +2,7 @@
 use Rattle.std.specs.Prelude.{◌≡◌, ◌⊎◌, ◌≤◌, ◌<◌, ℕ, List, [], length, map, Contains, Option, Some, None, MatchOption}
 use Rattle.std.specs.List.{AllPairs}
 use Rattle.nt_bytes.specs.declared.version.HiveVersion.{HiveVersion}
+use Rattle.hive_model.specs.Limits.{most_bins}
 use Rattle.hive_model.specs.Bins.{Cell, Bin, bins_size, or_else, look_up}
 use Rattle.hive_model.specs.Size.{list_size}
 use Rattle.hive_model.specs.Packed.{allocated_cell, list_cells}
@@ -55,7 +56,7 @@ pub record IsPut (version : HiveVersion) (gone offsets : List ℕ) (hints : List
 
 -- the room for lists of that many children is over 16 MiB, and the cells are as they were
 abbrev pub LacksRoom : ℕ → List Bin → List Bin → Type 0
-LacksRoom n old new = (16777216 < list_strain_of (bins_size old) n) × (new ≡ old)
+LacksRoom n old new = (most_bins < list_strain_of (bins_size old) n) × (new ≡ old)
 
 -- the lists of these children are rewritten, or there is no room for them
 abbrev pub Relists : HiveVersion → List ℕ → List ℕ → List (List ℕ) → List Bin → List Bin → Option ℕ → Type 0

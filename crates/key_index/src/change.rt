@@ -3,6 +3,7 @@
 ghost use Rattle.std.specs.Prelude.{◌≡◌, ◌≤◌, ◌<◌, ◌+◌, ◌*◌, ◌++◌, ◌^◌, ℕ, List, length, take, drop, Contains, None, IfOk, OnErr, slice_index};
 ghost use Rattle.std.specs.Option.{IsSome};
 ghost use Rattle.std.specs.List.{All};
+ghost use Rattle.hive_model.specs.Limits.{most_bins};
 ghost use Rattle.hive_model.specs.Bins.{bins_size, look_up};
 ghost use Rattle.hive_model.specs.Size.{list_size};
 ghost use Rattle.hive_model.specs.Lists.{AreHints, offsets_text};
@@ -28,7 +29,7 @@ fn offsets_fit(offsets: &[u32])
 
 /// The bins data have at most 16,777,216 bytes.
 pub fn bins_fit(heap: &OpenHeap)
-    ensures { bins_size heap.now.bins ≤ 16777216 }
+    ensures { bins_size heap.now.bins ≤ most_bins }
 {
     let _bins = heap.bytes();
 }
@@ -63,7 +64,7 @@ fn set_starts(run: &mut Bytes, count: usize, place: usize)
 /// A run of lists that was written to be at 0, changed to stand here.
 fn moved(run: Bytes, n: usize, place: usize) -> Bytes
     requires long { length run ≡ list_size n }
-    requires room { place + list_size n ≤ 16777216 }
+    requires room { place + list_size n ≤ most_bins }
     ensures { (version : HiveVersion) (offsets : List ℕ) (hints : List (List ℕ)) → length offsets ≡ n → run ≡ text (list_cells version 0 offsets hints)
         → result ≡ text (list_cells version place offsets hints) }
 {
@@ -84,7 +85,7 @@ fn new_run(
 ) -> Result<Bytes, AllocError>
     requires same { length offsets.now ≡ length hints.now }
     requires four { AreHints hints.now }
-    requires room { list_size (length offsets.now) ≤ 16777216 }
+    requires room { list_size (length offsets.now) ≤ most_bins }
     ensures { IfOk result (λ b. b ≡ text (list_cells version 0 offsets.now hints.now)) }
 {
     let mut run = Bytes::new(alloc);
@@ -107,7 +108,7 @@ fn put(
     requires some { 0 < length offsets.now }
     requires same { length offsets.now ≡ length hints.now }
     requires four { AreHints hints.now }
-    requires room { at + list_size (length offsets.now) ≤ 16777216 }
+    requires room { at + list_size (length offsets.now) ≤ most_bins }
     requires hole { IsHole (list_size (length offsets.now)) heap.old.bins at }
     requires run { run.now ≡ text (list_cells version at offsets.now hints.now) }
     ensures put { IsPut version gone.now offsets.now hints.now heap.old.bins heap.new.bins at }

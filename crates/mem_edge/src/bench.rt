@@ -4,6 +4,7 @@ ghost use Rattle.std.specs.Prelude.{◌≡◌, IfOk, refl};
 ghost use Rattle.mem_edge.specs.Laws.{ordered_law};
 ghost use Rattle.mem_edge.specs.Seen.{seen_of, settled};
 ghost use Rattle.mem_edge.specs.Views.{held_of};
+ghost use Rattle.hive_model.specs.Limits.{most_file};
 
 use crate::files::{cut_up, joined};
 use crate::image::MemImage;
@@ -42,7 +43,7 @@ impl Bench for MemDisk {
     fn place(&mut self, file: HiveFile, bytes: &[u8]) -> Result<(), DiskStop>
         requires off { (state_of self.old).on ≡ false }
         requires still { (state_of self.old).flight ≡ [] }
-        requires few { length bytes.now ≤ 33554432 }
+        requires few { length bytes.now ≤ most_file }
         ensures does { OnOk result (seen_of self.new ≡ doing (placed (file_of file) bytes.now) (seen_of self.old)) }
         ensures same { OnErr result (seen_of self.new ≡ seen_of self.old) }
         ensures quiet { MakesNone (counts_calls self.old) (counts_calls self.new) }

@@ -1,6 +1,7 @@
 //! A repair on a disk, with what it prints, and the repair after it.
 
 ghost use Rattle.std.specs.Prelude.{◌≡◌, ◌≤◌, true, false, [], length};
+ghost use Rattle.hive_model.specs.Limits.{most_file};
 
 use commit_tests::{Order, give, start};
 use mem_edge::MemHost;
@@ -41,7 +42,7 @@ pub fn stopped<B: Bench>(
 ) -> Result<Ends, DiskStop>
     requires off { (B.state bench.old).on ≡ false }
     requires still { (B.state bench.old).flight ≡ [] }
-    requires few { length file.now ≤ 33554432 }
+    requires few { length file.now ≤ most_file }
     requires from_one { 1 ≤ order.n }
 {
     start(bench, file)?;

@@ -1,6 +1,7 @@
 //! A disk in a test bench, which turns it on and off, cuts its power and orders its stops.
 
 ghost use Rattle.std.specs.Prelude.{◌≡◌, ◌≤◌, true, false, [], length, IfOk, IfErr, OnOk, OnErr};
+ghost use Rattle.hive_model.specs.Limits.{most_file};
 ghost use Rattle.hive_model.specs.Image.{Image, IsCrashImage, IsFileOf, ArmedCut, ArmedFault};
 ghost use Rattle.nt_edge.specs.Book.{file_of, call_of, keep_of};
 ghost use Rattle.nt_edge.specs.Calls.{MakesNone};
@@ -21,7 +22,7 @@ pub trait Bench: Disk {
     fn place(&mut self, file: HiveFile, bytes: &[u8]) -> Result<(), DiskStop>
         requires off { (Self.state self.old).on ≡ false }
         requires still { (Self.state self.old).flight ≡ [] }
-        requires few { length bytes.now ≤ 33554432 }
+        requires few { length bytes.now ≤ most_file }
         ensures placed { OnOk result
             (Self.state self.new ≡ placed (file_of file) bytes.now (Self.state self.old)) }
         ensures before { OnErr result (Self.state self.new ≡ Self.state self.old) }

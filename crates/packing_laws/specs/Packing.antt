@@ -1,6 +1,7 @@
 -- Which bins have the bytes of a packed tree?
 use Rattle.std.specs.Prelude.{◌≤◌, List}
 use Rattle.nt_bytes.specs.declared.version.HiveVersion.{HiveVersion}
+use Rattle.hive_model.specs.Edit.{most_bulk}
 use Rattle.hive_model.specs.Tree.{Tree}
 use Rattle.hive_model.specs.Valid.{IsValid}
 use Rattle.hive_model.specs.Size.{bulk_of}
@@ -12,5 +13,5 @@ use Rattle.hive_pack.specs.Numbers.{HasNumbers}
 pub record IsPackedIn (version : HiveVersion) (t : Tree) (bins : List Bin) : Type 0 where
   pub valid : IsValid t
   pub numbers : HasNumbers t
-  pub room : bulk_of version t ≤ 16773120
+  pub room : bulk_of version t ≤ most_bulk
   pub bytes : IsBins (packed version t) bins

@@ -1,6 +1,7 @@
 //! A tree packed and read back.
 
 ghost use Rattle.std.specs.Prelude.{◌≡◌, ◌≤◌, IfOk};
+ghost use Rattle.hive_model.specs.Edit.{most_bulk};
 ghost use Rattle.hive_model.specs.Valid.{IsValid};
 ghost use Rattle.hive_model.specs.Size.{bulk_of};
 
@@ -14,7 +15,7 @@ use std::alloc::{AllocError, Global};
 /// The tree again: its packed form, taken for cells, and the tree that is read from these at 32.
 pub fn packed_and_read(alloc: Global, tree: &Key, version: HiveVersion) -> Result<Key, AllocError>
     requires valid { IsValid tree.now }
-    requires room { bulk_of version tree.now ≤ 16773120 }
+    requires room { bulk_of version tree.now ≤ most_bulk }
     ensures { IfOk result (λ u. u ≡ tree.now) }
 {
     let bins = pack(alloc, tree, version)?;

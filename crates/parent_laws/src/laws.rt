@@ -2,6 +2,7 @@
 
 ghost use Rattle.std.specs.Prelude.{◌≡◌, ◌<◌, ◌≤◌, ℕ, Bool, true, false, List, Some, slice_index};
 ghost use Rattle.nt_bytes.specs.declared.version.HiveVersion.{HiveVersion};
+ghost use Rattle.hive_model.specs.Edit.{most_bulk};
 ghost use Rattle.hive_model.specs.Size.{bulk_of};
 ghost use Rattle.hive_model.specs.Tree.{Tree, find_key};
 ghost use Rattle.hive_model.specs.Valid.{IsValid};
@@ -31,5 +32,5 @@ pub fn a_key_within_a_tree_is_at_its_path()
 /// hive is saved of.
 pub fn a_tree_with_found_keys_is_valid()
     ensures { (version : HiveVersion) (bytes : List ℕ) (marks : List Mark) (root : ℕ) (t : Tree) → ((k : ℕ) → slice_index bytes k < 256)
-        → (salvaged_by_parents (ground_in version bytes marks) root).tree ≡ Some t → bulk_of version t ≤ 16773120 → IsValid t }
+        → (salvaged_by_parents (ground_in version bytes marks) root).tree ≡ Some t → bulk_of version t ≤ most_bulk → IsValid t }
 {}

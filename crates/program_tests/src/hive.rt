@@ -1,6 +1,7 @@
 //! The hives of these tests.
 
 ghost use Rattle.std.specs.Prelude.{◌≤◌};
+ghost use Rattle.hive_model.specs.Edit.{most_bulk};
 ghost use Rattle.hive_model.specs.Size.{bulk_of};
 ghost use Rattle.hive_model.specs.Valid.{IsValid};
 ghost use Rattle.nt_bytes.specs.declared.version.HiveVersion.TheVariants.{V3};
@@ -50,7 +51,7 @@ fn block() -> BaseBlock {
 /// A primary file with this tree, which is packed into one page.
 fn primary(alloc: Global, tree: &Key) -> Result<Bytes, AllocError>
     requires valid { IsValid tree.now }
-    requires room { bulk_of V3 tree.now ≤ 16773120 }
+    requires room { bulk_of V3 tree.now ≤ most_bulk }
 {
     let bins = pack(alloc, tree, HiveVersion::V3)?;
     let mut sector = [0; 512];

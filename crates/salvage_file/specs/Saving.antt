@@ -3,6 +3,7 @@
 use Rattle.std.specs.Prelude.{ℕ, nat_lt, Bool, if◌then◌else◌, List, ◌++◌, length, replicate, Option, Some, None}
 use Rattle.nt_bytes.specs.declared.version.HiveVersion.{HiveVersion}
 use Rattle.nt_bytes.specs.declared.version.HiveVersion.TheVariants.{V3, V5}
+use Rattle.hive_model.specs.Edit.{most_bulk}
 use Rattle.hive_model.specs.Base.{Base, base_text}
 use Rattle.hive_model.specs.Packed.{packed}
 use Rattle.hive_model.specs.Size.{bulk_of}
@@ -38,7 +39,7 @@ saved_file base version bins = base_text (saved_base base version (length bins))
 -- what is saved of a tree
 abbrev pub saved_of : Base → HiveVersion → Tree → Saving
 saved_of base version t =
-    if nat_lt 16773120 (bulk_of version t) then Full else Saved base.first (saved_file base version (packed version t))
+    if nat_lt most_bulk (bulk_of version t) then Full else Saved base.first (saved_file base version (packed version t))
 
 -- what is saved of what was salvaged
 abbrev pub saving_of : Base → HiveVersion → Option Tree → Saving

@@ -1,6 +1,7 @@
 //! What is salvaged of a damaged hive.
 
 ghost use Rattle.std.specs.Prelude.{◌≡◌, ◌≤◌, ◌<◌, ℕ, length, slice_index, Some, IfOk};
+ghost use Rattle.hive_model.specs.Edit.{most_bulk};
 ghost use Rattle.hive_model.specs.Size.{bulk_of};
 ghost use Rattle.hive_model.specs.Tree.{Tree};
 ghost use Rattle.hive_model.specs.Valid.{IsValid};
@@ -77,7 +78,7 @@ fn find_in(
 ) -> Result<BinsFound, AllocError>
     requires { length bytes.now ≤ 268435456 }
     ensures exact { IfOk result (λ f. f ≡ found_in version bytes.now root) }
-    ensures valid { IfOk result (λ f. (t : Tree) → f.tree ≡ Some t → bulk_of version t ≤ 16773120 → IsValid t) }
+    ensures valid { IfOk result (λ f. (t : Tree) → f.tree ≡ Some t → bulk_of version t ≤ most_bulk → IsValid t) }
 {
     are_bytes(bytes);
     let layout = lay_out(alloc, bytes)?;
@@ -105,7 +106,7 @@ fn find_by_parents(
 ) -> Result<BinsFound, AllocError>
     requires { length bytes.now ≤ 268435456 }
     ensures exact { IfOk result (λ f. f ≡ found_by_parents version bytes.now root) }
-    ensures valid { IfOk result (λ f. (t : Tree) → f.tree ≡ Some t → bulk_of version t ≤ 16773120 → IsValid t) }
+    ensures valid { IfOk result (λ f. (t : Tree) → f.tree ≡ Some t → bulk_of version t ≤ most_bulk → IsValid t) }
 {
     are_bytes(bytes);
     let layout = lay_out(alloc, bytes)?;
@@ -133,7 +134,7 @@ fn find(
 ) -> Result<BinsFound, AllocError>
     requires { length bytes.now ≤ 268435456 }
     ensures exact { IfOk result (λ f. f ≡ found_as by_parent version bytes.now root) }
-    ensures valid { IfOk result (λ f. (t : Tree) → f.tree ≡ Some t → bulk_of version t ≤ 16773120 → IsValid t) }
+    ensures valid { IfOk result (λ f. (t : Tree) → f.tree ≡ Some t → bulk_of version t ≤ most_bulk → IsValid t) }
 {
     if by_parent {
         return find_by_parents(alloc, version, bytes, root);
@@ -149,7 +150,7 @@ fn saving_as(
     version: HiveVersion,
     tree: &Option<Key>,
 ) -> Result<Option<Saving>, AllocError>
-    requires { (t : Tree) → tree.now ≡ Some t → bulk_of version t ≤ 16773120 → IsValid t }
+    requires { (t : Tree) → tree.now ≡ Some t → bulk_of version t ≤ most_bulk → IsValid t }
     ensures { IfOk result (λ s. s ≡ saving_as save base.now version tree.now) }
 {
     if !save {
@@ -166,7 +167,7 @@ fn hive_with(
     opened: Opened,
     found: BinsFound,
 ) -> Result<SalvagedHive, AllocError>
-    requires { (t : Tree) → found.tree ≡ Some t → bulk_of (version_in opened.base.minor) t ≤ 16773120 → IsValid t }
+    requires { (t : Tree) → found.tree ≡ Some t → bulk_of (version_in opened.base.minor) t ≤ most_bulk → IsValid t }
     ensures { IfOk result (λ h. h ≡ hive_with save head.now opened found) }
 {
     let version = version_in(opened.base.minor);

@@ -1,6 +1,8 @@
 //! The sound hive of what was salvaged.
 
 ghost use Rattle.std.specs.Prelude.{◌≡◌, ◌≤◌, length, Some, IfOk};
+ghost use Rattle.hive_model.specs.Edit.{most_bulk};
+ghost use Rattle.hive_model.specs.Limits.{most_bins};
 ghost use Rattle.hive_model.specs.Size.{bulk_of};
 ghost use Rattle.hive_model.specs.Tree.{Tree};
 ghost use Rattle.hive_model.specs.Valid.{IsValid};
@@ -71,7 +73,7 @@ fn saved_file(
     version: HiveVersion,
     bins: &[u8],
 ) -> Result<Bytes, AllocError>
-    requires { length bins.now ≤ 16777216 }
+    requires { length bins.now ≤ most_bins }
     ensures { IfOk result (λ b. b ≡ saved_file base.now version bins.now) }
 {
     let mut sector = [0; 512];
@@ -89,7 +91,7 @@ fn saved_of(
     version: HiveVersion,
     tree: &Key,
 ) -> Result<Saving, AllocError>
-    requires { bulk_of version tree.now ≤ 16773120 → IsValid tree.now }
+    requires { bulk_of version tree.now ≤ most_bulk → IsValid tree.now }
     ensures { IfOk result (λ s. s ≡ saved_of base.now version tree.now) }
 {
     if tree.bulk(version) > MOST_BULK {
@@ -107,7 +109,7 @@ pub(crate) fn saving_of(
     version: HiveVersion,
     tree: &Option<Key>,
 ) -> Result<Saving, AllocError>
-    requires { (t : Tree) → tree.now ≡ Some t → bulk_of version t ≤ 16773120 → IsValid t }
+    requires { (t : Tree) → tree.now ≡ Some t → bulk_of version t ≤ most_bulk → IsValid t }
     ensures { IfOk result (λ s. s ≡ saving_of base.now version tree.now) }
 {
     match tree {

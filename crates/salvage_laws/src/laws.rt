@@ -3,6 +3,7 @@
 ghost use Rattle.std.specs.Prelude.{◌≡◌, ◌≤◌, ◌<◌, ℕ, List, [], ◌∷◌, false, Some, slice_index};
 ghost use Rattle.nt_bytes.specs.declared.version.HiveVersion.{HiveVersion};
 ghost use Rattle.nt_bytes.specs.declared.fault.HiveFault.{HiveFault};
+ghost use Rattle.hive_model.specs.Edit.{most_bulk};
 ghost use Rattle.hive_model.specs.Base.{Base, fields_of};
 ghost use Rattle.hive_model.specs.Image.{image_of};
 ghost use Rattle.hive_model.specs.Load.{Loads, state_of};
@@ -22,7 +23,7 @@ ghost use Rattle.salvage_file.specs.Saving.{saved_file};
 /// What is saved of a tree that a hive can hold loads as exactly that tree, clean, with the same number and version.
 pub fn what_is_saved_loads_as_the_tree()
     ensures { (base : Base) (version : HiveVersion) (t : Tree) → NumbersFit base → TextsFit base → IsValid t → HasNumbers t
-        → bulk_of version t ≤ 16773120
+        → bulk_of version t ≤ most_bulk
         → Loads (image_of (saved_file base version (packed version t)) []) (state_of t base.first version) false }
 {}
 

@@ -2,6 +2,7 @@
 
 ghost use Rattle.std.specs.Prelude.{◌≡◌, ◌≤◌, ℕ, Bool, true, List, Some};
 ghost use Rattle.nt_bytes.specs.declared.version.HiveVersion.{HiveVersion};
+ghost use Rattle.hive_model.specs.Edit.{most_bulk};
 ghost use Rattle.hive_model.specs.Base.{Base};
 ghost use Rattle.hive_model.specs.Packed.{packed};
 ghost use Rattle.hive_model.specs.Size.{bulk_of};
@@ -18,12 +19,12 @@ ghost use Rattle.salvage_laws.specs.Told.{IsSilent};
 /// bytes.
 pub fn what_is_saved_is_salvaged_as_it_is()
     ensures silent { (base : Base) (version : HiveVersion) (t : Tree) (save : Bool) (log : List ℕ) → NumbersFit base → TextsFit base → IsValid t
-        → HasNumbers t → bulk_of version t ≤ 16773120
+        → HasNumbers t → bulk_of version t ≤ most_bulk
         → IsSilent (salvaged_hive save (saved_file base version (packed version t)) log)
         × ((salvaged_hive save (saved_file base version (packed version t)) log).tree ≡ Some t)
         × ((salvaged_hive save (saved_file base version (packed version t)) log).version ≡ version) }
     ensures saved { (base : Base) (version : HiveVersion) (t : Tree) (log : List ℕ) → NumbersFit base → TextsFit base → IsValid t
-        → HasNumbers t → bulk_of version t ≤ 16773120
+        → HasNumbers t → bulk_of version t ≤ most_bulk
         → (salvaged_hive true (saved_file base version (packed version t)) log).saving
         ≡ Some (SavedAs base.first (saved_file base version (packed version t))) }
 {}

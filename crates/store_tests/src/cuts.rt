@@ -1,6 +1,7 @@
 //! A commit is cut, and a load finishes it.
 
 ghost use Rattle.std.specs.Prelude.{◌≡◌, ◌<◌, ◌≤◌, true, false, [], length, OnOk};
+ghost use Rattle.hive_model.specs.Limits.{most_file};
 
 use super::*;
 use crate::sessions::{edited, set_two};
@@ -23,7 +24,7 @@ pub fn cut<B: Bench>(
 ) -> Result<(), Fail>
     requires off { (B.state bench.old).on ≡ false }
     requires still { (B.state bench.old).flight ≡ [] }
-    requires few { length edit.now.file ≤ 33554432 }
+    requires few { length edit.now.file ≤ most_file }
     requires some { 0 < sync }
 {
     start(bench, edit.file.as_slice())?;

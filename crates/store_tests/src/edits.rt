@@ -2,6 +2,7 @@
 
 ghost use Rattle.std.specs.Prelude.{◌≤◌, map, IfOk};
 ghost use Rattle.std.specs.List.{All};
+ghost use Rattle.hive_model.specs.Edit.{most_bulk};
 ghost use Rattle.hive_model.specs.Size.{bulk_of};
 ghost use Rattle.hive_model.specs.Valid.{IsValid};
 ghost use Rattle.reg_tree.specs.Fitting.{Fits};
@@ -121,7 +122,7 @@ fn block(version: HiveVersion) -> BaseBlock {
 /// A primary file of this version with this tree, which is packed into one page.
 pub fn primary(alloc: Global, tree: &Key, version: HiveVersion) -> Result<Bytes, AllocError>
     requires valid { IsValid tree.now }
-    requires room { bulk_of version tree.now ≤ 16773120 }
+    requires room { bulk_of version tree.now ≤ most_bulk }
 {
     let bins = pack(alloc, tree, version)?;
     let mut sector = [0; 512];

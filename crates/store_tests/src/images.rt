@@ -1,6 +1,7 @@
 //! The files of a hive are checked, without a disk.
 
 ghost use Rattle.std.specs.Prelude.{◌≤◌, length};
+ghost use Rattle.hive_model.specs.Limits.{most_file};
 
 use super::*;
 use crate::cuts::cut;
@@ -54,7 +55,7 @@ fn clean_and_short(rt: &impl Abort, alloc: Global) -> Result<(), Fail> {
 
 /// The primary file and the log that a cut commit leaves.
 fn cut_files(rt: &impl Abort, alloc: Global, edit: &Edited) -> Result<(Bytes, Bytes), Fail>
-    requires { length edit.now.file ≤ 33554432 }
+    requires { length edit.now.file ≤ most_file }
 {
     let mut disk = MemDisk::new(alloc);
     cut(rt, alloc, &mut disk, edit, 3, Keep::Nothing)?;

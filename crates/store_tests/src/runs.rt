@@ -1,6 +1,7 @@
 //! A disk turned on with a file, and turned off and on again.
 
 ghost use Rattle.std.specs.Prelude.{◌≡◌, ◌≤◌, true, false, [], length, OnOk, IfOk};
+ghost use Rattle.hive_model.specs.Limits.{most_file};
 ghost use Rattle.hive_model.specs.Carries.{Carries};
 
 use hive_store::{Hive, LoadStop};
@@ -11,7 +12,7 @@ use std::alloc::Global;
 pub fn start<B: Bench>(bench: &mut B, file: &[u8]) -> Result<(), DiskStop>
     requires off { (B.state bench.old).on ≡ false }
     requires still { (B.state bench.old).flight ≡ [] }
-    requires few { length file.now ≤ 33554432 }
+    requires few { length file.now ≤ most_file }
     ensures on { OnOk result ((B.state bench.new).on ≡ true) }
     ensures still { OnOk result ((B.state bench.new).flight ≡ []) }
     ensures uncut { (B.state bench.new).history.cut_calls ≡ (B.state bench.old).history.cut_calls }

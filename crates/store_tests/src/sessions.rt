@@ -1,6 +1,7 @@
 //! An edit is committed, and loaded again.
 
 ghost use Rattle.std.specs.Prelude.{◌≡◌, ◌≤◌, true, false, [], length, IfOk};
+ghost use Rattle.hive_model.specs.Limits.{most_file};
 ghost use Rattle.hive_model.specs.Carries.{Carries};
 
 use super::*;
@@ -16,7 +17,7 @@ use std::test::Fail;
 
 /// A primary file of this version with this tree.
 fn file_of(rt: &impl Abort, alloc: Global, tree: &Key, version: HiveVersion) -> Result<Bytes, Fail>
-    ensures few { IfOk result (λ file. length file ≤ 33554432) }
+    ensures few { IfOk result (λ file. length file ≤ most_file) }
 {
     assert!(rt; is_valid(tree) && tree.bulk(version) <= 16_773_120);
     let file = primary(alloc, tree, version)?;
@@ -26,7 +27,7 @@ fn file_of(rt: &impl Abort, alloc: Global, tree: &Key, version: HiveVersion) -> 
 
 /// The hive of all these tests, in a version: `Start` is 1, and the edit sets it to 2.
 pub fn edited(rt: &impl Abort, alloc: Global, version: HiveVersion) -> Result<Edited, Fail>
-    ensures few { IfOk result (λ e. length e.file ≤ 33554432) }
+    ensures few { IfOk result (λ e. length e.file ≤ most_file) }
 {
     let old = tree(alloc, 1)?;
     let file = file_of(rt, alloc, &old, version)?;
@@ -102,7 +103,7 @@ fn play<B: Bench>(
 ) -> Result<[Seen; 5], Fail>
     requires off { (B.state bench.old).on ≡ false }
     requires still { (B.state bench.old).flight ≡ [] }
-    requires few { length edit.now.file ≤ 33554432 }
+    requires few { length edit.now.file ≤ most_file }
 {
     start(bench, edit.file.as_slice())?;
     let (mut hive, dirty) = Hive::load(alloc, bench)?;

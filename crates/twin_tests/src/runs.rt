@@ -1,6 +1,7 @@
 //! A commit to two copies on a bench, with one stop ordered, and the start after it.
 
 ghost use Rattle.std.specs.Prelude.{◌≡◌, ◌≤◌, true, false, [], length, OnOk};
+ghost use Rattle.hive_model.specs.Limits.{most_file};
 ghost use Rattle.hive_model.specs.Base.{is_bins_size};
 
 use commit_tests::{Change, Found, Order, give, start};
@@ -15,7 +16,7 @@ pub type Ends = (Result<u32, CommitStop>, Result<Found, LoadStop>);
 fn start_twice<B: Bench>(bench: &mut B, file: &[u8]) -> Result<(), DiskStop>
     requires off { (B.state bench.old).on ≡ false }
     requires still { (B.state bench.old).flight ≡ [] }
-    requires few { length file.now ≤ 33554432 }
+    requires few { length file.now ≤ most_file }
     ensures on { OnOk result ((B.state bench.new).on ≡ true) }
     ensures still { OnOk result ((B.state bench.new).flight ≡ []) }
 {
@@ -76,7 +77,7 @@ pub fn play<B: Bench>(
 ) -> Result<Ends, LoadStop>
     requires off { (B.state bench.old).on ≡ false }
     requires still { (B.state bench.old).flight ≡ [] }
-    requires few { length whole.now.file ≤ 33554432 }
+    requires few { length whole.now.file ≤ most_file }
     requires sized { is_bins_size (length whole.now.new) ≡ true }
     requires from_one { 1 ≤ order.n }
 {
