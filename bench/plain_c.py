@@ -94,10 +94,10 @@ def starting(table, hive, which):
     table.row(f"one start{which}", run(hive, "one"))
 
 
-def steps(table, work, edit, hive, first=4, second=24):
-    """One edit of many, each with its commit."""
+def steps(table, work, edit, hive, first=4, second=24, commit="flush\n"):
+    """One edit of many, each with its commit, or with none but the one at the end."""
     for name, count in (("few", first), ("several", second)):
-        put(table.room, name, "boot\n" + "".join(edit.format(i) + "\nflush\n" for i in range(1, count + 1)) + "off\n")
+        put(table.room, name, "boot\n" + "".join(edit.format(i) + "\n" + commit for i in range(1, count + 1)) + "off\n")
     table.more(work, run(hive, "few"), run(hive, "several"), second - first)
 
 
@@ -124,6 +124,7 @@ def main(words):
         table.row("`import` of one value", ["import", "--hive", large, "--reg", "reg.one", "--save-hive", "out"], ["judge", large])
         steps(table, "an edit of one value and its commit", "set A V dword {}", large)
         steps(table, "`make` of a key and its commit", "make A\\K{}", large)
+        steps(table, "`make` of a key, before any commit", "make A\\K{}", large, commit="")
         steps(table, "`make` and `remove` of a key, each with its commit", "make A\\K{0}\nflush\nremove A\\K{0}", large)
         made = put(room, "made", hives.with_services(1_000))
         starting(table, made, " of 1,000 services, without a commit")

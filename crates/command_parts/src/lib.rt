@@ -23,7 +23,7 @@ pub use answering::{Told, answer};
 pub use inputs::{HiveFiles, bytes_in, file_in, hive_in, ini_in, no_memory, system_in};
 pub use kinds::hive_kind;
 pub use lines::push_count;
-pub use placing::{judge, judge_cells, place, read};
+pub use placing::{MOST_FILE, judge, judge_cells, place, read};
 pub use refusal::{Obstacle, Refusal, refuse, stopped, tell};
 pub use reporting::{FileReport, report};
 pub use saving::{Saves, finish, save, saved};

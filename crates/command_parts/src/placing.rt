@@ -16,13 +16,13 @@ use reg_tree::Key;
 use std::alloc::Global;
 
 /// The greatest file on a disk, in bytes: 65,536 sectors of 512.
-const MOST: usize = 33_554_432;
+pub const MOST_FILE: usize = 33_554_432;
 
 /// The bytes that are placed of a file.
 fn front(bytes: &[u8]) -> &[u8]
     ensures { result.now ≡ take (min (length bytes.now) most_file) bytes.now }
 {
-    &bytes[..bytes.len().min(MOST)]
+    &bytes[..bytes.len().min(MOST_FILE)]
 }
 
 /// The bytes of a log, none where there is no log.

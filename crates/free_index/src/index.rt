@@ -70,15 +70,6 @@ impl FreeIndex {
         }
     }
 
-    /// The same index in room of its own.
-    pub fn copy(&self, alloc: Global) -> Result<FreeIndex, AllocError>
-        ensures { IfOk result (λ index. index ≡ self.now) }
-    {
-        let mut tops = Vec::new(alloc);
-        tops.extend_from_slice(self.tops.as_slice())?;
-        Ok(FreeIndex { tops })
-    }
-
     /// Says that this many pages follow at which no free cell begins. Nothing changes where there is no memory.
     pub fn grow(&mut self, pages: usize) -> Result<(), AllocError>
         requires { length self.old + pages ≤ 4096 }

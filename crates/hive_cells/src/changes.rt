@@ -13,7 +13,7 @@ ghost use Rattle.hive_cells.specs.Changes.{at_cell, with_free, with_next, with_p
 ghost use Rattle.hive_cells.specs.Frees.{EndsAt, IsFreed, IsFreeOf, Neighbours};
 ghost use Rattle.saved_pages.specs.Overlay.{before, IsCovered};
 
-use crate::heap::CellHeap;
+use crate::heap::{CellHeap, MOST_BINS};
 use crate::lookup::free_at;
 use crate::marks::mark_run;
 use crate::pushes::{push_bin, push_marks, put, put_word};
@@ -23,17 +23,6 @@ use saved_pages::{SavedPages, touch};
 use std::alloc::{AllocError, Global};
 
 impl CellHeap {
-    /// The same heap in room of its own.
-    pub(crate) fn copy(&self, alloc: Global) -> Result<CellHeap, AllocError>
-        ensures { IfOk result (λ heap. heap ≡ self.now) }
-    {
-        let mut bytes = Vec::new(alloc);
-        bytes.extend_from_slice(self.bytes.as_slice())?;
-        let mut starts = Vec::new(alloc);
-        starts.extend_from_slice(self.starts.as_slice())?;
-        Ok(CellHeap { bytes, starts })
-    }
-
     /// Reports the caller that these bins can be spelled.
     pub(crate) fn opens(&self)
         ensures { IsHeap self.now }
@@ -144,7 +133,7 @@ impl CellHeap {
     {
         let long = self.bytes.len();
         let bin = (u64::from(size) + 4127) / 4096 * 4096;
-        if long as u64 + bin > 0x100_0000 {
+        if long as u64 + bin > MOST_BINS {
             return Ok(None);
         }
         self.append_bin(free, bin as u32)?;

@@ -13,6 +13,9 @@ use nt_bytes::{Bytes, HiveFault, HiveFaultKind};
 use saved_pages::SavedPages;
 use std::marker::Model;
 
+/// How long bins data may be, in bytes: 16 MiB.
+pub const MOST_BINS: u64 = 16_777_216;
+
 /// Cells, in the bytes of their bins: at most 16,777,216 bytes. One flag for eight bytes says
 /// whether a cell begins there.
 #[derive(Drop)]

@@ -17,7 +17,7 @@ mod read;
 mod source;
 mod spare;
 
-pub use heap::CellHeap;
+pub use heap::{CellHeap, MOST_BINS};
 pub use laws::{list_or_fault, one_fault, one_list, one_of_the_two};
 pub use open::OpenHeap;
 pub use read::read_cells;

@@ -1,6 +1,6 @@
 //! A heap that can change.
 
-ghost use Rattle.std.specs.Prelude.{◌≡◌, ℕ, ◌+◌, ◌-◌, ◌%◌, ◌<◌, ◌≤◌, List, length, replicate, Some, None, IfOk, OnErr};
+ghost use Rattle.std.specs.Prelude.{◌≡◌, ℕ, ◌+◌, ◌-◌, ◌%◌, ◌<◌, ◌≤◌, List, length, replicate, Some, None, IfOk, OnErr, OnOk};
 ghost use Rattle.std.specs.Option.{IfSome, IsSome, IsSomeAnd, option_map};
 ghost use Rattle.hive_model.specs.Limits.{most_bins};
 ghost use Rattle.hive_model.specs.Bins.{spelled, or_else, bins_size, payload_at, with_place, Bin, IsBins, IsHeap, Sees};
@@ -13,12 +13,13 @@ ghost use Rattle.saved_pages.specs.Overlay.{before, IsCovered};
 
 use crate::heap::CellHeap;
 use crate::pushes::zero_run;
-use crate::spare::{begin_anew, longer, widen_to};
+use crate::spare::{begin_anew, keep_longer, widen_to};
 use free_index::FreeIndex;
 use nt_bytes::{Bytes, HiveFault};
 use saved_pages::{SavedPages, touch};
 use std::alloc::{AllocError, Global};
 use std::marker::Model;
+use std::mem::swap;
 
 /// Cells that can change, with an index of the free ones, and by the pages that were kept the bins data as they were when
 /// they were settled last: the base. At most 16,777,216 bytes. Each change takes the same few steps however many cells
@@ -68,22 +69,6 @@ impl CellHeap {
 }
 
 impl OpenHeap {
-    /// The same heap in room of its own.
-    pub fn copy(&self, alloc: Global) -> Result<OpenHeap, AllocError>
-        ensures { IfOk result (λ heap. heap ≡ self.now) }
-    {
-        let cells = self.cells.copy(alloc)?;
-        let free = self.free.copy(alloc)?;
-        let pages = self.pages.copy(alloc)?;
-        let spare = SavedPages::new(alloc, self.spare.len())?;
-        Ok(OpenHeap {
-            cells,
-            free,
-            pages,
-            spare,
-        })
-    }
-
     /// The cells, to be read.
     pub fn cells(&self) -> &CellHeap
         ensures { result.now ≡ self.now.bins }
@@ -257,7 +242,8 @@ impl OpenHeap {
         self.cells.opens();
         let bytes = self.cells.bytes();
         touch(&mut self.pages, bytes, 0, bytes.len());
-        self.spare = longer(other.pages, other.spare);
+        self.spare = other.spare;
+        keep_longer(&mut self.spare, other.pages);
         self.cells = other.cells;
         self.free = other.free;
     }
@@ -283,6 +269,35 @@ impl OpenHeap {
         self.cells.restore(&self.pages);
         self.pages.clear(count);
         self.free.recount(&self.cells, count);
+    }
+
+    /// From now on the base is the bins data that are there, as after `settle`. Answers the pages that were kept of the base
+    /// before, for `rejoin`. Room for new ones is taken, as long as the bins data, and touched where a page changes. All is as
+    /// it was where there is no memory.
+    pub fn hold(&mut self, alloc: Global) -> Result<SavedPages, AllocError>
+        ensures bins { self.new.bins ≡ self.old.bins }
+        ensures base { OnOk result (self.new.base ≡ spelled 0 self.old.bins) }
+        ensures before { IfOk result (λ pages. before pages (spelled 0 self.old.bins) ≡ self.old.base) }
+        ensures covered { IfOk result (λ pages. IsCovered pages (length (spelled 0 self.old.bins))) }
+        ensures refused { OnErr result (self.new ≡ self.old) }
+    {
+        self.cells.opens();
+        let mut pages = SavedPages::new(alloc, self.cells.bytes().len() / 4096)?;
+        swap(&mut self.pages, &mut pages);
+        Ok(pages)
+    }
+
+    /// The base is again what it was by these pages, which `hold` answered: what was kept since is kept with them. No memory is
+    /// taken.
+    pub fn rejoin(&mut self, mut pages: SavedPages)
+        requires { IsCovered pages (length self.old.base) }
+        ensures bins { self.new.bins ≡ self.old.bins }
+        ensures base { self.new.base ≡ before pages self.old.base }
+    {
+        self.cells.opens();
+        pages.merge(&self.pages);
+        swap(&mut self.pages, &mut pages);
+        keep_longer(&mut self.spare, pages);
     }
 
     /// From now on the base is the bins data that are there. No memory is taken.

@@ -34,13 +34,12 @@ pub(crate) fn begin_anew(pages: &mut SavedPages, spare: &mut SavedPages, count: 
     spare.clear(there);
 }
 
-/// The one of more pages.
-pub(crate) fn longer(a: SavedPages, b: SavedPages) -> SavedPages
-    ensures left { length a ≤ length result }
-    ensures right { length b ≤ length result }
+/// Takes other pages for the spare ones, where they are more.
+pub(crate) fn keep_longer(spare: &mut SavedPages, other: SavedPages)
+    ensures there { length spare.old ≤ length spare.new }
+    ensures other { length other ≤ length spare.new }
 {
-    if a.len() < b.len() {
-        return b;
+    if spare.len() < other.len() {
+        *spare = other;
     }
-    a
 }

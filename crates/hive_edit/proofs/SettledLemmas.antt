@@ -1,19 +1,20 @@
 -- A hive whose cells are settled, and what it is again once these are restored.
-use Rattle.std.proofs.Common.{◌≡◌, ◌≤◌, ◌*◌, ℕ, true, List, length, sym, ap, subst, ◌∙◌, arith}
+use Rattle.std.proofs.Common.{◌≡◌, ◌≤◌, ℕ, Bool, true, false, List, [], ◌∷◌, length, Result, Ok, Err, sym, ap, subst, ◌∙◌, arith}
 use Rattle.nt_bytes.specs.declared.version.HiveVersion.{HiveVersion}
-use Rattle.hive_model.specs.Bins.{Bin, bins_size, spelled, IsBins, IsHeap}
-use Rattle.saved_pages.specs.Overlay.{before, none_kept}
-use Rattle.saved_pages.proofs.OverlayLemmas.{before_clear}
+use Rattle.hive_model.specs.Bins.{Bin, bins_size, IsBins}
+use Rattle.hive_model.specs.Tree.{Tree}
+use Rattle.hive_model.specs.Edit.{Step, set_value, delete_value, make_key, delete_key, copy_child, add_child}
+use Rattle.reg_tree.specs.declared.stop.EditStop.{EditStop}
 use Rattle.hive_cells.specs.Opened.{Opened}
 use Rattle.hive_cells.specs.Reading.{bins_of}
 use Rattle.hive_cells.proofs.Again.{bins_of_again}
 use Rattle.hive_cells.proofs.KeptLemmas.{lengths}
-use Rattle.hive_edit.specs.Hive.{HiveCells, hive_of, settled, IsHive, WasHive}
-
--- nothing is kept of the pages, and they are as many as the bins data have
-pub settled_by : (h : HiveCells) (pages : List (List ℕ)) → IsHeap h.bins → before pages (spelled 0 h.bins) ≡ h.base
-    → none_kept pages ≡ true → length (spelled 0 h.bins) ≡ 4096 * length pages → IsBins h.base h.bins
-settled_by h pages sound base none long = (sound, sym base ∙ before_clear pages (spelled 0 h.bins) none long)
+use Rattle.hive_edit.specs.Hive.{HiveCells, hive_of, settled, settled_as, IsHive, WasHive}
+use Rattle.hive_edit.specs.Listed.{HasNewLists}
+use Rattle.hive_edit.specs.NewRun.{HasNewRun}
+use Rattle.hive_edit.specs.Stepped.{IsStepped}
+use Rattle.hive_edit.specs.Tells.{TellsItem}
+use Rattle.hive_edit.specs.Steps.{AreMadeOrNone, AreStepped}
 
 -- bytes are of one list of bins
 pub same_bins : (text : List ℕ) (a b : List Bin) → IsBins text a → IsBins text b → a ≡ b
@@ -45,3 +46,57 @@ restored cells root version bulk h g view there same was =
     let bins = same_bins cells.base was.bins cells.bins (subst (λ (t : List ℕ). IsBins t was.bins) base was.is) here in
     ap (λ (b : List Bin). hive_of (settled b) root version) bins
     ∙ (λ k. hive_of (record { bins = cells.bins; base = sym here.1 k }) root version) ∙ view
+
+-- ---- what steps make does not depend on what the bins data were when they were settled last
+
+lists_as : (base : List ℕ) (old new : HiveCells) (at : ℕ) → HasNewLists old new at
+    → HasNewLists (settled_as base old) (settled_as base new) at
+lists_as base old new at x =
+    record { was = x.was; node = x.node; read_old = x.read_old; read = x.read; rest = x.rest; lists = x.lists; freed = x.freed }
+
+run_as : (base : List ℕ) (old : HiveCells) (shared : List ℕ) (k : Tree) (new : HiveCells) → HasNewRun old shared k new
+    → HasNewRun (settled_as base old) shared k (settled_as base new)
+run_as base old shared k new x =
+    record { at = x.at; child = x.child; security = x.security; shares = x.shares; fresh = x.fresh; held = x.held }
+
+stepped_as : (base : List ℕ) (old : HiveCells) (step : Step) (new : HiveCells) → IsStepped old step new
+    → IsStepped (settled_as base old) step (settled_as base new)
+stepped_as base old step new x = record {
+  version = x.version;
+  root = x.root;
+  tree = x.tree;
+  done = x.done;
+  secure = x.secure;
+  lists = λ at i. lists_as base old new at (x.lists at i);
+  freed = x.freed;
+  runs = λ r i. run_as base old r.0 r.1 new (x.runs r i);
+  long = x.long;
+  room = x.room;
+}
+
+item_as : (base : List ℕ) (old : HiveCells) (step : Step) (new : HiveCells) → TellsItem old step new
+    → TellsItem (settled_as base old) step (settled_as base new)
+item_as base old (set_value path name kind bytes) new x = x
+item_as base old (delete_value path name) new x = x
+item_as base old (make_key parent name) new x = x
+item_as base old (delete_key path) new x = x
+item_as base old (copy_child from to) new x = x
+item_as base old (add_child name k) new x = x
+
+made_as : (base : List ℕ) (old : HiveCells) (steps : List Step) (new : HiveCells) → AreStepped old steps new
+    → AreStepped (settled_as base old) steps (settled_as base new)
+made_as base old [] new x = ap (settled_as base) x
+made_as base old (step ∷ steps) new x = (
+  settled_as base x.0,
+  record {
+    stepped = stepped_as base old step x.0 x.1.stepped;
+    told = item_as base old step x.0 x.1.told;
+  },
+  made_as base x.0 steps new x.2,
+)
+
+pub all_as : (base : List ℕ) (h : HiveCells) (steps : List Step) (r : Result Bool EditStop) (new : HiveCells)
+    → AreMadeOrNone (settled_as base h) steps r new → AreMadeOrNone h steps r (settled_as h.base new)
+all_as base h steps (Ok true) new x = (made_as h.base (settled_as base h) steps new x.0, x.1)
+all_as base h steps (Ok false) new x = (x.0, ap (settled_as h.base) x.1)
+all_as base h steps (Err stop) new x = (x.0, ap (settled_as h.base) x.1)

@@ -25,7 +25,7 @@ use crate::making::Above;
 use crate::path::child_at;
 use crate::telling::class_len;
 use cell_forms::read_sk;
-use hive_cells::{OpenHeap, Source};
+use hive_cells::{MOST_BINS, OpenHeap, Source};
 use hive_pack::{NOWHERE, cells_below, list_len};
 use key_index::payload;
 use nt_bytes::{Bytes, HiveVersion, ReadStop, Units};
@@ -53,7 +53,7 @@ pub(crate) fn size_below(version: HiveVersion, shared: &[u8], key: &Key) -> Opti
 {
     let less = spared(shared, key.security());
     let size = key.bulk(version) - 32 - less;
-    if size > 16_777_216 {
+    if size > MOST_BINS {
         return None;
     }
     Some(size as u32)

@@ -6,11 +6,8 @@ ghost use Rattle.hive_model.specs.Bins.{bins_size, spelled};
 ghost use Rattle.hive_cells.specs.Held.{run_cells, IsRun};
 ghost use Rattle.hive_edit.specs.Runs.{IsNewPlace, IsPlace, IsRunPutAt, LacksPlace};
 
-use hive_cells::OpenHeap;
+use hive_cells::{MOST_BINS, OpenHeap};
 use std::alloc::AllocError;
-
-/// How long bins data may be, in bytes.
-pub(crate) const MOST_BINS: u64 = 16_777_216;
 
 /// How many bytes the bins data have, at most 16 MiB.
 pub(crate) fn long(heap: &OpenHeap) -> u32
@@ -44,7 +41,7 @@ pub(crate) fn place_for(heap: &OpenHeap, size: u32) -> Option<u32>
     match heap.fit(size) {
         Some(at) => Some(at),
         None => {
-            if long + (size + 4127) / 4096 * 4096 > 16_777_216 {
+            if long + (size + 4127) / 4096 * 4096 > MOST_BINS as u32 {
                 return None;
             }
             Some(long + 32)

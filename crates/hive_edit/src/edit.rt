@@ -32,7 +32,7 @@ use hive_pack::{pack, tree_fits};
 use hive_read::read_tree;
 use nt_bytes::{Bytes, HiveVersion, Names, ReadStop, Row, Units};
 use reg_tree::{EditStop, Key, LONGEST_DATA, MOST_BULK, Steps, TreeStep};
-use std::alloc::{AllocError, Global};
+use std::alloc::Global;
 use tree_draft::apply;
 
 /// Where the packed form has the root.
@@ -61,19 +61,6 @@ fn setting(
 }
 
 impl HiveBytes {
-    /// The same hive in memory of its own.
-    pub(crate) fn copy(&self, alloc: Global) -> Result<HiveBytes, AllocError>
-        ensures { IfOk result (λ h. h ≡ self.now) }
-    {
-        let cells = self.cells.copy(alloc)?;
-        Ok(HiveBytes {
-            cells,
-            root: self.root,
-            version: self.version,
-            bulk: self.bulk,
-        })
-    }
-
     /// A tree is in the cells.
     pub(crate) fn stands(&self)
         ensures { IsWellFormed (cells_in self.now) self.now.root self.now.tree }

@@ -24,7 +24,7 @@ ghost use Rattle.hive_edit.specs.Stepped.{LacksStepRoom};
 ghost use Rattle.hive_edit.specs.Tells.{IsToldStep};
 ghost use Rattle.hive_model.specs.Valid.{longest_data, longest_value_name};
 
-use crate::cells::{MOST_BINS, are_bytes, place_for, put_run};
+use crate::cells::{are_bytes, place_for, put_run};
 use crate::give::own_number;
 use crate::hive::HiveBytes;
 use crate::making::cell_bytes;
@@ -34,7 +34,7 @@ use crate::telling::{VALUES, wide_len};
 use crate::unset::{list_len, two_fields, values_of};
 use crate::values::value_at;
 use cell_forms::{VkForm, vk_bytes};
-use hive_cells::{OpenHeap, Source};
+use hive_cells::{MOST_BINS, OpenHeap, Source};
 use hive_pack::{cell_size, is_narrow, name_len, put_cell, write_data};
 use key_index::bins_fit;
 use nt_bytes::{Bytes, HiveVersion, Names, Units};

@@ -1,22 +1,24 @@
-//! Steps in order: made in the cells as they are, and undone by the pages that were kept, or on a draft of them.
+//! Steps in order: made in the cells as they are, and undone by the pages that were kept.
 
-ghost use Rattle.std.specs.Prelude.{◌≡◌, ◌≤◌, map, length, true, Ok, MatchBool, MatchResult};
+ghost use Rattle.std.specs.Prelude.{◌≡◌, ◌≤◌, map, length, true, Ok, IfOk, OnErr, OnOk, MatchBool, MatchResult};
 ghost use Rattle.std.specs.List.{All};
-ghost use Rattle.hive_model.specs.Bins.{bins_size, IsBins};
+ghost use Rattle.hive_model.specs.Bins.{bins_size, spelled, IsBins};
 ghost use Rattle.hive_model.specs.Edit.{after_step, after_steps, edited, most_bulk};
 ghost use Rattle.hive_model.specs.Size.{bulk_of};
 ghost use Rattle.reg_tree.specs.Fitting.{Fits};
 ghost use Rattle.reg_tree.specs.Makes.{IsRefused, step_of};
-ghost use Rattle.hive_edit.specs.Hive.{hive_of, settled, WasHive};
+ghost use Rattle.hive_edit.specs.Hive.{hive_of, settled, settled_as, WasHive};
 ghost use Rattle.hive_edit.specs.Stepped.{LacksStepRoom};
 ghost use Rattle.hive_edit.specs.Steps.{AreMadeOrNone, AreStepped, AreStrained};
 ghost use Rattle.hive_edit.specs.Tells.{IsToldStep};
+ghost use Rattle.saved_pages.specs.Overlay.{before, IsCovered};
 
-use crate::cells::MOST_BINS;
 use crate::hive::HiveBytes;
+use hive_cells::MOST_BINS;
 use nt_bytes::HiveVersion;
 use reg_tree::{EditStop, MOST_BULK, TreeStep};
-use std::alloc::Global;
+use saved_pages::SavedPages;
+use std::alloc::{AllocError, Global};
 
 impl HiveBytes {
     /// Makes one step, whatever the bulk of the tree then. `false` where there is no room for it. The hive is to be
@@ -93,22 +95,6 @@ impl HiveBytes {
         Ok(true)
     }
 
-    /// Whether the bins data are as they were when they were settled last: nothing was kept of any page.
-    fn is_settled(&self) -> bool
-        ensures { result ≡ true → IsBins self.now.base self.now.bins }
-    {
-        let size = self.bytes().len();
-        let pages = self.pages();
-        if !pages.is_clear() {
-            return false;
-        }
-        let long = 4096 * pages.len();
-        if long != size {
-            return false;
-        }
-        true
-    }
-
     /// The hive as it was when its cells were settled last, with the root, the version and the bulk that it had then. No memory
     /// is taken.
     fn restore(&mut self, root: u32, version: HiveVersion, bulk: u64)
@@ -145,30 +131,38 @@ impl HiveBytes {
         }
     }
 
-    /// Makes the steps in order on a draft of the cells, which is taken where all of them are made.
-    fn make_in_copy(&mut self, alloc: Global, steps: &[TreeStep]) -> Result<bool, EditStop>
-        requires fits { All Fits (map step_of steps.now) }
-        ensures all { AreMadeOrNone self.old (map step_of steps.now) result self.new }
-        ensures base { self.new.base ≡ self.old.base }
+    /// Settles the bins data as they are. Answers the pages that were kept of what they were before, for `rejoin`. Room for new
+    /// ones is taken.
+    fn hold(&mut self, alloc: Global) -> Result<SavedPages, AllocError>
+        ensures held { OnOk result (self.new ≡ settled_as (spelled 0 self.old.bins) self.old) }
+        ensures settled { OnOk result (IsBins self.new.base self.new.bins) }
+        ensures before { IfOk result (λ pages. before pages (spelled 0 self.old.bins) ≡ self.old.base) }
+        ensures covered { IfOk result (λ pages. IsCovered pages (length (spelled 0 self.old.bins))) }
+        ensures refused { OnErr result (self.new ≡ self.old) }
     {
-        let mut draft = self.copy(alloc)?;
-        if !draft.make_within(alloc, steps)? {
-            return Ok(false);
-        }
-        *self = draft;
-        Ok(true)
+        let _bytes = self.cells.bytes();
+        let pages = self.cells.hold(alloc)?;
+        Ok(pages)
     }
 
-    /// Makes the steps in order, all or none, within the greatest bulk: with no copy of the cells where these are settled. `false`
+    /// The bins data were settled last as these pages say, which `hold` answered. No memory is taken.
+    fn rejoin(&mut self, pages: SavedPages)
+        requires { IsCovered pages (length self.old.base) }
+        ensures { self.new ≡ settled_as (before pages self.old.base) self.old }
+    {
+        self.cells.rejoin(pages);
+    }
+
+    /// Makes the steps in order, all or none, within the greatest bulk, in the cells as they are: with no copy of them. `false`
     /// where there is no room for them, as `make_steps` says; the hive is as before then, and after an `Err`.
     pub(crate) fn make_all(&mut self, alloc: Global, steps: &[TreeStep]) -> Result<bool, EditStop>
         requires fits { All Fits (map step_of steps.now) }
         ensures all { AreMadeOrNone self.old (map step_of steps.now) result self.new }
         ensures base { self.new.base ≡ self.old.base }
     {
-        if self.is_settled() {
-            return self.make_settled(alloc, steps);
-        }
-        self.make_in_copy(alloc, steps)
+        let pages = self.hold(alloc)?;
+        let made = self.make_settled(alloc, steps);
+        self.rejoin(pages);
+        made
     }
 }

@@ -17,7 +17,7 @@ ghost use Rattle.hive_cells.specs.Sources.{cells_of};
 use crate::children::{insert, read_children, read_list_cells, remove};
 use crate::hints::hints;
 use crate::removal::Removal;
-use hive_cells::{OpenHeap, Source};
+use hive_cells::{MOST_BINS, OpenHeap, Source};
 use hive_pack::{first_part, list_len, part_count, write_lists};
 use nt_bytes::{Bytes, HiveVersion};
 use std::alloc::{AllocError, Global};
@@ -144,7 +144,7 @@ fn relist(
         return Ok(None);
     }
     let size = list_len(n);
-    if size > 16777216 {
+    if size > MOST_BINS as usize {
         return Ok(None);
     }
     bins_fit(heap);

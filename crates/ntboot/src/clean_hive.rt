@@ -1,5 +1,6 @@
 //! The hive that a disk holds, as one that loads without its log.
 
+use command_parts::MOST_FILE;
 use hive_commit::recover;
 use hive_log::LoadStop;
 use mem_edge::MemDisk;
@@ -7,15 +8,12 @@ use nt_bytes::Bytes;
 use nt_edge::{Bench, DiskStop, HiveFile};
 use std::alloc::Global;
 
-/// The most bytes of a file that a disk in memory takes.
-const MOST: usize = 33_554_432;
-
 /// The primary file with what the disk holds, recovered by its log; none where the two do not load. The disk is turned off.
 pub fn clean_hive(alloc: Global, disk: &mut MemDisk) -> Result<Option<Bytes>, DiskStop> {
     disk.power_off();
     let hive = disk.take(HiveFile::Primary)?;
     let log = disk.take(HiveFile::Log)?;
-    if hive.len() > MOST || log.len() > MOST {
+    if hive.len() > MOST_FILE || log.len() > MOST_FILE {
         return Ok(None);
     }
     let mut other = MemDisk::new(alloc);

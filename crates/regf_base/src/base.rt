@@ -7,6 +7,9 @@ use crate::sum::checksum;
 use nt_bytes::{HiveFault, HiveFaultKind, HiveVersion, u32_at, u64_at};
 use std::marker::Model;
 
+/// The greatest size of bins data, in bytes: 16 MiB.
+const MOST_BINS: u32 = 16_777_216;
+
 /// The fields of a base block.
 #[derive(Clone, Copy, Debug, PartialEq, Eq)]
 pub struct BaseBlock {
@@ -123,7 +126,7 @@ fn is_minor(minor: u32) -> bool
 fn is_size(size: u32) -> bool
     ensures { result ≡ is_bins_size size }
 {
-    size % 4096 == 0 && 4096 <= size && size <= 16_777_216
+    size % 4096 == 0 && 4096 <= size && size <= MOST_BINS
 }
 
 fn fault(kind: HiveFaultKind, at: u32) -> HiveFault

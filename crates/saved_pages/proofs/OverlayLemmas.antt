@@ -4,7 +4,7 @@ use Rattle.std.specs.Prelude.{nat_lt}
 use Rattle.std.proofs.Math.Seq.{take-length, drop-append-add}
 use Rattle.std.proofs.lemmas.List.{drop-drop, drop-take, take-take, take-append-le, drop-append-le}
 use Rattle.std.proofs.lemmas.Bool.{cases_lt, cases_eq, ltb-true, ltb-false}
-use Rattle.saved_pages.specs.Overlay.{page_at, kept_at, none_kept, with_kept, page_or, before, IsCovered}
+use Rattle.saved_pages.specs.Overlay.{page_at, kept_at, with_kept, page_or, before, IsCovered}
 
 -- ---- pages
 
@@ -90,17 +90,6 @@ before_none zero (x ∷ xs) e = absurd (omega (arith, e))
 before_none (suc n) xs e =
     ap (λ (l : List ℕ). take 4096 xs ++ l) (before_none n (drop 4096 xs) (omega (arith, length-drop 4096 xs, e)))
     ∙ take-append-drop 4096 xs
-
--- where nothing is kept of any page the bytes are as they were
-pub none_kept_is : (ps : List (List ℕ)) → none_kept ps ≡ true → ps ≡ replicate (length ps) []
-none_kept_is [] none = refl
-none_kept_is ([] ∷ ps) none = ap (λ (l : List (List ℕ)). [] ∷ l) (none_kept_is ps none)
-none_kept_is ((x ∷ xs) ∷ ps) none = absurd cc
-
-pub before_clear : (ps : List (List ℕ)) (xs : List ℕ) → none_kept ps ≡ true → length xs ≡ 4096 * length ps
-    → before ps xs ≡ xs
-before_clear ps xs none long =
-    ap (λ (l : List (List ℕ)). before l xs) (none_kept_is ps none) ∙ before_none (length ps) xs long
 
 -- ---- writes
 

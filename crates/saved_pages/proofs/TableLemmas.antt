@@ -1,10 +1,8 @@
 -- Pages that were kept, in memory.
-use Rattle.std.proofs.Common.{◌≡◌, ◌<◌, ◌≤◌, ◌+◌, ◌-◌, ◌*◌, inl, inr, ℕ, zero, suc, true, false, List, [], ◌∷◌, ◌++◌, length, take, drop, get_or, set, replicate, refl, sym, ◌∙◌, ap, subst, arith, length-append, length-take, length-drop}
+use Rattle.std.proofs.Common.{◌≡◌, ◌<◌, ◌≤◌, ◌+◌, ◌-◌, ◌*◌, inl, inr, ℕ, zero, suc, List, [], ◌∷◌, ◌++◌, length, take, drop, get_or, set, replicate, refl, sym, ◌∙◌, ap, subst, arith, length-append, length-take, length-drop}
 use Rattle.std.proofs.Math.Seq.{take-length, drop-append-add}
 use Rattle.std.proofs.lemmas.List.{take_all, take-append-le, drop-append-le, length-replicate}
-use Rattle.std.specs.Prelude.{nat_eq}
-use Rattle.std.proofs.lemmas.Bool.{cases_eq, eq-eqb, ne_eqb}
-use Rattle.saved_pages.specs.Overlay.{page_at, kept_at, none_kept, with_kept, IsWhole, AreWhole}
+use Rattle.saved_pages.specs.Overlay.{page_at, kept_at, with_kept, IsWhole, AreWhole}
 use Rattle.saved_pages.specs.Table.{taken, named_in, pages_in, AreNamed, IsTable}
 
 pub kept_named : (room slots : List ℕ) (k : ℕ) → k < length slots
@@ -26,34 +24,6 @@ pub all_whole : (n : ℕ) (room slots : List ℕ) → length room ≡ 4096 * n �
 all_whole n room [] e a k = inl refl
 all_whole n room (s ∷ slots) e a zero = named_long n room s e a.0
 all_whole n room (s ∷ slots) e a (suc k) = all_whole n room slots e a.1 k
-
--- nothing is kept of any page exactly where no slot names one
-none_kept_where : (room slots : List ℕ) → taken slots ≡ 0 → none_kept (pages_in room slots) ≡ true
-none_kept_where room [] none = refl
-none_kept_where room (zero ∷ slots) none = none_kept_where room slots none
-none_kept_where room (suc s ∷ slots) none = absurd (omega (arith, none))
-
-some_kept : (p : List ℕ) (ps : List (List ℕ)) → length p ≡ 4096 → none_kept (p ∷ ps) ≡ false
-some_kept [] ps four = absurd (omega (arith, four))
-some_kept (x ∷ p) ps four = refl
-
-some_kept_where : (n : ℕ) (room slots : List ℕ) → length room ≡ 4096 * n → AreNamed n slots → 0 < taken slots
-    → none_kept (pages_in room slots) ≡ false
-some_kept_where n room [] e a some = absurd (omega (arith, some))
-some_kept_where n room (zero ∷ slots) e a some = some_kept_where n room slots e a.1 some
-some_kept_where n room (suc s ∷ slots) e a some =
-    some_kept (named_in room (suc s)) (pages_in room slots)
-    (omega (arith, length-take 4096 (drop (4096 * s) room), length-drop (4096 * s) room, e, a.0))
-
-pub clear_seen : (room slots : List ℕ) (now : List (List ℕ)) (len : ℕ) → pages_in room slots ≡ now
-    → length room ≡ 4096 * taken slots → AreNamed (taken slots) slots → len ≡ length room
-    → nat_eq len 0 ≡ none_kept now
-clear_seen room slots now len is long named e =
-    elim (cases_eq len 0) as (λ _. nat_eq len 0 ≡ none_kept now) [
-      | inl none ↦ eq-eqb len 0 none ∙ sym (none_kept_where room slots (omega (arith, none, e, long))) ∙ ap none_kept is
-      | inr some ↦ ne_eqb len 0 some
-          ∙ sym (some_kept_where (taken slots) room slots long named (omega (arith, some, e, long))) ∙ ap none_kept is
-    ]
 
 pub taken_most : (slots : List ℕ) → taken slots ≤ length slots
 taken_most [] = omega arith

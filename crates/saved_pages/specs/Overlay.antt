@@ -1,6 +1,6 @@
 -- What were the bytes, by what was kept of them? For each of their pages of 4096 bytes the old page was kept, or nothing
 -- where it is still there. (This project's own.)
-use Rattle.std.specs.Prelude.{◌≡◌, ◌⊎◌, ◌<◌, ◌≤◌, ◌+◌, ◌*◌, ℕ, zero, suc, Bool, true, false, List, [], ◌∷◌, ◌++◌, length, take, drop}
+use Rattle.std.specs.Prelude.{◌≡◌, ◌⊎◌, ◌<◌, ◌≤◌, ◌+◌, ◌*◌, ℕ, zero, suc, List, [], ◌∷◌, ◌++◌, length, take, drop}
 
 -- the page of this number
 abbrev pub page_at : ℕ → List ℕ → List ℕ
@@ -17,12 +17,6 @@ abbrev pub with_kept : List (List ℕ) → ℕ → List ℕ → List (List ℕ)
 with_kept [] k page = []
 with_kept (p ∷ ps) zero page = page ∷ ps
 with_kept (p ∷ ps) (suc k) page = p ∷ with_kept ps k page
-
--- whether nothing was kept of any page
-abbrev pub none_kept : List (List ℕ) → Bool
-none_kept [] = true
-none_kept ([] ∷ ps) = none_kept ps
-none_kept ((x ∷ xs) ∷ ps) = false
 
 -- the page that was kept, or else the one that is there
 abbrev pub page_or : List ℕ → List ℕ → List ℕ

@@ -1,7 +1,7 @@
 //! Old pages, each kept once.
 
 ghost use Rattle.std.specs.Prelude.{◌≡◌, ◌+◌, ◌*◌, ◌<◌, ◌≤◌, [], ◌++◌, ℕ, List, length, take, drop, replicate, IfOk, OnErr, OnOk, MatchOption};
-ghost use Rattle.saved_pages.specs.Overlay.{before, kept_at, none_kept, page_at, page_or, with_kept, AreWhole};
+ghost use Rattle.saved_pages.specs.Overlay.{before, kept_at, page_at, page_or, with_kept, AreWhole, IsCovered};
 
 use std::alloc::{AllocError, Global};
 use std::marker::Model;
@@ -47,18 +47,6 @@ impl SavedPages {
         Ok(SavedPages { slots, room })
     }
 
-    /// The same pages in room of their own.
-    pub fn copy(&self, alloc: Global) -> Result<SavedPages, AllocError>
-        ensures { IfOk result (λ pages. pages ≡ self.now) }
-    {
-        let count = self.slots.len();
-        let mut slots = Vec::with_capacity(alloc, count)?;
-        slots.extend_from_slice(self.slots.as_slice())?;
-        let mut room = Vec::with_capacity(alloc, 4096 * count)?;
-        room.extend_from_slice(self.room.as_slice())?;
-        Ok(SavedPages { slots, room })
-    }
-
     /// That many pages more, of which none is kept. Where there is no memory all is as it was.
     pub fn widen(&mut self, more: usize) -> Result<(), AllocError>
         requires { length self.old + more ≤ 4096 }
@@ -78,13 +66,6 @@ impl SavedPages {
         ensures whole { AreWhole self.now }
     {
         self.slots.len()
-    }
-
-    /// Whether nothing is kept of any page.
-    pub fn is_clear(&self) -> bool
-        ensures { result ≡ none_kept self.now }
-    {
-        self.room.len() == 0
     }
 
     /// What was kept of a page.
@@ -110,6 +91,43 @@ impl SavedPages {
         let done = self.room.extend_from_slice(page).is_ok();
         prove!(done);
         self.slots[k] = slot as u16;
+    }
+
+    /// Keeps what pages that were begun later kept, of each page of which nothing was kept here: with the bytes that are
+    /// there now these give the old ones then, as they did with those that `later` gives. No memory is taken.
+    pub fn merge(&mut self, later: &SavedPages)
+        ensures count { length self.new ≡ length self.old }
+        ensures kept { (k : ℕ) → k < length self.old → kept_at self.new k ≡ page_or (kept_at self.old k) (kept_at later.now k) }
+        ensures before { (bytes : List ℕ) → IsCovered later.now (length bytes) → IsCovered self.old (length (before later.now bytes))
+            → before self.new bytes ≡ before self.old (before later.now bytes) }
+        ensures covered { (bytes : List ℕ) → IsCovered later.now (length bytes) → IsCovered self.old (length (before later.now bytes))
+            → IsCovered self.new (length bytes) }
+    {
+        let count = self.len();
+        let _whole = later.len();
+        for k in 0..count {
+            self.merge_page(later, k);
+        }
+    }
+
+    /// Keeps what was kept later of a page, if nothing was kept of it here.
+    fn merge_page(&mut self, later: &SavedPages, k: usize)
+        requires { k < length self.old }
+        ensures count { length self.new ≡ length self.old }
+        ensures here { kept_at self.new k ≡ page_or (kept_at self.old k) (kept_at later.now k) }
+        ensures others { (j : ℕ) → (j ≡ k → ⊥) → kept_at self.new j ≡ kept_at self.old j }
+    {
+        if k >= later.len() {
+            return;
+        }
+        match self.kept(k) {
+            Some(_) => {}
+            None => {
+                if let Some(page) = later.kept(k) {
+                    self.keep(k, page);
+                }
+            }
+        }
     }
 
     /// Nothing is kept any more, of that many pages, which are not more than before. No memory is taken.

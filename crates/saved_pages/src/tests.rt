@@ -12,9 +12,8 @@ fn a_page_is_kept_as_it_was_at_first(rt: HostRuntime) -> Result<(), Fail> {
     bytes[4096] = 2;
     touch(&mut pages, &bytes, 4096, 8200);
     bytes[4097] = 2;
-    let copy = pages.copy(rt.alloc())?;
     for k in 0..2 {
-        match copy.kept(k) {
+        match pages.kept(k) {
             None => assert_eq!(rt; k, 2),
             Some(page) => assert_eq!(rt; page[0], 1),
         }
@@ -35,9 +34,7 @@ fn a_page_is_kept_as_it_was_at_first(rt: HostRuntime) -> Result<(), Fail> {
 fn what_was_kept_is_restored(rt: HostRuntime) -> Result<(), Fail> {
     let mut bytes = [1; 8192];
     let mut pages = SavedPages::new(rt.alloc(), 2)?;
-    assert_eq!(rt; pages.is_clear(), true);
     touch(&mut pages, &bytes, 4096, 4098);
-    assert_eq!(rt; pages.is_clear(), false);
     bytes[4095] = 2;
     bytes[4096] = 2;
     bytes[8191] = 2;
@@ -45,7 +42,22 @@ fn what_was_kept_is_restored(rt: HostRuntime) -> Result<(), Fail> {
     assert_eq!(rt; bytes[4095], 2);
     assert_eq!(rt; bytes[4096], 1);
     assert_eq!(rt; bytes[8191], 1);
-    pages.clear(2);
-    assert_eq!(rt; pages.is_clear(), true);
+    Ok(())
+}
+
+#[test]
+fn what_was_kept_later_is_kept_where_nothing_was(rt: HostRuntime) -> Result<(), Fail> {
+    let mut bytes = [1; 8192];
+    let mut pages = SavedPages::new(rt.alloc(), 2)?;
+    touch(&mut pages, &bytes, 0, 1);
+    bytes[0] = 2;
+    let mut later = SavedPages::new(rt.alloc(), 2)?;
+    touch(&mut later, &bytes, 0, 4097);
+    bytes[0] = 3;
+    bytes[4096] = 3;
+    pages.merge(&later);
+    pages.restore(&mut bytes);
+    assert_eq!(rt; bytes[0], 1);
+    assert_eq!(rt; bytes[4096], 1);
     Ok(())
 }

@@ -28,8 +28,8 @@ returns-then-n-gt2097152-clause-exact c =
     let least = list_least n c.requires.some in
     (strain_over (bins_size c.args.heap.now.bins) n c.requires.some (omega (arith, least)), refl)
 
-pub returns-then-size-gt16777216-clause-exact : goal.returns-then-size-gt16777216-clause-exact
-returns-then-size-gt16777216-clause-exact c =
+pub returns-then-size-clause-exact : goal.returns-then-size-clause-exact
+returns-then-size-clause-exact c =
     let n = length c.args.offsets.now in
     (strain_over (bins_size c.args.heap.now.bins) n c.requires.some (omega (arith, c.list_len-size.ensures)), refl)
 

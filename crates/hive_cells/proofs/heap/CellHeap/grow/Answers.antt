@@ -9,16 +9,16 @@ use Rattle.hive_cells.proofs.GrowLemmas.{sizes, held_before, new_hole, new_long}
 use Rattle.hive_cells.proofs.Tools.{bins_size-append}
 use Rattle.hive_cells.proofs.heap.CellHeap.grow.Goals as goal
 
-pub returns-then-long-bin-gt16777216-clause-exact : goal.returns-then-long-bin-gt16777216-clause-exact
-returns-then-long-bin-gt16777216-clause-exact c =
+pub returns-then-long-bin-gt-MOST_BINS-clause-exact : goal.returns-then-long-bin-gt-MOST_BINS-clause-exact
+returns-then-long-bin-gt-MOST_BINS-clause-exact c =
     let z = sizes c.self.inside.bytes.items c.self.inside.starts.items _ (alone c.self.invariant) in
     let bin : (c.from.result + 4127) / 4096 * 4096 ≡ new_bin_size c.args.size = omega (arith, c.from.ensures) in
-    (omega (arith, c.if-long-bin-gt16777216.true, c.len-long.ensures, z.whole, ap bins_size c.self.view_is, bin), refl)
+    (omega (arith, c.if-long-bin-gt-MOST_BINS.true, c.len-long.ensures, z.whole, ap bins_size c.self.view_is, bin), refl)
 
 pub append_bin-requires-clause-fits : goal.append_bin-requires-clause-fits
 append_bin-requires-clause-fits c =
     let z = sizes c.self.inside.bytes.items c.self.inside.starts.items _ (alone c.self.invariant) in
-    omega (arith, c.if-long-bin-gt16777216.false, c.len-long.ensures, z.whole, ap bins_size c.self.view_is)
+    omega (arith, c.if-long-bin-gt-MOST_BINS.false, c.len-long.ensures, z.whole, ap bins_size c.self.view_is)
 
 pub returns-clause-exact : goal.returns-clause-exact
 returns-clause-exact c =
@@ -27,7 +27,7 @@ returns-clause-exact c =
     let whole : c.len-long.result ≡ bins_size c.args.self.now =
     omega (arith, c.len-long.ensures, z.whole, ap bins_size c.self.view_is) in
     record {
-      fits = omega (arith, c.if-long-bin-gt16777216.false, whole, bin);
+      fits = omega (arith, c.if-long-bin-gt-MOST_BINS.false, whole, bin);
       place = omega (arith, whole);
       bins = c.in_ok-append_bin.ensures.ok ∙ ap (λ (n : ℕ). c.args.self.now ++ free_bin n ∷ []) bin;
     }

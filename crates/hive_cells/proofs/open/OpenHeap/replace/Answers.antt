@@ -19,8 +19,8 @@ invariant_of-self c =
       c.other.invariant.0,
       (λ k lt none. let there = c.touch.ensures.covered k lt none in
           absurd (c.touch.ensures.kept k (omega (arith, there)) (omega arith) (omega (arith, lt, c.touch.ensures.count)) none)),
-      room_longer o.pages o.spare c.touch.new.pages c.longer.result (bins_size o.cells) c.other.invariant.2
-          c.longer.ensures.left c.longer.ensures.right,
+      room_longer o.pages o.spare c.touch.new.pages c.keep_longer.new.spare (bins_size o.cells) c.other.invariant.2
+          c.keep_longer.ensures.other c.keep_longer.ensures.there,
     )
 
 pub returns-clause-base : goal.returns-clause-base
