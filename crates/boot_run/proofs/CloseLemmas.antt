@@ -19,7 +19,7 @@ use Rattle.printed_parts.specs.Parts.{TellsOr}
 use Rattle.printed_parts.proofs.GoesLemmas.{idle}
 use Rattle.boot_run.specs.declared.runner.Runner.{Runner}
 use Rattle.boot_run.specs.declared.stop.RunStop.{RunStop}
-use Rattle.boot_run.specs.Agrees.{IsUp, IsSound, IsRunningBy, Counts, CommitLeft, TurnLeft, OffLeft, IsEnding}
+use Rattle.boot_run.specs.Agrees.{IsUp, IsLive, IsSound, IsRunningBy, Counts, CommitLeft, TurnLeft, OffLeft, IsEnding}
 use Rattle.boot_run.specs.Views.{Moment, RunsTo}
 use Rattle.boot_run.proofs.DiskLemmas.{idle-off, left-off}
 use Rattle.boot_run.proofs.CommitLemmas.{loads_down}
@@ -37,16 +37,11 @@ pub commit_turn : (m : RunState) (tree : Tree) (r : Runner) (d : DiskState) (o :
 commit_turn m tree r d None rest h = turn_left None h
 commit_turn m tree r d (Some s) rest h = turn_left (Some s) h
 
-pub flush_changed : (m : RunState) (tree : Tree) → m.live ≡ tree → m.changed ≡ true
-    → commit book.FlushCommit tree m done ≡ flush_act m
-flush_changed m tree same changed =
-    ap (λ (t : Tree). commit book.FlushCommit t m done) (sym same)
-    ∙ ap (λ (b : Bool). cond b (commit book.FlushCommit m.live m done) (say book.FlushNothingLine (done m)))
-    (sym changed)
-
-pub flush_same : (m : RunState) → m.changed ≡ false → say book.FlushNothingLine (done m) ≡ flush_act m
-flush_same m changed = ap
-    (λ (b : Bool). cond b (commit book.FlushCommit m.live m done) (say book.FlushNothingLine (done m))) (sym changed)
+-- by the session's tree
+pub flush_by : {m : RunState} {s : Session} {d : DiskState} → IsLive m s d
+    → cond s.changed (commit book.FlushCommit s.tree m done) (say book.FlushNothingLine (done m)) ≡ flush_act m
+flush_by {m = m} live = λ i.
+    cond (sym live.changed i) (commit book.FlushCommit (sym live.live i) m done) (say book.FlushNothingLine (done m))
 
 -- ---- the end of a start
 
@@ -75,25 +70,20 @@ pub word_at : {m : RunState} {r : Runner} {word : Verdict} → Counts m r
     → Some word ≡ option_map ending_of r.machine.start → Some word ≡ option_map ending_of m.machine.start
 word_at counts is = is ∙ ap (λ (k : MachineState). option_map ending_of k.start) (sym counts.machine)
 
-pub off_changed : (m : RunState) (tree : Tree) (o : Option Start) (word : Verdict) → Some word ≡ option_map ending_of o
-    → m.live ≡ tree → m.changed ≡ true
-    → commit book.OffCommit tree m (end_with word false) ≡ option_map_or (λ s. off_act s m) o (done m)
-off_changed m tree None word is same changed = absurd cc
-off_changed m tree (Some s) word is same changed =
-    let e : word ≡ ending_of s = cc in
-    ap (λ (t : Tree). commit book.OffCommit t m (end_with word false)) (sym same)
-    ∙ ap (λ (w : Verdict). commit book.OffCommit m.live m (end_with w false)) e
-    ∙ ap (λ (b : Bool). cond b (commit book.OffCommit m.live m (end_with (ending_of s) false))
-    (end_with (ending_of s) false m)) (sym changed)
-
-pub off_same : (m : RunState) (o : Option Start) (word : Verdict) → Some word ≡ option_map ending_of o
-    → m.changed ≡ false → end_with word false m ≡ option_map_or (λ s. off_act s m) o (done m)
-off_same m None word is changed = absurd cc
-off_same m (Some s) word is changed =
-    let e : word ≡ ending_of s = cc in
-    ap (λ (w : Verdict). end_with w false m) e
-    ∙ ap (λ (b : Bool). cond b (commit book.OffCommit m.live m (end_with (ending_of s) false))
-    (end_with (ending_of s) false m)) (sym changed)
+-- the same of a start that is turned off, by the verdict of the runner's machine
+pub off_by : {m : RunState} {r : Runner} {s : Session} {d : DiskState} {word : Verdict} → Counts m r
+    → Some word ≡ option_map ending_of r.machine.start → IsLive m s d
+    → cond s.changed (commit book.OffCommit s.tree m (end_with word false)) (end_with word false m)
+    ≡ option_map_or (λ t. off_act t m) m.machine.start (done m)
+off_by {m = m} {s = s} {word = word} counts is live = by_start m.machine.start (word_at counts is)
+  where
+    by_start : (o : Option Start) → Some word ≡ option_map ending_of o
+        → cond s.changed (commit book.OffCommit s.tree m (end_with word false)) (end_with word false m)
+        ≡ option_map_or (λ t. off_act t m) o (done m)
+    by_start None at = absurd cc
+    by_start (Some t) at =
+        let e : word ≡ ending_of t = cc in λ i.
+        cond (sym live.changed i) (commit book.OffCommit (sym live.live i) m (end_with (e i) false)) (end_with (e i) false m)
 
 -- a start that ends by itself
 pub end_plays : {result : Result (Unit {0}) RunStop} {m : RunState} {x y : Moment} {r : Runner} → (word : Verdict)

@@ -199,17 +199,17 @@ module _ (choice : Option ℕ → Choice) where
     pub agrees : Agrees state r new hive
 
   -- before the first event
-  pub started : (m : RunState) (es : List Event) (r : Runner) (hive : Option Session) (x : Told) (d : DiskState)
+  pub started : (m : RunState) {es : List Event} {r : Runner} {hive : Option Session} {x : Told} {d : DiskState}
       → Agrees m r d hive → Progress (run_from choice es m) es x x d d r hive
-  started m es r hive x d agrees =
+  started m {es = es} {x = x} {d = d} agrees =
       record { state = m; goes = goes-nothing (run_from choice es m) x d d (idle d); agrees = agrees }
 
   -- an event more
-  pub went_on : (whole : Going) (ev : Event) (es : List Event) (x y z : Told) (d e f : DiskState) (r r' : Runner)
-      (hive hive' : Option Session) → (p : Progress whole (ev ∷ es) x y d e r hive)
+  pub went_on : {whole : Going} {ev : Event} {es : List Event} {x y z : Told} {d e f : DiskState} {r r' : Runner}
+      {hive hive' : Option Session} → (p : Progress whole (ev ∷ es) x y d e r hive)
       → ((rest : Act) × (Goes (play (event_step_of choice ev p.state)) (play rest) y z e f × TurnLeft r' f hive' rest))
       → Progress whole es x z d f r' hive'
-  went_on whole ev es x y z d e f r r' hive hive' p q = record {
+  went_on {whole = whole} {ev = ev} {es = es} {x = x} {y = y} {z = z} {d = d} {e = e} {f = f} p q = record {
     state = q.1.1.after;
     goes = goes-then whole (run_from choice (ev ∷ es) p.state) (run_from choice es q.1.1.after) x y z d e f p.goes
         (goes-event ev es p.state q.1.1.after q.0 y z e f q.1.1.is q.1.0);
@@ -217,10 +217,10 @@ module _ (choice : Option ℕ → Choice) where
   }
 
   -- an event that was given up
-  pub gave_up : (whole : Going) (ev : Event) (es : List Event) (x y : Told) (z : List ℕ) (d e f : DiskState)
-      (r : Runner) (hive : Option Session) → (p : Progress whole (ev ∷ es) x y d e r hive)
+  pub gave_up : {whole : Going} {ev : Event} {es : List Event} {x y : Told} {z : List ℕ} {d e f : DiskState}
+      {r : Runner} {hive : Option Session} → (p : Progress whole (ev ∷ es) x y d e r hive)
       → IsClosed p.state → Breaks (event_step_of choice ev p.state) y z e f → RunBreaks whole x z d f
-  gave_up whole ev es x y z d e f r hive p closed b =
+  gave_up {whole = whole} {ev = ev} {es = es} {x = x} {y = y} {z = z} {d = d} {e = e} {f = f} p closed b =
       let q = breaks-event ev es p.state y z e f closed b in
       record {
         rest = q.rest;
@@ -235,11 +235,11 @@ module _ (choice : Option ℕ → Choice) where
         left = q.left;
       }
 
-  pub first_event : (whole : Going) (evs : List code.Event) (ev : code.Event) (x y : Told) (d e : DiskState)
-      (r : Runner) (hive : Option Session) → 1 ≤ length evs → ev ≡ get_or evs 0 ev
+  pub first_event : {whole : Going} {x y : Told} {d e : DiskState} {r : Runner} {hive : Option Session}
+      (evs : List code.Event) (ev : code.Event) → 1 ≤ length evs → ev ≡ get_or evs 0 ev
       → Progress whole (map event_in evs) x y d e r hive
       → Progress whole (event_in ev ∷ map event_in (take (length evs - 1) (drop 1 evs))) x y d e r hive
-  first_event whole evs ev x y d e r hive some is p =
+  first_event {whole = whole} {x = x} {y = y} {d = d} {e = e} {r = r} {hive = hive} evs ev some is p =
       let P : List code.Event → Type 0 = λ es. Progress whole (map event_in es) x y d e r hive in
       subst P (uncons evs ev some is) p
 
@@ -270,13 +270,13 @@ module _ (choice : Option ℕ → Choice) where
     left = b.left;
   }
 
-  pub ended : {E : Type 0} → (result : Result (Unit {0}) E) (whole : Going) (evs : List code.Event) (x y z : Told)
-      (d e : DiskState) (r : Runner) (hive : Option Session) → length evs < 1
-      → ((m : RunState) → AgreesBy m e hive → EachCrash e (MayLoad m.disk))
+  pub ended : {E : Type 0} {whole : Going} {x y : Told} {d e : DiskState} {r : Runner} {hive : Option Session}
+      (result : Result (Unit {0}) E) (evs : List code.Event) (z : Told) → length evs < 1
       → Progress whole (map event_in evs) x y d e r hive
+      → ((m : RunState) → AgreesBy m e hive → EachCrash e (MayLoad m.disk))
       → ((m : RunState) → Counts m r → EachCrash e (MayLoad m.disk)
       → PlaysOr (closing_act m) y z e e result (λ u a. a ≡ acts.done m)) → RunsOr whole x z d e result
-  ended result whole evs x y z d e r hive none may p close =
+  ended {whole = whole} {x = x} {y = y} {d = d} {e = e} {r = r} {hive = hive} result evs z none p may close =
       let P : List code.Event → Type 0 = λ es. Progress whole (map event_in es) x y d e r hive in
       let q : Progress whole [] x y d e r hive = subst P (none_left evs none) p in
       let left = may q.state q.agrees.by in
@@ -353,12 +353,13 @@ in_form form run x y d e r = record {
 }
 
 -- the whole run in this form: what was reported before it is nothing
-pub whole_report : (choice : Option ℕ → Choice) (script : List Event) (placed : Woken) (host : HostState) (s : Summary)
-    (form : ReportForm) (y : Told) (d e f : DiskState) → f ≡ turned_off e → summary_in s ≡ no_summary → s.form ≡ form
+pub whole_report : {y : Told} {d e : DiskState} (choice : Option ℕ → Choice) (script : List Event) (placed : Woken)
+    (host : HostState) (s : Summary) (form : ReportForm) (f : DiskState) → f ≡ turned_off e
+    → summary_in s ≡ no_summary → s.form ≡ form
     → Played (run_from choice script (first_state placed)) (told_by host s) y d e
     → Reports (run_of choice script placed) (untold form host) (record y { form = form }) d f
 unfolding run_of
-whole_report choice script placed host s form y d e f off none same p =
+whole_report {y = y} {d = d} {e = e} choice script placed host s form f off none same p =
     let whole : Going = run_from choice script (first_state placed) in
     let P : book.Summary → Type 0 =
     λ t. Played whole (record { said = host.said; form = s.form; summary = t }) y d e in
@@ -366,12 +367,12 @@ whole_report choice script placed host s form y d e f off none same p =
     in_form form whole (untold form host) y d f
     (reports_off whole (untold form host) y d e f off (subst Q same (subst P none p)))
 
-pub whole_front : (choice : Option ℕ → Choice) (script : List Event) (placed : Woken) (host : HostState) (s : Summary)
-    (form : ReportForm) (y : List ℕ) (d e f : DiskState) → f ≡ turned_off e → s.form ≡ form
+pub whole_front : {y : List ℕ} {d e : DiskState} (choice : Option ℕ → Choice) (script : List Event) (placed : Woken)
+    (host : HostState) (s : Summary) (form : ReportForm) (f : DiskState) → f ≡ turned_off e → s.form ≡ form
     → RunBreaks (run_from choice script (first_state placed)) (told_by host s) y d e
     → ReportsFront form (run_of choice script placed) host.said y d f
 unfolding run_of
-whole_front choice script placed host s form y d e f off same b =
+whole_front {y = y} {d = d} {e = e} choice script placed host s form f off same b =
     let P : ReportForm → Type 0 = λ k. ReportsFront k (run_of choice script placed) host.said y d f in
     subst P same
     (reports_front_of (run_from choice script (first_state placed)) (told_by host s) y d f

@@ -297,8 +297,8 @@ says_none (k ∷ ls) l x =
       front = record { front = []; rest = printed x.form k; cut = refl; said = sym (append-nil x.said) };
     }
 
-pub says_more : (ls more : List Line) (x : Told) (y : List ℕ) → SaysPart ls x y → SaysPart (ls ++ more) x y
-says_more ls more x y p = record {
+pub says_more : {x : Told} {y : List ℕ} (ls more : List Line) → SaysPart ls x y → SaysPart (ls ++ more) x y
+says_more ls more p = record {
   first = p.first;
   line = p.line;
   rest = p.rest ++ more;
@@ -308,17 +308,17 @@ says_more ls more x y p = record {
   front = p.front;
 }
 
-pub says_then : {T : Type 0} → (r : Result T RunStop) (ls : List Line) (l : Line) (x y z : Told) → Tells x y ls
+pub says_then : {T : Type 0} {x y : Told} (r : Result T RunStop) (ls : List Line) (l : Line) (z : Told) → Tells x y ls
     → TellsOr l y z r → SaysAll (ls ++ l ∷ []) x z r
-says_then (Ok v) ls l x y z p q = tells-then x y z ls (l ∷ []) p q
-says_then (Err e) ls l x y z p q =
+says_then {x = x} {y = y} (Ok v) ls l z p q = tells-then x y z ls (l ∷ []) p q
+says_then {y = y} (Err e) ls l z p q =
     record { first = ls; line = l; rest = []; parts = refl; mid = y; told = p; front = q }
 
 -- after some that were reported, others
-pub says_behind : {T : Type 0} → (r : Result T RunStop) (ls more : List Line) (x y z : Told) → Tells x y ls
+pub says_behind : {T : Type 0} {x y : Told} (r : Result T RunStop) (ls more : List Line) (z : Told) → Tells x y ls
     → SaysAll more y z r → SaysAll (ls ++ more) x z r
-says_behind (Ok v) ls more x y z p q = tells-then x y z ls more p q
-says_behind (Err e) ls more x y z p q = record {
+says_behind {x = x} {y = y} (Ok v) ls more z p q = tells-then x y z ls more p q
+says_behind {x = x} {y = y} (Err e) ls more z p q = record {
   first = ls ++ q.first;
   line = q.line;
   rest = q.rest;
@@ -424,10 +424,10 @@ all_may s m next c due h =
 -- ---- answers
 
 -- a call that was refused told a part
-pub says_err : {T : Type 0} → (r : Result T RunStop) → is_err r ≡ true → (ls : List Line) (x y : Told)
+pub says_err : {T : Type 0} {x : Told} (r : Result T RunStop) → is_err r ≡ true → (ls : List Line) (y : Told)
     → SaysPart ls x y.said → SaysAll ls x y r
-says_err (Ok v) h ls x y p = absurd (false≢true h)
-says_err (Err e) h ls x y p = p
+says_err (Ok v) h ls y p = absurd (false≢true h)
+says_err (Err e) h ls y p = p
 
 -- the line in other words
 pub tells_line : {T : Type 0} → (r : Result T RunStop) (l k : Line) (x y : Told) → l ≡ k → TellsOr l x y r

@@ -1,5 +1,5 @@
 -- What one event amounts to.
-use Rattle.std.proofs.Common.{◌≡◌, ◌≤◌, ℕ, Bool, true, false, cond, List, [], ◌∷◌, Option, Some, None, refl, sym, ap, subst, ◌∙◌}
+use Rattle.std.proofs.Common.{◌≡◌, ◌≤◌, ℕ, Bool, true, false, cond, [], ◌∷◌, Option, Some, None, refl, sym, ap, subst, ◌∙◌}
 use Rattle.std.specs.Prelude.{IfSome}
 use Rattle.hive_model.specs.Edit.{edited}
 use Rattle.hive_model.specs.Tree.{Tree}
@@ -149,16 +149,6 @@ pub aside_goes : (ev : Event) (m : RunState) (x : Told) (d : DiskState)
     → (a : Act) × (Goes (play (aside_act ev m)) (play a) x x d d
     × (a ≡ done (record m { machine = aside_machine ev m.machine })))
 aside_goes ev m x d is = (aside_act ev m, (goes-nothing (play (aside_act ev m)) x d d (idle d), is))
-
-pub fail_act : (ev : Event) (name : List ℕ) (count : ℕ) (m : RunState) → ev ≡ Fail name count
-    → aside_act ev m ≡ done (record m { machine = aside_machine ev m.machine })
-fail_act ev name count m is = let P : Event → Type 0 =
-    λ v. aside_act v m ≡ done (record m { machine = aside_machine v m.machine }) in subst P (sym is) refl
-
-pub vital_act : (ev : Event) (name : List ℕ) (m : RunState) → ev ≡ Vital name
-    → aside_act ev m ≡ done (record m { machine = aside_machine ev m.machine })
-vital_act ev name m is = let P : Event → Type 0 =
-    λ v. aside_act v m ≡ done (record m { machine = aside_machine v m.machine }) in subst P (sym is) refl
 
 -- nothing was done, and nothing said
 pub aside_breaks : (ev : Event) (m : RunState) (x : Told) (d : DiskState) → EachCrash d (MayLoad m.disk)

@@ -347,10 +347,15 @@ free_head c h lt = by_flag c.allocated (cell_size c) h.fits lt
 pub pair_same : (x y : Bool × ℕ) → Some x ≡ Some y → x ≡ y
 pair_same x y e = cc
 
+-- it is this, and the cell is within the bytes
+pub record HeadAt (text : List ℕ) (at : ℕ) (allocated : Bool) (size : ℕ) : Type 0 where
+  pub is : Some (allocated, size) ≡ option_map head_of (cell_at (bins_of text) at)
+  pub within : (8 ≤ size) × (at + size ≤ length text)
+
 pub some_head : (text : List ℕ) (at : ℕ) (c : Cell) (size : ℕ) (allocated : Bool) → There text at c
-    → c.allocated ≡ allocated → cell_size c ≡ size
-    → Some (allocated, size) ≡ option_map head_of (cell_at (bins_of text) at)
-some_head text at c size allocated t e k = rw (t.found, e, k) refl
+    → c.allocated ≡ allocated → cell_size c ≡ size → HeadAt text at allocated size
+some_head text at c size allocated t e k =
+    record { is = rw (t.found, e, k) refl; within = rw (← k) (t.sound.least, (read_at text at c t).long) }
 
 pub payload_there : (text : List ℕ) (starts : List Bool) (at size : ℕ) → IsKept text starts
     → Some (true, size) ≡ option_map head_of (cell_at (bins_of text) at)

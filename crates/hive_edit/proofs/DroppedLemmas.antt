@@ -1,5 +1,5 @@
 -- Cells dropped one by one, and a child taken out of its parent.
-use Rattle.std.proofs.Common.{◌≡◌, ◌≤◌, ◌<◌, ◌^◌, ℕ, zero, suc, ◌-◌, Bool, true, false, eqb, List, [], ◌∷◌, length, take, get_or, cond, Some, None, ◌⊎◌, inl, inr, ⊎_elim, refl, sym, ap, subst, ◌∙◌, arith}
+use Rattle.std.proofs.Common.{◌≡◌, ◌≤◌, ◌<◌, ◌^◌, ℕ, zero, suc, ◌+◌, ◌-◌, Bool, true, false, eqb, List, [], ◌∷◌, length, take, get_or, cond, Some, None, ◌⊎◌, inl, inr, ⊎_elim, refl, sym, ap, subst, ◌∙◌, arith}
 use Rattle.std.specs.Prelude.{Contains, slice_index_or}
 use Rattle.std.specs.Option.{IsSome, IsSomeAnd}
 use Rattle.std.specs.Int.{w32, to_le_bytes}
@@ -147,26 +147,35 @@ none_dropped us bins = record {
   long = refl;
 }
 
-module _ (us : List (ℕ × Bool)) (old mid : List Bin) (k : ℕ) (x : ℕ × Bool) (can : CanDrop old us)
-    (d : AreDropped us (take k us) old mid)
-    (lt : k < length us) (e : x ≡ get_or us k x) where
+-- those before a use are dropped
+pub record IsNextUse (us : List (ℕ × Bool)) (old mid : List Bin) (k : ℕ) (x : ℕ × Bool) : Type 0 where
+  pub can : CanDrop old us
+  pub dropped : AreDropped us (take k us) old mid
+  pub lt : k < length us
+  pub is : x ≡ get_or us k x
+
+module _ {us : List (ℕ × Bool)} {old mid : List Bin} {k : ℕ} {x : ℕ × Bool} (next : IsNextUse us old mid k x) where
+  one_after : (new : List Bin) → AreDropped us (take (suc k) us) old new → AreDropped us (take (k + 1) us) old new
+  one_after new a =
+      let e : suc k ≡ k + 1 = omega arith in subst (λ (n : ℕ). AreDropped us (take n us) old new) e a
+
   -- a cell that waits is held as it was
   still : x.1 ≡ false → held_at mid x.0 ≡ held_at old x.0
-  still plain = d.waiting x.0 (subst (In us) (is_use x false plain) (item_in us k x lt e))
-      (λ i. true_false (sym (earlier us k x (use_of x.0 false) can.once lt e i refl).0))
+  still plain = next.dropped.waiting x.0 (subst (In us) (is_use x false plain) (item_in us k x next.lt next.is))
+      (λ i. true_false (sym (earlier us k x (use_of x.0 false) next.can.once next.lt next.is i refl).0))
 
   pub can_free : x.1 ≡ false → IsSome (held_at mid x.0)
   can_free plain = subst IsSome (sym (still plain))
-      (can.held x.0 (subst (In us) (is_use x false plain) (item_in us k x lt e)))
+      (next.can.held x.0 (subst (In us) (is_use x false plain) (item_in us k x next.lt next.is)))
 
   -- a cell of security is held with another count
   pub counted_now : x.1 ≡ true
       → (p : List ℕ) × (q : List ℕ) × (held_at mid x.0 ≡ some q) × IsRecounted (times x.0 (take k us)) p q
       × (20 ≤ length q)
   counted_now secure =
-      let there = subst (In us) (is_use x true secure) (item_in us k x lt e) in
-      let p = some_and (held_at old x.0) (λ z. 20 ≤ length z) (can.secure x.0 there) in
-      let q = d.counted x.0 p.0 there p.1 in
+      let there = subst (In us) (is_use x true secure) (item_in us k x next.lt next.is) in
+      let p = some_and (held_at old x.0) (λ z. 20 ≤ length z) (next.can.secure x.0 there) in
+      let q = next.dropped.counted x.0 p.0 there p.1 in
       let long = p.2 in
       let same = q.2.long in
       (p.0, q.0, q.1, q.2, omega (arith, long, same))
@@ -176,51 +185,51 @@ module _ (us : List (ℕ × Bool)) (old mid : List Bin) (k : ℕ) (x : ℕ × Bo
 
   pub one_freed : (new : List Bin) → x.1 ≡ false → held_at new x.0 ≡ None
       → ((o : ℕ) → (o ≡ x.0 → ⊥) → held_at new o ≡ held_at mid o) → bins_size new ≡ bins_size mid
-      → AreDropped us (take (suc k) us) old new
-  one_freed new plain gone others long = record {
+      → AreDropped us (take (k + 1) us) old new
+  one_freed new plain gone others long = one_after new (record {
     freed = λ o i. freed o i (eqb o x.0) refl;
     counted = λ o p i h.
-        let q = d.counted o p i h in (
+        let q = next.dropped.counted o p i h in (
           q.0,
-          others o (λ same. apart_use us o x.0 can.once i there same) ∙ q.1,
-          subst (λ (n : ℕ). IsRecounted n p q.0) (sym (times_plain us k x o lt e plain)) q.2,
+          others o (λ same. apart_use us o x.0 next.can.once i there same) ∙ q.1,
+          subst (λ (n : ℕ). IsRecounted n p q.0) (sym (times_plain us k x o next.lt next.is plain)) q.2,
         );
     waiting = λ o i none.
         others o (λ same. none (subst (In (take (suc k) us))
-        (is_use x false plain ∙ ap (λ (z : ℕ). use_of z false) (sym same)) (last_in us k x lt e)))
-        ∙ d.waiting o i (λ j. none (more_in us k (use_of o false) j));
+        (is_use x false plain ∙ ap (λ (z : ℕ). use_of z false) (sym same)) (last_in us k x next.lt next.is)))
+        ∙ next.dropped.waiting o i (λ j. none (more_in us k (use_of o false) j));
     others = λ o none. others o (λ same. none false (subst (λ (z : ℕ). In us (use_of z false)) (sym same) there))
-        ∙ d.others o none;
-    long = long ∙ d.long;
-  }
+        ∙ next.dropped.others o none;
+    long = long ∙ next.dropped.long;
+  })
     where
       there : In us (use_of x.0 false)
-      there = subst (In us) (is_use x false plain) (item_in us k x lt e)
+      there = subst (In us) (is_use x false plain) (item_in us k x next.lt next.is)
 
       freed : (o : ℕ) → In (take (suc k) us) (use_of o false) → (b : Bool) → eqb o x.0 ≡ b → held_at new o ≡ None
       freed o i true same = ap (held_at new) (eqb-true o x.0 same) ∙ gone
       freed o i false other =
           others o (eqb-false o x.0 other)
-          ∙ ⊎_elim (λ j. d.freed o j) (λ f. absurd (eqb-false o x.0 other (sym (ap (λ (z : ℕ × Bool). z.0) f))))
-          (cases_in us k x (use_of o false) lt e i)
+          ∙ ⊎_elim (λ j. next.dropped.freed o j) (λ f. absurd (eqb-false o x.0 other (sym (ap (λ (z : ℕ × Bool). z.0) f))))
+          (cases_in us k x (use_of o false) next.lt next.is i)
 
-  pub one_lowered : (new : List Bin) → x.1 ≡ true → IsLowered x.0 mid new → AreDropped us (take (suc k) us) old new
-  one_lowered new secure l = record {
+  pub one_lowered : (new : List Bin) → x.1 ≡ true → IsLowered x.0 mid new → AreDropped us (take (k + 1) us) old new
+  one_lowered new secure l = one_after new (record {
     freed = λ o i.
-        l.others o (λ same. ⊎_elim (λ j. apart_use us x.0 o can.once there (in_whole o j) (sym same))
-        (λ f. true_false (sym secure ∙ ap (λ (z : ℕ × Bool). z.1) f)) (cases_in us k x (use_of o false) lt e i))
-        ∙ ⊎_elim (λ j. d.freed o j) (λ f. absurd (true_false (sym secure ∙ ap (λ (z : ℕ × Bool). z.1) f)))
-        (cases_in us k x (use_of o false) lt e i);
+        l.others o (λ same. ⊎_elim (λ j. apart_use us x.0 o next.can.once there (in_whole o j) (sym same))
+        (λ f. true_false (sym secure ∙ ap (λ (z : ℕ × Bool). z.1) f)) (cases_in us k x (use_of o false) next.lt next.is i))
+        ∙ ⊎_elim (λ j. next.dropped.freed o j) (λ f. absurd (true_false (sym secure ∙ ap (λ (z : ℕ × Bool). z.1) f)))
+        (cases_in us k x (use_of o false) next.lt next.is i);
     counted = λ o p i h. counted o p i h (eqb o x.0) refl;
-    waiting = λ o i none. l.others o (λ same. apart_use us x.0 o can.once there i (sym same))
-        ∙ d.waiting o i (λ j. none (more_in us k (use_of o false) j));
+    waiting = λ o i none. l.others o (λ same. apart_use us x.0 o next.can.once there i (sym same))
+        ∙ next.dropped.waiting o i (λ j. none (more_in us k (use_of o false) j));
     others = λ o none. l.others o (λ same. none true (subst (λ (z : ℕ). In us (use_of z true)) (sym same) there))
-        ∙ d.others o none;
-    long = l.long ∙ d.long;
-  }
+        ∙ next.dropped.others o none;
+    long = l.long ∙ next.dropped.long;
+  })
     where
       there : In us (use_of x.0 true)
-      there = subst (In us) (is_use x true secure) (item_in us k x lt e)
+      there = subst (In us) (is_use x true secure) (item_in us k x next.lt next.is)
 
       in_all : (xs : List (ℕ × Bool)) (n : ℕ) (u : ℕ × Bool) → In (take n xs) u → In xs u
       in_all [] zero u i = absurd i
@@ -236,23 +245,23 @@ module _ (us : List (ℕ × Bool)) (old mid : List Bin) (k : ℕ) (x : ℕ × Bo
           → (q : List ℕ) × (held_at new o ≡ Some q) × IsRecounted (times o (take (suc k) us)) p q
       counted o p i h true same =
           let is = eqb-true o x.0 same in
-          let q = d.counted o p i h in
+          let q = next.dropped.counted o p i h in
           let here : held_at mid x.0 ≡ Some q.0 = ap (held_at mid) (sym is) ∙ q.1 in
           let now = counted_now secure in
           let one : now.1 ≡ q.0 = Rattle.hive_edit.proofs.ResultLemmas.some_same now.1 q.0 (sym now.2 ∙ here) in (
             patched 12 (to_le_bytes w32 (recounted false (u32_in q.0 12))) q.0,
             ap (held_at new) is ∙ l.here q.0 here,
             subst (λ (n : ℕ). IsRecounted n p (patched 12 (to_le_bytes w32 (recounted false (u32_in q.0 12))) q.0))
-                (sym (times_one us k x o lt e secure (sym is)))
+                (sym (times_one us k x o next.lt next.is secure (sym is)))
                 (recount_again p q.0 (times o (take k us)) (recounted false (u32_in q.0 12)) q.2
                 (subst (λ (z : List ℕ). 20 ≤ length z) one now.4) refl (l.small q.0 here)),
           )
       counted o p i h false other =
-          let q = d.counted o p i h in (
+          let q = next.dropped.counted o p i h in (
             q.0,
             l.others o (eqb-false o x.0 other) ∙ q.1,
             subst (λ (n : ℕ). IsRecounted n p q.0)
-                (sym (times_other us k x o lt e secure (λ same. eqb-false o x.0 other (sym same)))) q.2,
+                (sym (times_other us k x o next.lt next.is secure (λ same. eqb-false o x.0 other (sym same)))) q.2,
           )
 
 -- ---- the lists

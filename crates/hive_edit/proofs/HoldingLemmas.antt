@@ -53,7 +53,7 @@ other_side P a b bytes e h = (λ p. sym e ∙ h.0 p, λ f. h.1 (e ∙ f))
 -- ---- segments
 
 -- what a segment and those after it are
-record Parts (cells : Cells) (n at : ℕ) (more bytes : List ℕ) : Type 0 where
+pub record Parts (cells : Cells) (n at : ℕ) (more bytes : List ℕ) : Type 0 where
   part : List ℕ
   others : List ℕ
   read : reading (bytes_in (segment_part n)) cells at ≡ done part
@@ -87,33 +87,15 @@ all_is : (cells : Cells) (size : ℕ) (offsets all b bytes : List ℕ) (P : Type
     → (P ↔ (all ≡ bytes)) → (P ↔ (b ≡ bytes))
 all_is cells size offsets all b bytes P a e h = other_side P all b bytes (ok_same all b (sym a ∙ e)) h
 
--- too few bytes are wanted
-pub too_few : (cells : Cells) (size left at part : ℕ) (offsets rest more bytes want : List ℕ)
-    → SameLeft cells size left offsets rest bytes want → rest ≡ at ∷ more → part ≡ min 16344 left
-    → length want < part
-    → (b : List ℕ) → joined_segments cells size offsets ≡ done b → ((false ≡ true) ↔ (b ≡ bytes))
-too_few cells size left at part offsets rest more bytes want s is n few b e =
-    let p = parts cells left at more s.others (sym (ap (joined_segments cells left) is) ∙ s.behind) in
-    let r = part_there cells (segment_part left) at p.part p.read in
-    let long : length p.part ≡ min 16344 left =
-    ap length (sym r.1) ∙ length-take (segment_part left) (payload_in cells at) ∙ small (segment_part left) _ r.0 in
-    all_is cells size offsets s.all b bytes (false ≡ true) s.joined e (
-      λ none. absurd cc,
-      λ whole. absurd (
-          omega (arith, few, n, long, length-append p.part p.others, ap length (p.whole ∙ s.same.1 whole))),
-    )
-  where
-    small : (a b : ℕ) → a ≤ b → min a b ≡ a
-    small a b le = omega arith
+-- a segment, by the numbers of the code
+pub record OneMore (cells : Cells) (size left at part : ℕ) (offsets rest more bytes want : List ℕ) : Type 0 where
+  pub s : SameLeft cells size left offsets rest bytes want
+  pub p : Parts cells left at more s.others
+  pub there : part ≤ length (payload_in cells at)
+  pub part_is : p.part ≡ take part (payload_in cells at)
+  pub long : length p.part ≡ part
 
--- a segment
-record OneMore (cells : Cells) (size left at part : ℕ) (offsets rest more bytes want : List ℕ) : Type 0 where
-  s : SameLeft cells size left offsets rest bytes want
-  p : Parts cells left at more s.others
-  part_is : p.part ≡ take part (payload_in cells at)
-  long : length p.part ≡ part
-
-one_more : (cells : Cells) (size left at part : ℕ) (offsets rest more bytes want : List ℕ)
+pub one_more : (cells : Cells) (size left at part : ℕ) (offsets rest more bytes want : List ℕ)
     → SameLeft cells size left offsets rest bytes want → rest ≡ at ∷ more → part ≡ min 16344 left
     → OneMore cells size left at part offsets rest more bytes want
 one_more cells size left at part offsets rest more bytes want s is n =
@@ -122,20 +104,13 @@ one_more cells size left at part offsets rest more bytes want s is n =
     record {
       s = s;
       p = p;
+      there = omega (arith, n, r.0);
       part_is = sym r.1 ∙ ap (λ (k : ℕ). take k (payload_in cells at)) (sym n);
       long = ap length (sym r.1) ∙ length-take (segment_part left) (payload_in cells at) ∙ small (segment_part left) _ r.0 ∙ sym n;
     }
   where
     small : (a b : ℕ) → a ≤ b → min a b ≡ a
     small a b le = omega arith
-
-pub segment_fits : (cells : Cells) (size left at part : ℕ) (offsets rest more bytes want payload : List ℕ)
-    → SameLeft cells size left offsets rest bytes want → rest ≡ at ∷ more → part ≡ min 16344 left
-    → payload ≡ payload_in cells at → part ≤ length payload
-segment_fits cells size left at part offsets rest more bytes want payload s is n e =
-    let p = parts cells left at more s.others (sym (ap (joined_segments cells left) is) ∙ s.behind) in
-    let r = part_there cells (segment_part left) at p.part p.read in
-    omega (arith, n, r.0, ap length e)
 
 front_of : (n : ℕ) (a b : List ℕ) → length a ≡ n → take n (a ++ b) ≡ a
 front_of n a b e = take-append-le n a b (omega (arith, e)) ∙ ap (λ (k : ℕ). take k a) (sym e) ∙ take-length a
@@ -145,38 +120,49 @@ back_of n a b e =
     let z : n ≡ length a + 0 = omega (arith, e) in
     ap (λ (k : ℕ). drop k (a ++ b)) z ∙ drop-append-add a b 0
 
--- that is not what is wanted
-pub not_wanted : (cells : Cells) (size left at part : ℕ) (offsets rest more bytes want payload front : List ℕ) (t : Bool)
-    → SameLeft cells size left offsets rest bytes want → rest ≡ at ∷ more → part ≡ min 16344 left
-    → payload ≡ payload_in cells at → front ≡ take part want → ((t ≡ true) ↔ (take part payload ≡ front)) → t ≡ false
-    → (b : List ℕ) → joined_segments cells size offsets ≡ done b → ((false ≡ true) ↔ (b ≡ bytes))
-not_wanted cells size left at part offsets rest more bytes want payload front t s is n e f test off b j =
-    let m = one_more cells size left at part offsets rest more bytes want s is n in
-    all_is cells size offsets m.s.all b bytes (false ≡ true) m.s.joined j (
-      λ bad. absurd cc,
-      λ whole.
-          absurd (let so : t ≡ true = test.1 (ap (take part) e ∙ sym m.part_is
-          ∙ sym (front_of part m.p.part m.p.others m.long) ∙ ap (take part) (m.p.whole ∙ m.s.same.1 whole) ∙ sym f) in cc),
-    )
+module _ {cells : Cells} {size left at part : ℕ} {offsets rest more bytes want : List ℕ}
+    (m : OneMore cells size left at part offsets rest more bytes want) where
+  -- too few bytes are wanted
+  pub too_few : length want < part → (b : List ℕ) → joined_segments cells size offsets ≡ done b
+      → ((false ≡ true) ↔ (b ≡ bytes))
+  too_few few b e =
+      all_is cells size offsets m.s.all b bytes (false ≡ true) m.s.joined e (
+        λ none. absurd cc,
+        λ whole. absurd (
+            omega (arith, few, m.long, length-append m.p.part m.p.others, ap length (m.p.whole ∙ m.s.same.1 whole))),
+      )
 
--- that is what is wanted, and the others are left
-pub one_wanted : (cells : Cells) (size left at part : ℕ) (offsets rest more bytes want payload front : List ℕ) (t : Bool)
-    → SameLeft cells size left offsets rest bytes want → rest ≡ at ∷ more → part ≡ min 16344 left
-    → payload ≡ payload_in cells at → front ≡ take part want → ((t ≡ true) ↔ (take part payload ≡ front)) → t ≡ true
-    → SameLeft cells size (left - 16344) offsets more bytes (drop part want)
-one_wanted cells size left at part offsets rest more bytes want payload front t s is n e f test on =
-    let m = one_more cells size left at part offsets rest more bytes want s is n in
-    let here : m.p.part ≡ take part want = m.part_is ∙ ap (take part) (sym e) ∙ test.0 on ∙ f in
-    record {
-      all = m.s.all;
-      others = m.p.others;
-      joined = m.s.joined;
-      behind = m.p.rest;
-      same = (
-        λ back. m.s.same.0 (sym m.p.whole ∙ (λ i. here i ++ back i) ∙ take-append-drop part want),
-        λ whole. sym (back_of part m.p.part m.p.others m.long) ∙ ap (drop part) (m.p.whole ∙ m.s.same.1 whole),
-      );
-    }
+  pub segment_fits : (payload : List ℕ) → payload ≡ payload_in cells at → part ≤ length payload
+  segment_fits payload e = omega (arith, m.there, ap length e)
+
+  -- that is not what is wanted
+  pub not_wanted : (payload front : List ℕ) (t : Bool) → payload ≡ payload_in cells at → front ≡ take part want
+      → ((t ≡ true) ↔ (take part payload ≡ front)) → t ≡ false
+      → (b : List ℕ) → joined_segments cells size offsets ≡ done b → ((false ≡ true) ↔ (b ≡ bytes))
+  not_wanted payload front t e f test off b j =
+      all_is cells size offsets m.s.all b bytes (false ≡ true) m.s.joined j (
+        λ bad. absurd cc,
+        λ whole.
+            absurd (let so : t ≡ true = test.1 (ap (take part) e ∙ sym m.part_is
+            ∙ sym (front_of part m.p.part m.p.others m.long) ∙ ap (take part) (m.p.whole ∙ m.s.same.1 whole) ∙ sym f) in cc),
+      )
+
+  -- that is what is wanted, and the others are left
+  pub one_wanted : (payload front : List ℕ) (t : Bool) → payload ≡ payload_in cells at → front ≡ take part want
+      → ((t ≡ true) ↔ (take part payload ≡ front)) → t ≡ true
+      → SameLeft cells size (left - 16344) offsets more bytes (drop part want)
+  one_wanted payload front t e f test on =
+      let here : m.p.part ≡ take part want = m.part_is ∙ ap (take part) (sym e) ∙ test.0 on ∙ f in
+      record {
+        all = m.s.all;
+        others = m.p.others;
+        joined = m.s.joined;
+        behind = m.p.rest;
+        same = (
+          λ back. m.s.same.0 (sym m.p.whole ∙ (λ i. here i ++ back i) ∙ take-append-drop part want),
+          λ whole. sym (back_of part m.p.part m.p.others m.long) ∙ ap (drop part) (m.p.whole ∙ m.s.same.1 whole),
+        );
+      }
 
 -- ---- big data
 

@@ -130,6 +130,10 @@ pub value_is_there : (cells : Cells) (at : ℕ) (p : List ℕ) → IsItemHere ce
 value_is_there cells at p h e = let f = item_facts cells at h in
     is_ok_of (key_value_at p) f.value (ap key_value_at e ∙ f.here)
 
+pub item_long : (cells : Cells) (at : ℕ) (p : List ℕ) → IsItemHere cells at → p ≡ payload_in cells at
+    → 20 + u16_in p 2 ≤ length p
+item_long cells at p h e = value_long p (value_is_there cells at p h e)
+
 -- the name in the payload shows whether the value at the offset has a name
 pub named_here : (cells : Cells) (name : List ℕ) (at : ℕ) (p : List ℕ) → IsItemHere cells at → p ≡ payload_in cells at
     → is_value_named cells name at ≡ folds_same name (value_name_of p)

@@ -1,5 +1,7 @@
 -- The parts of what recovery asks for, each with what stands after it, and how they join.
 use Rattle.std.proofs.Common.{◌≡◌, ◌++◌, ◌∷◌, Bool, true, List, [], Result, Ok, Err, refl, sym, ◌∙◌, ap, subst, append_assoc, append-nil}
+use Rattle.std.specs.Prelude.{IsErrAnd}
+use Rattle.std.proofs.lemmas.Result.{err_from_is_err_and}
 use Rattle.nt_bytes.specs.declared.fault.HiveFault.{HiveFault}
 use Rattle.nt_edge.specs.Calls.{Made, ReadAt, Makes}
 use Rattle.nt_edge.specs.declared.disk.DiskStop.{DiskStop}
@@ -33,6 +35,12 @@ pub stop_reads : (A : Type 0) (stop : DiskStop) (read : Result A HiveFault) → 
 stop_reads A disk.PowerLost read = tt
 stop_reads A disk.Failed read = tt
 stop_reads A disk.Memory read = tt
+
+-- an error that is passed on
+pub asks_passed : {T : Type 0} {before after : List Made → Type 0} {tells : Bool} {part : List Address → List Address}
+    {e : LoadStop} {r : Result T LoadStop} → IsErrAnd r (λ y. y ≡ e)
+    → AsksFirst {T = T} before after tells part (Err e) → AsksFirst before after tells part r
+asks_passed {r = r} is asks = let p = err_from_is_err_and r is in rw (p.1, p.2) asks
 
 -- a part after another
 module _ (first second : List Address → List Address) (front asked : List Address)
@@ -140,15 +148,16 @@ asked_no_more T U part more whole load.Device asked all is = subst (λ (l : List
 asked_no_more T U part more whole load.Memory asked all is = subst (λ (l : List Address). IsFront l asked) all (is more)
 
 pub asks_no_more : {T : Type 0} {before after : List Made → Type 0} {tells : Bool} {part : List Address → List Address}
-    {e : LoadStop} → AsksFirst {T = T} before after tells part (Err e) → (U : Type 0) (more whole : List Address)
-    → (tells ≡ true → part more ≡ whole)
-    → MakesReads before after (λ sectors. tells ≡ true → IsAsked {T = U} whole (Err e) sectors)
-asks_no_more {T = T} {part = part} {e = e} asks U more whole all =
-    record {
+    {e : LoadStop} → AsksFirst {T = T} before after tells part (Err e) → {U : Type 0} (r : Result U LoadStop)
+    → IsErrAnd r (λ y. y ≡ e) → (more whole : List Address) → (tells ≡ true → part more ≡ whole)
+    → MakesReads before after (λ sectors. tells ≡ true → IsAsked whole r sectors)
+asks_no_more {T = T} {part = part} {e = e} asks {U = U} r is more whole all =
+    let p = err_from_is_err_and r is in
+    rw (p.1, p.2) (record {
       sectors = asks.sectors;
       made = asks.made;
       are = λ told. asked_no_more T U part more whole e asks.sectors (all told) (asks.are told);
-    }
+    })
 
 -- what stands after a part was asked for, and nothing more
 asked_behind : {T : Type 0} (front asked rest whole : List Address) (result : Result T LoadStop) → front ++ rest ≡ whole

@@ -1,5 +1,5 @@
 -- A run of sectors as it is read, and a fault in a part of what is read.
-use Rattle.std.proofs.Common.{◌≡◌, ◌<◌, ◌≤◌, ◌+◌, ◌-◌, ◌*◌, ◌++◌, ℕ, suc, List, [], length, Option, Result, Ok, Err, refl, sym, ◌∙◌, ap, subst, arith, add-one, append_assoc, append-nil, ⊎_elim}
+use Rattle.std.proofs.Common.{◌≡◌, ◌<◌, ◌≤◌, ◌+◌, ◌-◌, ◌*◌, ◌++◌, ℕ, suc, List, [], length, Option, Result, Ok, Err, refl, sym, ◌∙◌, ap, subst, arith, add-one, append_assoc, append-nil, length-append, ⊎_elim}
 use Rattle.nt_bytes.specs.declared.fault.HiveFault.{HiveFault}
 use Rattle.hive_model.specs.Image.{Address, Write, Content, overlaid}
 use Rattle.hive_model.specs.Recovery.{Sectors, sector, joined, gathered}
@@ -23,6 +23,11 @@ behind : (front s : List ℕ) (r : Result (List ℕ) HiveFault)
     → joined (Ok (front ++ s)) r ≡ joined (Ok front) (joined (Ok s) r)
 behind front s (Ok rest) = ap (λ l. Ok l) (append_assoc front s rest)
 behind front s (Err f) = refl
+
+-- a sector more is 512 bytes more
+pub longer : (bytes s after : List ℕ) (i : ℕ) → after ≡ bytes ++ s → length bytes ≡ 512 * i → length s ≡ 512
+    → length after ≡ 512 * (i + 1)
+longer bytes s after i appended long one = ap length appended ∙ omega (arith, length-append bytes s)
 
 module _ (at : Sectors) (count : ℕ) where
   pub read_start : ReadSoFar at count [] 0

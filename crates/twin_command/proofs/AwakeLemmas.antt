@@ -170,26 +170,32 @@ module _ (stands : Standing) (number : Option ℕ) (old new off : DiskState) (of
 ok_told : (a b : Told) → ◌≡◌ {A = Result Told AllocError} (Ok a) (Ok b) → a ≡ b
 ok_told a b same = cc
 
-module _ (stands : Standing) (number : Option ℕ) (old new off : DiskState) (off_is : off ≡ turned_off new)
-    (awake : IsAwake old) (keeps : KeepsOrders new) (some : SomeFound stands old.held) where
+-- the disk was on and got no order, and it is off after the change
+pub record WasAwake (stands : Standing) (old new off : DiskState) : Type 0 where
+  pub off_is : off ≡ turned_off new
+  pub awake : IsAwake old
+  pub keeps : KeepsOrders new
+  pub some : SomeFound stands old.held
+
+module _ (stands : Standing) (number : Option ℕ) (old new off : DiskState) (was_awake : WasAwake stands old new off) where
   -- no fault is answered
   pub sound : (r : Result Changed ChangeStop) → Answers stands old.held new.held number r → (fault : HiveFault)
       → r ≡ Err (stops.Fault fault) → ⊥
   sound r answers fault is =
-      no_fault stands old.held some.0 some.1 some.2 fault
+      no_fault stands old.held was_awake.some.0 was_awake.some.1 was_awake.some.2 fault
       (subst (λ (x : Result Changed ChangeStop). Answers stands old.held new.held number x) is answers)
 
   pub lost_never : (r : Result Changed ChangeStop) → GoesOn old new (IsLost r) (IsFailed r) (IsLacking r) → IsLost r → ⊥
-  lost_never r goes = never_lost old new (IsLost r) (IsFailed r) (IsLacking r) goes awake keeps
+  lost_never r goes = never_lost old new (IsLost r) (IsFailed r) (IsLacking r) goes was_awake.awake was_awake.keeps
 
   pub failed_never : (r : Result Changed ChangeStop) → GoesOn old new (IsLost r) (IsFailed r) (IsLacking r) → IsFailed r
       → ⊥
-  failed_never r goes = never_failed old new (IsLost r) (IsFailed r) (IsLacking r) goes awake keeps
+  failed_never r goes = never_failed old new (IsLost r) (IsFailed r) (IsLacking r) goes was_awake.awake was_awake.keeps
 
   pub told_part : {T E : Type 0} (r : Result Changed ChangeStop) → GoesOn old new (IsLost r) (IsFailed r) (IsLacking r)
       → (t : Result T E) → OnErr t (off.history ≡ old.history)
   told_part r goes (Ok t) = tt
-  told_part r goes (Err e) = ap (λ (d : DiskState). d.history) off_is ∙ goes.history
+  told_part r goes (Err e) = ap (λ (d : DiskState). d.history) was_awake.off_is ∙ goes.history
 
   told_ok : (t : Result Told AllocError) (told : Told) → t ≡ Ok told → ToldOf stands number told old off
       → IfOk t (λ x. ToldOf stands number x old off)
@@ -208,18 +214,18 @@ module _ (stands : Standing) (number : Option ℕ) (old new off : DiskState) (of
   awake_told (Ok done) answers goes after t by =
       let l = answers.loaded in
       told_ok t (record { loaded = done.loaded; mended = done.mended; word = done_word number done.committed }) by
-      (done_told stands number old new off off_is goes.history (goes.no_cut (λ n. absurd n))
+      (done_told stands number old new off was_awake.off_is goes.history (goes.no_cut (λ n. absurd n))
       (goes.no_fault (λ n. absurd n) (λ n. absurd n)) done answers
       (after tt l.found l.tree (record { read = l.read; holds = l.holds })))
   awake_told (Err (stops.Fault f)) answers goes after t by = absurd (sound (Err (stops.Fault f)) answers f refl)
   awake_told (Err (stops.NoSelect was mended)) answers goes after t by =
       told_ok t (record { loaded = was; mended = mended; word = words.NoKey }) by
-      (no_select_told stands number old new off off_is goes.history (goes.no_cut (λ n. absurd n))
+      (no_select_told stands number old new off was_awake.off_is goes.history (goes.no_cut (λ n. absurd n))
       (goes.no_fault (λ n. absurd n) (λ n. absurd n)) was mended answers
       (after tt answers.found answers.tree (record { read = answers.read; holds = answers.holds })))
   awake_told (Err (stops.Full was mended)) answers goes after t by =
       told_ok t (record { loaded = was; mended = mended; word = words.Full }) by
-      (full_told stands number old new off off_is goes.history (goes.no_cut (λ n. absurd n))
+      (full_told stands number old new off was_awake.off_is goes.history (goes.no_cut (λ n. absurd n))
       (goes.no_fault (λ n. absurd n) (λ n. absurd n)) was mended answers
       (after tt answers.found answers.tree (record { read = answers.read; holds = answers.holds })))
   awake_told (Err (stops.PowerLost was)) answers goes after t by =

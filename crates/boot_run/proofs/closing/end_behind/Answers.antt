@@ -1,10 +1,7 @@
-use Rattle.std.proofs.Common.{Some, None, subst, false, ap, sym, refl}
-use Rattle.std.specs.Prelude.{Option}
+use Rattle.std.proofs.Common.{Some, None, ap, sym, refl}
 use Rattle.boot_report.specs.Report.{verdict_of}
-use Rattle.hive_store.specs.Session.{Session}
 use Rattle.start_model.specs.Machine.{MachineState}
-use Rattle.start_model.specs.Act.{end_with}
-use Rattle.boot_run.specs.Agrees.{IsSound, CommitLeft}
+use Rattle.boot_run.specs.Agrees.{IsSound}
 use Rattle.boot_run.proofs.PlayLemmas.{plays-as, plays-here, live_left, turn_left}
 use Rattle.boot_run.proofs.CloseLemmas.{end_plays, end_sound}
 use Rattle.boot_run.proofs.closing.end_behind.Given.{Over}
@@ -13,15 +10,11 @@ use Rattle.boot_run.proofs.closing.end_behind.Goals.{In-Some}
 
 sound_on : (g : Over) (c : In-Some g)
     → IsSound c.args.runner.now (g.B.Disk.state c.args.bench.now) (Some c.in-Some.hive)
-sound_on g c =
-    let P : Option Session → Type 0 = λ o. IsSound c.args.runner.now (g.B.Disk.state c.args.bench.now) o in
-    subst P c.in-Some.is c.requires.sound
+sound_on g c = rw c.in-Some.is at c.requires.sound
 
 pub returns-in-Some-clause-plays : goal.returns-in-Some-clause-plays
 returns-in-Some-clause-plays g c = λ m tree rest tells ends h.
-    let P : Option Session → Type 0 = λ o. CommitLeft m tree (end_with (verdict_of c.args.word) false)
-    c.args.runner.now (g.B.Disk.state c.args.bench.now) o rest in
-    let k = subst P c.in-Some.is h in
+    let k = rw c.in-Some.is at h in
     plays-as (sym k.0)
     (end_plays (verdict_of c.args.word) c.end_with.new.runner ends k.1.0
     (live_left (sound_on g (goal.at.returns-in-Some-clause-plays g c).In-Some).0 k.1.1)
@@ -29,9 +22,7 @@ returns-in-Some-clause-plays g c = λ m tree rest tells ends h.
 
 pub returns-in-None-clause-plays : goal.returns-in-None-clause-plays
 returns-in-None-clause-plays g c = λ m tree rest tells ends h.
-    let P : Option Session → Type 0 = λ o. CommitLeft m tree (end_with (verdict_of c.args.word) false)
-    c.args.runner.now (g.B.Disk.state c.args.bench.now) o rest in
-    plays-here refl (turn_left None (subst P c.in-None.is h))
+    plays-here refl (turn_left None (rw c.in-None.is at h))
 
 pub returns-in-Some-clause-sound : goal.returns-in-Some-clause-sound
 returns-in-Some-clause-sound g c =

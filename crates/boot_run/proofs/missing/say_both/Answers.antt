@@ -7,17 +7,13 @@ use Rattle.boot_run.proofs.missing.say_both.Goals as goal
 
 pub returns-in_err-say_unmet-clause-tells : goal.returns-in_err-say_unmet-clause-tells
 returns-in_err-say_unmet-clause-tells g c = λ tells.
-    let x = told_by (g.H.Host.state c.args.host.now) c.args.summary.now in
-    let y = told_by (g.H.Host.state c.say_unmet.new.host) c.say_unmet.new.summary in
-    says_err c.from_residual.result c.from_residual.ensures.0 (stop_lines c.args.unmet.now c.args.missing.now) x y
-    (says_more (map UnmetLine c.args.unmet.now) (map VitalLine c.args.missing.now) x y.said
+    says_err c.from_residual.result c.from_residual.ensures.0 (stop_lines c.args.unmet.now c.args.missing.now)
+    (told_by (g.H.Host.state c.say_unmet.new.host) c.say_unmet.new.summary)
+    (says_more (map UnmetLine c.args.unmet.now) (map VitalLine c.args.missing.now)
     (c.in_err-say_unmet.ensures.tells tells))
 
 pub returns-clause-tells : goal.returns-clause-tells
 returns-clause-tells g c = λ tells.
-    let x = told_by (g.H.Host.state c.args.host.now) c.args.summary.now in
-    let y = told_by (g.H.Host.state c.say_unmet.new.host) c.say_unmet.new.summary in
-    let z = told_by (g.H.Host.state c.say_missing.new.host) c.say_missing.new.summary in
-    says_behind c.say_missing.result (map UnmetLine c.args.unmet.now) (map VitalLine c.args.missing.now) x y z
-    (c.in_ok-say_unmet.ensures.tells tells)
+    says_behind c.say_missing.result (map UnmetLine c.args.unmet.now) (map VitalLine c.args.missing.now)
+    (told_by (g.H.Host.state c.say_missing.new.host) c.say_missing.new.summary) (c.in_ok-say_unmet.ensures.tells tells)
     (c.say_missing.ensures.tells (c.in_ok-say_unmet.ensures.host.keeps.tells ∙ tells))

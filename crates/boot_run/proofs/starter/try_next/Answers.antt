@@ -1,7 +1,7 @@
 use Rattle.std.proofs.Common.{◌≡◌, ◌∙◌, Some, ap, sym, subst, refl}
 use Rattle.hive_store.specs.Session.{Session}
-use Rattle.start_model.specs.Machine.{MachineState, attempt_of}
-use Rattle.start_model.specs.Act.{RunState, with_machine}
+use Rattle.start_model.specs.Machine.{Start, MachineState, Tried, attempt_of}
+use Rattle.start_model.specs.Act.{RunState, Act, with_machine}
 use Rattle.start_model.specs.Starter.{starter_step, good_is_usable}
 use Rattle.boot_run.specs.Agrees.{Counts, IsRunningBy, IsSound}
 use Rattle.boot_run.proofs.PlayLemmas.{plays-as, plays-line, rests-silent, rests-front}
@@ -12,12 +12,14 @@ use Rattle.boot_run.proofs.starter.try_next.Given.{Over}
 use Rattle.boot_run.proofs.starter.try_next.Goals as goal
 use Rattle.boot_run.proofs.starter.try_next.Goals.{In-Ok}
 
--- the attempt of the book's machine is that of the runner's
-same : (g : Over) (c : In-Ok g) (m : RunState) → Counts m c.args.runner.now → m.live ≡ c.args.hive.tree
-    → attempt_of m.machine (good_is_usable m.live) ≡ attempt_of c.args.runner.now.machine c.in-Ok.usable
-same g c m counts live =
-    ap (λ (n : MachineState). attempt_of n (good_is_usable m.live)) counts.machine
-    ∙ ap (attempt_of c.args.runner.now.machine) (ap good_is_usable live ∙ sym c.in-Ok.ensures.usable)
+-- the attempt of the runner's machine is that of the book's
+same : (g : Over) (c : In-Ok g) {m : RunState} (s : Start) (next : RunState → Act) {one : MachineState × Tried}
+    → Counts m c.args.runner.now → m.live ≡ c.args.hive.tree
+    → attempt_of c.args.runner.now.machine c.in-Ok.usable ≡ Some one
+    → starter_step s m next (Some one) ≡ starter_step s m next (attempt_of m.machine (good_is_usable m.live))
+same g c {m = m} s next counts live is = ap (starter_step s m next)
+    (sym (ap (λ (n : MachineState). attempt_of n (good_is_usable m.live)) counts.machine
+    ∙ ap (attempt_of c.args.runner.now.machine) (ap good_is_usable live ∙ sym c.in-Ok.ensures.usable) ∙ is))
 
 pub returns-in_default-clause-plays : goal.returns-in_default-clause-plays
 returns-in_default-clause-plays g c = λ m s next tells counts live stays.
@@ -26,8 +28,7 @@ returns-in_default-clause-plays g c = λ m s next tells counts live stays.
 pub returns-in_err-verdict-clause-plays : goal.returns-in_err-verdict-clause-plays
 returns-in_err-verdict-clause-plays g c = λ m s next tells counts live stays.
     let there = attempt_there c.args.runner.now.machine c.in-Ok.usable c.requires.ready in
-    plays-as (ap (starter_step s m next)
-    (sym (same g (goal.at.returns-in_err-verdict-clause-plays g c).In-Ok m counts live.live ∙ there.1)))
+    plays-as (same g (goal.at.returns-in_err-verdict-clause-plays g c).In-Ok s next counts live.live there.1)
     (rests-front c.from_residual.ensures.0 refl (c.in_err-verdict.ensures.tells there.0 tells there.1)
     (judged_may there.0.1.judgement (with_machine there.0.0 m) next stays) c.requires.sound.0 live)
 
@@ -48,8 +49,7 @@ end_where-requires g c =
 pub returns-clause-plays : goal.returns-clause-plays
 returns-clause-plays g c = λ m s next tells counts live stays.
     let a = c.in_ok-verdict.ensures.attempts in
-    plays-as (ap (starter_step s m next)
-    (sym (same g (goal.at.returns-clause-plays g c).In-Ok m counts live.live ∙ a.is)))
+    plays-as (same g (goal.at.returns-clause-plays g c).In-Ok s next counts live.live a.is)
     (plays-line refl (c.in_ok-verdict.ensures.tells a.one tells a.is)
     (c.end_where.ensures.plays (with_machine a.one.0 m) next a.one.1.judgement
     (c.in_ok-verdict.ensures.host.keeps.tells ∙ tells)

@@ -1,16 +1,12 @@
-use Rattle.std.proofs.Common.{◌≡◌, ap, sym, subst}
+use Rattle.std.proofs.Common.{refl}
 use Rattle.boot_machine.specs.Views.{event_in}
-use Rattle.start_model.specs.Events.{Event}
-use Rattle.start_model.specs.Act.{done}
-use Rattle.printed_parts.specs.Parts.{PlaysOr}
-use Rattle.boot_run.specs.Begins.{aside_machine, aside_act}
-use Rattle.boot_run.proofs.TurnLemmas.{aside_goes, fail_act, vital_act, aside_breaks, other_does_nothing}
+use Rattle.start_model.specs.Events.{Fail, Vital}
+use Rattle.boot_run.proofs.TurnLemmas.{aside_goes, aside_breaks, other_does_nothing}
 use Rattle.boot_run.proofs.turning.aside.Goals as goal
 
 pub returns-in-Ok-clause-plays : goal.returns-in-Ok-clause-plays
 returns-in-Ok-clause-plays g c = λ m told left.
-    aside_goes (event_in c.args.event.now) m told (g.B.Disk.state c.args.bench.now)
-    (fail_act (event_in c.args.event.now) c.in-Fail.name c.in-Fail.count m (ap event_in c.in-Fail.is))
+    rw c.in-Fail.is (aside_goes (Fail c.in-Fail.name c.in-Fail.count) m told (g.B.Disk.state c.args.bench.now) refl)
 
 pub returns-in-Err-clause-plays : goal.returns-in-Err-clause-plays
 returns-in-Err-clause-plays g c =
@@ -18,28 +14,17 @@ returns-in-Err-clause-plays g c =
 
 pub returns-in-Ok-require-clause-plays : goal.returns-in-Ok-require-clause-plays
 returns-in-Ok-require-clause-plays g c = λ m told left.
-    aside_goes (event_in c.args.event.now) m told (g.B.Disk.state c.args.bench.now)
-    (vital_act (event_in c.args.event.now) c.in-Vital.name m (ap event_in c.in-Vital.is))
+    rw c.in-Vital.is (aside_goes (Vital c.in-Vital.name) m told (g.B.Disk.state c.args.bench.now) refl)
 
 pub returns-in-Err-require-clause-plays : goal.returns-in-Err-require-clause-plays
 returns-in-Err-require-clause-plays g c =
     λ m told left. aside_breaks (event_in c.args.event.now) m told (g.B.Disk.state c.args.bench.now) left
 
 pub returns-in-ArmCut-clause-plays : goal.returns-in-ArmCut-clause-plays
-returns-in-ArmCut-clause-plays g c = λ m told left.
-    let d = g.B.Disk.state c.args.bench.now in
-    let e = g.B.Disk.state c.arm_cut.new.bench in
-    let P : Event → Type 0 = λ v. PlaysOr (aside_act v m) told told d e c.arm_cut.result
-    (λ u a. a ≡ done (record m { machine = aside_machine v m.machine })) in
-    subst P (sym (ap event_in c.in-ArmCut.is)) (c.arm_cut.ensures.plays m told left)
+returns-in-ArmCut-clause-plays g c = λ m told left. rw c.in-ArmCut.is (c.arm_cut.ensures.plays m told left)
 
 pub returns-in-ArmFault-clause-plays : goal.returns-in-ArmFault-clause-plays
-returns-in-ArmFault-clause-plays g c = λ m told left.
-    let d = g.B.Disk.state c.args.bench.now in
-    let e = g.B.Disk.state c.arm_fault.new.bench in
-    let P : Event → Type 0 = λ v. PlaysOr (aside_act v m) told told d e c.arm_fault.result
-    (λ u a. a ≡ done (record m { machine = aside_machine v m.machine })) in
-    subst P (sym (ap event_in c.in-ArmFault.is)) (c.arm_fault.ensures.plays m told left)
+returns-in-ArmFault-clause-plays g c = λ m told left. rw c.in-ArmFault.is (c.arm_fault.ensures.plays m told left)
 
 pub returns-in_default : goal.returns-in_default
 returns-in_default g c =

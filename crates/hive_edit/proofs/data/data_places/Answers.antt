@@ -1,27 +1,20 @@
-use Rattle.std.proofs.Common.{sym, ◌∙◌, arith}
+use Rattle.std.proofs.Common.{◌≤◌, ◌+◌, length, sym, ◌∙◌, arith}
+use Rattle.nt_bytes.specs.Fields.{u16_in}
 use Rattle.hive_cells.specs.Sources.{cells_of}
-use Rattle.hive_edit.proofs.ItemLemmas.{value_is_there, value_long}
+use Rattle.hive_edit.proofs.ItemLemmas.{item_long}
 use Rattle.hive_edit.proofs.DataLemmas.{places_by, big_at}
 use Rattle.hive_edit.proofs.data.data_places.Goals as goal
+use Rattle.hive_edit.proofs.data.data_places.Goals.{After-payload-value}
 use Rattle.std.proofs.lemmas.Result.{IfOk-weaker}
 
+long : (c : After-payload-value) → 20 + u16_in c.payload-value.result.now 2 ≤ length c.payload-value.result.now
+long c = item_long (cells_of c.args.cells.now) c.args.at c.payload-value.result.now c.requires c.payload-value.ensures
+
 pub u32_at-size-requires : goal.u32_at-size-requires
-u32_at-size-requires c =
-    let p = c.payload-value.result.now in
-    omega (
-      arith,
-      value_long p
-          (value_is_there (cells_of c.args.cells.now) c.args.at p c.requires c.payload-value.ensures),
-    )
+u32_at-size-requires c = omega (arith, long (goal.at.u32_at-size-requires c).After-payload-value)
 
 pub u32_at-place-requires : goal.u32_at-place-requires
-u32_at-place-requires c =
-    let p = c.payload-value.result.now in
-    omega (
-      arith,
-      value_long p
-          (value_is_there (cells_of c.args.cells.now) c.args.at p c.requires c.payload-value.ensures),
-    )
+u32_at-place-requires c = omega (arith, long (goal.at.u32_at-place-requires c).After-payload-value)
 
 pub places_of-requires : goal.places_of-requires
 places_of-requires c =

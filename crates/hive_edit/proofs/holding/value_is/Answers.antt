@@ -1,24 +1,23 @@
-use Rattle.std.proofs.Common.{arith}
+use Rattle.std.proofs.Common.{◌≤◌, ◌+◌, length, arith}
 use Rattle.std.proofs.lemmas.Result.{IfOk-weaker}
+use Rattle.nt_bytes.specs.Fields.{u16_in}
 use Rattle.hive_cells.specs.Sources.{cells_of}
-use Rattle.hive_edit.proofs.ItemLemmas.{value_is_there, value_long}
+use Rattle.hive_edit.proofs.ItemLemmas.{item_long}
 use Rattle.hive_edit.proofs.HoldingLemmas.{other_kind, this_kind, has_data, size_fits}
 use Rattle.hive_edit.proofs.holding.value_is.Goals as goal
+use Rattle.hive_edit.proofs.holding.value_is.Goals.{After-payload-value}
+
+long : (c : After-payload-value) → 20 + u16_in c.payload-value.result.now 2 ≤ length c.payload-value.result.now
+long c = item_long (cells_of c.args.cells.now) c.args.at c.payload-value.result.now c.requires c.payload-value.ensures
 
 pub u32_at-own-requires : goal.u32_at-own-requires
-u32_at-own-requires c =
-    let p = c.payload-value.result.now in
-    omega (arith, value_long p (value_is_there (cells_of c.args.cells.now) c.args.at p c.requires c.payload-value.ensures))
+u32_at-own-requires c = omega (arith, long (goal.at.u32_at-own-requires c).After-payload-value)
 
 pub u32_at-size-requires : goal.u32_at-size-requires
-u32_at-size-requires c =
-    let p = c.payload-value.result.now in
-    omega (arith, value_long p (value_is_there (cells_of c.args.cells.now) c.args.at p c.requires c.payload-value.ensures))
+u32_at-size-requires c = omega (arith, long (goal.at.u32_at-size-requires c).After-payload-value)
 
 pub u32_at-place-requires : goal.u32_at-place-requires
-u32_at-place-requires c =
-    let p = c.payload-value.result.now in
-    omega (arith, value_long p (value_is_there (cells_of c.args.cells.now) c.args.at p c.requires c.payload-value.ensures))
+u32_at-place-requires c = omega (arith, long (goal.at.u32_at-place-requires c).After-payload-value)
 
 pub returns-then-own-kind : goal.returns-then-own-kind
 returns-then-own-kind c =

@@ -1,17 +1,13 @@
 use Rattle.std.proofs.Common.{arith}
 use Rattle.hive_cells.specs.Sources.{cells_of}
-use Rattle.hive_edit.proofs.ItemLemmas.{value_is_there, value_long}
+use Rattle.hive_edit.proofs.ItemLemmas.{item_long}
 use Rattle.hive_edit.proofs.SetLemmas.{in_place_inside, none_inside, not_inside}
 use Rattle.hive_edit.proofs.values.if_inside.Goals as goal
 
 pub u32_at-size-requires : goal.u32_at-size-requires
 u32_at-size-requires c =
     let p = c.payload-value.result.now in
-    omega (
-      arith,
-      value_long p
-          (value_is_there (cells_of c.args.cells.now) c.args.at p c.requires c.payload-value.ensures),
-    )
+    omega (arith, item_long (cells_of c.args.cells.now) c.args.at p c.requires c.payload-value.ensures)
 
 pub returns-then-size-ge2147483648 : goal.returns-then-size-ge2147483648
 returns-then-size-ge2147483648 c =

@@ -1,15 +1,13 @@
 use Rattle.std.proofs.Common.{◌≤◌, ◌+◌, length, sym, arith}
 use Rattle.nt_bytes.specs.Fields.{u16_in}
 use Rattle.hive_cells.specs.Sources.{cells_of}
-use Rattle.hive_edit.proofs.ItemLemmas.{value_is_there, value_long, no_number_kind, number_inside, number_long, number_outside, no_number_size}
+use Rattle.hive_edit.proofs.ItemLemmas.{item_long, no_number_kind, number_inside, number_long, number_outside, no_number_size}
 use Rattle.hive_edit.proofs.values.number_at.Goals as goal
 use Rattle.hive_edit.proofs.values.number_at.Goals.{After-payload-value}
 
 -- the payload is long enough
 long : (c : After-payload-value) → 20 + u16_in c.payload-value.result.now 2 ≤ length c.payload-value.result.now
-long c =
-    value_long c.payload-value.result.now
-    (value_is_there (cells_of c.args.cells.now) c.args.at c.payload-value.result.now c.requires c.payload-value.ensures)
+long c = item_long (cells_of c.args.cells.now) c.args.at c.payload-value.result.now c.requires c.payload-value.ensures
 
 pub u32_at-kind-requires : goal.u32_at-kind-requires
 u32_at-kind-requires c = omega (arith, long (goal.at.u32_at-kind-requires c).After-payload-value)

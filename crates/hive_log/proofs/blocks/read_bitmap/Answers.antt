@@ -1,10 +1,9 @@
 use Rattle.std.proofs.Common.{◌≡◌, ◌-◌, true, Ok, List, ℕ, ◌∙◌, ap}
-use Rattle.std.proofs.lemmas.Result.{err_from_is_err_and}
 use Rattle.hive_model.specs.Asked.{log_at, one_by_one, run_at}
 use Rattle.hive_model.specs.Image.{Image, Log, Address}
 use Rattle.hive_model.specs.Recovery.{front_in, bitmap_sectors}
 use Rattle.hive_log.specs.Asked.{AsksFirst, asked_sector, asked_bitmap}
-use Rattle.hive_log.proofs.AskedParts.{asks_behind, asks_as, asks_kept, asks_unkept, asks_cut}
+use Rattle.hive_log.proofs.AskedParts.{asks_behind, asks_as, asks_kept, asks_unkept, asks_cut, asks_passed}
 use Rattle.hive_log.proofs.blocks.read_bitmap.Given.{Over}
 use Rattle.hive_log.proofs.blocks.read_bitmap.Goals as goal
 use Rattle.hive_log.proofs.blocks.read_bitmap.Goals.{After-read_log_run, In_ok-more}
@@ -34,24 +33,19 @@ bitmap_read g c =
 
 pub returns-in_err-text-clause-asked : goal.returns-in_err-text-clause-asked
 returns-in_err-text-clause-asked g c =
-    let h = (g.D.Disk.state c.args.disk.now).held in
-    let p = err_from_is_err_and c.from_residual.result c.from_residual.ensures.1 in
-    rw (p.1, p.2) (asks_cut c.in_err-text.ensures.asked (List ℕ)
-    (one_by_one h (run_at Log 2 (bitmap_sectors c.args.size - 1))))
+    asks_passed c.from_residual.ensures.1 (asks_cut c.in_err-text.ensures.asked (List ℕ)
+    (one_by_one (g.D.Disk.state c.args.disk.now).held (run_at Log 2 (bitmap_sectors c.args.size - 1))))
 
 pub returns-in_err-more-clause-asked : goal.returns-in_err-more-clause-asked
 returns-in_err-more-clause-asked g c =
-    let p = err_from_is_err_and c.from_residual-in_err-more.result c.from_residual-in_err-more.ensures.1 in
-    rw (p.1, p.2)
+    asks_passed c.from_residual-in_err-more.ensures.1
     (asks_as (asks_behind {second = one_by_one (g.D.Disk.state c.read_bitmap_front.new.disk).held
-    (run_at Log 2 (c.bitmap_sectors.result - 1))} c.in_ok-text.ensures.asked c.in_err-more.ensures.asked)
-    (asked_bitmap (g.D.Disk.state c.args.disk.now).held c.args.size)
+    (run_at Log 2 (c.bitmap_sectors.result - 1))} c.in_ok-text.ensures.asked c.in_err-more.ensures.asked) _
     (rest_follows g (goal.at.returns-in_err-more-clause-asked g c).After-read_log_run))
 
 pub returns-in_err-append-clause-asked : goal.returns-in_err-append-clause-asked
 returns-in_err-append-clause-asked g c =
-    let p = err_from_is_err_and c.from_residual-in_err-append.result c.from_residual-in_err-append.ensures.1 in
-    rw (p.1, p.2)
+    asks_passed c.from_residual-in_err-append.ensures.1
     (asks_unkept (bitmap_read g (goal.at.returns-in_err-append-clause-asked g c).In_ok-more) (List ℕ))
 
 pub returns-clause-asked : goal.returns-clause-asked

@@ -1,15 +1,19 @@
-use Rattle.std.proofs.Common.{Ok, Err, List, ℕ, Result, sym, ◌∙◌, ap}
-use Rattle.std.proofs.lemmas.Result.{err_from_is_err_and}
+use Rattle.std.proofs.Common.{◌≡◌, true, Ok, Err, List, ℕ, Result, sym, ◌∙◌, ap}
 use Rattle.nt_bytes.specs.declared.fault.HiveFault.{HiveFault}
 use Rattle.nt_bytes.specs.declared.fault.HiveFaultKind.TheVariants.{LogAbsent, LogUnreadable}
 use Rattle.hive_model.specs.Asked.{log_at}
 use Rattle.hive_model.specs.Base.{Base, base_of, fault_at}
 use Rattle.hive_model.specs.Recovery.{logged_in, as_log_base, bytes_or}
 use Rattle.hive_log.specs.declared.stops.LoadStop.TheVariants as load
-use Rattle.hive_log.proofs.AskedParts.{asks_sector}
+use Rattle.hive_log.specs.declared.stops.LoadStop.{LoadStop}
+use Rattle.hive_log.specs.Asked.{asked_sector, AsksFirst}
+use Rattle.hive_log.specs.Stops.{Reads}
+use Rattle.hive_log.proofs.AskedParts.{asks_sector, asks_passed}
 use Rattle.hive_log.proofs.SoFar.{fault_on}
 use Rattle.hive_model.proofs.BaseLemmas.{base_checked, log_base_back}
+use Rattle.hive_log.proofs.blocks.read_log_block.Given.{Over}
 use Rattle.hive_log.proofs.blocks.read_log_block.Goals as goal
+use Rattle.hive_log.proofs.blocks.read_log_block.Goals.{After-read_sector, After-read_logged}
 use Rattle.hive_model.specs.Forms.{◌>>=◌}
 
 -- the base block of the sector
@@ -22,32 +26,36 @@ returns-clause-sized g c =
     (log_base_back (base_of c.read_sector.new.into 1) _
     (sym c.read_logged.ensures ∙ c.in_ok-read_logged.was))).size_is
 
+-- the sector is read, and what it is read as decides how the look goes on
+asks : (g : Over) (c : After-read_sector g) (result : Result Base LoadStop)
+    → (g.D.Disk.tells ≡ true → Reads result (logged_in (g.D.Disk.state c.args.disk.now).held))
+    → AsksFirst (g.D.Disk.calls c.args.disk.now) (g.D.Disk.calls c.read_sector.new.disk) g.D.Disk.tells
+    (asked_sector (log_at 0) (logged_in (g.D.Disk.state c.args.disk.now).held)) result
+asks g c result reads =
+    asks_sector _ _ _ (log_at 0) (logged_in (g.D.Disk.state c.args.disk.now).held) result c.read_sector.ensures.made reads
+
+block_read : (g : Over) (c : After-read_logged g) → g.D.Disk.tells ≡ true
+    → logged_in (g.D.Disk.state c.args.disk.now).held ≡ c.read_logged.result
+block_read g c tells = ap block_of (c.in_ok-read_sector.ensures.bytes tells) ∙ sym c.read_logged.ensures
+
 pub returns-in_err-read_sector-clause-asked : goal.returns-in_err-read_sector-clause-asked
 returns-in_err-read_sector-clause-asked g c =
-    let h = (g.D.Disk.state c.args.disk.now).held in
     let e = c.in_err-read_sector.field-0.0 in
-    let p = err_from_is_err_and c.from_residual.result c.from_residual.ensures.1 in
-    rw (p.1, p.2)
-    (asks_sector (g.D.Disk.calls c.args.disk.now) (g.D.Disk.calls c.read_sector.new.disk) g.D.Disk.tells (log_at 0)
-    (logged_in h) (Err e) c.read_sector.ensures.made
-    (λ tells. fault_on e (bytes_or (fault_at LogAbsent 0) (fault_at LogUnreadable 0) (h (log_at 0))) (logged_in h)
-    (λ f is. ap block_of is) (c.in_err-read_sector.ensures.bytes tells)))
+    asks_passed c.from_residual.ensures.1
+    (asks g (goal.at.returns-in_err-read_sector-clause-asked g c).After-read_sector (Err e)
+    (λ tells. fault_on e (bytes_or (fault_at LogAbsent 0) (fault_at LogUnreadable 0)
+    ((g.D.Disk.state c.args.disk.now).held (log_at 0))) _ (λ f is. ap block_of is)
+    (c.in_err-read_sector.ensures.bytes tells)))
 
 pub returns-in_err-read_logged-clause-asked : goal.returns-in_err-read_logged-clause-asked
 returns-in_err-read_logged-clause-asked g c =
-    let h = (g.D.Disk.state c.args.disk.now).held in
-    let p = err_from_is_err_and c.from_residual-in_err-read_logged.result
-    c.from_residual-in_err-read_logged.ensures.1 in
-    rw (p.1, p.2)
-    (asks_sector (g.D.Disk.calls c.args.disk.now) (g.D.Disk.calls c.read_sector.new.disk) g.D.Disk.tells (log_at 0)
-    (logged_in h) (Err (load.Fault c.in_err-read_logged.field-0.0)) c.read_sector.ensures.made
-    (λ tells. ap block_of (c.in_ok-read_sector.ensures.bytes tells) ∙ sym c.read_logged.ensures
+    asks_passed c.from_residual-in_err-read_logged.ensures.1
+    (asks g (goal.at.returns-in_err-read_logged-clause-asked g c).After-read_sector
+    (Err (load.Fault c.in_err-read_logged.field-0.0))
+    (λ tells. block_read g (goal.at.returns-in_err-read_logged-clause-asked g c).After-read_logged tells
     ∙ c.in_err-read_logged.was))
 
 pub returns-clause-asked : goal.returns-clause-asked
 returns-clause-asked g c =
-    let h = (g.D.Disk.state c.args.disk.now).held in
-    asks_sector (g.D.Disk.calls c.args.disk.now) (g.D.Disk.calls c.read_sector.new.disk) g.D.Disk.tells (log_at 0)
-    (logged_in h) (Ok c.in_ok-read_logged.field-0) c.read_sector.ensures.made
-    (λ tells. ap block_of (c.in_ok-read_sector.ensures.bytes tells) ∙ sym c.read_logged.ensures
-    ∙ c.in_ok-read_logged.was)
+    asks g (goal.at.returns-clause-asked g c).After-read_sector (Ok c.in_ok-read_logged.field-0)
+    (λ tells. block_read g (goal.at.returns-clause-asked g c).After-read_logged tells ∙ c.in_ok-read_logged.was)

@@ -1,19 +1,20 @@
-use Rattle.std.proofs.Common.{◌≡◌, ◌+◌, ◌++◌, ◌∷◌, ◌<◌, ℕ, true, false, List, length, Ok, sym, ◌∙◌, ap, subst, arith, length-append}
+use Rattle.std.proofs.Common.{◌≡◌, ◌++◌, ◌∷◌, ℕ, true, false, List, Ok, sym, ◌∙◌, ap, subst, arith}
 use Rattle.std.proofs.lemmas.Result.{err_from_is_err_and}
 use Rattle.nt_bytes.specs.declared.fault.HiveFaultKind.TheVariants.{Size, Unreadable}
 use Rattle.hive_model.specs.Asked.{bin_at, unmarked_at, one_by_one}
 use Rattle.hive_model.specs.Base.{fault_at}
 use Rattle.hive_model.specs.Image.{Address, Image}
-use Rattle.hive_model.specs.Recovery.{Sectors, read_bin, gathered, bit, rank, sector}
+use Rattle.hive_model.specs.Recovery.{read_bin, bit, rank, sector}
 use Rattle.nt_edge.proofs.Leaving.{leaves_then}
 use Rattle.hive_log.specs.Asked.{AsksFirst}
 use Rattle.hive_log.specs.Mixing.{mixed}
 use Rattle.hive_log.specs.Stops.{IsFaultOf}
 use Rattle.hive_log.proofs.Asking.{AsksSoFar, asks_all, asks_held, asks_more, asks_refused, asks_unheld, readable, unmarked_rest, unmarked_split, marked_split, unmarked_more, marked_more}
+use Rattle.hive_log.proofs.AskedParts.{asks_passed}
 use Rattle.hive_log.proofs.Looked.{mixed_off, mixed_on}
 use Rattle.hive_log.proofs.Ranks.{rank_on, rank_off, rank_below}
 use Rattle.hive_log.proofs.Looks.{look_ok, look_on}
-use Rattle.hive_log.proofs.SoFar.{read_more, read_fault, fault_on}
+use Rattle.hive_log.proofs.SoFar.{longer, read_more, read_fault, fault_on}
 use Rattle.hive_log.proofs.gathering.read_bins.Given.{Over}
 use Rattle.hive_log.proofs.gathering.read_bins.Goals as goal
 use Rattle.hive_log.proofs.gathering.read_bins.Goals.{Then-has_bit, Else-has_bit}
@@ -33,9 +34,7 @@ splits g c = unmarked_split (bit c.args.bitmap.now) c.loop-i.i c.args.count c.lo
 
 pub sector_of-requires : goal.sector_of-requires
 sector_of-requires g c =
-    let bits = bit c.args.bitmap.now in
-    let below : rank bits c.loop-i.i < rank bits c.args.count =
-    rank_below bits c.args.count c.loop-i.i c.loop-i-test.true
+    let below = rank_below (bit c.args.bitmap.now) c.args.count c.loop-i.i c.loop-i-test.true
     (bit_on g (goal.at.sector_of-requires g c).Then-has_bit) in
     omega (arith, below, c.loop-i.invariant.place, c.requires.run_long)
 
@@ -52,13 +51,7 @@ loop-i-preserved-then-has_bit g c =
     record {
       on = c.loop-i.invariant.on;
       look = c.loop-i.invariant.look;
-      long = ap length appended
-          ∙ omega (
-            arith,
-            length-append c.loop-i.bytes c.sector_of.result.now,
-            c.sector_of.ensures.long,
-            c.loop-i.invariant.long,
-          );
+      long = longer c.loop-i.bytes _ _ c.loop-i.i appended c.loop-i.invariant.long c.sector_of.ensures.long;
       place = omega (arith, more, c.loop-i.invariant.place);
       small = omega (arith, c.loop-i.invariant.small);
       read = λ tells.
@@ -83,8 +76,7 @@ loop-i-preserved g c =
     record {
       on = look_on c.in_ok-read_bin_sector.ensures.look;
       look = leaves_then c.loop-i.invariant.look (look_ok c.in_ok-read_bin_sector.ensures.look);
-      long = ap length appended
-          ∙ omega (arith, length-append c.loop-i.bytes bytes, c.read_bin_sector.array_long, c.loop-i.invariant.long);
+      long = longer c.loop-i.bytes bytes _ i appended c.loop-i.invariant.long c.read_bin_sector.array_long;
       place = c.loop-i.invariant.place ∙ sym (rank_off bits i off);
       small = omega (arith, c.loop-i.invariant.small);
       read = λ tells.
@@ -100,33 +92,29 @@ pub returns-in_err-read_bin_sector-clause-bins : goal.returns-in_err-read_bin_se
 returns-in_err-read_bin_sector-clause-bins g c = λ tells.
     let h = (g.D.Disk.state c.args.disk.now).held in
     let i = c.loop-i.i in
-    let at : Sectors = mixed h c.args.run.now (bit c.args.bitmap.now) in
     let p = err_from_is_err_and c.from_residual-in_err-read_bin_sector.result
     c.from_residual-in_err-read_bin_sector.ensures.1 in
     rw (p.1, p.2)
-    (fault_on c.in_err-read_bin_sector.field-0.0 _ (gathered at 0 c.args.count)
-    (λ f is. read_fault at c.args.count c.loop-i.bytes i c.loop-i-test.true (c.loop-i.invariant.read tells) f
-    (mixed_off h c.args.run.now (bit c.args.bitmap.now) i
+    (fault_on c.in_err-read_bin_sector.field-0.0 _ _
+    (λ f is. read_fault (mixed h c.args.run.now (bit c.args.bitmap.now)) c.args.count c.loop-i.bytes i c.loop-i-test.true
+    (c.loop-i.invariant.read tells) f (mixed_off h c.args.run.now (bit c.args.bitmap.now) i
     (bit_off g (goal.at.returns-in_err-read_bin_sector-clause-bins g c).Else-has_bit)
     ∙ ap (λ (m : Image). read_bin m i) (sym (c.loop-i.invariant.look.held tells)) ∙ is))
     (c.in_err-read_bin_sector.ensures.bytes tells))
 
 pub returns-in_err-append-clause-asked : goal.returns-in_err-append-clause-asked
 returns-in_err-append-clause-asked g c =
-    let p = err_from_is_err_and c.from_residual.result c.from_residual.ensures.1 in
-    rw (p.1, p.2)
-    (asks_held {T = List ℕ} c.loop-i.invariant.asked _ (unmarked_rest (bit c.args.bitmap.now) c.loop-i.i c.args.count)
+    asks_passed c.from_residual.ensures.1
+    (asks_held {T = List ℕ} c.loop-i.invariant.asked _ _
     (marked_split (bit c.args.bitmap.now) c.loop-i.i c.args.count c.loop-i-test.true
     (bit_on g (goal.at.returns-in_err-append-clause-asked g c).Then-has_bit)))
 
 pub returns-in_err-read_bin_sector-clause-asked : goal.returns-in_err-read_bin_sector-clause-asked
 returns-in_err-read_bin_sector-clause-asked g c =
     let e = c.in_err-read_bin_sector.field-0.0 in
-    let p = err_from_is_err_and c.from_residual-in_err-read_bin_sector.result
-    c.from_residual-in_err-read_bin_sector.ensures.1 in
-    rw (p.1, p.2)
+    asks_passed c.from_residual-in_err-read_bin_sector.ensures.1
     (asks_refused c.loop-i.invariant.asked (bin_at c.loop-i.i) (g.D.Disk.calls c.read_bin_sector.new.disk)
-    c.read_bin_sector.ensures.made _ (unmarked_rest (bit c.args.bitmap.now) c.loop-i.i c.args.count)
+    c.read_bin_sector.ensures.made _ _
     (splits g (goal.at.returns-in_err-read_bin_sector-clause-asked g c).Else-has_bit) (List ℕ) e (fault_at Size 40)
     (fault_at Unreadable _)
     (λ tells. subst (λ (m : Image). IsFaultOf e (read_bin m c.loop-i.i)) (c.loop-i.invariant.look.held tells)
@@ -134,11 +122,9 @@ returns-in_err-read_bin_sector-clause-asked g c =
 
 pub returns-in_err-append-2-clause-asked : goal.returns-in_err-append-2-clause-asked
 returns-in_err-append-2-clause-asked g c =
-    let p = err_from_is_err_and c.from_residual-in_err-append-2.result c.from_residual-in_err-append-2.ensures.1 in
-    rw (p.1, p.2)
+    asks_passed c.from_residual-in_err-append-2.ensures.1
     (asks_unheld c.loop-i.invariant.asked (bin_at c.loop-i.i) (g.D.Disk.calls c.read_bin_sector.new.disk)
-    c.read_bin_sector.ensures.made _ (unmarked_rest (bit c.args.bitmap.now) c.loop-i.i c.args.count)
-    (splits g (goal.at.returns-in_err-append-2-clause-asked g c).Else-has_bit) (List ℕ))
+    c.read_bin_sector.ensures.made _ _ (splits g (goal.at.returns-in_err-append-2-clause-asked g c).Else-has_bit) (List ℕ))
 
 pub returns-clause-asked : goal.returns-clause-asked
 returns-clause-asked g c =

@@ -34,17 +34,13 @@ returns-clause-bins g c = λ tells.
 pub returns-clause-asked : goal.returns-clause-asked
 returns-clause-asked g c =
     let h = (g.D.Disk.state c.args.disk.now).held in
-    let h1 = (g.D.Disk.state c.read_log_run.new.disk).held in
-    let bits = bit c.args.bitmap.now in
-    let size = c.args.size in
-    let count = size / 512 in
     let run_part : ℕ → ℕ → List Address → List Address = λ first n. one_by_one h (run_at Log first n) in
-    let bins_part : Image → List Address → List Address = λ i. one_by_one i (unmarked_at bits count) in
-    let part : List Address → List Address =
-    λ more. run_part c.first_dirty.result c.count_bits-marked.result (bins_part h1 more) in
-    asks_as {part = part} (asks_behind {first = run_part c.first_dirty.result c.count_bits-marked.result}
-    {second = bins_part h1} c.in_ok-run.ensures.asked c.read_bins.ensures.asked) (asked_by_bits h size bits)
+    let bins_part : Image → List Address → List Address =
+    λ i. one_by_one i (unmarked_at (bit c.args.bitmap.now) (c.args.size / 512)) in
+    asks_as (asks_behind {first = run_part c.first_dirty.result c.count_bits-marked.result}
+    {second = bins_part (g.D.Disk.state c.read_log_run.new.disk).held} c.in_ok-run.ensures.asked
+    c.read_bins.ensures.asked) (asked_by_bits h c.args.size (bit c.args.bitmap.now))
     (λ tells more. ap (λ (i : Image). run_part c.first_dirty.result c.count_bits-marked.result (bins_part i more))
     (c.read_log_run.ensures.look.held tells)
     ∙ ap (λ n. run_part n c.count_bits-marked.result (bins_part h more)) c.first_dirty.ensures.value
-    ∙ ap (λ n. run_part (first_dirty size) n (bins_part h more)) c.count_bits-marked.ensures.count)
+    ∙ ap (λ n. run_part (first_dirty c.args.size) n (bins_part h more)) c.count_bits-marked.ensures.count)

@@ -3,8 +3,7 @@ use Rattle.std.proofs.lemmas.Result.{err_from_is_err_and}
 use Rattle.hive_model.specs.Asked.{one_by_one, run_at, unmarked_at}
 use Rattle.hive_model.specs.Base.{Base}
 use Rattle.hive_model.specs.Image.{Address, Primary}
-use Rattle.hive_model.specs.Recovery.{bit, gathered, recovered_of}
-use Rattle.hive_log.specs.declared.looking.Reading.{Reading}
+use Rattle.hive_model.specs.Recovery.{bit, gathered}
 use Rattle.hive_log.proofs.AskedParts.{asks_in_whole, asks_no_more}
 use Rattle.hive_log.proofs.AskedWhole.{none_marked}
 use Rattle.hive_log.specs.Mixing.{mixed}
@@ -17,6 +16,10 @@ use Rattle.hive_log.proofs.looking.read_clean.Goals.{After-read_bins}
 -- the sectors are as many as the base block says
 count : (g : Over) (c : After-read_bins g) → c.base.inside.size / 512 ≡ c.args.base.size / 512
 count g c = ap (λ (b : Base). b.size / 512) c.base.view_is
+
+sectors : (g : Over) (c : After-read_bins g) → let plain = mixed (g.D.Disk.state c.args.disk.now).held [] (bit []) in
+    gathered plain 0 (c.args.base.size / 512) ≡ gathered plain 0 (c.base.inside.size / 512)
+sectors g c = ap (gathered (mixed (g.D.Disk.state c.args.disk.now).held [] (bit [])) 0) (sym (count g c))
 
 -- so they are all that is asked for
 asked_all : (g : Over) (c : After-read_bins g) → g.D.Disk.tells ≡ true
@@ -33,21 +36,17 @@ read_bins-requires-clause-run_long g c = no_run (c.base.inside.size / 512)
 
 pub returns-in_err-bins-clause-exact : goal.returns-in_err-bins-clause-exact
 returns-in_err-bins-clause-exact g c = λ tells.
-    let h = (g.D.Disk.state c.args.disk.now).held in
     let p = err_from_is_err_and c.from_residual.result c.from_residual.ensures.1 in
     rw (p.1, p.2)
-    (fault_on c.in_err-bins.field-0.0 _ (recovered_of h)
-    (λ f is. clean_fault h c.args.base (c.requires.block tells) c.requires.clean f
-    (ap (gathered (mixed h [] (bit [])) 0)
-    (sym (count g (goal.at.returns-in_err-bins-clause-exact g c).After-read_bins)) ∙ is))
+    (fault_on c.in_err-bins.field-0.0 _ _
+    (λ f is. clean_fault (g.D.Disk.state c.args.disk.now).held c.args.base (c.requires.block tells) c.requires.clean f
+    (sectors g (goal.at.returns-in_err-bins-clause-exact g c).After-read_bins ∙ is))
     (c.in_err-bins.ensures.bins tells))
 
 pub returns-clause-exact : goal.returns-clause-exact
 returns-clause-exact g c = λ tells.
-    let h = (g.D.Disk.state c.args.disk.now).held in
-    clean_ok h c.args.base (c.requires.block tells) c.requires.clean c.in_ok-bins.bins
-    (ap (gathered (mixed h [] (bit [])) 0) (sym (count g (goal.at.returns-clause-exact g c).After-read_bins))
-    ∙ c.in_ok-bins.ensures.bins tells)
+    clean_ok (g.D.Disk.state c.args.disk.now).held c.args.base (c.requires.block tells) c.requires.clean
+    c.in_ok-bins.bins (sectors g (goal.at.returns-clause-exact g c).After-read_bins ∙ c.in_ok-bins.ensures.bins tells)
 
 pub returns-clause-carries : goal.returns-clause-carries
 returns-clause-carries g c = λ tells.
@@ -59,9 +58,8 @@ returns-clause-carries g c = λ tells.
 
 pub returns-in_err-bins-clause-asked : goal.returns-in_err-bins-clause-asked
 returns-in_err-bins-clause-asked g c =
-    let p = err_from_is_err_and c.from_residual.result c.from_residual.ensures.1 in
-    rw (p.1, p.2) (asks_no_more c.in_err-bins.ensures.asked Reading [] _
-    (asked_all g (goal.at.returns-in_err-bins-clause-asked g c).After-read_bins))
+    asks_no_more c.in_err-bins.ensures.asked c.from_residual.result c.from_residual.ensures.1 [] _
+    (asked_all g (goal.at.returns-in_err-bins-clause-asked g c).After-read_bins)
 
 pub returns-clause-asked : goal.returns-clause-asked
 returns-clause-asked g c = asks_in_whole c.in_ok-bins.ensures.asked _

@@ -3,12 +3,11 @@ use Rattle.std.proofs.lemmas.Result.{err_from_is_err_and}
 use Rattle.hive_model.specs.Asked.{asked_log}
 use Rattle.hive_model.specs.Base.{Base}
 use Rattle.hive_model.specs.Image.{Image}
-use Rattle.hive_model.specs.Recovery.{bit, by_log, recovered_of}
-use Rattle.hive_log.specs.declared.looking.Reading.{Reading}
+use Rattle.hive_model.specs.Recovery.{bit}
 use Rattle.hive_log.specs.Asked.{asked_log_bits, asked_by_bits}
 use Rattle.hive_log.specs.Found.{bins_by}
 use Rattle.hive_log.proofs.AskedParts.{asks_behind, asks_in_whole, asks_no_more}
-use Rattle.hive_log.proofs.AskedWhole.{behind_bits, log_asked, all_asked}
+use Rattle.hive_log.proofs.AskedWhole.{log_asked, all_asked}
 use Rattle.hive_log.proofs.Looked.{fault_of_log, no_bins, dirty_ok}
 use Rattle.hive_log.proofs.SoFar.{fault_on}
 use Rattle.hive_log.proofs.looking.read_dirty.Given.{Over}
@@ -44,40 +43,34 @@ all_read g c tells =
 
 pub returns-in_err-logged-clause-exact : goal.returns-in_err-logged-clause-exact
 returns-in_err-logged-clause-exact g c = λ tells.
-    let h = (g.D.Disk.state c.args.disk.now).held in
-    let opened = c.args.opened.now in
     let p = err_from_is_err_and c.from_residual.result c.from_residual.ensures.1 in
-    rw (p.1, p.2) (fault_on c.in_err-logged.field-0.0 (by_log h opened) (recovered_of h)
-    (fault_of_log h opened (c.requires.block tells) c.requires.unfinished) (c.in_err-logged.ensures.fault tells))
+    rw (p.1, p.2) (fault_on c.in_err-logged.field-0.0 _ _
+    (fault_of_log (g.D.Disk.state c.args.disk.now).held c.args.opened.now (c.requires.block tells) c.requires.unfinished)
+    (c.in_err-logged.ensures.fault tells))
 
 pub returns-in_err-logged-clause-asked : goal.returns-in_err-logged-clause-asked
 returns-in_err-logged-clause-asked g c =
-    let h = (g.D.Disk.state c.args.disk.now).held in
-    let p = err_from_is_err_and c.from_residual.result c.from_residual.ensures.1 in
-    let opened = c.args.opened.now in
-    rw (p.1, p.2) (asks_no_more c.in_err-logged.ensures.asked Reading (behind_bits h opened) (asked_log h opened)
-    (λ tells. log_asked h opened))
+    asks_no_more c.in_err-logged.ensures.asked c.from_residual.result c.from_residual.ensures.1 _ _
+    (λ tells. log_asked (g.D.Disk.state c.args.disk.now).held c.args.opened.now)
 
 pub returns-in_err-bins-clause-exact : goal.returns-in_err-bins-clause-exact
 returns-in_err-bins-clause-exact g c = λ tells.
-    let h = (g.D.Disk.state c.args.disk.now).held in
     let here = (goal.at.returns-in_err-bins-clause-exact g c).After-read_by_bits in
     let p = err_from_is_err_and c.from_residual-in_err-bins.result c.from_residual-in_err-bins.ensures.1 in
     rw (p.1, p.2)
-    (fault_on c.in_err-bins.field-0.0 _ (recovered_of h)
-    (λ f is. no_bins h c.args.opened.now (c.requires.block tells) c.requires.unfinished c.in_ok-logged.field-0.logged
-    c.in_ok-logged.field-0.bitmap (c.in_ok-logged.ensures.bits tells) f (bins_read g here tells ∙ is))
+    (fault_on c.in_err-bins.field-0.0 _ _
+    (λ f is. no_bins (g.D.Disk.state c.args.disk.now).held c.args.opened.now (c.requires.block tells)
+    c.requires.unfinished c.in_ok-logged.field-0.logged c.in_ok-logged.field-0.bitmap
+    (c.in_ok-logged.ensures.bits tells) f (bins_read g here tells ∙ is))
     (c.in_err-bins.ensures.bins tells))
 
 pub returns-in_err-bins-clause-asked : goal.returns-in_err-bins-clause-asked
 returns-in_err-bins-clause-asked g c =
     let h1 = (g.D.Disk.state c.read_log_bits.new.disk).held in
-    let here = (goal.at.returns-in_err-bins-clause-asked g c).After-read_by_bits in
-    let p = err_from_is_err_and c.from_residual-in_err-bins.result c.from_residual-in_err-bins.ensures.1 in
-    rw (p.1, p.2)
-    (asks_no_more (asks_behind {second = asked_by_bits h1 c.logged.inside.size (bit c.as_slice.result.now)}
-    c.in_ok-logged.ensures.asked c.in_err-bins.ensures.asked) Reading []
-    (asked_log (g.D.Disk.state c.args.disk.now).held c.args.opened.now) (all_read g here))
+    asks_no_more (asks_behind {second = asked_by_bits h1 c.logged.inside.size (bit c.as_slice.result.now)}
+    c.in_ok-logged.ensures.asked c.in_err-bins.ensures.asked)
+    c.from_residual-in_err-bins.result c.from_residual-in_err-bins.ensures.1 [] _
+    (all_read g (goal.at.returns-in_err-bins-clause-asked g c).After-read_by_bits)
 
 pub returns-clause-exact : goal.returns-clause-exact
 returns-clause-exact g c = λ tells.

@@ -8,36 +8,32 @@ use Rattle.hive_pack.proofs.forms.node_form.Goals as goal
 
 pub greatest_child_name-requires : goal.greatest_child_name-requires
 greatest_child_name-requires c =
-    let f = holds_parted c.args.key.now c.requires.valid in
     omega (
       arith,
-      short_names (children c.args.key.now) f.1,
+      short_names (children c.args.key.now) (holds_parted c.args.key.now c.requires.valid).1,
       ap (λ (ks : List Tree). greatest (λ (k : Tree). 2 * length (head k).name) ks) c.subkeys-keys.ensures,
     )
 
 pub greatest_child_class-requires : goal.greatest_child_class-requires
 greatest_child_class-requires c =
-    let f = holds_parted c.args.key.now c.requires.valid in
     omega (
       arith,
-      short_classes (children c.args.key.now) f.1,
+      short_classes (children c.args.key.now) (holds_parted c.args.key.now c.requires.valid).1,
       ap (λ (ks : List Tree). greatest (λ (k : Tree). length (head k).class) ks) c.subkeys-keys.ensures,
     )
 
 pub greatest_value_name-requires : goal.greatest_value_name-requires
 greatest_value_name-requires c =
-    let f = holds_parted c.args.key.now c.requires.valid in
     omega (
       arith,
-      short_value_names (head c.args.key.now).values f.0.items,
+      short_value_names (head c.args.key.now).values (holds_parted c.args.key.now c.requires.valid).0.items,
       ap (λ (vs : List Item). greatest (λ (v : Item). 2 * length v.name) vs) c.items-values.ensures,
     )
 
 pub greatest_value_size-requires : goal.greatest_value_size-requires
 greatest_value_size-requires c =
-    let f = holds_parted c.args.key.now c.requires.valid in
     omega (
       arith,
-      short_data (head c.args.key.now).values f.0.items,
+      short_data (head c.args.key.now).values (holds_parted c.args.key.now c.requires.valid).0.items,
       ap (λ (vs : List Item). greatest (λ (v : Item). length v.bytes) vs) c.items-values.ensures,
     )

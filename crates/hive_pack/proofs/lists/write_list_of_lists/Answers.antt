@@ -1,4 +1,4 @@
-use Rattle.std.proofs.Common.{◌≡◌, ◌+◌, ◌*◌, ◌++◌, List, ℕ, length, sym, ap, ◌∙◌, append_assoc, arith}
+use Rattle.std.proofs.Common.{◌≡◌, ◌≤◌, ◌+◌, ◌/◌, ◌*◌, ◌++◌, List, ℕ, length, sym, ap, ◌∙◌, append_assoc, arith}
 use Rattle.hive_model.specs.Size.{cell, part_count}
 use Rattle.hive_model.specs.Lists.{ri_text}
 use Rattle.hive_model.specs.Packed.{cell_text, text, part_places, parts}
@@ -6,6 +6,18 @@ use Rattle.hive_model.proofs.Spelling.{length_ri}
 use Rattle.hive_pack.proofs.Rows.{length_part_places, many_lists, lists_many}
 use Rattle.reg_tree.proofs.Outcomes.{on_ok}
 use Rattle.hive_pack.proofs.lists.write_list_of_lists.Goals as goal
+use Rattle.hive_pack.proofs.lists.write_list_of_lists.Goals.{After-part_count-count, After-deref}
+
+-- there is room for the list of lists and the full ones of its lists
+room : (c : After-part_count-count)
+    → c.args.at + cell (4 + 4 * c.part_count-count.result) + length c.args.places.now / 500 * 4008 ≤ 16777216
+room c =
+    omega (arith, c.part_count-count.ensures, many_lists (length c.args.places.now) c.requires.many, c.requires.room)
+
+starts_count : (c : After-deref) → length c.deref.result.now ≡ c.part_count-count.result
+starts_count c =
+    ap (λ (x : List ℕ). length x) (c.deref.ensures.value ∙ c.in_ok-starts.ensures)
+    ∙ length_part_places c.part_count-count.result c.first_part.result
 
 pub part_starts-requires : goal.part_starts-requires
 part_starts-requires c =
@@ -13,19 +25,16 @@ part_starts-requires c =
       arith,
       c.first_part.ensures,
       c.part_count-count.ensures,
-      many_lists (length c.args.places.now) c.requires.many,
-      c.requires.room,
+      room (goal.at.part_starts-requires c).After-part_count-count,
     )
 
 pub ri_bytes-requires : goal.ri_bytes-requires
 ri_bytes-requires c =
     omega (
       arith,
-      ap (λ (x : List ℕ). length x) (c.deref.ensures.value ∙ c.in_ok-starts.ensures),
-      length_part_places c.part_count-count.result (c.first_part.result),
+      starts_count (goal.at.ri_bytes-requires c).After-deref,
       c.part_count-count.ensures,
-      many_lists (length c.args.places.now) c.requires.many,
-      c.requires.room,
+      room (goal.at.ri_bytes-requires c).After-part_count-count,
     )
 
 pub put_cell-requires : goal.put_cell-requires
@@ -34,11 +43,8 @@ put_cell-requires c =
       arith,
       ap (λ (x : List ℕ). length x) (c.as_slice.ensures ∙ c.in_ok-list.ensures),
       length_ri c.deref.result.now,
-      ap (λ (x : List ℕ). length x) (c.deref.ensures.value ∙ c.in_ok-starts.ensures),
-      length_part_places c.part_count-count.result (c.first_part.result),
-      c.part_count-count.ensures,
-      many_lists (length c.args.places.now) c.requires.many,
-      c.requires.room,
+      starts_count (goal.at.put_cell-requires c).After-deref,
+      room (goal.at.put_cell-requires c).After-part_count-count,
     )
 
 pub returns : goal.returns

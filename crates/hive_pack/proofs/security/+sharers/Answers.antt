@@ -9,6 +9,7 @@ use Rattle.reg_tree.proofs.Outcomes.{uncons}
 use Rattle.hive_pack.proofs.Written.{weight_parted}
 use Rattle.hive_pack.proofs.Counts.{sharers_parted}
 use Rattle.hive_pack.proofs.security.+sharers.Goals as goal
+use Rattle.hive_pack.proofs.security.+sharers.Goals.{sharers-After-subkeys}
 
 alike : (s d t : List ℕ) → pointwise nat_eq s d ≡ true → d ≡ t → (pointwise nat_eq s t ≡ true) × (s ≡ t)
 alike s d t e q = (ap (λ (x : List ℕ). pointwise nat_eq s x) (sym q) ∙ e, (bytes_eq-Decides s d).0 e ∙ q)
@@ -20,34 +21,27 @@ counted s d t e q =
     sharers_parted s t
     ∙ ap (λ (b : Bool). if b then 1 + sharers_of_all s (trees (children t)) else 0) (alike s d (head t).security e q).0
 
+parts : (t : ℕ) (c : sharers-After-subkeys t)
+    → sharers c.args.security.now c.args.key.now ≡ 1 + sharers_of_all c.args.security.now (trees c.subkeys.result.now)
+parts t c =
+    counted c.args.security.now c.security.result.now c.args.key.now (sym c.if-eq.ensures) c.security.ensures
+    ∙ ap (λ (ts : List Tree). 1 + sharers_of_all c.args.security.now (trees ts)) (sym c.subkeys.ensures)
+
 pub sharers-sharers_of_all-requires : goal.sharers-sharers_of_all-requires
-sharers-sharers_of_all-requires t c =
-    let s = c.args.security.now in (
-      omega (arith, weight_parted c.args.key.now, ap weights c.subkeys.ensures),
-      omega (
-        arith,
-        c.requires,
-        counted s c.security.result.now c.args.key.now (sym c.if-eq.ensures) c.security.ensures,
-        ap (λ (ts : List Tree). sharers_of_all s (trees ts)) c.subkeys.ensures,
-      ),
-    )
+sharers-sharers_of_all-requires t c = (
+  omega (arith, weight_parted c.args.key.now, ap weights c.subkeys.ensures),
+  omega (arith, c.requires, parts t (goal.at.sharers-sharers_of_all-requires t c).After-subkeys),
+)
 
 pub sharers-overflow_add-result : goal.sharers-overflow_add-result
 sharers-overflow_add-result t c =
-    let s = c.args.security.now in
-    omega (
-      arith,
-      c.requires,
-      c.sharers_of_all.ensures,
-      ap (λ (ts : List Tree). sharers_of_all s (trees ts)) c.subkeys.ensures,
-      counted s c.security.result.now c.args.key.now (sym c.if-eq.ensures) c.security.ensures,
-    )
+    let is = parts t (goal.at.sharers-overflow_add-result t c).After-subkeys in
+    omega (arith, c.requires, c.sharers_of_all.ensures, is)
 
 pub sharers-returns-then-eq : goal.sharers-returns-then-eq
 sharers-returns-then-eq t c =
-    let s = c.args.security.now in
-    ap (λ n. 1 + n) (c.sharers_of_all.ensures ∙ ap (λ (ts : List Tree). sharers_of_all s (trees ts)) c.subkeys.ensures)
-    ∙ sym (counted s c.security.result.now c.args.key.now (sym c.if-eq.ensures) c.security.ensures)
+    ap (λ n. 1 + n) c.sharers_of_all.ensures
+    ∙ sym (parts t (goal.at.sharers-returns-then-eq t c).After-subkeys)
 
 pub sharers_of_all-overflow_add-found : goal.sharers_of_all-overflow_add-found
 sharers_of_all-overflow_add-found t c =

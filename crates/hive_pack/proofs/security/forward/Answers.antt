@@ -4,6 +4,7 @@ use Rattle.std.proofs.lemmas.List.Sorted.{searched}
 use Rattle.hive_model.specs.Packed.{first_or, forward}
 use Rattle.hive_pack.proofs.Turning.{behind_none, head_first, weakly, next_is, next_of_last}
 use Rattle.hive_pack.proofs.security.forward.Goals as goal
+use Rattle.hive_pack.proofs.security.forward.Goals.{In-Ok}
 
 none_is : (xs : List ℕ) (at j : ℕ) → 0 < length xs → ((k : ℕ) → k < j → get_or xs k 0 < at)
     → ((k : ℕ) → j ≤ k → k < length xs → at < get_or xs k 0) → get_or xs 0 0 ≡ forward xs at
@@ -14,17 +15,18 @@ none_is xs at j some low high =
     go k lt e (inl l) = omega (arith, low k l, e)
     go k lt e (inr l) = omega (arith, high k l lt, e)
 
+found : (c : In-Ok) → (c.in-Ok.i < length c.args.ring.now) × (get_or c.args.ring.now c.in-Ok.i 0 ≡ c.args.at)
+found c = searched c.args.ring.now c.args.at (Ok c.in-Ok.i) c.in-Ok.ensures.position (weakly c.args.ring.now c.requires)
+
 pub returns-then-i-ring : goal.returns-then-i-ring
 returns-then-i-ring c =
-    let xs = c.args.ring.now in
-    let f = searched xs c.args.at (Ok c.in-Ok.i) c.in-Ok.ensures.position (weakly xs c.requires) in
-    next_is xs c.args.at c.in-Ok.i c.requires f.0 f.1 (omega arith)
+    let f = found (goal.at.returns-then-i-ring c).In-Ok in
+    next_is c.args.ring.now c.args.at c.in-Ok.i c.requires f.0 f.1 (omega arith)
 
 pub returns-else-i-ring : goal.returns-else-i-ring
 returns-else-i-ring c =
-    let xs = c.args.ring.now in
-    let f = searched xs c.args.at (Ok c.in-Ok.i) c.in-Ok.ensures.position (weakly xs c.requires) in
-    next_of_last xs c.args.at c.in-Ok.i c.requires f.0 f.1 (omega arith)
+    let f = found (goal.at.returns-else-i-ring c).In-Ok in
+    next_of_last c.args.ring.now c.args.at c.in-Ok.i c.requires f.0 f.1 (omega arith)
 
 pub returns-in-Err : goal.returns-in-Err
 returns-in-Err c =

@@ -15,12 +15,10 @@ put_cell-requires c =
 
 pub put_cell-requires-2 : goal.put_cell-requires-2
 put_cell-requires-2 c =
-    let k = c.segment_count-count.result in
-    let first = c.args.at + 16 + c.cell_size.result in
     omega (
       arith,
       ap (λ (x : List ℕ). length x) (c.as_slice-2.ensures ∙ c.in_ok-list.ensures),
-      length_segment_list k first,
+      length_segment_list c.segment_count-count.result (c.args.at + 16 + c.cell_size.result),
       c.segment_count-count.ensures,
       c.requires.few,
     )

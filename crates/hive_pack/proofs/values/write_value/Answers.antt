@@ -1,4 +1,4 @@
-use Rattle.std.proofs.Common.{◌++◌, List, ℕ, ap, ◌∙◌, arith}
+use Rattle.std.proofs.Common.{◌≡◌, ◌++◌, List, ℕ, length, ap, ◌∙◌, arith}
 use Rattle.hive_model.specs.KeyValue.{key_value_text}
 use Rattle.hive_model.specs.Size.{data_size}
 use Rattle.hive_model.specs.Packed.{text, cell_text, item_form, data_cells}
@@ -6,6 +6,16 @@ use Rattle.hive_pack.proofs.Rows.{data_few}
 use Rattle.reg_tree.proofs.Outcomes.{on_ok}
 use Rattle.hive_pack.proofs.Written.{data_at, value_written}
 use Rattle.hive_pack.proofs.values.write_value.Goals as goal
+use Rattle.hive_pack.proofs.values.write_value.Goals.{In_ok-put_cell}
+
+-- the value's cell was written
+cell_is : (c : In_ok-put_cell) → c.put_cell.new.out
+    ≡ c.args.out.now ++ cell_text (key_value_text (item_form (length c.args.out.now) c.args.value.now))
+cell_is c =
+    c.in_ok-put_cell.ensures
+    ∙ ap (λ (p : List ℕ). c.args.out.now ++ cell_text p)
+    (c.as_slice.ensures ∙ c.in_ok-cell.ensures
+    ∙ ap key_value_text (c.in_ok-form.ensures ∙ ap (λ n. item_form n c.args.value.now) c.len.ensures))
 
 pub value_form-requires-clause-place : goal.value_form-requires-clause-place
 value_form-requires-clause-place c = omega (arith, c.len.ensures, c.requires.room)
@@ -15,29 +25,18 @@ value_form-requires-clause-bytes c = data_few c.args.version c.args.value.now.by
 
 pub write_data-requires : goal.write_data-requires
 write_data-requires c =
-    let out = c.args.out.now in
-    let v = c.args.value.now in
-    let cell =
-    c.as_slice.ensures ∙ c.in_ok-cell.ensures
-    ∙ ap key_value_text (c.in_ok-form.ensures ∙ ap (λ n. item_form n v) c.len.ensures) in
     omega (
       arith,
       c.len-data.ensures,
-      data_at out c.put_cell.new.out v (c.in_ok-put_cell.ensures ∙ ap (λ (p : List ℕ). out ++ cell_text p) cell),
+      data_at c.args.out.now c.put_cell.new.out c.args.value.now (cell_is (goal.at.write_data-requires c).In_ok-put_cell),
       ap (λ (b : List ℕ). data_size c.args.version b) c.data.ensures,
       c.requires.room,
     )
 
 pub returns : goal.returns
 returns c =
-    let out = c.args.out.now in
-    let v = c.args.value.now in
-    let one = c.put_cell.new.out in
-    let cell =
-    c.as_slice.ensures ∙ c.in_ok-cell.ensures
-    ∙ ap key_value_text (c.in_ok-form.ensures ∙ ap (λ n. item_form n v) c.len.ensures) in
     on_ok c.write_data.result _ _
-    (λ e. value_written c.args.version out one c.write_data.new.out v
-    (c.in_ok-put_cell.ensures ∙ ap (λ (p : List ℕ). out ++ cell_text p) cell)
-    (e ∙ (λ j. one ++ text (data_cells c.args.version (c.len-data.ensures j) (c.data.ensures j)))))
+    (λ e. value_written c.args.version c.args.out.now c.put_cell.new.out c.write_data.new.out c.args.value.now
+    (cell_is (goal.at.returns c).In_ok-put_cell)
+    (e ∙ (λ j. c.put_cell.new.out ++ text (data_cells c.args.version (c.len-data.ensures j) (c.data.ensures j)))))
     c.write_data.ensures

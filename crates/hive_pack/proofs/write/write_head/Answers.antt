@@ -6,10 +6,10 @@ use Rattle.hive_model.specs.Packed.{descriptor_place, cell_text, text, node_of, 
 use Rattle.hive_pack.specs.Writes.{above}
 use Rattle.reg_tree.proofs.Outcomes.{on_ok}
 use Rattle.reg_tree.proofs.Trees.{listed_trees}
-use Rattle.hive_pack.proofs.Written.{size_parted, own_security, class_at, values_at, head_written}
+use Rattle.hive_pack.proofs.Written.{size_parted, class_at, values_at, head_written}
 use Rattle.hive_pack.proofs.Counts.{few_of_all}
 use Rattle.hive_pack.proofs.write.write_head.Goals as goal
-use Rattle.hive_pack.proofs.write.write_head.Goals.{In_ok-write_node, In_ok-write_class}
+use Rattle.hive_pack.proofs.write.write_head.Goals.{In_ok-write_node, In_ok-write_class, In_ok-write_security}
 
 -- the node was written, then the class
 node_is : (c : In_ok-write_node) → let old = c.args.out.now in let t = c.args.key.now in
@@ -32,6 +32,15 @@ security_next : (c : In_ok-write_class)
 security_next c =
     class_at c.args.version (above c.args.up) (head c.args.key.now) (trees (children c.args.key.now)) c.args.out.now
     c.write_node.new.out c.write_class.new.out (node_is (goal.at.In_ok-write_class c).In_ok-write_node) (class_is c)
+
+-- the security cell was written, if the key has its own
+security_is : (c : In_ok-write_security) → let two = c.write_class.new.out in let t = c.args.key.now in
+    c.write_security.new.out ≡ two ++ text (security_cells (above c.args.up) (length two) (head t).security
+    (sharers_of_all (head t).security (trees (children t))))
+security_is c =
+    c.in_ok-write_security.ensures
+    ∙ (λ j. c.write_class.new.out ++ text (security_cells (above c.args.up) (length c.write_class.new.out)
+    (c.security.ensures j) (sharers_of_all (c.security.ensures j) (trees (c.subkeys.ensures j)))))
 
 pub write_security-requires-clause-room : goal.write_security-requires-clause-room
 write_security-requires-clause-room c =
@@ -62,17 +71,15 @@ pub write_values-requires-clause-room : goal.write_values-requires-clause-room
 write_values-requires-clause-room c =
     let t = c.args.key.now in
     let up = above c.args.up in
-    let old = c.args.out.now in
-    let cs = children t in
     let two = c.write_class.new.out in
     let own = security_next (goal.at.write_values-requires-clause-room c).In_ok-write_class in
-    let three : c.write_security.new.out ≡ two ++ text (own_security up (length old) (head t) (trees cs)) =
-    c.in_ok-write_security.ensures
-    ∙ (λ j. two ++ text (security_cells up (own j) (c.security.ensures j)
-    (sharers_of_all (c.security.ensures j) (trees (c.subkeys.ensures j))))) in
+    let three =
+    security_is (goal.at.write_values-requires-clause-room c).In_ok-write_security
+    ∙ ap (λ n. two ++ text (security_cells up n (head t).security (sharers_of_all (head t).security (trees (children t)))))
+    own in
     omega (
       arith,
-      values_at up (head t) (trees cs) old two c.write_security.new.out own three,
+      values_at up (head t) (trees (children t)) c.args.out.now two c.write_security.new.out own three,
       ap (λ (vs : List Item). items_size c.args.version vs) c.items.ensures,
       size_parted c.args.version up.security t,
       c.requires.room,
@@ -80,19 +87,11 @@ write_values-requires-clause-room c =
 
 pub returns : goal.returns
 returns c =
-    let t = c.args.key.now in
-    let up = above c.args.up in
-    let old = c.args.out.now in
-    let cs = children t in
-    let two = c.write_class.new.out in
     let three = c.write_security.new.out in
-    let security =
-    c.in_ok-write_security.ensures
-    ∙ (λ j. two ++ text (security_cells up (length two) (c.security.ensures j)
-    (sharers_of_all (c.security.ensures j) (trees (c.subkeys.ensures j))))) in
     on_ok c.write_values.result _ _
-    (λ e. head_written c.args.version up (head t) (trees cs)
-    old c.write_node.new.out two three c.write_values.new.out
-    (node_is (goal.at.returns c).In_ok-write_node) (class_is (goal.at.returns c).In_ok-write_class) security
+    (λ e. head_written c.args.version (above c.args.up) (head c.args.key.now) (trees (children c.args.key.now))
+    c.args.out.now c.write_node.new.out c.write_class.new.out three c.write_values.new.out
+    (node_is (goal.at.returns c).In_ok-write_node) (class_is (goal.at.returns c).In_ok-write_class)
+    (security_is (goal.at.returns c).In_ok-write_security)
     (e ∙ ap (λ (vs : List Item). three ++ text (items_cells c.args.version (length three) vs)) c.items.ensures))
     c.write_values.ensures

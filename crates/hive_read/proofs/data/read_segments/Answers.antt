@@ -29,7 +29,6 @@ returns-in_err-part c =
 
 pub segments-preserved : goal.segments-preserved
 segments-preserved c =
-    let cells = cells_of c.args.cells.now in
     let i = c.segments.invariant in
     let rest = c.segments.rest.now in
     let left = c.segments.left in
@@ -37,8 +36,8 @@ segments-preserved c =
     let r = first-and-rest rest c.in-len1-up.len_at_least in
     let s = rw c.min.ensures at c.in_ok-part.ensures in
     rw (c.in_ok-append.ensures.ok, c.saturating_sub-left.ensures) (record {
-      told = sym (segments-on cells c.segments.used c.use_front.new.used left rest (get_or rest 0 0) others r s.0)
+      told = sym (segments-on (cells_of c.args.cells.now) c.segments.used c.use_front.new.used left rest (get_or rest 0 0) others r s.0)
           ∙ i.told;
-      stand = segments-one cells left c.args.size rest others c.args.offsets.now (get_or rest 0 0)
+      stand = segments-one (cells_of c.args.cells.now) left c.args.size rest others c.args.offsets.now (get_or rest 0 0)
           c.segments.bytes c.in_ok-part.part.now r s.1 i.stand;
     })

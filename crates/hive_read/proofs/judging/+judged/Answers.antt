@@ -89,12 +89,11 @@ judge_below-returns-in_err-children t c =
 
 pub judge_below-returns : goal.judge_below-returns
 judge_below-returns t c =
-    let cells = cells_of c.args.cells.now in
     let node = node_seen c.args.node.now in
     let s = c.in_ok-children.ensures in (
-      below-children c.args.left cells c.args.used.now node c.args.at
+      below-children c.args.left (cells_of c.args.cells.now) c.args.used.now node c.args.at
           c.in_ok-class.ensures.0 c.in_ok-security.ensures.0 c.in_ok-values.ensures.0 ∙ s.0,
-      below-counts cells c.args.at node c.args.shared.now.bytes.now c.in_ok-security.security.now
+      below-counts (cells_of c.args.cells.now) c.args.at node c.args.shared.now.bytes.now c.in_ok-security.security.now
           c.stored_size-own.result c.in_ok-class.class c.descriptor_size-descriptor.result
           c.in_ok-values.values c.in_ok-children.children
           c.saturating_add.result c.saturating_add-2.result c.saturating_add-3.result c.saturating_add-4.result
@@ -176,12 +175,11 @@ judge_in_turn-returns-in_err-child t c =
 
 pub judge_in_turn-children-preserved : goal.judge_in_turn-children-preserved
 judge_in_turn-children-preserved t c =
-    let cells = cells_of c.args.cells.now in
     let i = c.children.invariant in
     let rest = c.children.rest.now in
     let s = c.in_ok-child.ensures (map key_name i.children) i.knows in
     rw c.saturating_add-total.ensures
-    (keys-next cells c.args.left c.args.shared.now.bytes.now c.args.offsets.now
+    (keys-next (cells_of c.args.cells.now) c.args.left c.args.shared.now.bytes.now c.args.offsets.now
     rest c.children.taken c.judge_key.new.taken c.children.total c.in_ok-child.child
     c.children.used c.args.used.now c.judge_key.new.used
     (get_or rest 0 0) (take (length rest - 1) (drop 1 rest)) i (first-and-rest rest c.in-len1-up.len_at_least) s.0 s.1)

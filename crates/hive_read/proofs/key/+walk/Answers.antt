@@ -136,15 +136,12 @@ read_children-returns-then-found-node t c =
 
 pub read_children-returns : goal.read_children-returns
 read_children-returns t c =
-    let cells = cells_of c.args.cells.now in
-    let on = children-on c.args.left cells c.args.used.now (node_seen c.args.node.now) c.args.at c.if-node-eq0.false
-    c.in_ok-offsets.ensures.0 c.in_ok-offsets.ensures.1 c.as_slice-found.ensures c.if-found-node.false in
-    steps-same (λ (ts : List Tree). AllStand cells c.in_ok-offsets.offsets (trees ts))
-    (ChildrenRead cells (node_seen c.args.node.now))
-    (walk cells c.read_entries.new.used
-    (keys_in_turn (key_checks c.args.left cells false) cells [] c.in_ok-offsets.offsets))
-    _ c.read_in_turn.new.used c.read_in_turn.result
-    on.0 (λ ts a. (c.in_ok-offsets.offsets, on.1, a)) (rw c.as_slice-found.ensures at c.read_in_turn.ensures)
+    let on = children-on c.args.left (cells_of c.args.cells.now) c.args.used.now (node_seen c.args.node.now) c.args.at
+    c.if-node-eq0.false c.in_ok-offsets.ensures.0 c.in_ok-offsets.ensures.1 c.as_slice-found.ensures
+    c.if-found-node.false in
+    steps-same (λ (ts : List Tree). AllStand (cells_of c.args.cells.now) c.in_ok-offsets.offsets (trees ts))
+    (ChildrenRead (cells_of c.args.cells.now) (node_seen c.args.node.now)) _ _ c.read_in_turn.new.used
+    c.read_in_turn.result on.0 (λ ts a. (c.in_ok-offsets.offsets, on.1, a)) (rw c.as_slice-found.ensures at c.read_in_turn.ensures)
 
 -- ---- read_in_turn
 
@@ -173,15 +170,14 @@ read_in_turn-returns-in_err-child t c =
 
 pub read_in_turn-children-preserved : goal.read_in_turn-children-preserved
 read_in_turn-children-preserved t c =
-    let cells = cells_of c.args.cells.now in
     let i = c.children.invariant in
     let rest = c.children.rest.now in
     let r = first-and-rest rest c.in-len1-up.len_at_least in
     let s = c.in_ok-child.ensures.walked (map key_name c.children.children) i.knows in
     rw c.in_ok-push.ensures.ok (record {
-      told = sym (keys-on c.args.left cells c.children.used c.read_key.new.used c.children.children rest
+      told = sym (keys-on c.args.left (cells_of c.args.cells.now) c.children.used c.read_key.new.used c.children.children rest
           (get_or rest 0 0) (take (length rest - 1) (drop 1 rest)) c.in_ok-child.child r s.0 s.1) ∙ i.told;
-      stand = stand-one cells rest (take (length rest - 1) (drop 1 rest)) c.args.offsets.now (get_or rest 0 0)
+      stand = stand-one (cells_of c.args.cells.now) rest (take (length rest - 1) (drop 1 rest)) c.args.offsets.now (get_or rest 0 0)
           c.children.children c.in_ok-child.child r s.1.0 i.stand;
       knows =
           subst (λ (ns : List (List ℕ)). Knows c.read_key.new.taken ns)

@@ -1,4 +1,4 @@
-use Rattle.std.proofs.Common.{◌≡◌, ℕ, List, true, false, Ok, sym, ◌∙◌}
+use Rattle.std.proofs.Common.{◌≡◌, ℕ, List, true, Ok, sym, ◌∙◌}
 use Rattle.hive_cells.specs.Sources.{cells_of}
 use Rattle.hive_model.specs.Walk.{is_list_of_lists, joined_at, entries_at}
 use Rattle.cell_forms.specs.Views.{kind_of, subkey_list_of}
@@ -25,8 +25,6 @@ returns-then-lists_lists c =
 
 pub returns : goal.returns
 returns c =
-    let cells = cells_of c.args.cells.now in
-    let list = c.in_ok-list.list in
-    let u = c.in_ok-list.ensures in
-    let k : is_list_of_lists (kind_of list.kind) ≡ false = sym c.lists_lists.ensures ∙ c.if-lists_lists.false in
-    entries-own cells c.args.used.now c.use_list.new.used c.args.at (subkey_list_of list) u.0 u.1 k
+    entries-own (cells_of c.args.cells.now) c.args.used.now c.use_list.new.used c.args.at
+    (subkey_list_of c.in_ok-list.list) c.in_ok-list.ensures.0 c.in_ok-list.ensures.1
+    (sym c.lists_lists.ensures ∙ c.if-lists_lists.false)

@@ -25,14 +25,13 @@ returns-in_err-leaf c =
 
 pub lists-preserved : goal.lists-preserved
 lists-preserved c =
-    let cells = cells_of c.args.cells.now in
     let i = c.lists.invariant in
     let rest = c.lists.rest.now in
     let r = first-and-rest rest c.in-len1-up.len_at_least in
     let s = c.in_ok-leaf.ensures in
     rw (c.in_ok-extend_from_slice.ensures.items, c.as_slice.ensures) (record {
-      told = sym (leaves-on cells c.lists.used c.use_leaf.new.used rest (get_or rest 0 0)
+      told = sym (leaves-on (cells_of c.args.cells.now) c.lists.used c.use_leaf.new.used rest (get_or rest 0 0)
           (take (length rest - 1) (drop 1 rest)) r s.0) ∙ i.told;
-      stand = joined-one cells rest (take (length rest - 1) (drop 1 rest)) c.args.lists.now (get_or rest 0 0)
+      stand = joined-one (cells_of c.args.cells.now) rest (take (length rest - 1) (drop 1 rest)) c.args.lists.now (get_or rest 0 0)
           c.lists.all.items c.in_ok-leaf.leaf r s.1 i.stand;
     })

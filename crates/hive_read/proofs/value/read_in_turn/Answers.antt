@@ -30,15 +30,14 @@ returns-in_err-value c =
 
 pub values-preserved : goal.values-preserved
 values-preserved c =
-    let cells = cells_of c.args.cells.now in
     let i = c.values.invariant in
     let rest = c.values.rest.now in
     let r = first-and-rest rest c.in-len1-up.len_at_least in
     let s = c.in_ok-value.ensures.walked (map (λ (v : Item). v.name) c.values.values) i.knows in
     rw c.in_ok-push.ensures.ok (record {
-      told = sym (values-on cells c.values.used c.read_value.new.used c.values.values rest (get_or rest 0 0)
+      told = sym (values-on (cells_of c.args.cells.now) c.values.used c.read_value.new.used c.values.values rest (get_or rest 0 0)
           (take (length rest - 1) (drop 1 rest)) c.in_ok-value.value r s.0 s.1) ∙ i.told;
-      stand = items-one cells rest (take (length rest - 1) (drop 1 rest)) c.args.offsets.now (get_or rest 0 0)
+      stand = items-one (cells_of c.args.cells.now) rest (take (length rest - 1) (drop 1 rest)) c.args.offsets.now (get_or rest 0 0)
           c.values.values c.in_ok-value.value r s.1 i.stand;
       knows =
           subst (λ (ns : List (List ℕ)). Knows c.read_value.new.taken ns)

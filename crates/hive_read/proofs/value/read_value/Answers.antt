@@ -38,12 +38,11 @@ returns-in_err-take_name-clause-walked c = λ names k.
 
 pub returns-in_err-bytes-clause-walked : goal.returns-in_err-bytes-clause-walked
 returns-in_err-bytes-clause-walked c = λ names k.
-    let cells = cells_of c.args.cells.now in
     rw (stopped c.from_residual-in_err-bytes.result c.in_err-bytes.field-0.0 c.from_residual-in_err-bytes.ensures.1)
     (stops-on c.in_err-bytes.field-0.0 _ _
     (λ f e. data_next (goal.at.returns-in_err-bytes-clause-walked c).In_ok-take_name names k ∙ e)
-    (subst (λ (k : KeyValue). Stops (walk cells c.use_value.new.used (data_checks cells k)) c.in_err-bytes.field-0.0)
-    c.in_ok-form.ensures c.in_err-bytes.ensures))
+    (subst (λ (k : KeyValue). Stops (walk (cells_of c.args.cells.now) c.use_value.new.used
+    (data_checks (cells_of c.args.cells.now) k)) c.in_err-bytes.field-0.0) c.in_ok-form.ensures c.in_err-bytes.ensures))
 
 pub returns-clause-walked : goal.returns-clause-walked
 returns-clause-walked c = λ names k.

@@ -19,18 +19,16 @@ returns-in_err-offsets c =
 
 pub returns-in_err-values : goal.returns-in_err-values
 returns-in_err-values c =
-    let o = c.in_ok-offsets.ensures in
-    let on = values-read (cells_of c.args.cells.now) c.args.used.now c.use_offsets.new.used
-    (node_seen c.args.node.now) c.in_ok-offsets.offsets c.if-node-eq0.false o.0 o.1 in
+    let on = values-read (cells_of c.args.cells.now) c.args.used.now c.use_offsets.new.used (node_seen c.args.node.now)
+    c.in_ok-offsets.offsets c.if-node-eq0.false c.in_ok-offsets.ensures.0 c.in_ok-offsets.ensures.1 in
     rw (stopped c.from_residual-in_err-values.result c.in_err-values.field-0.0 c.from_residual-in_err-values.ensures.1)
     (stops-on c.in_err-values.field-0.0 _ _ (λ f e. on.0 ∙ e)
     (rw c.as_slice-found.ensures at c.in_err-values.ensures))
 
 pub returns : goal.returns
 returns c =
-    let o = c.in_ok-offsets.ensures in
-    let on = values-read (cells_of c.args.cells.now) c.args.used.now c.use_offsets.new.used
-    (node_seen c.args.node.now) c.in_ok-offsets.offsets c.if-node-eq0.false o.0 o.1 in
+    let on = values-read (cells_of c.args.cells.now) c.args.used.now c.use_offsets.new.used (node_seen c.args.node.now)
+    c.in_ok-offsets.offsets c.if-node-eq0.false c.in_ok-offsets.ensures.0 c.in_ok-offsets.ensures.1 in
     let s = rw c.as_slice-found.ensures at c.in_ok-values.ensures in (
       on.0 ∙ s.0,
       values-counts (cells_of c.args.cells.now) (node_seen c.args.node.now)

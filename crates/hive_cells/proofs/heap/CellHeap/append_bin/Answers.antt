@@ -8,7 +8,7 @@ use Rattle.hive_cells.proofs.Indexed.{indexed}
 use Rattle.hive_cells.proofs.KeptLemmas.{base_more}
 use Rattle.hive_cells.proofs.IndexLemmas.{index_grown}
 use Rattle.hive_cells.proofs.heap.CellHeap.append_bin.Goals as goal
-use Rattle.hive_cells.proofs.heap.CellHeap.append_bin.Goals.{After-self, After-raise}
+use Rattle.hive_cells.proofs.heap.CellHeap.append_bin.Goals.{After-self, After-push_bin, After-raise}
 
 -- how long the lists are
 known : (c : After-self) → Sizes c.self.inside.bytes.items c.self.inside.starts.items (free_sizes c.args.self.now)
@@ -20,26 +20,29 @@ known c =
 fits : (c : After-self) → bins_size (bins_of c.self.inside.bytes.items) + c.args.size ≤ 16777216
 fits c = omega (arith, ap bins_size c.self.view_is, c.requires.fits)
 
+-- the bytes have the bin behind them
+bytes : (c : After-push_bin) → let text = c.self.inside.bytes.items in
+    c.push_bin.new.bytes.items ≡ text ++ bin_bytes (length text) (free_bin c.args.size)
+bytes c =
+    c.push_bin.ensures
+    ∙ ap (λ (t : List ℕ). t ++ bin_bytes (length t) (free_bin c.args.size)) c.in_ok-reserve.ensures.items
+
 -- what the heap is then
 pushed : (c : After-raise) → Grown c.self.inside.bytes.items c.args.size c.push_bin.new.bytes.items
     c.push_marks.new.starts.items (set (free_sizes c.args.self.now ++ replicate (512 * (c.args.size / 4096)) 0)
     (c.len-slot.result + 4) (c.args.size - 32))
 pushed c =
-    let text = c.self.inside.bytes.items in
     let starts = c.self.inside.starts.items in
     let rooms = (free_sizes c.args.self.now) in
     let size = c.args.size in
-    let bytes : c.push_bin.new.bytes.items ≡ text ++ bin_bytes (length text) (free_bin size) =
-    c.push_bin.ensures ∙ ap (λ (t : List ℕ). t ++ bin_bytes (length t) (free_bin size))
-    c.in_ok-reserve.ensures.items in
     let table : c.push_marks.new.starts.items ≡ starts ++ bin_marks (free_bin size) =
     c.push_marks.ensures ∙ ap (λ (t : List Bool). t ++ bin_marks (free_bin size)) c.in_ok-reserve-2.ensures.items in
     let z = known (goal.at.After-raise c).After-self in
     let slot : length rooms ≡ c.len-slot.result = omega (arith, z.slots, z.flags, c.len-slot.ensures, c.self.inside.starts.ok.0) in
     let index = rooms_pushed rooms c.len-slot.result size slot c.requires.least c.requires.whole in
-    grown text starts rooms size c.push_bin.new.bytes.items c.push_marks.new.starts.items _
-    (indexed c.self.invariant c.self.view_is refl)
-    c.requires.least c.requires.whole (fits (goal.at.After-raise c).After-self) bytes table index
+    grown c.self.inside.bytes.items starts rooms size c.push_bin.new.bytes.items c.push_marks.new.starts.items _
+    (indexed c.self.invariant c.self.view_is refl) c.requires.least c.requires.whole
+    (fits (goal.at.After-raise c).After-self) (bytes (goal.at.After-raise c).After-push_bin) table index
 
 pub grow-requires : goal.grow-requires
 grow-requires c =
@@ -123,9 +126,6 @@ returns-clause-index c =
 pub returns-clause-base : goal.returns-clause-base
 returns-clause-base c =
     let text = c.self.inside.bytes.items in
-    let bytes : c.push_bin.new.bytes.items ≡ text ++ bin_bytes (length text) (free_bin c.args.size) =
-    c.push_bin.ensures ∙ ap (λ (t : List ℕ). t ++ bin_bytes (length t) (free_bin c.args.size))
-    c.in_ok-reserve.ensures.items in
     base_more text (bin_bytes (length text) (free_bin c.args.size)) c.push_bin.new.bytes.items
     c.self.inside.starts.items c.push_marks.new.starts.items c.args.self.now c.self.invariant c.self.view_is
-    (pushed (goal.at.returns-clause-base c).After-raise).kept.kept bytes
+    (pushed (goal.at.returns-clause-base c).After-raise).kept.kept (bytes (goal.at.returns-clause-base c).After-push_bin)

@@ -15,7 +15,7 @@ use Rattle.saved_pages.proofs.CoveredLemmas.{covered_more}
 use Rattle.hive_cells.specs.Holes.{free_sizes}
 use Rattle.hive_cells.proofs.IndexLemmas.{IsGone, within_none, index_gone, index_moved, gone_alone, gone_moved}
 use Rattle.hive_cells.proofs.heap.CellHeap.fill.Goals as goal
-use Rattle.hive_cells.proofs.heap.CellHeap.fill.Goals.{After-self, After-free_at-size, After-put, Then-left-eq0, After-raise}
+use Rattle.hive_cells.proofs.heap.CellHeap.fill.Goals.{After-self, After-free_at-size, After-put, Then-left-eq0, Else-left-eq0, After-raise}
 
 -- what the code knows before it writes
 known : (c : After-self) → Filling c.self.inside.bytes.items c.self.inside.starts.items (free_sizes c.args.self.now) c.args.at
@@ -57,6 +57,21 @@ whole c =
     c.put.new.bytes.items c.mark_run.new.starts.items _
     (omega (arith, f.fits, f.room, sized (goal.at.Then-left-eq0 c).After-free_at-size, c.if-left-eq0.true))
     c.put.ensures.exact c.mark_run.ensures.exact refl
+
+-- what remains of the cell has room for its size
+rest_fits : (c : Else-left-eq0) → c.args.at + length c.args.run.now + 4 ≤ length c.put.new.bytes.items
+rest_fits c =
+    let f = known (goal.at.Else-left-eq0 c).After-self in
+    omega (
+      arith,
+      c.put.ensures.long,
+      f.within,
+      f.run_whole,
+      f.cell_whole,
+      f.room,
+      sized (goal.at.Else-left-eq0 c).After-free_at-size,
+      c.if-left-eq0.false,
+    )
 
 -- a part of the cell remains free
 part : (c : After-raise) → Edited c.self.inside.bytes.items c.args.at (with_run (run_cells c.args.run.now))
@@ -115,18 +130,7 @@ pub returns-then-left-eq0-clause-fresh : goal.returns-then-left-eq0-clause-fresh
 returns-then-left-eq0-clause-fresh c = unused (goal.at.returns-then-left-eq0-clause-fresh c).After-self
 
 pub put_word-requires : goal.put_word-requires
-put_word-requires c =
-    let f = known (goal.at.put_word-requires c).After-self in
-    omega (
-      arith,
-      c.put.ensures.long,
-      f.within,
-      f.run_whole,
-      f.cell_whole,
-      f.room,
-      sized (goal.at.put_word-requires c).After-free_at-size,
-      c.if-left-eq0.false,
-    )
+put_word-requires c = rest_fits (goal.at.put_word-requires c).Else-left-eq0
 
 pub index_mut-requires : goal.index_mut-requires
 index_mut-requires c =
@@ -284,38 +288,17 @@ touch-requires-2-clause-covered c =
 
 pub touch-requires-2-clause-within : goal.touch-requires-2-clause-within
 touch-requires-2-clause-within c =
-    let f = known (goal.at.touch-requires-2-clause-within c).After-self in
-    omega (
-      arith,
-      c.put.ensures.long,
-      f.within,
-      f.run_whole,
-      f.cell_whole,
-      f.room,
-      sized (goal.at.touch-requires-2-clause-within c).After-free_at-size,
-      c.if-left-eq0.false,
-      ap length c.as_slice-2.ensures.value,
-    )
+    omega (arith, rest_fits (goal.at.touch-requires-2-clause-within c).Else-left-eq0, ap length c.as_slice-2.ensures.value)
 
 pub returns-clause-base : goal.returns-clause-base
 returns-clause-base c =
-    let f = known (goal.at.returns-clause-base c).After-self in
     base_seen c.args.pages.now c.touch-2.new.pages c.self.inside.bytes.items c.put_word.new.bytes.items
     c.self.inside.starts.items _ c.args.self.now c.self.invariant c.self.view_is
     (part (goal.at.returns-clause-base c).After-raise).kept.kept
     (before_written c.touch.new.pages c.touch-2.new.pages c.put.new.bytes.items c.as_slice-2.result.now
     (to_le_bytes w32 (c.free_at-size.result - length c.args.run.now)) c.put_word.new.bytes.items
     (c.args.at + length c.args.run.now) c.as_slice-2.ensures.value c.put_word.ensures
-    (omega (
-      arith,
-      c.put.ensures.long,
-      f.within,
-      f.run_whole,
-      f.cell_whole,
-      f.room,
-      sized (goal.at.returns-clause-base c).After-free_at-size,
-      c.if-left-eq0.false,
-    ))
+    (rest_fits (goal.at.returns-clause-base c).Else-left-eq0)
     c.touch-2.ensures.before c.touch-2.ensures.count c.touch-2.ensures.kept
     ∙ told (goal.at.returns-clause-base c).After-put)
 

@@ -1,28 +1,28 @@
-use Rattle.std.proofs.Common.{◌≡◌, ◌*◌, List, Some, get_or, refl, ap, subst, ◌∙◌, arith}
+use Rattle.std.proofs.Common.{◌*◌, List, get_or, refl, ap, subst, ◌∙◌, arith}
 use Rattle.hive_model.specs.Bins.{Bin, cell_at}
-use Rattle.hive_cells.specs.Reading.{bins_of}
-use Rattle.hive_cells.proofs.FreeLemmas.{held_cell, here_is, ends_here, not_before, no_room_before}
+use Rattle.hive_cells.proofs.FreeLemmas.{Here, held_cell, here_is, ends_here, not_before, no_room_before}
 use Rattle.hive_cells.proofs.Indexed.{indexed}
 use Rattle.hive_cells.specs.Frees.{EndsAt}
 use Rattle.hive_cells.specs.Holes.{free_sizes}
 use Rattle.hive_cells.proofs.heap.CellHeap.free_before.Goals as goal
+use Rattle.hive_cells.proofs.heap.CellHeap.free_before.Goals.{After-self}
+
+-- where the cell is
+here : (c : After-self) → Here c.self.inside.bytes.items c.self.inside.starts.items (free_sizes c.args.self.now) c.args.at
+    (held_cell (cell_at c.args.self.now c.args.at) c.requires.allocated).0
+here c =
+    let a = held_cell (cell_at c.args.self.now c.args.at) c.requires.allocated in
+    here_is c.self.inside.bytes.items c.self.inside.starts.items (free_sizes c.args.self.now) c.args.at a.0
+    (indexed c.self.invariant c.self.view_is refl) (ap (λ b. cell_at b c.args.at) c.self.view_is ∙ a.1)
 
 pub last_below-requires-clause-inside : goal.last_below-requires-clause-inside
 last_below-requires-clause-inside c =
-    let a = held_cell (cell_at c.args.self.now c.args.at) c.requires.allocated in
-    let here : cell_at (bins_of c.self.inside.bytes.items) c.args.at ≡ Some a.0 =
-    ap (λ b. cell_at b c.args.at) c.self.view_is ∙ a.1 in
-    let h = here_is c.self.inside.bytes.items c.self.inside.starts.items (free_sizes c.args.self.now) c.args.at a.0
-    (indexed c.self.invariant c.self.view_is refl) here in
+    let h = here (goal.at.last_below-requires-clause-inside c).After-self in
     omega (arith, h.within, h.least, h.slots)
 
 pub number_at-room-requires : goal.number_at-room-requires
 number_at-room-requires c =
-    let a = held_cell (cell_at c.args.self.now c.args.at) c.requires.allocated in
-    let here : cell_at (bins_of c.self.inside.bytes.items) c.args.at ≡ Some a.0 =
-    ap (λ b. cell_at b c.args.at) c.self.view_is ∙ a.1 in
-    let h = here_is c.self.inside.bytes.items c.self.inside.starts.items (free_sizes c.args.self.now) c.args.at a.0
-    (indexed c.self.invariant c.self.view_is refl) here in
+    let h = here (goal.at.number_at-room-requires c).After-self in
     omega (arith, c.in_ok-slot.ensures.below, h.within, h.least, h.slots)
 
 pub returns-then-from : goal.returns-then-from

@@ -1,6 +1,5 @@
-use Rattle.std.proofs.Common.{◌≡◌, ℕ, ◌+◌, ◌*◌, ◌/◌, [], ◌∷◌, ◌++◌, refl, sym, ap, ◌∙◌, arith}
-use Rattle.hive_model.specs.Bins.{bins_size}
-use Rattle.hive_cells.specs.Reading.{bins_of}
+use Rattle.std.proofs.Common.{◌≡◌, ℕ, ◌+◌, ◌*◌, ◌/◌, [], ◌∷◌, ◌++◌, refl, ap, subst, ◌∙◌, arith}
+use Rattle.hive_model.specs.Bins.{IsHeap, bins_size}
 use Rattle.hive_cells.specs.Held.{held_at}
 use Rattle.hive_cells.specs.Holes.{free_bin, new_bin_size}
 use Rattle.hive_cells.proofs.Steps.{kept_seen}
@@ -8,40 +7,45 @@ use Rattle.hive_cells.proofs.Indexed.{alone}
 use Rattle.hive_cells.proofs.GrowLemmas.{sizes, held_before, new_hole, new_long}
 use Rattle.hive_cells.proofs.Tools.{bins_size-append}
 use Rattle.hive_cells.proofs.heap.CellHeap.grow.Goals as goal
+use Rattle.hive_cells.proofs.heap.CellHeap.grow.Goals.{After-len-long, In_ok-append_bin}
+
+-- the bytes are as many as the bins have
+whole : (c : After-len-long) → c.len-long.result ≡ bins_size c.args.self.now
+whole c =
+    let z = sizes c.self.inside.bytes.items c.self.inside.starts.items _ (alone c.self.invariant) in
+    omega (arith, c.len-long.ensures, z.whole, ap bins_size c.self.view_is)
+
+-- the bins with the new one
+new : (c : In_ok-append_bin) → c.append_bin.new.self ≡ c.args.self.now ++ free_bin (new_bin_size c.args.size) ∷ []
+new c =
+    let bin : (c.from.result + 4127) / 4096 * 4096 ≡ new_bin_size c.args.size = omega (arith, c.from.ensures) in
+    c.in_ok-append_bin.ensures.ok ∙ ap (λ (n : ℕ). c.args.self.now ++ free_bin n ∷ []) bin
 
 pub returns-then-long-bin-gt-MOST_BINS-clause-exact : goal.returns-then-long-bin-gt-MOST_BINS-clause-exact
 returns-then-long-bin-gt-MOST_BINS-clause-exact c =
-    let z = sizes c.self.inside.bytes.items c.self.inside.starts.items _ (alone c.self.invariant) in
-    let bin : (c.from.result + 4127) / 4096 * 4096 ≡ new_bin_size c.args.size = omega (arith, c.from.ensures) in
-    (omega (arith, c.if-long-bin-gt-MOST_BINS.true, c.len-long.ensures, z.whole, ap bins_size c.self.view_is, bin), refl)
+    let long = whole (goal.at.returns-then-long-bin-gt-MOST_BINS-clause-exact c).After-len-long in
+    (omega (arith, c.if-long-bin-gt-MOST_BINS.true, long, c.from.ensures), refl)
 
 pub append_bin-requires-clause-fits : goal.append_bin-requires-clause-fits
 append_bin-requires-clause-fits c =
-    let z = sizes c.self.inside.bytes.items c.self.inside.starts.items _ (alone c.self.invariant) in
-    omega (arith, c.if-long-bin-gt-MOST_BINS.false, c.len-long.ensures, z.whole, ap bins_size c.self.view_is)
+    omega (arith, c.if-long-bin-gt-MOST_BINS.false, whole (goal.at.append_bin-requires-clause-fits c).After-len-long)
 
 pub returns-clause-exact : goal.returns-clause-exact
 returns-clause-exact c =
-    let z = sizes c.self.inside.bytes.items c.self.inside.starts.items _ (alone c.self.invariant) in
-    let bin : (c.from.result + 4127) / 4096 * 4096 ≡ new_bin_size c.args.size = omega (arith, c.from.ensures) in
-    let whole : c.len-long.result ≡ bins_size c.args.self.now =
-    omega (arith, c.len-long.ensures, z.whole, ap bins_size c.self.view_is) in
+    let long = whole (goal.at.returns-clause-exact c).After-len-long in
     record {
-      fits = omega (arith, c.if-long-bin-gt-MOST_BINS.false, whole, bin);
-      place = omega (arith, whole);
-      bins = c.in_ok-append_bin.ensures.ok ∙ ap (λ (n : ℕ). c.args.self.now ++ free_bin n ∷ []) bin;
+      fits = omega (arith, c.if-long-bin-gt-MOST_BINS.false, long, c.from.ensures);
+      place = omega (arith, long);
+      bins = new (goal.at.returns-clause-exact c).In_ok-append_bin;
     }
 
 pub returns-clause-hole : goal.returns-clause-hole
 returns-clause-hole c =
-    let z = sizes c.self.inside.bytes.items c.self.inside.starts.items _ (alone c.self.invariant) in
-    let bin : (c.from.result + 4127) / 4096 * 4096 ≡ new_bin_size c.args.size = omega (arith, c.from.ensures) in
-    let whole : c.len-long.result + 32 ≡ bins_size (bins_of c.self.inside.bytes.items) + 32 =
-    omega (arith, c.len-long.ensures, z.whole) in
-    let sound = (kept_seen c.self.inside.bytes.items c.self.inside.starts.items c.self.invariant).0 in
-    let new = c.in_ok-append_bin.ensures.ok ∙ ap (λ (n : ℕ). c.args.self.now ++ free_bin n ∷ []) bin
-    ∙ ap (λ b. b ++ free_bin (new_bin_size c.args.size) ∷ []) (sym c.self.view_is) in
-    rw (new, whole) (new_hole (bins_of c.self.inside.bytes.items) c.args.size sound.each)
+    let place : c.len-long.result + 32 ≡ bins_size c.args.self.now + 32 =
+    omega (arith, whole (goal.at.returns-clause-hole c).After-len-long) in
+    let sound = subst IsHeap c.self.view_is
+    (kept_seen c.self.inside.bytes.items c.self.inside.starts.items c.self.invariant).0 in
+    rw (new (goal.at.returns-clause-hole c).In_ok-append_bin, place) (new_hole c.args.self.now c.args.size sound.each)
 
 pub returns-clause-held : goal.returns-clause-held
 returns-clause-held c o =
@@ -50,9 +54,7 @@ returns-clause-held c o =
 
 pub returns-clause-long : goal.returns-clause-long
 returns-clause-long c =
-    let bin : (c.from.result + 4127) / 4096 * 4096 ≡ new_bin_size c.args.size = omega (arith, c.from.ensures) in
-    let new = c.in_ok-append_bin.ensures.ok ∙ ap (λ (n : ℕ). c.args.self.now ++ free_bin n ∷ []) bin in
-    omega (arith, ap bins_size new, new_long c.args.self.now c.args.size)
+    omega (arith, ap bins_size (new (goal.at.returns-clause-long c).In_ok-append_bin), new_long c.args.self.now c.args.size)
 
 pub returns-clause-more : goal.returns-clause-more
 returns-clause-more c =

@@ -1,10 +1,10 @@
-use Rattle.std.proofs.Common.{◌≡◌, ℕ, ◌+◌, ◌/◌, List, false, set, length, ap, refl, sym, subst, ◌∙◌, arith, get_or}
+use Rattle.std.proofs.Common.{◌≡◌, ℕ, ◌+◌, ◌/◌, ◌<◌, List, false, set, length, ap, refl, sym, subst, ◌∙◌, arith, get_or}
 use Rattle.hive_model.specs.Bins.{cell_at, bins_size}
 use Rattle.hive_cells.specs.Reading.{bins_of}
 use Rattle.hive_cells.specs.Changes.{at_cell, with_next}
 use Rattle.hive_cells.specs.Frees.{IsFreeOf}
 use Rattle.hive_cells.proofs.FreeLemmas.{Here, here_is, Merged, merging, room_most}
-use Rattle.hive_cells.proofs.Indexed.{indexed}
+use Rattle.hive_cells.proofs.Indexed.{IsIndexed, indexed}
 use Rattle.std.specs.Int.{w32, to_le_bytes}
 use Rattle.hive_cells.proofs.KeptLemmas.{seen_long, base_seen}
 use Rattle.saved_pages.proofs.OverlayLemmas.{before_written}
@@ -14,23 +14,28 @@ use Rattle.hive_cells.proofs.IndexLemmas.{IsGone, index_moved, gone_moved}
 use Rattle.hive_cells.proofs.heap.CellHeap.merge.Goals as goal
 use Rattle.hive_cells.proofs.heap.CellHeap.merge.Goals.{After-self, After-raise}
 
+-- the sizes are those of the free cells
+held : (c : After-self) → IsIndexed c.self.inside.bytes.items c.self.inside.starts.items (free_sizes c.args.self.now)
+held c = indexed c.self.invariant c.self.view_is refl
+
 -- where the cell is
 first : (c : After-self) → Here c.self.inside.bytes.items c.self.inside.starts.items (free_sizes c.args.self.now) c.args.at
     c.requires.cells.first
 first c =
-    let n = c.requires.cells in
-    here_is c.self.inside.bytes.items c.self.inside.starts.items (free_sizes c.args.self.now) c.args.at n.first
-    (indexed c.self.invariant c.self.view_is refl)
-    (ap (λ b. cell_at b c.args.at) c.self.view_is ∙ n.here)
+    here_is c.self.inside.bytes.items c.self.inside.starts.items (free_sizes c.args.self.now) c.args.at
+    c.requires.cells.first (held c) (ap (λ b. cell_at b c.args.at) c.self.view_is ∙ c.requires.cells.here)
 
 -- where the one after it is
 second : (c : After-self) → Here c.self.inside.bytes.items c.self.inside.starts.items (free_sizes c.args.self.now)
     (c.args.at + c.args.size) c.requires.cells.second
 second c =
     let n = c.requires.cells in
-    here_is c.self.inside.bytes.items c.self.inside.starts.items (free_sizes c.args.self.now) (c.args.at + c.args.size) n.second
-    (indexed c.self.invariant c.self.view_is refl)
+    here_is c.self.inside.bytes.items c.self.inside.starts.items (free_sizes c.args.self.now) (c.args.at + c.args.size) n.second (held c)
     (ap (λ b. cell_at b (c.args.at + c.args.size)) c.self.view_is ∙ n.behind)
+
+-- the size of both is a number of 32 bits
+small : (c : After-self) → c.args.size + c.args.more < 4294967296
+small c = let k = second c in omega (arith, k.within, k.small, c.requires.cells.longer)
 
 -- what the heap is then
 merged : (c : After-raise) → Merged c.self.inside.bytes.items c.args.at c.args.size c.args.more
@@ -38,14 +43,10 @@ merged : (c : After-raise) → Merged c.self.inside.bytes.items c.args.at c.args
 merged c =
     merging c.self.inside.bytes.items c.self.inside.starts.items (free_sizes c.args.self.now) c.args.at c.args.size
     c.args.more c.args.self.now c.put_word.new.bytes.items _ (set (set (free_sizes c.args.self.now) ((c.args.at + c.args.size) / 8) 0) (c.args.at / 8) (c.args.size + c.args.more))
-    (indexed c.self.invariant c.self.view_is refl)
-    c.self.view_is c.requires.cells c.put_word.ensures refl
-    refl
+    (indexed c.self.invariant c.self.view_is refl) c.self.view_is c.requires.cells c.put_word.ensures refl refl
 
 pub overflow_add-size : goal.overflow_add-size
-overflow_add-size c =
-    let k = second (goal.at.overflow_add-size c).After-self in
-    omega (arith, k.within, k.small, c.requires.cells.longer)
+overflow_add-size c = omega (arith, small (goal.at.overflow_add-size c).After-self)
 
 pub put_word-requires : goal.put_word-requires
 put_word-requires c = let h = first (goal.at.put_word-requires c).After-self in omega (arith, h.within, h.least)
@@ -61,9 +62,7 @@ free_at-gone-requires-clause-inside c =
     omega (arith, k.within, k.least, k.flags, ap length c.as_slice-starts.ensures.value)
 
 pub overflow_add-size-2 : goal.overflow_add-size-2
-overflow_add-size-2 c =
-    let k = second (goal.at.overflow_add-size-2 c).After-self in
-    omega (arith, k.within, k.small, c.requires.cells.longer)
+overflow_add-size-2 c = omega (arith, small (goal.at.overflow_add-size-2 c).After-self)
 
 pub raise-requires : goal.raise-requires
 raise-requires c =
@@ -104,7 +103,6 @@ apart c e =
 
 pub returns-clause-index : goal.returns-clause-index
 returns-clause-index c =
-    let n = c.requires.cells in
     let s = (goal.at.returns-clause-index c).After-self in
     let h = first s in
     let rooms = free_sizes c.args.self.now in
@@ -112,11 +110,11 @@ returns-clause-index c =
     let was : c.free_at-gone.result ≡ get_or (free_sizes c.args.self.now) ((c.args.at + c.args.size) / 8) 0 =
     c.free_at-gone.ensures ∙ ap (λ (t : List ℕ). get_or (free_sizes (bins_of t)) far 0) c.as_slice-text.ensures.value
     ∙ ap (λ b. get_or (free_sizes b) far 0) c.self.view_is in
-    let most = room_most c.self.inside.bytes.items c.self.inside.starts.items rooms c.args.at n.first
-    (indexed c.self.invariant c.self.view_is refl) (ap (λ b. cell_at b c.args.at) c.self.view_is ∙ n.here) in
+    let most = room_most c.self.inside.bytes.items c.self.inside.starts.items rooms c.args.at c.requires.cells.first
+    (held s) (ap (λ b. cell_at b c.args.at) c.self.view_is ∙ c.requires.cells.here) in
     index_moved rooms (free_sizes (bins_of c.put_word.new.bytes.items)) c.args.free.now c.requires.index far
     c.free_at-gone.result was c.raise.new.self (c.args.at / 8) (c.args.size + c.args.more)
-    (omega (arith, h.within, h.least, h.slots)) (apart s) (omega (arith, most, n.sized)) c.raise.ensures
+    (omega (arith, h.within, h.least, h.slots)) (apart s) (omega (arith, most, c.requires.cells.sized)) c.raise.ensures
     (merged (goal.at.returns-clause-index c).After-raise).edit.kept.index
 
 -- the second slot is there, and has no size

@@ -6,7 +6,7 @@ use Rattle.hive_cells.specs.Held.{allocated_payload, held_at, patched}
 use Rattle.hive_cells.specs.Holes.{free_sizes}
 use Rattle.hive_cells.specs.Changes.{at_cell, with_part}
 use Rattle.hive_cells.proofs.Indexed.{alone}
-use Rattle.hive_cells.proofs.FreeLemmas.{here_is}
+use Rattle.hive_cells.proofs.FreeLemmas.{Here, here_is}
 use Rattle.hive_cells.proofs.PatchLemmas.{Patching, part_cell, patching}
 use Rattle.hive_cells.proofs.KeptLemmas.{seen_long, base_seen}
 use Rattle.saved_pages.proofs.OverlayLemmas.{before_written}
@@ -23,6 +23,11 @@ old c =
 here : (c : After-self) → cell_at (bins_of c.self.inside.bytes.items) c.args.at ≡ Some (old c).0
 here c = ap (λ b. cell_at b c.args.at) c.self.view_is ∙ (old c).1
 
+-- where it is
+place : (c : After-self) → Here c.self.inside.bytes.items c.self.inside.starts.items
+    (free_sizes (bins_of c.self.inside.bytes.items)) c.args.at (old c).0
+place c = here_is c.self.inside.bytes.items c.self.inside.starts.items _ c.args.at (old c).0 (alone c.self.invariant) (here c)
+
 -- what the heap is then
 changed : (c : After-put) → Patching c.self.inside.bytes.items c.self.inside.starts.items
     (free_sizes (bins_of c.self.inside.bytes.items)) c.args.at c.args.from c.args.part.now
@@ -34,10 +39,7 @@ changed c =
 
 pub put-requires : goal.put-requires
 put-requires c =
-    let s = (goal.at.put-requires c).After-self in
-    let h = here_is c.self.inside.bytes.items c.self.inside.starts.items _ c.args.at (old s).0 (alone c.self.invariant)
-    (here s) in
-    omega (arith, h.within, (old s).3)
+    let s = (goal.at.put-requires c).After-self in omega (arith, (place s).within, (old s).3)
 
 pub invariant_of-self : goal.invariant_of-self
 invariant_of-self c = (changed (goal.at.invariant_of-self c).After-put).edit.kept.kept
@@ -81,21 +83,17 @@ touch-requires-clause-covered c =
 pub touch-requires-clause-within : goal.touch-requires-clause-within
 touch-requires-clause-within c =
     let s = (goal.at.touch-requires-clause-within c).After-self in
-    let h = here_is c.self.inside.bytes.items c.self.inside.starts.items _ c.args.at (old s).0 (alone c.self.invariant)
-    (here s) in
-    omega (arith, h.within, (old s).3, ap length c.as_slice.ensures.value)
+    omega (arith, (place s).within, (old s).3, ap length c.as_slice.ensures.value)
 
 pub returns-clause-base : goal.returns-clause-base
 returns-clause-base c =
     let s = (goal.at.returns-clause-base c).After-self in
-    let h = here_is c.self.inside.bytes.items c.self.inside.starts.items _ c.args.at (old s).0 (alone c.self.invariant)
-    (here s) in
     base_seen c.args.pages.now c.touch.new.pages c.self.inside.bytes.items c.put.new.bytes.items
     c.self.inside.starts.items _ c.args.self.now c.self.invariant c.self.view_is
     (changed (goal.at.returns-clause-base c).After-put).edit.kept.kept
     (before_written c.args.pages.now c.touch.new.pages c.self.inside.bytes.items c.as_slice.result.now
     c.args.part.now c.put.new.bytes.items (c.args.at + 4 + c.args.from) c.as_slice.ensures.value c.put.ensures.exact
-    (omega (arith, h.within, (old s).3)) c.touch.ensures.before c.touch.ensures.count c.touch.ensures.kept)
+    (omega (arith, (place s).within, (old s).3)) c.touch.ensures.before c.touch.ensures.count c.touch.ensures.kept)
 
 pub returns-clause-covered : goal.returns-clause-covered
 returns-clause-covered c =

@@ -1,9 +1,7 @@
 use Rattle.std.proofs.Common.{inr, ◌∙◌}
-use Rattle.hive_edit.specs.Children.{IsGraftedIn}
-use Rattle.hive_edit.specs.Hive.{hive_of}
 use Rattle.hive_edit.specs.Grafted.{LacksGraftLists}
 use Rattle.hive_edit.proofs.SteppedLemmas.{if_done, if_undone}
-use Rattle.hive_edit.proofs.ChildLemmas.{ReadyAt, ready_at, can_graft, graft_made, no_shorter, still_hive, still_or, lacks_lists}
+use Rattle.hive_edit.proofs.ChildLemmas.{IsGraftMade, ReadyAt, ready_at, can_graft, graft_made, no_shorter, still_hive, still_or, lacks_lists}
 use Rattle.hive_edit.proofs.hive.HiveBytes.graft_at.Goals as goal
 use Rattle.hive_edit.proofs.hive.HiveBytes.graft_at.Goals.{After-are_bytes, After-offset_fits, Then-not-done}
 
@@ -66,28 +64,23 @@ returns-then-not-done-clause-grafted c =
     c.args.shared.now c.args.key.now c.args.at c.self.view_is r.ready
     (lacks (goal.at.returns-then-not-done-clause-grafted c).Then-not-done)
 
-pub invariant_of-self-2 : goal.invariant_of-self-2
-invariant_of-self-2 c =
-    let i = c.self.inside in
-    let r = known (goal.at.invariant_of-self-2 c).After-offset_fits in
-    (graft_made i.cells c.graft_cells.new.heap i.root i.version i.bulk c.args.own c.grafted_bulk-bulk.result
-    c.args.self.now c.args.above c.args.shared.now c.args.key.now c.args.at c.self.invariant c.self.view_is r.ready
-    r.child (if_done _ _ _ c.if-not-done.false c.in_ok-done.ensures.grafted) c.are_bytes.ensures r.own_is
-    c.grafted_bulk-bulk.ensures).hive
-
 -- the key is the root's child
-grafted : (c : After-are_bytes) → IsGraftedIn c.args.self.now c.args.above.security c.args.shared.now c.args.key.now
-    (hive_of c.graft_cells.new.heap c.self.inside.root c.self.inside.version)
-grafted c =
+made : (c : After-are_bytes) → let i = c.self.inside in
+    IsGraftMade c.args.self.now c.graft_cells.new.heap i.root i.version c.grafted_bulk-bulk.result c.args.above.security
+    c.args.shared.now c.args.key.now
+made c =
     let i = c.self.inside in
     let r = known (goal.at.After-are_bytes c).After-offset_fits in
-    (graft_made i.cells c.graft_cells.new.heap i.root i.version i.bulk c.args.own c.grafted_bulk-bulk.result
+    graft_made i.cells c.graft_cells.new.heap i.root i.version i.bulk c.args.own c.grafted_bulk-bulk.result
     c.args.self.now c.args.above c.args.shared.now c.args.key.now c.args.at c.self.invariant c.self.view_is r.ready
     r.child (if_done _ _ _ c.if-not-done.false c.in_ok-done.ensures.grafted) c.are_bytes.ensures r.own_is
-    c.grafted_bulk-bulk.ensures).made
+    c.grafted_bulk-bulk.ensures
+
+pub invariant_of-self-2 : goal.invariant_of-self-2
+invariant_of-self-2 c = (made (goal.at.invariant_of-self-2 c).After-are_bytes).hive
 
 pub returns-clause-grafted : goal.returns-clause-grafted
-returns-clause-grafted c = grafted (goal.at.returns-clause-grafted c).After-are_bytes
+returns-clause-grafted c = (made (goal.at.returns-clause-grafted c).After-are_bytes).made
 
 pub returns-in_err-done-clause-grown : goal.returns-in_err-done-clause-grown
 returns-in_err-done-clause-grown c =
@@ -103,4 +96,4 @@ returns-then-not-done-clause-grown c =
     c.args.key.now c.args.at c.self.view_is (inr l.put)
 
 pub returns-clause-grown : goal.returns-clause-grown
-returns-clause-grown c = (grafted (goal.at.returns-clause-grown c).After-are_bytes).long
+returns-clause-grown c = (made (goal.at.returns-clause-grown c).After-are_bytes).made.long

@@ -1,15 +1,23 @@
 use Rattle.std.proofs.Common.{inr, ◌∙◌, arith}
 use Rattle.hive_edit.specs.Grafted.{LacksGraftLists}
+use Rattle.hive_model.specs.Bins.{look_up}
 use Rattle.hive_model.specs.Edit.{make_key}
 use Rattle.hive_edit.specs.Hive.{hive_of}
+use Rattle.hive_edit.specs.Places.{IsKeyAt}
 use Rattle.hive_edit.specs.Tells.{IsToldStep}
 use Rattle.hive_edit.proofs.AskedLemmas.{open_stands}
 use Rattle.hive_edit.proofs.ChildLemmas.{can_graft, no_shorter, still_hive, still_or}
 use Rattle.hive_edit.proofs.MakeLemmas.{Ready, ready, run_is, node_lacks, list_lacks, key_made}
-use Rattle.hive_edit.proofs.SteppedLemmas.{if_done, if_undone}
+use Rattle.hive_edit.proofs.SteppedLemmas.{IsStepMade, if_done, if_undone}
 use Rattle.hive_edit.proofs.ToldLemmas.{made_told}
 use Rattle.hive_edit.proofs.hive.HiveBytes.make_at.Goals as goal
-use Rattle.hive_edit.proofs.hive.HiveBytes.make_at.Goals.{After-tell, In-Some, Then-not-done}
+use Rattle.hive_edit.proofs.hive.HiveBytes.make_at.Goals.{After-are_bytes, After-cells, After-tell, In-Some, Then-not-done}
+
+stands : (c : After-cells) → IsKeyAt (look_up c.self.inside.version c.cells.result.now) c.args.place.at
+stands c =
+    let i = c.self.inside in
+    open_stands i.cells c.cells.result.now i.root i.version i.bulk c.args.self.now c.args.parent.now c.args.name.now
+    c.args.place.at c.self.invariant c.cells.ensures c.self.view_is c.requires.may.open_at
 
 -- what is known where there is room for the node
 known : (c : In-Some) → Ready c.self.inside.cells.bins c.self.inside.root c.self.inside.version c.args.parent.now
@@ -28,16 +36,10 @@ lacks : (c : Then-not-done) → LacksGraftLists c.self.inside.version c.args.pla
 lacks c = if_undone _ _ _ c.if-not-done.true c.in_ok-done.ensures.grafted
 
 pub above_at-above-requires : goal.above_at-above-requires
-above_at-above-requires c =
-    let i = c.self.inside in
-    open_stands i.cells c.cells.result.now i.root i.version i.bulk c.args.self.now c.args.parent.now c.args.name.now
-    c.args.place.at c.self.invariant c.cells.ensures c.self.view_is c.requires.may.open_at
+above_at-above-requires c = stands (goal.at.above_at-above-requires c).After-cells
 
 pub new_child-requires : goal.new_child-requires
-new_child-requires c =
-    let i = c.self.inside in
-    open_stands i.cells c.cells.result.now i.root i.version i.bulk c.args.self.now c.args.parent.now c.args.name.now
-    c.args.place.at c.self.invariant c.cells.ensures c.self.view_is c.requires.may.open_at
+new_child-requires c = stands (goal.at.new_child-requires c).After-cells
 
 pub node_len-size-requires : goal.node_len-size-requires
 node_len-size-requires c = c.requires.may.open_at.short
@@ -98,26 +100,26 @@ returns-then-not-done-clause-made c =
     c.args.place c.above_at-above.result c.security-shared.result.now c.in_ok-key.key c.in-Some.at c.self.view_is r
     (lacks (goal.at.returns-then-not-done-clause-made c).Then-not-done)
 
-pub invariant_of-self-2 : goal.invariant_of-self-2
-invariant_of-self-2 c =
-    let i = c.self.inside in
-    let r = known (goal.at.invariant_of-self-2 c).In-Some in
-    (key_made i.cells c.graft_cells.new.heap i.root i.version i.bulk c.args.self.now c.args.parent.now c.args.name.now
-    c.args.place c.above_at-above.result c.security-shared.result.now c.in_ok-key.key c.in-Some.at c.self.invariant
-    c.self.view_is r (if_done _ _ _ c.if-not-done.false c.in_ok-done.ensures.grafted) c.are_bytes.ensures).hive
-
 -- the key is made
+made : (c : After-are_bytes) → let i = c.self.inside in
+    IsStepMade c.args.self.now c.graft_cells.new.heap i.root i.version c.args.place.bulk
+    (make_key c.args.parent.now c.args.name.now)
+made c =
+    let i = c.self.inside in
+    key_made i.cells c.graft_cells.new.heap i.root i.version i.bulk c.args.self.now c.args.parent.now c.args.name.now
+    c.args.place c.above_at-above.result c.security-shared.result.now c.in_ok-key.key c.in-Some.at c.self.invariant
+    c.self.view_is (known (goal.at.After-are_bytes c).In-Some)
+    (if_done _ _ _ c.if-not-done.false c.in_ok-done.ensures.grafted) c.are_bytes.ensures
+
+pub invariant_of-self-2 : goal.invariant_of-self-2
+invariant_of-self-2 c = (made (goal.at.invariant_of-self-2 c).After-are_bytes).hive
+
 told : (c : After-tell) → IsToldStep c.args.self.now (make_key c.args.parent.now c.args.name.now) c.tell.new.self
 told c =
     let i = c.self.inside in
-    let r = known (goal.at.After-tell c).In-Some in
     made_told c.args.self.now (hive_of c.graft_cells.new.heap i.root i.version) c.tell.new.self
     c.args.parent.now c.args.name.now c.wide_len-wide.result c.stands.ensures
-    (key_made i.cells c.graft_cells.new.heap i.root i.version i.bulk c.args.self.now c.args.parent.now
-    c.args.name.now c.args.place c.above_at-above.result c.security-shared.result.now c.in_ok-key.key c.in-Some.at
-    c.self.invariant c.self.view_is r (if_done _ _ _ c.if-not-done.false c.in_ok-done.ensures.grafted)
-    c.are_bytes.ensures).stepped
-    c.wide_len-wide.ensures c.tell.ensures.told
+    (made (goal.at.After-tell c).After-are_bytes).stepped c.wide_len-wide.ensures c.tell.ensures.told
 
 pub returns-clause-made : goal.returns-clause-made
 returns-clause-made c = told (goal.at.returns-clause-made c).After-tell

@@ -1,14 +1,21 @@
-use Rattle.std.proofs.Common.{◌≡◌, ℕ, ◌+◌, length, subst, is_some, inl, refl, sym, ap, ◌∙◌, arith}
+use Rattle.std.proofs.Common.{◌≡◌, [], ◌∷◌, ℕ, ◌+◌, length, subst, is_some, inl, refl, sym, ap, ◌∙◌, arith}
 use Rattle.std.specs.Int.{w32, from_le_bytes}
 use Rattle.hive_model.specs.Edit.{set_value}
 use Rattle.hive_model.specs.Size.{bulk_of}
 use Rattle.hive_edit.specs.Hive.{HiveCells}
-use Rattle.hive_edit.specs.Edits.{value_fields}
+use Rattle.hive_edit.specs.Edits.{IsEditedInPlace, value_fields}
 use Rattle.hive_edit.specs.Told.{WritesValue}
 use Rattle.hive_edit.proofs.ResultLemmas.{some_same}
 use Rattle.hive_edit.proofs.SetLemmas.{set_full, inside_frees}
 use Rattle.hive_edit.proofs.SteppedLemmas.{stepped_edit, stepped_kept}
 use Rattle.hive_edit.proofs.hive.HiveBytes.set_value.Goals as goal
+use Rattle.hive_edit.proofs.hive.HiveBytes.set_value.Goals.{After-set_inside}
+
+kept : (c : After-set_inside) → IsEditedInPlace c.args.self.now
+    (set_value c.args.path.now c.args.name.now c.args.kind c.args.bytes.now ∷ []) c.set_inside.new.self
+kept c =
+    stepped_kept c.args.self.now c.set_inside.new.self
+    (set_value c.args.path.now c.args.name.now c.args.kind c.args.bytes.now) c.set_inside.ensures.stepped
 
 pub returns-in-None-clause-in_place : goal.returns-in-None-clause-in_place
 returns-in-None-clause-in_place c = λ there few. absurd (let e = ap is_some c.in-None.ensures in cc)
@@ -42,13 +49,11 @@ returns-else-bulk-gt-MOST_BULK-clause-version c = c.set_inside.ensures.stepped.s
 
 pub returns-else-bulk-gt-MOST_BULK-clause-cells : goal.returns-else-bulk-gt-MOST_BULK-clause-cells
 returns-else-bulk-gt-MOST_BULK-clause-cells c =
-    inl (stepped_kept c.args.self.now c.set_inside.new.self
-    (set_value c.args.path.now c.args.name.now c.args.kind c.args.bytes.now) c.set_inside.ensures.stepped)
+    inl (kept (goal.at.returns-else-bulk-gt-MOST_BULK-clause-cells c).After-set_inside)
 
 pub returns-else-bulk-gt-MOST_BULK-clause-in_place : goal.returns-else-bulk-gt-MOST_BULK-clause-in_place
 returns-else-bulk-gt-MOST_BULK-clause-in_place c = λ there few.
-    stepped_kept c.args.self.now c.set_inside.new.self
-    (set_value c.args.path.now c.args.name.now c.args.kind c.args.bytes.now) c.set_inside.ensures.stepped
+    kept (goal.at.returns-else-bulk-gt-MOST_BULK-clause-in_place c).After-set_inside
 
 pub returns-in-None-clause-twelve_bytes : goal.returns-in-None-clause-twelve_bytes
 returns-in-None-clause-twelve_bytes c = λ at there few. absurd (let e = c.in-None.ensures ∙ there in cc)
@@ -61,8 +66,7 @@ returns-else-bulk-gt-MOST_BULK-clause-twelve_bytes c = λ at there few.
 
 pub returns-else-bulk-gt-MOST_BULK-clause-room : goal.returns-else-bulk-gt-MOST_BULK-clause-room
 returns-else-bulk-gt-MOST_BULK-clause-room c =
-    inl (stepped_kept c.args.self.now c.set_inside.new.self
-    (set_value c.args.path.now c.args.name.now c.args.kind c.args.bytes.now) c.set_inside.ensures.stepped)
+    inl (kept (goal.at.returns-else-bulk-gt-MOST_BULK-clause-room c).After-set_inside)
 
 pub returns-else-bulk-gt-MOST_BULK-clause-freed : goal.returns-else-bulk-gt-MOST_BULK-clause-freed
 returns-else-bulk-gt-MOST_BULK-clause-freed c =
@@ -71,5 +75,4 @@ returns-else-bulk-gt-MOST_BULK-clause-freed c =
 
 pub returns-else-bulk-gt-MOST_BULK-clause-parents : goal.returns-else-bulk-gt-MOST_BULK-clause-parents
 returns-else-bulk-gt-MOST_BULK-clause-parents c =
-    (stepped_kept c.args.self.now c.set_inside.new.self
-    (set_value c.args.path.now c.args.name.now c.args.kind c.args.bytes.now) c.set_inside.ensures.stepped).parents
+    (kept (goal.at.returns-else-bulk-gt-MOST_BULK-clause-parents c).After-set_inside).parents

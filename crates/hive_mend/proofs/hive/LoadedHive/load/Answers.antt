@@ -1,19 +1,18 @@
-use Rattle.std.proofs.Common.{◌≡◌, ◌++◌, ◌∙◌, true, [], length, refl, sym, ap}
+use Rattle.std.proofs.Common.{◌≡◌, ◌++◌, ◌∙◌, true, [], refl, sym, ap}
 use Rattle.std.proofs.lemmas.List.{append-nil}
 use Rattle.nt_bytes.specs.declared.fault.HiveFault.{HiveFault}
 use Rattle.hive_model.specs.Load.{LoadFault}
 use Rattle.hive_model.specs.Recovery.{Recovered, bit}
 use Rattle.nt_edge.specs.Calls.{reads_of}
 use Rattle.hive_commit.specs.Calls.{closing_calls}
-use Rattle.hive_commit.proofs.Kept.{kept_log, log_behind}
 use Rattle.hive_commit.proofs.RecoveryCalls.{only_read, read_then, restored_front, restored_all, clean_all}
-use Rattle.hive_commit.proofs.Rest.{rest_kept, rest_restored}
+use Rattle.hive_commit.proofs.Rest.{KeepsAll, all_kept, all_restored}
 use Rattle.hive_mend.specs.Loaded.{Loaded, loaded_state}
 use Rattle.hive_store.proofs.LoadingLemmas.{loads_or_fails, kept_loads, restored_loads, found_again}
 use Rattle.hive_mend.proofs.LoadingCalls.{stopped_look, stopped_restore}
 use Rattle.hive_mend.proofs.hive.LoadedHive.load.Given.{Over}
 use Rattle.hive_mend.proofs.hive.LoadedHive.load.Goals as goal
-use Rattle.hive_mend.proofs.hive.LoadedHive.load.Goals.{In_ok-hive, then-dirty+in_ok-restore, else-dirty}
+use Rattle.hive_mend.proofs.hive.LoadedHive.load.Goals.{In_ok-hive, After-hive, After-read_unmended, After-restore, After-drop-bitmap-inside-2, then-dirty+in_ok-restore, else-dirty}
 
 -- what was read, as what is recovered
 abbrev seen : (g : Over) → In_ok-hive g → Recovered
@@ -28,6 +27,38 @@ no_fault g c tells fault =
     loads_or_fails (g.D.Disk.state c.args.disk.now).held (loaded_state c.in_ok-hive.field-0.hive)
     c.in_ok-hive.field-0.dirty fault (c.in_ok-hive.ensures.exact tells).loads
 
+-- its bins data are those that were read
+bins_read : (g : Over) (c : After-hive g) → c.hive.inside.bins ≡ c.in_ok-hive.field-0.hive.bins
+bins_read g c = ap (λ (h : Loaded). h.bins) c.hive.view_is
+
+-- what a cut keeps: where nothing was written yet, after a restoring that stopped, and at the end
+unwritten : (g : Over) (c : After-read_unmended g) → g.D.Disk.tells ≡ true
+    → KeepsAll (g.D.Disk.state c.args.disk.now) (g.D.Disk.state c.read_unmended.new.disk)
+unwritten g c tells =
+    let look = c.read_unmended.ensures.look in
+    all_kept _ _ (look.held tells) (look.flight tells ∙ c.requires.still tells)
+
+stopped : (g : Over) (c : After-restore g) → g.D.Disk.tells ≡ true
+    → KeepsAll (g.D.Disk.state c.args.disk.now) (g.D.Disk.state c.restore.new.disk)
+stopped g c tells =
+    all_restored _ (g.D.Disk.state c.read_unmended.new.disk) _ (seen g (goal.at.After-restore g c).In_ok-hive)
+    c.hive.inside.base c.as_slice-then-dirty.result.now (c.read_unmended.ensures.look.held tells)
+    (c.in_ok-hive.ensures.exact tells).recovered (ap (λ (h : Loaded). h.base) c.hive.view_is)
+    (c.as_slice-then-dirty.ensures ∙ bins_read g (goal.at.After-restore g c).After-hive) (c.restore.ensures.crash tells)
+    (c.restore.ensures.log tells) (c.restore.ensures.rest tells)
+
+ended : (g : Over) (c : After-drop-bitmap-inside-2 g) → g.D.Disk.tells ≡ true
+    → KeepsAll (g.D.Disk.state c.args.disk.now) (g.D.Disk.state c.if-dirty.disk)
+ended g c tells = elim c.if-dirty.branch [
+  | then-dirty+in_ok-restore w ↦ rw w.disk-is
+      (all_restored _ (g.D.Disk.state c.read_unmended.new.disk) _ (seen g (goal.at.After-drop-bitmap-inside-2 g c).In_ok-hive)
+      c.hive.inside.base w.as_slice-then-dirty.result.now (c.read_unmended.ensures.look.held tells)
+      (c.in_ok-hive.ensures.exact tells).recovered (ap (λ (h : Loaded). h.base) c.hive.view_is)
+      (w.as_slice-then-dirty.ensures ∙ bins_read g (goal.at.After-drop-bitmap-inside-2 g c).After-hive)
+      (w.restore.ensures.crash tells) (w.restore.ensures.log tells) (w.restore.ensures.rest tells))
+  | else-dirty w ↦ rw w.disk-is (unwritten g (goal.at.After-drop-bitmap-inside-2 g c).After-read_unmended tells)
+]
+
 pub returns-in_err-hive-clause-made : goal.returns-in_err-hive-clause-made
 returns-in_err-hive-clause-made g c =
     let asked = c.in_err-hive.ensures.asked in
@@ -37,21 +68,20 @@ returns-in_err-hive-clause-made g c =
 
 pub returns-in_err-restore-clause-made : goal.returns-in_err-restore-clause-made
 returns-in_err-restore-clause-made g c =
-    let image = (g.D.Disk.state c.args.disk.now).held in
     let view = seen g (goal.at.returns-in_err-restore-clause-made g c).In_ok-hive in
     let asked = c.in_ok-hive.ensures.asked in
-    let closed = c.hive.inside.base in
     let bitmap = c.as_slice.result.now in
     let bins = c.as_slice-then-dirty.result.now in
     let made = c.in_err-restore.ensures.made in
     read_then (g.D.Disk.calls c.args.disk.now) (g.D.Disk.calls c.read_unmended.new.disk) _ asked.sectors asked.made
-    (g.D.Disk.calls c.restore.new.disk) closed (bit bitmap) bins made
-    (λ tells. stopped_restore image c.from_residual-in_err-restore.result c.in_err-restore.field-0.0
+    (g.D.Disk.calls c.restore.new.disk) c.hive.inside.base (bit bitmap) bins made
+    (λ tells. stopped_restore (g.D.Disk.state c.args.disk.now).held c.from_residual-in_err-restore.result
+    c.in_err-restore.field-0.0
     (reads_of asked.sectors ++ made.front) c.from_residual-in_err-restore.ensures.1
-    (restored_front image asked.sectors (asked.are tells) view (c.in_ok-hive.ensures.exact tells).recovered
-    closed bitmap bins c.in_ok-hive.field-0.bitmap c.if-dirty.true (c.in_ok-hive.ensures.dirty tells c.if-dirty.true)
+    (restored_front _ asked.sectors (asked.are tells) view (c.in_ok-hive.ensures.exact tells).recovered
+    c.hive.inside.base bitmap bins c.in_ok-hive.field-0.bitmap c.if-dirty.true (c.in_ok-hive.ensures.dirty tells c.if-dirty.true)
     (ap (λ (h : Loaded). h.base) c.hive.view_is) c.as_slice.ensures
-    (c.as_slice-then-dirty.ensures ∙ ap (λ (h : Loaded). h.bins) c.hive.view_is)
+    (c.as_slice-then-dirty.ensures ∙ bins_read g (goal.at.returns-in_err-restore-clause-made g c).After-hive)
     made.front (record { rest = made.rest; cut = made.cut }))
     (no_fault g (goal.at.returns-in_err-restore-clause-made g c).In_ok-hive tells))
 
@@ -75,7 +105,7 @@ returns-clause-made g c =
           closed bitmap bins c.in_ok-hive.field-0.bitmap w.if-dirty.true
           (c.in_ok-hive.ensures.dirty tells w.if-dirty.true)
           (ap (λ (h : Loaded). h.base) c.hive.view_is) w.as_slice.ensures
-          (w.as_slice-then-dirty.ensures ∙ ap (λ (h : Loaded). h.bins) c.hive.view_is)))
+          (w.as_slice-then-dirty.ensures ∙ bins_read g (goal.at.returns-clause-made g c).After-hive)))
       | else-dirty w ↦ rw w.disk-is
           (only_read start one _ asked.sectors asked.made
           (λ tells. clean_all image asked.sectors (asked.are tells) view (c.in_ok-hive.ensures.exact tells).recovered
@@ -84,48 +114,39 @@ returns-clause-made g c =
 
 pub returns-in_err-hive-clause-crash : goal.returns-in_err-hive-clause-crash
 returns-in_err-hive-clause-crash g c = λ tells.
-    let look = c.read_unmended.ensures.look in
-    kept_loads (g.D.Disk.state c.args.disk.now) (g.D.Disk.state c.read_unmended.new.disk) (look.held tells)
-    (look.flight tells ∙ c.requires.still tells)
+    kept_loads (g.D.Disk.state c.args.disk.now) (g.D.Disk.state c.read_unmended.new.disk)
+    (c.read_unmended.ensures.look.held tells) (c.read_unmended.ensures.look.flight tells ∙ c.requires.still tells)
 
 pub returns-in_err-restore-clause-crash : goal.returns-in_err-restore-clause-crash
 returns-in_err-restore-clause-crash g c = λ tells.
     let view = seen g (goal.at.returns-in_err-restore-clause-crash g c).In_ok-hive in
-    restored_loads (g.D.Disk.state c.args.disk.now).held view (c.in_ok-hive.ensures.exact tells).recovered
-    c.hive.inside.base c.as_slice-then-dirty.result.now (ap (λ (h : Loaded). h.base) c.hive.view_is)
-    (c.as_slice-then-dirty.ensures ∙ ap (λ (h : Loaded). h.bins) c.hive.view_is)
-    (g.D.Disk.state c.restore.new.disk) (c.restore.ensures.crash tells)
+    let all = stopped g (goal.at.returns-in_err-restore-clause-crash g c).After-restore tells in
+    let is = (c.in_ok-hive.ensures.exact tells).recovered in
+    restored_loads (g.D.Disk.state c.args.disk.now).held view is view.base view.bins refl refl
+    (g.D.Disk.state c.restore.new.disk) (all.crash view.base view.bins (record { dirty = view.dirty; recovered = is }))
 
 pub returns-clause-crash : goal.returns-clause-crash
 returns-clause-crash g c = λ tells.
-    let s0 = g.D.Disk.state c.args.disk.now in
     let view = seen g (goal.at.returns-clause-crash g c).In_ok-hive in
-    elim c.if-dirty.branch [
-      | then-dirty+in_ok-restore w ↦ rw w.disk-is
-          (restored_loads s0.held view (c.in_ok-hive.ensures.exact tells).recovered
-          c.hive.inside.base w.as_slice-then-dirty.result.now (ap (λ (h : Loaded). h.base) c.hive.view_is)
-          (w.as_slice-then-dirty.ensures ∙ ap (λ (h : Loaded). h.bins) c.hive.view_is)
-          (g.D.Disk.state w.restore.new.disk) (w.restore.ensures.crash tells))
-      | else-dirty w ↦ rw w.disk-is
-          (kept_loads s0 (g.D.Disk.state c.read_unmended.new.disk) (c.read_unmended.ensures.look.held tells)
-          (c.read_unmended.ensures.look.flight tells ∙ c.requires.still tells))
-    ]
+    let all = ended g (goal.at.returns-clause-crash g c).After-drop-bitmap-inside-2 tells in
+    let is = (c.in_ok-hive.ensures.exact tells).recovered in
+    restored_loads (g.D.Disk.state c.args.disk.now).held view is view.base view.bins refl refl
+    (g.D.Disk.state c.if-dirty.disk) (all.crash view.base view.bins (record { dirty = view.dirty; recovered = is }))
 
 pub returns-clause-loads : goal.returns-clause-loads
 returns-clause-loads g c = λ tells.
     let s0 = g.D.Disk.state c.args.disk.now in
-    let looked = c.in_ok-hive.field-0 in
     let view = seen g (goal.at.returns-clause-loads g c).In_ok-hive in
     let is = c.in_ok-hive.ensures.exact tells in
-    let found = found_again s0.held (loaded_state looked.hive)
-    looked.dirty view is.loads is.recovered c.in_ok-hive.ensures.sized in
+    let found = found_again s0.held (loaded_state c.in_ok-hive.field-0.hive)
+    view.dirty view is.loads is.recovered c.in_ok-hive.ensures.sized in
     elim c.if-dirty.branch [
       | then-dirty+in_ok-restore w ↦ rw w.disk-is
           (found c.hive.inside.base w.as_slice-then-dirty.result.now (ap (λ (h : Loaded). h.base) c.hive.view_is)
-          (w.as_slice-then-dirty.ensures ∙ ap (λ (h : Loaded). h.bins) c.hive.view_is)
+          (w.as_slice-then-dirty.ensures ∙ bins_read g (goal.at.returns-clause-loads g c).After-hive)
           (g.D.Disk.state w.restore.new.disk).held (w.in_ok-restore.ensures.carries tells))
       | else-dirty w ↦ rw (w.disk-is, c.read_unmended.ensures.look.held tells)
-          (found looked.hive.base looked.hive.bins refl refl s0.held
+          (found view.base view.bins refl refl s0.held
           (c.in_ok-hive.ensures.carries tells w.if-dirty.false))
     ]
 
@@ -138,49 +159,19 @@ returns-clause-faulty g c = λ tells fault fails. absurd (no_fault g (goal.at.re
     tells fault fails)
 
 pub returns-in_err-hive-clause-rest : goal.returns-in_err-hive-clause-rest
-returns-in_err-hive-clause-rest g c = λ tells base bins is.
-    let look = c.read_unmended.ensures.look in
-    rest_kept (g.D.Disk.state c.args.disk.now) (g.D.Disk.state c.read_unmended.new.disk) (length bins) (look.held tells)
-    (look.flight tells ∙ c.requires.still tells)
+returns-in_err-hive-clause-rest g c = λ tells.
+    (unwritten g (goal.at.returns-in_err-hive-clause-rest g c).After-read_unmended tells).rest
 
 pub returns-in_err-restore-clause-log : goal.returns-in_err-restore-clause-log
 returns-in_err-restore-clause-log g c = λ tells.
-    log_behind (g.D.Disk.state c.args.disk.now).held (g.D.Disk.state c.read_unmended.new.disk).held
-    (g.D.Disk.state c.restore.new.disk) (c.read_unmended.ensures.look.held tells) (c.restore.ensures.log tells)
+    (stopped g (goal.at.returns-in_err-restore-clause-log g c).After-restore tells).log
 
 pub returns-clause-log : goal.returns-clause-log
-returns-clause-log g c = λ tells.
-    let s0 = g.D.Disk.state c.args.disk.now in
-    let s1 = g.D.Disk.state c.read_unmended.new.disk in
-    let look = c.read_unmended.ensures.look in
-    elim c.if-dirty.branch [
-      | then-dirty+in_ok-restore w ↦ rw w.disk-is
-          (log_behind s0.held s1.held (g.D.Disk.state w.restore.new.disk) (look.held tells)
-          (w.restore.ensures.log tells))
-      | else-dirty w ↦ rw w.disk-is (kept_log s0 s1 (look.held tells) (look.flight tells ∙ c.requires.still tells))
-    ]
+returns-clause-log g c = λ tells. (ended g (goal.at.returns-clause-log g c).After-drop-bitmap-inside-2 tells).log
 
 pub returns-in_err-restore-clause-rest : goal.returns-in_err-restore-clause-rest
-returns-in_err-restore-clause-rest g c = λ tells base bins is.
-    rest_restored (g.D.Disk.state c.args.disk.now) (g.D.Disk.state c.restore.new.disk)
-    (g.D.Disk.state c.read_unmended.new.disk).held base bins
-    (seen g (goal.at.returns-in_err-restore-clause-rest g c).In_ok-hive)
-    c.as_slice-then-dirty.result.now (c.read_unmended.ensures.look.held tells)
-    (c.in_ok-hive.ensures.exact tells).recovered
-    (c.as_slice-then-dirty.ensures ∙ ap (λ (h : Loaded). h.bins) c.hive.view_is) is (c.restore.ensures.rest tells)
+returns-in_err-restore-clause-rest g c = λ tells.
+    (stopped g (goal.at.returns-in_err-restore-clause-rest g c).After-restore tells).rest
 
 pub returns-clause-rest : goal.returns-clause-rest
-returns-clause-rest g c = λ tells base bins is.
-    let s0 = g.D.Disk.state c.args.disk.now in
-    let s1 = g.D.Disk.state c.read_unmended.new.disk in
-    let look = c.read_unmended.ensures.look in
-    elim c.if-dirty.branch [
-      | then-dirty+in_ok-restore w ↦ rw w.disk-is
-          (rest_restored s0 (g.D.Disk.state w.restore.new.disk) s1.held base bins
-          (seen g (goal.at.returns-clause-rest g c).In_ok-hive)
-          w.as_slice-then-dirty.result.now (look.held tells) (c.in_ok-hive.ensures.exact tells).recovered
-          (w.as_slice-then-dirty.ensures ∙ ap (λ (h : Loaded). h.bins) c.hive.view_is) is
-          (w.restore.ensures.rest tells))
-      | else-dirty w ↦ rw w.disk-is
-          (rest_kept s0 s1 (length bins) (look.held tells) (look.flight tells ∙ c.requires.still tells))
-    ]
+returns-clause-rest g c = λ tells. (ended g (goal.at.returns-clause-rest g c).After-drop-bitmap-inside-2 tells).rest

@@ -3,25 +3,28 @@ use Rattle.hive_store.proofs.Holding.{tree_loads}
 use Rattle.hive_mend.specs.Loaded.{Loaded}
 use Rattle.hive_mend.specs.Mending.{shorter}
 use Rattle.hive_mend.proofs.MendingLemmas.{HasItsTree, crash_again, kept_crash, no_calls}
+use Rattle.hive_mend.proofs.hive.LoadedHive.mend.Given.{Over}
 use Rattle.hive_mend.proofs.hive.LoadedHive.mend.Goals as goal
+use Rattle.hive_mend.proofs.hive.LoadedHive.mend.Goals.{After-self}
+
+has : (g : Over) (c : After-self g) → HasItsTree c.args.self c.args.self.bins c.args.self.base.root
+has g c = subst (λ (v : Loaded). HasItsTree v v.bins v.base.root) c.self.view_is c.self.invariant.has
 
 pub returns-in_err-hive-in-Ok-Some-clause-crash : goal.returns-in_err-hive-in-Ok-Some-clause-crash
 returns-in_err-hive-in-Ok-Some-clause-crash g c = λ tells.
-    let has = subst (λ (v : Loaded). HasItsTree v v.bins v.base.root) c.self.view_is c.self.invariant.has in
-    crash_again c.args.self has (g.D.Disk.state c.args.disk.now).held (c.requires.carries tells)
-    (g.D.Disk.state c.replace.new.disk) (c.replace.ensures.crash tells)
+    crash_again c.args.self (has g (goal.at.returns-in_err-hive-in-Ok-Some-clause-crash g c).After-self) _
+    (c.requires.carries tells) (g.D.Disk.state c.replace.new.disk) (c.replace.ensures.crash tells)
 
 pub returns-in_ok-hive-in-Ok-Some-clause-crash : goal.returns-in_ok-hive-in-Ok-Some-clause-crash
 returns-in_ok-hive-in-Ok-Some-clause-crash g c = λ tells.
-    let has = subst (λ (v : Loaded). HasItsTree v v.bins v.base.root) c.self.view_is c.self.invariant.has in
-    crash_again c.args.self has (g.D.Disk.state c.args.disk.now).held (c.requires.carries tells)
-    (g.D.Disk.state c.replace.new.disk) (c.replace.ensures.crash tells)
+    crash_again c.args.self (has g (goal.at.returns-in_ok-hive-in-Ok-Some-clause-crash g c).After-self) _
+    (c.requires.carries tells) (g.D.Disk.state c.replace.new.disk) (c.replace.ensures.crash tells)
 
 pub returns-in-Ok-None-clause-loads : goal.returns-in-Ok-None-clause-loads
 returns-in-Ok-None-clause-loads g c = λ tells.
-    let has = subst (λ (v : Loaded). HasItsTree v v.bins v.base.root) c.self.view_is c.self.invariant.has in
     let h = c.args.self in
-    tree_loads h.base h.bins h.tree has (g.D.Disk.state c.args.disk.now).held (c.requires.carries tells)
+    tree_loads h.base h.bins h.tree (has g (goal.at.returns-in-Ok-None-clause-loads g c).After-self)
+    (g.D.Disk.state c.args.disk.now).held (c.requires.carries tells)
 
 pub returns-in-Ok-None-clause-crash : goal.returns-in-Ok-None-clause-crash
 returns-in-Ok-None-clause-crash g c = λ tells. kept_crash (g.D.Disk.state c.args.disk.now) (c.requires.still tells)

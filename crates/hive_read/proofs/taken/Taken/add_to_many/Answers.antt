@@ -23,12 +23,11 @@ returns-clause-fresh c =
 
 pub returns-clause-added : goal.returns-clause-added
 returns-clause-added c = λ n.
-    let name = name_of c.args.name in
     none-few (map key_of c.insert.new.self.keys) c.new.result n c.new.ensures
     ∙ has-insert key_of
-    c.gather.new.set.keys c.insert.new.self.keys (record { name = c.args.name }) name n refl
+    c.gather.new.set.keys c.insert.new.self.keys (record { name = c.args.name }) (name_of c.args.name) n refl
     c.in_ok-fresh.ensures.keys
-    ∙ ap (λ b. b || folds_same n name)
+    ∙ ap (λ b. b || folds_same n (name_of c.args.name))
     (all-gathered key_of
     c.self.inside.many.keys c.gather.new.set.keys c.as_slice.result.now c.self.inside.few n c.in_ok-gather.ensures
     c.as_slice.ensures

@@ -20,10 +20,9 @@ returns-then-is_set-clause-fresh c =
 pub returns-in_err-fresh-clause-err : goal.returns-in_err-fresh-clause-err
 returns-in_err-fresh-clause-err c =
     let p = err_from_is_err_and c.from_residual.result c.from_residual.ensures.1 in
-    let security = c.self.inside.security.items in
     rw (p.1, ← c.self.view_is)
-    (same-marks c.self.inside.plain.items security c.set.new.words.items security c.in_err-fresh.ensures.err
-    (λ _. refl))
+    (same-marks c.self.inside.plain.items c.self.inside.security.items c.set.new.words.items c.self.inside.security.items
+    c.in_err-fresh.ensures.err (λ _. refl))
 
 pub returns-clause-fresh : goal.returns-clause-fresh
 returns-clause-fresh c =

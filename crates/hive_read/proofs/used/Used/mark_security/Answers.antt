@@ -1,16 +1,24 @@
-use Rattle.std.proofs.Common.{◌≡◌, ◌/◌, true, false, refl, sym, ◌∙◌}
+use Rattle.std.proofs.Common.{◌≡◌, ◌/◌, true, false, not, refl, sym, ap, ◌∙◌}
+use Rattle.std.specs.FinMap as map
 use Rattle.std.proofs.lemmas.Result.{err_from_is_err_and}
 use Rattle.hive_read.specs.Marks.{has_bit}
+use Rattle.hive_read.specs.Walked.{clashes}
 use Rattle.hive_read.proofs.MarkLemmas.{clash-marks, mark-kept, mark-security, same-marks}
 use Rattle.hive_read.proofs.used.Used.mark_security.Goals as goal
-use Rattle.hive_read.proofs.used.Used.mark_security.Goals.{Then-is_set, Else-is_set}
+use Rattle.hive_read.proofs.used.Used.mark_security.Goals.{Then-is_set, After-is_set-2}
 
--- the cell was used as one of security, or not
+-- the cell was used as one of security
 used_so : (c : Then-is_set) → has_bit c.self.inside.security.items (c.args.at / 8) ≡ true
 used_so c = rw c.as_slice.ensures.value at (sym c.is_set.ensures ∙ c.if-is_set.true)
 
-not_so : (c : Else-is_set) → has_bit c.self.inside.security.items (c.args.at / 8) ≡ false
-not_so c = rw c.as_slice.ensures.value at (sym c.is_set.ensures ∙ c.if-is_set.false)
+-- then it clashes where it was used as another
+clash_is : (c : After-is_set-2) → clashes (map.get c.args.self.now c.args.at) true ≡ c.is_set-2.result
+clash_is c =
+    let kept : has_bit c.self.inside.security.items (c.args.at / 8) ≡ false =
+    rw c.as_slice.ensures.value at (sym c.is_set.ensures ∙ c.if-is_set.false) in
+    rw (← c.self.view_is)
+    (rw (clash-marks c.self.inside.plain.items c.self.inside.security.items c.args.at true c.requires, kept)
+    (rw c.as_slice-2.ensures.value at (sym c.is_set-2.ensures)))
 
 pub returns-then-is_set-clause-fresh : goal.returns-then-is_set-clause-fresh
 returns-then-is_set-clause-fresh c =
@@ -26,28 +34,18 @@ returns-then-is_set-clause-marked c = λ _.
 
 pub returns-then-is_set-2-clause-fresh : goal.returns-then-is_set-2-clause-fresh
 returns-then-is_set-2-clause-fresh c =
-    let plain = c.self.inside.plain.items in
-    let kept = not_so (goal.at.returns-then-is_set-2-clause-fresh c).Else-is_set in
-    let taken : has_bit plain (c.args.at / 8) ≡ true =
-    rw c.as_slice-2.ensures.value at (sym c.is_set-2.ensures ∙ c.if-is_set-2.true) in
-    rw (← c.self.view_is)
-    (rw (clash-marks plain c.self.inside.security.items c.args.at true c.requires, kept, taken) refl)
+    ap not (sym (clash_is (goal.at.returns-then-is_set-2-clause-fresh c).After-is_set-2 ∙ c.if-is_set-2.true))
 
 pub returns-in_err-_fresh-clause-err : goal.returns-in_err-_fresh-clause-err
 returns-in_err-_fresh-clause-err c =
     let p = err_from_is_err_and c.from_residual.result c.from_residual.ensures.1 in
-    let plain = c.self.inside.plain.items in
     rw (p.1, ← c.self.view_is)
-    (same-marks plain c.self.inside.security.items plain c.set.new.words.items (λ _. refl) c.in_err-_fresh.ensures.err)
+    (same-marks c.self.inside.plain.items c.self.inside.security.items c.self.inside.plain.items c.set.new.words.items
+    (λ _. refl) c.in_err-_fresh.ensures.err)
 
 pub returns-clause-fresh : goal.returns-clause-fresh
 returns-clause-fresh c =
-    let plain = c.self.inside.plain.items in
-    let kept = not_so (goal.at.returns-clause-fresh c).Else-is_set in
-    let taken : has_bit plain (c.args.at / 8) ≡ false =
-    rw c.as_slice-2.ensures.value at (sym c.is_set-2.ensures ∙ c.if-is_set-2.false) in
-    rw (← c.self.view_is)
-    (rw (clash-marks plain c.self.inside.security.items c.args.at true c.requires, kept, taken) refl)
+    ap not (sym (clash_is (goal.at.returns-clause-fresh c).After-is_set-2 ∙ c.if-is_set-2.false))
 
 pub returns-clause-marked : goal.returns-clause-marked
 returns-clause-marked c = λ _.

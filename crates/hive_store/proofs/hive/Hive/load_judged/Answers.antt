@@ -1,4 +1,4 @@
-use Rattle.std.proofs.Common.{◌≡◌, ◌++◌, ◌∙◌, true, [], refl, sym, ap}
+use Rattle.std.proofs.Common.{◌≡◌, ◌++◌, ◌∙◌, ℕ, true, List, [], refl, sym, ap}
 use Rattle.std.proofs.lemmas.List.{append-nil}
 use Rattle.nt_bytes.specs.declared.fault.HiveFault.{HiveFault}
 use Rattle.hive_model.specs.Bins.{spelled}
@@ -13,7 +13,7 @@ use Rattle.hive_store.proofs.LoadingLemmas.{loads_or_fails, kept_loads, restored
 use Rattle.hive_store.proofs.LoadingCalls.{stopped_look, stopped_restore}
 use Rattle.hive_store.proofs.hive.Hive.load_judged.Given.{Over}
 use Rattle.hive_store.proofs.hive.Hive.load_judged.Goals as goal
-use Rattle.hive_store.proofs.hive.Hive.load_judged.Goals.{In_ok-hive, then-dirty+in_ok-restore, else-dirty}
+use Rattle.hive_store.proofs.hive.Hive.load_judged.Goals.{In_ok-hive, After-hive, then-dirty+in_ok-restore, else-dirty}
 
 -- what was read, as what is recovered
 abbrev seen : (g : Over) → In_ok-hive g → Recovered
@@ -28,6 +28,12 @@ no_fault g c tells fault =
     loads_or_fails (g.D.Disk.state c.args.disk.now).held (loaded_state c.in_ok-hive.field-0.hive)
     c.in_ok-hive.field-0.dirty fault (c.in_ok-hive.ensures.exact tells)
 
+-- the bytes of the cells are the bins data that were read
+bins_read : (g : Over) (c : After-hive g) (bins : List ℕ) → bins ≡ spelled 0 c.hive.inside.cells.bins
+    → bins ≡ c.in_ok-hive.field-0.hive.bins
+bins_read g c bins is =
+    is ∙ ap (λ (s : Session). spelled 0 s.cells.bins) c.hive.view_is ∙ c.in_ok-hive.ensures.cells.bytes
+
 pub returns-in_err-hive-clause-made : goal.returns-in_err-hive-clause-made
 returns-in_err-hive-clause-made g c =
     let asked = c.in_err-hive.ensures.asked in
@@ -37,22 +43,20 @@ returns-in_err-hive-clause-made g c =
 
 pub returns-in_err-restore-clause-made : goal.returns-in_err-restore-clause-made
 returns-in_err-restore-clause-made g c =
-    let image = (g.D.Disk.state c.args.disk.now).held in
     let view = seen g (goal.at.returns-in_err-restore-clause-made g c).In_ok-hive in
     let asked = c.in_ok-hive.ensures.asked in
-    let closed = c.hive.inside.base in
     let bitmap = c.as_slice.result.now in
     let bins = c.bytes-bins.result.now in
     let made = c.in_err-restore.ensures.made in
     read_then (g.D.Disk.calls c.args.disk.now) (g.D.Disk.calls c.look.new.disk) _ asked.sectors asked.made
-    (g.D.Disk.calls c.restore.new.disk) closed (bit bitmap) bins made
-    (λ tells. stopped_restore image c.from_residual-in_err-restore.result c.in_err-restore.field-0.0
+    (g.D.Disk.calls c.restore.new.disk) c.hive.inside.base (bit bitmap) bins made
+    (λ tells. stopped_restore (g.D.Disk.state c.args.disk.now).held c.from_residual-in_err-restore.result
+    c.in_err-restore.field-0.0
     (reads_of asked.sectors ++ made.front) c.from_residual-in_err-restore.ensures.1
-    (restored_front image asked.sectors (asked.are tells) view (c.in_ok-hive.ensures.recovered tells)
-    closed bitmap bins c.in_ok-hive.field-0.bitmap c.if-dirty.true (c.in_ok-hive.ensures.found tells c.if-dirty.true)
+    (restored_front _ asked.sectors (asked.are tells) view (c.in_ok-hive.ensures.recovered tells)
+    c.hive.inside.base bitmap bins c.in_ok-hive.field-0.bitmap c.if-dirty.true (c.in_ok-hive.ensures.found tells c.if-dirty.true)
     (ap (λ (s : Session). s.base) c.hive.view_is) c.as_slice.ensures
-    (c.bytes-bins.ensures.exact ∙ ap (λ (s : Session). spelled 0 s.cells.bins) c.hive.view_is
-    ∙ c.in_ok-hive.ensures.cells.bytes)
+    (bins_read g (goal.at.returns-in_err-restore-clause-made g c).After-hive bins c.bytes-bins.ensures.exact)
     made.front (record { rest = made.rest; cut = made.cut }))
     (no_fault g (goal.at.returns-in_err-restore-clause-made g c).In_ok-hive tells))
 
@@ -76,8 +80,7 @@ returns-clause-made g c =
           closed bitmap bins c.in_ok-hive.field-0.bitmap w.if-dirty.true
           (c.in_ok-hive.ensures.found tells w.if-dirty.true)
           (ap (λ (s : Session). s.base) c.hive.view_is) w.as_slice.ensures
-          (w.bytes-bins.ensures.exact ∙ ap (λ (s : Session). spelled 0 s.cells.bins) c.hive.view_is
-          ∙ c.in_ok-hive.ensures.cells.bytes)))
+          (bins_read g (goal.at.returns-clause-made g c).After-hive bins w.bytes-bins.ensures.exact)))
       | else-dirty w ↦ rw w.disk-is
           (only_read start one _ asked.sectors asked.made
           (λ tells. clean_all image asked.sectors (asked.are tells) view (c.in_ok-hive.ensures.recovered tells)
@@ -92,11 +95,9 @@ returns-in_err-hive-clause-crash g c = λ tells.
 pub returns-in_err-restore-clause-crash : goal.returns-in_err-restore-clause-crash
 returns-in_err-restore-clause-crash g c = λ tells.
     restored_loads (g.D.Disk.state c.args.disk.now).held
-    (seen g (goal.at.returns-in_err-restore-clause-crash g c).In_ok-hive)
-    (c.in_ok-hive.ensures.recovered tells)
+    (seen g (goal.at.returns-in_err-restore-clause-crash g c).In_ok-hive) (c.in_ok-hive.ensures.recovered tells)
     c.hive.inside.base c.bytes-bins.result.now (ap (λ (s : Session). s.base) c.hive.view_is)
-    (c.bytes-bins.ensures.exact ∙ ap (λ (s : Session). spelled 0 s.cells.bins) c.hive.view_is
-    ∙ c.in_ok-hive.ensures.cells.bytes)
+    (bins_read g (goal.at.returns-in_err-restore-clause-crash g c).After-hive _ c.bytes-bins.ensures.exact)
     (g.D.Disk.state c.restore.new.disk) (c.restore.ensures.crash tells)
 
 pub returns-clause-crash : goal.returns-clause-crash
@@ -107,8 +108,7 @@ returns-clause-crash g c = λ tells.
           (restored_loads s0.held (seen g (goal.at.returns-clause-crash g c).In_ok-hive)
           (c.in_ok-hive.ensures.recovered tells)
           c.hive.inside.base w.bytes-bins.result.now (ap (λ (s : Session). s.base) c.hive.view_is)
-          (w.bytes-bins.ensures.exact ∙ ap (λ (s : Session). spelled 0 s.cells.bins) c.hive.view_is
-          ∙ c.in_ok-hive.ensures.cells.bytes)
+          (bins_read g (goal.at.returns-clause-crash g c).After-hive _ w.bytes-bins.ensures.exact)
           (g.D.Disk.state w.restore.new.disk) (w.restore.ensures.crash tells))
       | else-dirty w ↦ rw w.disk-is
           (kept_loads s0 (g.D.Disk.state c.look.new.disk) (c.look.ensures.look.held tells)
@@ -125,8 +125,7 @@ returns-clause-loads g c = λ tells.
     elim c.if-dirty.branch [
       | then-dirty+in_ok-restore w ↦ rw w.disk-is
           (found c.hive.inside.base w.bytes-bins.result.now (ap (λ (s : Session). s.base) c.hive.view_is)
-          (w.bytes-bins.ensures.exact ∙ ap (λ (s : Session). spelled 0 s.cells.bins) c.hive.view_is
-          ∙ c.in_ok-hive.ensures.cells.bytes)
+          (bins_read g (goal.at.returns-clause-loads g c).After-hive _ w.bytes-bins.ensures.exact)
           (g.D.Disk.state w.restore.new.disk).held (w.in_ok-restore.ensures.carries tells))
       | else-dirty w ↦ rw (w.disk-is, c.look.ensures.look.held tells)
           (found looked.hive.base looked.hive.bins refl refl s0.held
