@@ -1,6 +1,6 @@
 -- Parts of an event under another name, one after another and given up, and what a sound runner's disk may load as.
 use Rattle.std.proofs.Common.{◌≡◌, Bool, true, [], ◌∷◌, Option, Some, None, refl, sym, ap, subst, ◌∙◌}
-use Rattle.std.specs.Prelude.{Result, Ok, Err}
+use Rattle.std.specs.Prelude.{Result, Ok, Err, IfOk, OnOk}
 use Rattle.std.specs.Result.{is_err}
 use Rattle.hive_model.specs.Image.{Image}
 use Rattle.hive_model.specs.Tree.{Tree}
@@ -22,8 +22,10 @@ use Rattle.printed_parts.proofs.GoesLemmas.{Idle, idle, goes-then, goes-line, go
 use Rattle.printed_parts.proofs.BreakLemmas.{or-breaks, breaks-silent, breaks-then, breaks-line}
 use Rattle.boot_run.specs.declared.runner.Runner.{Runner}
 use Rattle.boot_run.specs.declared.stop.RunStop.{RunStop}
-use Rattle.boot_run.specs.Agrees.{IsUp, IsStored, IsLive, IsSound, IsRunningBy, Counts, AgreesBy, TurnLeft, OnLeft}
-use Rattle.boot_run.specs.Views.{Moment, RunsTo}
+use Rattle.boot_run.specs.Agrees.{IsUp, IsStored, IsLive, IsSound, IsRunningBy, Counts, AgreesBy, TurnLeft, OffLeft, OnLeft}
+use Rattle.boot_run.specs.Hosts.{LeavesHost}
+use Rattle.boot_run.specs.Turns.{Stage, Turns, Ends}
+use Rattle.boot_run.specs.Views.{Moment, moment, RunsTo}
 use Rattle.boot_run.proofs.DiskLemmas.{still_leaves, settled_loads}
 
 -- what was reported, and the disk
@@ -206,3 +208,19 @@ started {m = m} {r = r} tree counts on = let p = by_start r.machine.start on in 
     by_start : (o : Option Start) → IsRunningBy o tree → (s : Start) × (o ≡ Some s)
     by_start None h = absurd h
     by_start (Some s) h = (s, refl)
+
+-- ---- all that a call leaves
+
+pub turns : {act : RunState → Act} {hive : Option Session} {x y : Stage} {result : Result (Option Session) RunStop}
+    → IfOk result (IsSound y.runner y.disk) → LeavesHost result x.host y.host
+    → ((m : RunState) → x.host.tells ≡ true → Counts m x.runner → AgreesBy m x.disk hive
+    → RunsTo (act m) (moment x.host x.runner x.disk) (moment y.host y.runner y.disk) result (TurnLeft y.runner y.disk))
+    → Turns act hive x y result
+turns sound host plays = record { sound = sound; plays = plays; host = host }
+
+pub ends : {act : RunState → Act} {hive : Option Session} {x y : Stage} {result : Result (Unit {0}) RunStop}
+    → OnOk result (IsSound y.runner y.disk None) → LeavesHost result x.host y.host
+    → ((m : RunState) → x.host.tells ≡ true → Counts m x.runner → AgreesBy m x.disk hive
+    → RunsTo (act m) (moment x.host x.runner x.disk) (moment y.host y.runner y.disk) result (OffLeft y.runner y.disk))
+    → Ends act hive x y result
+ends sound host plays = record { sound = sound; plays = plays; host = host }

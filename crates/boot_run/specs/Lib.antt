@@ -5,6 +5,7 @@ pub mod Choices
 pub mod Ends
 pub mod Agrees
 pub mod Begins
+pub mod Turns
 pub mod Kept
 pub mod Saves
 pub mod Starts

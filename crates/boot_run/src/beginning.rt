@@ -17,6 +17,7 @@ ghost use Rattle.start_model.specs.Commit as commit_book;
 ghost use Rattle.start_model.specs.Boot as boot_book;
 ghost use Rattle.boot_run.specs.Agrees.{IsUp, IsLive, IsStored, IsSound, Counts, CommitLeft, TurnLeft};
 ghost use Rattle.boot_run.specs.Hosts.{LeavesHost};
+ghost use Rattle.boot_run.specs.Turns.{Turns, stage};
 ghost use Rattle.boot_run.specs.Begins.{Planned, begin_planned, SetLeft, IsTaken, IsUpOrDown};
 ghost use Rattle.boot_run.specs.Kept.{current_set, AreRead};
 ghost use Rattle.boot_run.specs.Views.{moment, moment_by, RunsTo};
@@ -157,11 +158,8 @@ fn begin_stepped<H: Host, B: Bench>(
     requires fits { All Fits plan.steps }
     requires some { (plan.steps ≡ []) → ⊥ }
     requires plan { begin_plan_of (select_numbers_of hive.tree) (usable_numbers_of hive.tree) on_good ≡ Ok plan }
-    ensures sound { IfOk result (IsSound runner.new (B.state bench.new)) }
-    ensures plays { (m : RunState) → (H.state host.old).tells ≡ true → Counts m runner.old → IsLive m hive (B.state bench.old)
-        → RunsTo (begin_planned on_good m plan (stepped m.version m.live plan.steps)) (moment (H.state host.old) runner.old (B.state bench.old))
-        (moment (H.state host.new) runner.new (B.state bench.new)) result (TurnLeft runner.new (B.state bench.new)) }
-    ensures host { LeavesHost result (H.state host.old) (H.state host.new) }
+    ensures { Turns (λ m. begin_planned on_good m plan (stepped m.version m.live plan.steps)) (Some hive)
+        (stage (H.state host.old) runner.old (B.state bench.old)) (stage (H.state host.new) runner.new (B.state bench.new)) result }
 {
     let (number, numbers) = (plan.chosen, plan.numbers);
     let mut hive = hive;
@@ -191,11 +189,8 @@ fn begin_by<H: Host, B: Bench>(
     requires off { runner.old.machine.start ≡ None }
     requires fits { All Fits plan.steps }
     requires plan { begin_plan_of (select_numbers_of hive.tree) (usable_numbers_of hive.tree) on_good ≡ Ok plan }
-    ensures sound { IfOk result (IsSound runner.new (B.state bench.new)) }
-    ensures plays { (m : RunState) → (H.state host.old).tells ≡ true → Counts m runner.old → IsLive m hive (B.state bench.old)
-        → RunsTo (begin_planned on_good m plan (stepped m.version m.live plan.steps)) (moment (H.state host.old) runner.old (B.state bench.old))
-        (moment (H.state host.new) runner.new (B.state bench.new)) result (TurnLeft runner.new (B.state bench.new)) }
-    ensures host { LeavesHost result (H.state host.old) (H.state host.new) }
+    ensures { Turns (λ m. begin_planned on_good m plan (stepped m.version m.live plan.steps)) (Some hive)
+        (stage (H.state host.old) runner.old (B.state bench.old)) (stage (H.state host.new) runner.new (B.state bench.new)) result }
 {
     if !plan.steps.is_empty() {
         return begin_stepped(alloc, plan, on_good, hive, runner, host, bench);
@@ -280,11 +275,8 @@ pub(crate) fn take_set<H: Host, B: Bench>(
 ) -> Result<Option<Live>, RunStop>
     requires up { IsUp hive (B.state bench.old) }
     requires off { runner.old.machine.start ≡ None }
-    ensures sound { IfOk result (IsSound runner.new (B.state bench.new)) }
-    ensures plays { (m : RunState) → (H.state host.old).tells ≡ true → Counts m runner.old → IsLive m hive (B.state bench.old)
-        → RunsTo (boot_book.take_set on_good m) (moment (H.state host.old) runner.old (B.state bench.old))
-        (moment (H.state host.new) runner.new (B.state bench.new)) result (TurnLeft runner.new (B.state bench.new)) }
-    ensures host { LeavesHost result (H.state host.old) (H.state host.new) }
+    ensures { Turns (boot_book.take_set on_good) (Some hive) (stage (H.state host.old) runner.old (B.state bench.old))
+        (stage (H.state host.new) runner.new (B.state bench.new)) result }
 {
     let found = say_set(alloc, on_good, &hive, &mut runner.summary, host)?;
     match found {

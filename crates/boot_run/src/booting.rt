@@ -1,19 +1,17 @@
 //! The boot event, up to the first phase of the start.
 
-ghost use Rattle.std.specs.Prelude.{◌≡◌, ◌||◌, true, None, IfOk, IsSome};
-ghost use Rattle.nt_edge.specs.Crash.{EachCrash};
+ghost use Rattle.std.specs.Prelude.{◌≡◌, ◌||◌, true, None, IsSome};
 ghost use Rattle.boot_ini.specs.Choice.{entry_at, path_at, IsThere};
-ghost use Rattle.start_model.specs.Fits.{MayLoad};
 ghost use Rattle.start_model.specs.Lines.{EntryLine};
-ghost use Rattle.start_model.specs.Act.{RunState};
 ghost use Rattle.start_model.specs.Boot.{boot_act};
 ghost use Rattle.start_model.specs.Act as acts;
 ghost use Rattle.start_model.specs.Boot as boot_book;
 ghost use Rattle.printed_parts.specs.Parts.{TellsOr};
-ghost use Rattle.boot_run.specs.Agrees.{IsDown, IsSound, Counts, TurnLeft};
+ghost use Rattle.boot_run.specs.Agrees.{IsDown};
 ghost use Rattle.boot_run.specs.Choices.{is_on_good, choice_in, choices};
 ghost use Rattle.boot_run.specs.Hosts.{LeavesHost};
-ghost use Rattle.boot_run.specs.Views.{moment, told_by, RunsTo};
+ghost use Rattle.boot_run.specs.Turns.{Turns, stage};
+ghost use Rattle.boot_run.specs.Views.{told_by};
 
 use crate::beginning::take_set;
 use crate::ending::end_start;
@@ -79,11 +77,8 @@ fn load_and_take<H: Host, B: Bench>(
 ) -> Result<Option<Live>, RunStop>
     requires down { IsDown (B.state bench.old) }
     requires off { runner.old.machine.start ≡ None }
-    ensures sound { IfOk result (IsSound runner.new (B.state bench.new)) }
-    ensures plays { (m : RunState) → (H.state host.old).tells ≡ true → Counts m runner.old → EachCrash (B.state bench.old) (MayLoad m.disk)
-        → RunsTo (acts.wake m.disk (boot_book.woken on_good m)) (moment (H.state host.old) runner.old (B.state bench.old))
-        (moment (H.state host.new) runner.new (B.state bench.new)) result (TurnLeft runner.new (B.state bench.new)) }
-    ensures host { LeavesHost result (H.state host.old) (H.state host.new) }
+    ensures { Turns (λ m. acts.wake m.disk (boot_book.woken on_good m)) None (stage (H.state host.old) runner.old (B.state bench.old))
+        (stage (H.state host.new) runner.new (B.state bench.new)) result }
 {
     let left = load(alloc, runner, host, bench)?;
     match left {
@@ -105,11 +100,8 @@ fn boot_by<H: Host, B: Bench>(
     requires down { IsDown (B.state bench.old) }
     requires off { runner.old.machine.start ≡ None }
     requires there { IsThere ini.now.entries chosen }
-    ensures sound { IfOk result (IsSound runner.new (B.state bench.new)) }
-    ensures plays { (m : RunState) → (H.state host.old).tells ≡ true → Counts m runner.old → EachCrash (B.state bench.old) (MayLoad m.disk)
-        → RunsTo (boot_book.chosen on_good m (choice_in ini.now chosen)) (moment (H.state host.old) runner.old (B.state bench.old))
-        (moment (H.state host.new) runner.new (B.state bench.new)) result (TurnLeft runner.new (B.state bench.new)) }
-    ensures host { LeavesHost result (H.state host.old) (H.state host.new) }
+    ensures { Turns (λ m. boot_book.chosen on_good m (choice_in ini.now chosen)) None (stage (H.state host.old) runner.old (B.state bench.old))
+        (stage (H.state host.new) runner.new (B.state bench.new)) result }
 {
     match chosen {
         Chosen::Entry(number) => {
@@ -143,11 +135,8 @@ pub(crate) fn boot<H: Host, B: Bench>(
 ) -> Result<Option<Live>, RunStop>
     requires down { IsDown (B.state bench.old) }
     requires off { runner.old.machine.start ≡ None }
-    ensures sound { IfOk result (IsSound runner.new (B.state bench.new)) }
-    ensures plays { (m : RunState) → (H.state host.old).tells ≡ true → Counts m runner.old → EachCrash (B.state bench.old) (MayLoad m.disk)
-        → RunsTo (boot_act (choices ini.now system.now) entry last_known_good m) (moment (H.state host.old) runner.old (B.state bench.old))
-        (moment (H.state host.new) runner.new (B.state bench.new)) result (TurnLeft runner.new (B.state bench.new)) }
-    ensures host { LeavesHost result (H.state host.old) (H.state host.new) }
+    ensures { Turns (boot_act (choices ini.now system.now) entry last_known_good) None (stage (H.state host.old) runner.old (B.state bench.old))
+        (stage (H.state host.new) runner.new (B.state bench.new)) result }
 {
     let Some(number) = runner.starts.checked_add(1) else {
         return Err(RunStop::Memory);

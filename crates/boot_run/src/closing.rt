@@ -1,14 +1,15 @@
 //! What leaves the live tree on the disk: a flush, and a switch off.
 
-ghost use Rattle.std.specs.Prelude.{◌≡◌, true, false, None, Some, IfOk, OnOk};
+ghost use Rattle.std.specs.Prelude.{◌≡◌, true, false, None, Some, OnOk};
 ghost use Rattle.std.specs.Option.{option_map_or};
 ghost use Rattle.hive_model.specs.Tree.{Tree};
 ghost use Rattle.boot_report.specs.Report.{verdict_of};
 ghost use Rattle.start_model.specs.Act.{RunState, Act, done};
 ghost use Rattle.start_model.specs.EventActs.{flush_act, off_act};
 ghost use Rattle.start_model.specs.Act as book;
-ghost use Rattle.boot_run.specs.Agrees.{IsLive, IsSound, Counts, CommitLeft, IsEnding, OffLeft, TurnLeft};
+ghost use Rattle.boot_run.specs.Agrees.{IsSound, CommitLeft, IsEnding, OffLeft};
 ghost use Rattle.boot_run.specs.Hosts.{LeavesHost};
+ghost use Rattle.boot_run.specs.Turns.{Turns, Ends, stage};
 ghost use Rattle.boot_run.specs.Views.{moment, RunsTo};
 
 use crate::committing::commit_live;
@@ -30,11 +31,8 @@ pub(crate) fn flush<H: Host, B: Bench>(
     bench: &mut B,
 ) -> Result<Option<Live>, RunStop>
     requires sound { IsSound runner.old (B.state bench.old) (Some hive) }
-    ensures sound { IfOk result (IsSound runner.new (B.state bench.new)) }
-    ensures plays { (m : RunState) → (H.state host.old).tells ≡ true → Counts m runner.old → IsLive m hive (B.state bench.old)
-        → RunsTo (flush_act m) (moment (H.state host.old) runner.old (B.state bench.old)) (moment (H.state host.new) runner.new (B.state bench.new))
-        result (TurnLeft runner.new (B.state bench.new)) }
-    ensures host { LeavesHost result (H.state host.old) (H.state host.new) }
+    ensures { Turns flush_act (Some hive) (stage (H.state host.old) runner.old (B.state bench.old))
+        (stage (H.state host.new) runner.new (B.state bench.new)) result }
 {
     if hive.changed() {
         return commit_live(alloc, CommitWord::Flush, hive, runner, host, bench);
@@ -78,11 +76,8 @@ pub(crate) fn off<H: Host, B: Bench>(
     bench: &mut B,
 ) -> Result<(), RunStop>
     requires sound { IsSound runner.old (B.state bench.old) (Some hive) }
-    ensures sound { OnOk result (IsSound runner.new (B.state bench.new) None) }
-    ensures plays { (m : RunState) → (H.state host.old).tells ≡ true → Counts m runner.old → IsLive m hive (B.state bench.old)
-        → RunsTo (option_map_or (λ s. off_act s m) m.machine.start (done m)) (moment (H.state host.old) runner.old (B.state bench.old))
-        (moment (H.state host.new) runner.new (B.state bench.new)) result (OffLeft runner.new (B.state bench.new)) }
-    ensures host { LeavesHost result (H.state host.old) (H.state host.new) }
+    ensures { Ends (λ m. option_map_or (λ s. off_act s m) m.machine.start (done m)) (Some hive) (stage (H.state host.old) runner.old (B.state bench.old))
+        (stage (H.state host.new) runner.new (B.state bench.new)) result }
 {
     let word = runner.machine.ending();
     if !hive.changed() {

@@ -1,6 +1,6 @@
 //! Cuts of the power, and orders for stops.
 
-ghost use Rattle.std.specs.Prelude.{◌≡◌, ◌≤◌, true, None, OnOk};
+ghost use Rattle.std.specs.Prelude.{◌≡◌, ◌≤◌, OnOk};
 ghost use Rattle.hive_model.specs.Image.{ArmedCut, ArmedFault};
 ghost use Rattle.nt_edge.specs.Bench.{armed};
 ghost use Rattle.nt_edge.specs.Book.{call_of, keep_of};
@@ -9,9 +9,8 @@ ghost use Rattle.start_model.specs.Fits.{MayLoad};
 ghost use Rattle.start_model.specs.Act.{RunState, done};
 ghost use Rattle.start_model.specs.EventActs.{cut_act, arm_act};
 ghost use Rattle.printed_parts.specs.Parts.{Told, PlaysOr};
-ghost use Rattle.boot_run.specs.Agrees.{IsUp, IsLive, IsSound, Counts, OffLeft};
-ghost use Rattle.boot_run.specs.Hosts.{LeavesHost};
-ghost use Rattle.boot_run.specs.Views.{moment, RunsTo};
+ghost use Rattle.boot_run.specs.Agrees.{IsUp};
+ghost use Rattle.boot_run.specs.Turns.{Ends, stage};
 
 use crate::ending::end_with;
 use crate::live::Live;
@@ -31,11 +30,8 @@ pub(crate) fn cut<H: Host, B: Bench>(
     bench: &mut B,
 ) -> Result<(), RunStop>
     requires up { IsUp hive (B.state bench.old) }
-    ensures sound { OnOk result (IsSound runner.new (B.state bench.new) None) }
-    ensures plays { (m : RunState) → (H.state host.old).tells ≡ true → Counts m runner.old → IsLive m hive (B.state bench.old)
-        → RunsTo (cut_act m) (moment (H.state host.old) runner.old (B.state bench.old)) (moment (H.state host.new) runner.new (B.state bench.new))
-        result (OffLeft runner.new (B.state bench.new)) }
-    ensures host { LeavesHost result (H.state host.old) (H.state host.new) }
+    ensures { Ends cut_act (Some hive) (stage (H.state host.old) runner.old (B.state bench.old))
+        (stage (H.state host.new) runner.new (B.state bench.new)) result }
 {
     bench.cut(keep);
     runner.judged = Some(hive.into_cells());

@@ -1,16 +1,16 @@
 //! A boot phase that ends without vital names.
 
-ghost use Rattle.std.specs.Prelude.{◌≡◌, true, false, None, map, OnOk};
+ghost use Rattle.std.specs.Prelude.{◌≡◌, true, false, None, map};
 ghost use Rattle.nt_edge.specs.Crash.{EachCrash};
-ghost use Rattle.start_model.specs.Fits.{MayLoad};
-ghost use Rattle.start_model.specs.Act.{RunState, say_all};
+ghost use Rattle.start_model.specs.Act.{say_all};
 ghost use Rattle.start_model.specs.Act as book;
 ghost use Rattle.start_model.specs.Lines as lines;
 ghost use Rattle.start_model.specs.Lines.{VitalLine};
-ghost use Rattle.boot_run.specs.Agrees.{LoadsAny, IsSound, Counts, OffLeft};
+ghost use Rattle.boot_run.specs.Agrees.{LoadsAny};
 ghost use Rattle.boot_run.specs.Hosts.{LeavesHost};
+ghost use Rattle.boot_run.specs.Turns.{Ends, stage};
 ghost use Rattle.boot_run.specs.Starts.{stop_lines};
-ghost use Rattle.boot_run.specs.Views.{told_by, moment, RunsTo, SaysAll};
+ghost use Rattle.boot_run.specs.Views.{told_by, SaysAll};
 
 use crate::ending::end_with;
 use crate::runner::Runner;
@@ -73,11 +73,8 @@ pub(crate) fn stop_without<H: Host, B: Bench>(
     bench: &mut B,
 ) -> Result<(), RunStop>
     requires left { EachCrash (B.state bench.old) LoadsAny }
-    ensures sound { OnOk result (IsSound runner.new (B.state bench.new) None) }
-    ensures plays { (m : RunState) → (H.state host.old).tells ≡ true → Counts m runner.old → EachCrash (B.state bench.old) (MayLoad m.disk)
-        → RunsTo (say_all (stop_lines unmet.now missing.now) (book.end_with lines.Stopped false m)) (moment (H.state host.old) runner.old (B.state bench.old))
-        (moment (H.state host.new) runner.new (B.state bench.new)) result (OffLeft runner.new (B.state bench.new)) }
-    ensures host { LeavesHost result (H.state host.old) (H.state host.new) }
+    ensures { Ends (λ m. say_all (stop_lines unmet.now missing.now) (book.end_with lines.Stopped false m)) None
+        (stage (H.state host.old) runner.old (B.state bench.old)) (stage (H.state host.new) runner.new (B.state bench.new)) result }
 {
     say_both(alloc, unmet, missing, &mut runner.summary, host)?;
     end_with(alloc, Verdict::Stopped, runner, host, bench)

@@ -18,8 +18,9 @@ ghost use Rattle.start_model.specs.EventActs.{logon_act};
 ghost use Rattle.start_model.specs.Commit as book;
 ghost use Rattle.run_parts.specs.Parts.{Stays};
 ghost use Rattle.printed_parts.specs.Parts.{TellsOr};
-ghost use Rattle.boot_run.specs.Agrees.{IsStored, IsLive, IsSound, Counts, CommitLeft, OnLeft, TurnLeft};
+ghost use Rattle.boot_run.specs.Agrees.{IsStored, IsLive, IsSound, Counts, CommitLeft, OnLeft};
 ghost use Rattle.boot_run.specs.Hosts.{LeavesHost};
+ghost use Rattle.boot_run.specs.Turns.{Turns, stage};
 ghost use Rattle.boot_run.specs.Saves.{HandedOut, IsSavePlan, PlansOr, noting};
 ghost use Rattle.boot_run.specs.declared.stop.RunStop.TheVariants.{Memory};
 ghost use Rattle.boot_run.specs.Views.{moment, told_in, RunsTo};
@@ -226,11 +227,8 @@ pub(crate) fn logon<H: Host, B: Bench>(
     bench: &mut B,
 ) -> Result<Option<Live>, RunStop>
     requires sound { IsSound runner.old (B.state bench.old) (Some hive) }
-    ensures sound { IfOk result (IsSound runner.new (B.state bench.new)) }
-    ensures plays { (m : RunState) → (H.state host.old).tells ≡ true → Counts m runner.old → IsLive m hive (B.state bench.old)
-        → RunsTo (option_map_or (λ s. logon_act s m) m.machine.start (done m)) (moment (H.state host.old) runner.old (B.state bench.old))
-        (moment (H.state host.new) runner.new (B.state bench.new)) result (TurnLeft runner.new (B.state bench.new)) }
-    ensures host { LeavesHost result (H.state host.old) (H.state host.new) }
+    ensures { Turns (λ m. option_map_or (λ s. logon_act s m) m.machine.start (done m)) (Some hive) (stage (H.state host.old) runner.old (B.state bench.old))
+        (stage (H.state host.new) runner.new (B.state bench.new)) result }
 {
     say(alloc, host, &mut runner.summary, Line::Logon)?;
     runner.machine.log_on();

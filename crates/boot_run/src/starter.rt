@@ -13,6 +13,7 @@ ghost use Rattle.run_parts.specs.Parts.{Stays};
 ghost use Rattle.printed_parts.specs.Parts.{TellsOr};
 ghost use Rattle.boot_run.specs.Agrees.{IsRunningBy, IsLive, IsSound, Counts, OnLeft, TurnLeft};
 ghost use Rattle.boot_run.specs.Hosts.{LeavesHost};
+ghost use Rattle.boot_run.specs.Turns.{Turns, stage};
 ghost use Rattle.boot_run.specs.Starts.{is_under_way, EndsBy, Attempts, NextPhase, phase_lines, phase_gone};
 ghost use Rattle.boot_run.specs.declared.stop.RunStop.TheVariants.{Memory};
 ghost use Rattle.boot_run.specs.Views.{moment, told_in, RunsTo, SaysAll};
@@ -358,11 +359,8 @@ pub(crate) fn go<H: Host, B: Bench>(
     bench: &mut B,
 ) -> Result<Option<Live>, RunStop>
     requires sound { IsSound runner.old (B.state bench.old) (Some hive) }
-    ensures sound { IfOk result (IsSound runner.new (B.state bench.new)) }
-    ensures plays { (m : RunState) → (H.state host.old).tells ≡ true → Counts m runner.old → IsLive m hive (B.state bench.old)
-        → RunsTo (go_act steps m) (moment (H.state host.old) runner.old (B.state bench.old))
-        (moment (H.state host.new) runner.new (B.state bench.new)) result (TurnLeft runner.new (B.state bench.new)) }
-    ensures host { LeavesHost result (H.state host.old) (H.state host.new) }
+    ensures { Turns (go_act steps) (Some hive) (stage (H.state host.old) runner.old (B.state bench.old))
+        (stage (H.state host.new) runner.new (B.state bench.new)) result }
 {
     let most = most_steps(alloc, steps, &hive, runner)?;
     let mut session = Some(hive);

@@ -15,10 +15,11 @@ ghost use Rattle.start_model.specs.Act.{RunState, done};
 ghost use Rattle.start_model.specs.Boot.{Choice};
 ghost use Rattle.start_model.specs.EventActs.{accepted_act, idle_act, event_step_of, event_word_of};
 ghost use Rattle.printed_parts.specs.Parts.{Told, PlaysOr, TellsOr};
-ghost use Rattle.boot_run.specs.Agrees.{IsLive, IsSound, Counts, Agrees, TurnLeft};
+ghost use Rattle.boot_run.specs.Agrees.{IsSound, Agrees, TurnLeft};
 ghost use Rattle.boot_run.specs.Begins.{aside_machine, aside_disk, aside_act, IsStepOf, IsEdit};
 ghost use Rattle.boot_run.specs.Choices.{choices};
 ghost use Rattle.boot_run.specs.Hosts.{LeavesHost};
+ghost use Rattle.boot_run.specs.Turns.{Turns, stage};
 ghost use Rattle.boot_run.specs.Views.{moment, told_by, RunsTo};
 
 use crate::booting::boot;
@@ -162,11 +163,8 @@ fn edit_by<H: Host, B: Bench>(
     requires sound { IsSound runner.old (B.state bench.now) (Some hive) }
     requires edit { IsEdit (event_in event.now) }
     requires accepted { refusal_of runner.old.machine (event_in event.now) ≡ None }
-    ensures sound { IfOk result (IsSound runner.new (B.state bench.now)) }
-    ensures plays { (m : RunState) (choice : Option ℕ → Choice) → (H.state host.old).tells ≡ true → Counts m runner.old → IsLive m hive (B.state bench.now)
-        → RunsTo (accepted_act choice m.machine.start (event_in event.now) m) (moment (H.state host.old) runner.old (B.state bench.now))
-        (moment (H.state host.new) runner.new (B.state bench.now)) result (TurnLeft runner.new (B.state bench.now)) }
-    ensures host { LeavesHost result (H.state host.old) (H.state host.new) }
+    ensures { (choice : Option ℕ → Choice) → Turns (λ m. accepted_act choice m.machine.start (event_in event.now) m) (Some hive)
+        (stage (H.state host.old) runner.old (B.state bench.now)) (stage (H.state host.new) runner.new (B.state bench.now)) result }
 {
     let Ok(step) = next_step(alloc, event, &runner.machine) else {
         return Err(RunStop::Memory);
@@ -191,11 +189,8 @@ fn idle<H: Host, B: Bench>(
 ) -> Result<Option<Live>, RunStop>
     requires sound { IsSound runner.old (B.state bench.old) None }
     requires counts { HasCounts event.now }
-    ensures sound { IfOk result (IsSound runner.new (B.state bench.new)) }
-    ensures plays { (m : RunState) → (H.state host.old).tells ≡ true → Agrees m runner.old (B.state bench.old) None
-        → RunsTo (idle_act (choices ini.now system.now) (event_in event.now) m) (moment (H.state host.old) runner.old (B.state bench.old))
-        (moment (H.state host.new) runner.new (B.state bench.new)) result (TurnLeft runner.new (B.state bench.new)) }
-    ensures host { LeavesHost result (H.state host.old) (H.state host.new) }
+    ensures { Turns (idle_act (choices ini.now system.now) (event_in event.now)) None (stage (H.state host.old) runner.old (B.state bench.old))
+        (stage (H.state host.new) runner.new (B.state bench.new)) result }
 {
     match event {
         Event::Boot {
@@ -227,11 +222,8 @@ fn running<H: Host, B: Bench>(
     requires sound { IsSound runner.old (B.state bench.old) (Some hive) }
     requires counts { HasCounts event.now }
     requires accepted { refusal_of runner.old.machine (event_in event.now) ≡ None }
-    ensures sound { IfOk result (IsSound runner.new (B.state bench.new)) }
-    ensures plays { (m : RunState) (choice : Option ℕ → Choice) → (H.state host.old).tells ≡ true → Agrees m runner.old (B.state bench.old) (Some hive)
-        → RunsTo (accepted_act choice m.machine.start (event_in event.now) m) (moment (H.state host.old) runner.old (B.state bench.old))
-        (moment (H.state host.new) runner.new (B.state bench.new)) result (TurnLeft runner.new (B.state bench.new)) }
-    ensures host { LeavesHost result (H.state host.old) (H.state host.new) }
+    ensures { (choice : Option ℕ → Choice) → Turns (λ m. accepted_act choice m.machine.start (event_in event.now) m) (Some hive)
+        (stage (H.state host.old) runner.old (B.state bench.old)) (stage (H.state host.new) runner.new (B.state bench.new)) result }
 {
     match event {
         Event::Go { steps } => go(alloc, *steps, hive, runner, host, bench),
@@ -286,11 +278,8 @@ fn act<H: Host, B: Bench>(
     requires sound { IsSound runner.old (B.state bench.old) hive }
     requires counts { HasCounts event.now }
     requires accepted { refusal_of runner.old.machine (event_in event.now) ≡ None }
-    ensures sound { IfOk result (IsSound runner.new (B.state bench.new)) }
-    ensures plays { (m : RunState) → (H.state host.old).tells ≡ true → Agrees m runner.old (B.state bench.old) hive
-        → RunsTo (accepted_act (choices ini.now system.now) m.machine.start (event_in event.now) m) (moment (H.state host.old) runner.old (B.state bench.old))
-        (moment (H.state host.new) runner.new (B.state bench.new)) result (TurnLeft runner.new (B.state bench.new)) }
-    ensures host { LeavesHost result (H.state host.old) (H.state host.new) }
+    ensures { Turns (λ m. accepted_act (choices ini.now system.now) m.machine.start (event_in event.now) m) hive
+        (stage (H.state host.old) runner.old (B.state bench.old)) (stage (H.state host.new) runner.new (B.state bench.new)) result }
 {
     match hive {
         Some(hive) => running(alloc, event, hive, runner, host, bench),
@@ -311,11 +300,8 @@ pub(crate) fn turn<H: Host, B: Bench>(
 ) -> Result<Option<Live>, RunStop>
     requires sound { IsSound runner.old (B.state bench.old) hive }
     requires counts { HasCounts event.now }
-    ensures sound { IfOk result (IsSound runner.new (B.state bench.new)) }
-    ensures plays { (m : RunState) → (H.state host.old).tells ≡ true → Agrees m runner.old (B.state bench.old) hive
-        → RunsTo (event_step_of (choices ini.now system.now) (event_in event.now) m) (moment (H.state host.old) runner.old (B.state bench.old))
-        (moment (H.state host.new) runner.new (B.state bench.new)) result (TurnLeft runner.new (B.state bench.new)) }
-    ensures host { LeavesHost result (H.state host.old) (H.state host.new) }
+    ensures { Turns (event_step_of (choices ini.now system.now) (event_in event.now)) hive (stage (H.state host.old) runner.old (B.state bench.old))
+        (stage (H.state host.new) runner.new (B.state bench.new)) result }
 {
     match runner.machine.accept(event) {
         Ok(()) => act(alloc, ini, system, event, hive, runner, host, bench),

@@ -1,9 +1,9 @@
-use Rattle.std.proofs.Common.{◌≡◌, ◌∙◌, [], ap, sym, subst}
+use Rattle.std.proofs.Common.{◌≡◌, ◌∙◌, [], ap, sym, subst, rules}
 use Rattle.hive_model.specs.Base.{version_of}
 use Rattle.start_model.specs.Sets.{SetPlan}
 use Rattle.start_model.specs.Boot.{begin_start}
 use Rattle.boot_run.specs.Begins.{IsTaken}
-use Rattle.boot_run.proofs.PlayLemmas.{plays-as}
+use Rattle.boot_run.proofs.PlayLemmas.{plays-as, turns}
 use Rattle.boot_run.proofs.BeginLemmas.{steps_none, steps_some, taken_none, begin_none}
 use Rattle.boot_run.proofs.beginning.begin_by.Given.{Over}
 use Rattle.boot_run.proofs.beginning.begin_by.Goals as goal
@@ -25,8 +25,8 @@ begin_start-requires-clause-taken g c =
     (taken_none (version_of c.args.hive.base.minor) c.args.on_good c.args.plan c.args.hive.tree
     (no_steps g (goal.at.begin_start-requires-clause-taken g c).Else-not-is_empty) c.requires.plan)
 
-pub returns-clause-plays : goal.returns-clause-plays
-returns-clause-plays g c = λ m tells counts live.
+pub returns : goal.returns
+returns g c = turns (search rules) (search rules) (λ m tells counts live.
     plays-as (ap (λ (p : SetPlan). begin_start p.chosen c.args.on_good p.numbers m) c.plan.view_is
-    ∙ begin_none c.args.on_good m c.args.plan (no_steps g (goal.at.returns-clause-plays g c).Else-not-is_empty))
-    (c.begin_start.ensures.plays m (g.B.Disk.state c.args.bench.now) tells c.requires.up counts live)
+    ∙ begin_none c.args.on_good m c.args.plan (no_steps g (goal.at.returns g c).Else-not-is_empty))
+    (c.begin_start.ensures.plays m (g.B.Disk.state c.args.bench.now) tells c.requires.up counts live))

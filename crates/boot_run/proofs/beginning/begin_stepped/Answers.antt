@@ -1,4 +1,4 @@
-use Rattle.std.proofs.Common.{◌≡◌, ◌∙◌, refl, ap, sym, subst}
+use Rattle.std.proofs.Common.{◌≡◌, ◌∙◌, refl, ap, sym, subst, rules}
 use Rattle.std.specs.Prelude.{Ok}
 use Rattle.std.specs.List.{All}
 use Rattle.hive_model.specs.Base.{version_of}
@@ -11,7 +11,7 @@ use Rattle.start_model.specs.Boot.{begin_start}
 use Rattle.boot_run.specs.Agrees.{LoadsAny}
 use Rattle.boot_run.specs.Begins.{IsTaken}
 use Rattle.boot_run.proofs.DiskLemmas.{still_leaves}
-use Rattle.boot_run.proofs.PlayLemmas.{plays-as, rests-silent, live_left}
+use Rattle.boot_run.proofs.PlayLemmas.{plays-as, rests-silent, live_left, turns}
 use Rattle.boot_run.proofs.SaveLemmas.{refused_why, up_by, stored_by}
 use Rattle.boot_run.proofs.BeginLemmas.{planned_stays, taken_made, begin_made, begin_full}
 use Rattle.boot_run.proofs.beginning.begin_stepped.Given.{Over}
@@ -45,25 +45,25 @@ pub end_start-requires : goal.end_start-requires
 end_start-requires g c = record
     { left = still_leaves (g.B.Disk.state c.args.bench.now) LoadsAny c.requires.up.still c.requires.up.loads }
 
-pub returns-in-Ok-clause-plays : goal.returns-in-Ok-clause-plays
-returns-in-Ok-clause-plays g c = λ m tells counts live.
+pub returns-in-Ok : goal.returns-in-Ok
+returns-in-Ok g c = turns (search rules) (search rules) (λ m tells counts live.
     let u = c.apply.new.self.tree in
     plays-as (ap (λ (p : SetPlan). commit BeginCommit u m (begin_start p.chosen c.args.on_good p.numbers)) c.plan.view_is
     ∙ begin_made c.args.on_good m c.args.plan (version_of c.args.hive.base.minor) c.args.hive.tree u c.requires.some
-    live.version live.live (made g (goal.at.returns-in-Ok-clause-plays g c).In-Ok))
+    live.version live.live (made g (goal.at.returns-in-Ok g c).In-Ok))
     (c.begin_committed.ensures.plays m tells counts
-    (stored_by m c.args.hive c.apply.new.self (g.B.Disk.state c.args.bench.now) c.in-Ok.ensures.base live))
+    (stored_by m c.args.hive c.apply.new.self (g.B.Disk.state c.args.bench.now) c.in-Ok.ensures.base live)))
 
-pub returns-in-None-clause-plays : goal.returns-in-None-clause-plays
-returns-in-None-clause-plays g c = λ m tells counts live.
-    rests-silent refl (planned_stays c.args.on_good m c.args.plan (stepped m.version m.live c.args.plan.steps)) c.requires.up live
+pub returns-in-None : goal.returns-in-None
+returns-in-None g c = turns (search rules) (search rules) (λ m tells counts live.
+    rests-silent refl (planned_stays c.args.on_good m c.args.plan (stepped m.version m.live c.args.plan.steps)) c.requires.up live)
 
-pub returns-in-Some-clause-plays : goal.returns-in-Some-clause-plays
-returns-in-Some-clause-plays g c = λ m tells counts live.
+pub returns-in-Some : goal.returns-in-Some
+returns-in-Some g c = turns (search rules) (search rules) (λ m tells counts live.
     let v = version_of c.args.hive.base.minor in
     let why = refused_why c.in-Err.stop _ c.edit_word.result _ c.edit_word.ensures c.in-Some.is
     c.in-Err.ensures.made.0 in
     plays-as (begin_full c.args.on_good m c.args.plan v c.args.hive.tree why.0 c.requires.some live.version live.live
     (ap (edited v c.args.hive.tree) (sym (ap (λ (p : SetPlan). p.steps) c.plan.view_is)) ∙ why.1))
     (c.end_start.ensures.plays m tells (record { machine = counts.machine; starts = counts.starts })
-    (live_left c.requires.up live) (record { falls = refl; none = refl }))
+    (live_left c.requires.up live) (record { falls = refl; none = refl })))

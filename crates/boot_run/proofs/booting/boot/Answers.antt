@@ -10,7 +10,7 @@ use Rattle.start_model.specs.Run.{play}
 use Rattle.start_model.specs.Boot.{chosen, accepted_state}
 use Rattle.boot_run.specs.Agrees.{Counts}
 use Rattle.boot_run.specs.Choices.{choices, choice_in}
-use Rattle.boot_run.proofs.PlayLemmas.{plays-as, plays-line, plays-front, plays-silent, say_as}
+use Rattle.boot_run.proofs.PlayLemmas.{plays-as, plays-line, plays-front, plays-silent, say_as, turns}
 use Rattle.boot_run.proofs.BeginLemmas.{chosen_left, number_is}
 use Rattle.boot_run.proofs.booting.boot.Given.{Over}
 use Rattle.boot_run.proofs.booting.boot.Goals as goal
@@ -29,25 +29,25 @@ kept : (g : Over) (c : Start g) (m : RunState) → EachCrash (g.B.Disk.state c.a
 kept g c m left = chosen_left (m.machine.fallback_due || c.args.last_known_good) (accepted_state m)
     (choices c.args.ini.now c.args.system.now c.args.entry) (g.B.Disk.state c.args.bench.now) left
 
-pub returns-in_default-clause-plays : goal.returns-in_default-clause-plays
-returns-in_default-clause-plays g c = λ m tells counts left.
-    plays-silent refl (kept g (goal.at.returns-in_default-clause-plays g c).Start m left)
+pub returns-in_default : goal.returns-in_default
+returns-in_default g c = turns (search rules) (search rules) (λ m tells counts left.
+    plays-silent refl (kept g (goal.at.returns-in_default g c).Start m left))
 
-pub returns-in_err-say-clause-plays : goal.returns-in_err-say-clause-plays
-returns-in_err-say-clause-plays g c = λ m tells counts left.
-    plays-as (say_as (ap StartLine (number g (goal.at.returns-in_err-say-clause-plays g c).In-Some m counts)) refl)
+pub returns-in_err-say : goal.returns-in_err-say
+returns-in_err-say g c = turns (search rules) (search rules) (λ m tells counts left.
+    plays-as (say_as (ap StartLine (number g (goal.at.returns-in_err-say g c).In-Some m counts)) refl)
     (plays-front c.from_residual.ensures.0 refl (c.in_err-say.ensures.tells tells)
-    (kept g (goal.at.returns-in_err-say-clause-plays g c).Start m left))
+    (kept g (goal.at.returns-in_err-say g c).Start m left)))
 
-pub returns-in_default-choose-clause-plays : goal.returns-in_default-choose-clause-plays
-returns-in_default-choose-clause-plays g c = λ m tells counts left.
-    plays-as (say_as (ap StartLine (number g (goal.at.returns-in_default-choose-clause-plays g c).In-Some m counts)) refl)
+pub returns-in_default-choose : goal.returns-in_default-choose
+returns-in_default-choose g c = turns (search rules) (search rules) (λ m tells counts left.
+    plays-as (say_as (ap StartLine (number g (goal.at.returns-in_default-choose g c).In-Some m counts)) refl)
     (plays-line refl (c.in_ok-say.ensures.tells tells)
-    (plays-silent refl (kept g (goal.at.returns-in_default-choose-clause-plays g c).Start m left)))
+    (plays-silent refl (kept g (goal.at.returns-in_default-choose g c).Start m left))))
 
-pub returns-clause-plays : goal.returns-clause-plays
-returns-clause-plays g c = λ m tells counts left.
-    let is = number g (goal.at.returns-clause-plays g c).In-Some m counts in
+pub returns : goal.returns
+returns g c = turns (search rules) (search rules) (λ m tells counts left.
+    let is = number g (goal.at.returns g c).In-Some m counts in
     let due : c.either-on_good.result ≡ (m.machine.fallback_due || c.args.last_known_good) =
     c.either-on_good.ensures ∙ ap (λ (b : Bool). b || c.args.last_known_good)
     (c.take_fallback-due.ensures.due ∙ ap (λ (k : MachineState). k.fallback_due) (sym counts.machine)) in
@@ -59,4 +59,4 @@ returns-clause-plays g c = λ m tells counts left.
       machine = ap (λ (k : MachineState). record k { fallback_due = false }) counts.machine
           ∙ sym c.take_fallback-due.ensures.taken;
       starts = sym is;
-    }) left)))
+    }) left))))

@@ -1,4 +1,4 @@
-use Rattle.std.proofs.Common.{◌≡◌, ℕ, [], ◌∷◌, refl, sym, ap, ◌∙◌}
+use Rattle.std.proofs.Common.{◌≡◌, ℕ, [], ◌∷◌, refl, sym, ap, ◌∙◌, rules}
 use Rattle.std.specs.Prelude.{Option}
 use Rattle.hive_model.specs.Edit.{edited}
 use Rattle.reg_tree.specs.Makes.{step_of}
@@ -10,7 +10,7 @@ use Rattle.start_model.specs.Machine as machine
 use Rattle.start_model.specs.EventActs.{accepted_act}
 use Rattle.boot_run.specs.Agrees.{Counts}
 use Rattle.boot_run.proofs.EditLemmas.{edit_may}
-use Rattle.boot_run.proofs.PlayLemmas.{plays-as, plays-ok, plays-err, rests-silent, counted}
+use Rattle.boot_run.proofs.PlayLemmas.{plays-as, plays-ok, plays-err, rests-silent, counted, turns}
 use Rattle.boot_run.proofs.TurnLemmas.{EditsOn, edits_on, edit_at, edit_step, edit_act, edit_free, running_most}
 use Rattle.boot_run.proofs.turning.edit_by.Given.{Over}
 use Rattle.boot_run.proofs.turning.edit_by.Goals as goal
@@ -42,32 +42,28 @@ next_step-requires g c =
       on = runs_there o c.args.hive.tree c.requires.sound.1;
     }
 
-pub returns-in_default-clause-plays : goal.returns-in_default-clause-plays
-returns-in_default-clause-plays g c = λ m choice tells counts live.
-    let s = (goal.at.returns-in_default-clause-plays g c).Start in
+pub returns-in_default : goal.returns-in_default
+returns-in_default g c = λ choice. turns (search rules) (search rules) (λ m tells counts live.
+    let s = (goal.at.returns-in_default g c).Start in
     plays-as (act g s m choice counts)
     (rests-silent refl (edit_may (by g s).edit m
-    (edited m.version m.live (book.step_of (by g s).number (by g s).edit ∷ []))) c.requires.sound.0 live)
+    (edited m.version m.live (book.step_of (by g s).number (by g s).edit ∷ []))) c.requires.sound.0 live))
 
-pub returns-in-Err-clause-plays : goal.returns-in-Err-clause-plays
-returns-in-Err-clause-plays g c = λ m choice tells counts live.
-    let s = (goal.at.returns-in-Err-clause-plays g c).Start in
+pub returns-in-Err : goal.returns-in-Err
+returns-in-Err g c = λ choice. turns (search rules) (search rules) (λ m tells counts live.
+    let s = (goal.at.returns-in-Err g c).Start in
     let k = by g s in
     plays-as (act g s m choice counts)
     (plays-err refl (c.in-Err.ensures.plays (g.B.Disk.state c.args.bench.now) m k.edit k.number tells counts
-    c.requires.sound live k.is (step g (goal.at.returns-in-Err-clause-plays g c).In-Ok)))
+    c.requires.sound live k.is (step g (goal.at.returns-in-Err g c).In-Ok))))
 
-pub returns-in-Ok-edit-clause-plays : goal.returns-in-Ok-edit-clause-plays
-returns-in-Ok-edit-clause-plays g c = λ m choice tells counts live.
-    let s = (goal.at.returns-in-Ok-edit-clause-plays g c).Start in
+pub returns-in-Ok-edit : goal.returns-in-Ok-edit
+returns-in-Ok-edit g c = λ choice. turns (let k = by g (goal.at.returns-in-Ok-edit g c).Start in
+    c.in-Ok-edit.ensures.sound (g.B.Disk.state c.args.bench.now) k.edit k.number c.requires.sound k.on
+    (step g (goal.at.returns-in-Ok-edit g c).In-Ok)
+    (edit_free c.args.runner.now.machine.start c.args.hive.tree k c.requires.sound.1 c.requires.accepted)) (search rules) (λ m tells counts live.
+    let s = (goal.at.returns-in-Ok-edit g c).Start in
     let k = by g s in
     plays-as (act g s m choice counts)
     (plays-ok (c.in-Ok-edit.ensures.plays (g.B.Disk.state c.args.bench.now) m k.edit k.number tells counts
-    c.requires.sound live k.is (step g (goal.at.returns-in-Ok-edit-clause-plays g c).In-Ok)) (λ rest h. h))
-
-pub returns-in-Ok-edit-clause-sound : goal.returns-in-Ok-edit-clause-sound
-returns-in-Ok-edit-clause-sound g c =
-    let k = by g (goal.at.returns-in-Ok-edit-clause-sound g c).Start in
-    c.in-Ok-edit.ensures.sound (g.B.Disk.state c.args.bench.now) k.edit k.number c.requires.sound k.on
-    (step g (goal.at.returns-in-Ok-edit-clause-sound g c).In-Ok)
-    (edit_free c.args.runner.now.machine.start c.args.hive.tree k c.requires.sound.1 c.requires.accepted)
+    c.requires.sound live k.is (step g (goal.at.returns-in-Ok-edit g c).In-Ok)) (λ rest h. h)))

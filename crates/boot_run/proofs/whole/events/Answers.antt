@@ -58,7 +58,7 @@ returns-in-Err-clause-runs g c = λ m tells counts left.
     let p = came g (goal.at.returns-in-Err-clause-runs g c).After-turn m tells counts left in
     gave_up (choices c.args.ini.now c.args.system.now) p
     (agrees_closed p.state c.events.runner (g.B.Disk.state c.events.bench) c.events.hive c.events.invariant.sound p.agrees)
-    (c.in-Err.ensures.plays p.state (c.events.invariant.host.keeps.tells ∙ tells) p.agrees).is
+    (c.in-Err.ensures.plays p.state (c.events.invariant.host.keeps.tells ∙ tells) p.agrees.counts p.agrees.by).is
 
 pub returns-in-Err-clause-host : goal.returns-in-Err-clause-host
 returns-in-Err-clause-host g c =
@@ -76,7 +76,7 @@ events-preserved g c =
       progress = λ m tells counts left.
           let p = came g (goal.at.events-preserved g c).After-turn m tells counts left in
           went_on (choices c.args.ini.now c.args.system.now) p
-          (c.in-Ok.ensures.plays p.state (c.events.invariant.host.keeps.tells ∙ tells) p.agrees).is;
+          (c.in-Ok.ensures.plays p.state (c.events.invariant.host.keeps.tells ∙ tells) p.agrees.counts p.agrees.by).is;
       host = still-then c.in-Ok.after (g.H.Host.state c.args.host.now) (g.H.Host.state c.events.host)
           (g.H.Host.state c.turn.new.host) c.events.invariant.host c.in-Ok.ensures.host;
     }
