@@ -1,5 +1,5 @@
 -- A value of a new name in the cells of its key: what was put, written and freed, and what is read then.
-use Rattle.std.proofs.Common.{◌≡◌, ◌≤◌, ◌<◌, ◌^◌, inl, inr, ℕ, suc, ◌+◌, ◌-◌, ◌*◌, Bool, true, false, cond, List, [], ◌∷◌, ◌++◌, length, map, take, Option, Some, None, Ok, refl, sym, ap, subst, ◌∙◌, arith}
+use Rattle.std.proofs.Common.{◌≡◌, ◌≤◌, ◌<◌, ◌^◌, inl, inr, ℕ, suc, ◌+◌, ◌-◌, Bool, true, false, cond, List, [], ◌∷◌, ◌++◌, length, map, take, Option, Some, None, Ok, refl, sym, ap, subst, ◌∙◌, arith}
 use lib.ListN.{replicate}
 use Rattle.std.specs.Prelude.{nat_lt, nat_le, ◌==◌}
 use Rattle.std.specs.Option.{IsSome, IsSomeAnd, option_map}
@@ -16,13 +16,13 @@ use Rattle.hive_model.specs.Valid.{IsItem}
 use Rattle.hive_model.specs.Packed.{allocated_cell, data_place, item_form, data_cells, item_cells, text}
 use Rattle.hive_model.specs.Walk.{reading, value_checks, data_checks}
 use Rattle.hive_model.specs.Footprint.{used_in}
-use Rattle.hive_model.proofs.Spelling.{length_offsets, offsets_again}
+use Rattle.hive_model.proofs.Spelling.{offsets_again}
 use Rattle.hive_cells.specs.Held.{held_at, held_among, patched, run_cells, IsRun}
 use Rattle.hive_cells.proofs.MarkLemmas.{run_long}
 use Rattle.hive_cells.proofs.HeldLemmas.{payload_held, held_payload}
 use Rattle.hive_pack.specs.Numbers.{ItemNumbers}
-use Rattle.hive_pack.proofs.Rows.{space}
-use Rattle.hive_pack.proofs.Found.{Has, has_next, reads_in}
+use Rattle.hive_pack.proofs.Rows.{space, space_value}
+use Rattle.hive_pack.proofs.Found.{Has, has_behind, has_front, reads_in}
 use Rattle.hive_pack.proofs.Items.{item_read, data_has, item_stands}
 use Rattle.key_index.proofs.Runs.{among_from, has_held, run_is, none_some}
 use Rattle.edit_laws.specs.Owned.{In, value_list_at}
@@ -32,7 +32,7 @@ use Rattle.edit_laws.specs.Written.{with_part, two_numbers, HasNewValues}
 use Rattle.edit_laws.proofs.FromCells.{value_uses, data_held_inside}
 use Rattle.edit_laws.proofs.Patches.{node_text, values_written}
 use Rattle.hive_edit.specs.Given.{with_fields}
-use Rattle.hive_edit.specs.NewValue.{behind_list, added_cells, added_size, CanAdd, IsRelistedAt, LacksRoomForValue, ListsThese, PutsValue}
+use Rattle.hive_edit.specs.NewValue.{added_cells, added_size, CanAdd, IsRelistedAt, LacksRoomForValue, ListsThese, PutsValue}
 use Rattle.hive_cells.specs.Holes.{new_bin_size}
 use Rattle.hive_edit.specs.Runs.{IsRunPutAt}
 use Rattle.hive_edit.proofs.GivenUpLemmas.{list_free}
@@ -96,34 +96,34 @@ data_used c at v few room has = go (nat_lt 4 (length v.bytes)) refl
           once = tt;
         }
 
--- what a value uses that is in a run after its list
-record ValueUsed (c : Cells) (place w : ℕ) (v : Item) (high : ℕ) : Type 0 where
-  within : (o : ℕ) → In (place ∷ used_in (value_checks c [] w)) o → (place ≤ o) × (o < high)
-  once : Pairwise (λ p q. p ≡ q → ⊥) (place ∷ used_in (value_checks c [] w))
+-- what a value uses that is in a run before its list
+record ValueUsed (c : Cells) (list w : ℕ) (v : Item) (high : ℕ) : Type 0 where
+  within : (o : ℕ) → In (list ∷ used_in (value_checks c [] w)) o → (w ≤ o) × (o < high)
+  once : Pairwise (λ p q. p ≡ q → ⊥) (list ∷ used_in (value_checks c [] w))
 
-value_used : (c : Cells) (place w : ℕ) (v : Item) (high : ℕ) → place + 8 ≤ w → w + item_size c.version v ≡ high
+value_used : (c : Cells) (list w : ℕ) (v : Item) (high : ℕ) → w + item_size c.version v ≡ list → list + 8 ≤ high
     → high ≤ 16777216 → length v.bytes ≤ 1048576
-    → Has c w (item_cells c.version w v) → IsItem v → ItemNumbers v → ValueUsed c place w v high
-value_used c place w v high behind whole fits few has is numbers =
-    let room : data_place w v + data_size c.version v.bytes ≤ 16777216 = omega (arith, whole, fits) in
+    → Has c w (item_cells c.version w v) → IsItem v → ItemNumbers v → ValueUsed c list w v high
+value_used c list w v high before last fits few has is numbers =
+    let room : data_place w v + data_size c.version v.bytes ≤ 16777216 = omega (arith, before, last, fits) in
     let d = data_used c w v few room (data_has c w v has) in
     let uses : used_in (value_checks c [] w) ≡ w ∷ d.cells =
-    value_uses c w (item_form w v) (item_read c w v has is numbers (omega (arith, whole, fits)))
+    value_uses c w (item_form w v) (item_read c w v has is numbers (omega (arith, before, last, fits)))
     ∙ ap (λ (l : List ℕ). w ∷ l) d.used in
-    subst (λ (l : List ℕ). ((o : ℕ) → In (place ∷ l) o → (place ≤ o) × (o < high))
-    → Pairwise (λ p q. p ≡ q → ⊥) (place ∷ l) → ValueUsed c place w v high) uses
+    subst (λ (l : List ℕ). ((o : ℕ) → In (list ∷ l) o → (w ≤ o) × (o < high))
+    → Pairwise (λ p q. p ≡ q → ⊥) (list ∷ l) → ValueUsed c list w v high) uses
     (λ a b. record { within = a; once = b })
     (λ o i. inside d o i)
-    ((λ y i e. before d y i e), ((λ y i e. absurd (let r = d.within y i in omega (arith, r.0, e))), d.once))
+    ((λ y i e. apart d y i e), ((λ y i e. absurd (let r = d.within y i in omega (arith, r.0, e))), d.once))
   where
-    inside : (d : DataUsed c w v) (o : ℕ) → In (place ∷ w ∷ d.cells) o → (place ≤ o) × (o < high)
-    inside d o (inl e) = (omega (arith, e), omega (arith, e, behind, whole))
-    inside d o (inr (inl e)) = (omega (arith, e, behind), omega (arith, e, whole))
-    inside d o (inr (inr i)) = let r = d.within o i in (omega (arith, r.0, behind), omega (arith, r.1, whole))
+    inside : (d : DataUsed c w v) (o : ℕ) → In (list ∷ w ∷ d.cells) o → (w ≤ o) × (o < high)
+    inside d o (inl e) = (omega (arith, e, before), omega (arith, e, last))
+    inside d o (inr (inl e)) = (omega (arith, e), omega (arith, e, before, last))
+    inside d o (inr (inr i)) = let r = d.within o i in (omega (arith, r.0), omega (arith, r.1, before, last))
 
-    before : (d : DataUsed c w v) (y : ℕ) → In (w ∷ d.cells) y → place ≡ y → ⊥
-    before d y (inl h) e = omega (arith, h, e, behind)
-    before d y (inr i) e = let r = d.within y i in omega (arith, r.0, e, behind)
+    apart : (d : DataUsed c w v) (y : ℕ) → In (w ∷ d.cells) y → list ≡ y → ⊥
+    apart d y (inl h) e = omega (arith, h, e, before)
+    apart d y (inr i) e = let r = d.within y i in omega (arith, r.1, e, before)
 
 -- ---- the list
 
@@ -139,45 +139,45 @@ list_reads c place w os there fit small =
     (offsets_again qs slack (more_fit os w fit small)))
 
 -- what is in the run
-record RunStands (c : Cells) (place w : ℕ) (os : List ℕ) (v : Item) : Type 0 where
-  list : c.payload place ≡ Ok (Rattle.hive_model.specs.Packed.filled (offsets_text (os ++ w ∷ [])))
+record RunStands (c : Cells) (at w : ℕ) (os : List ℕ) (v : Item) : Type 0 where
+  list : c.payload at ≡ Ok (Rattle.hive_model.specs.Packed.filled (offsets_text (os ++ w ∷ [])))
   value : Has c w (item_cells c.version w v)
 
-run_stands : (c : Cells) (place : ℕ) (os : List ℕ) (v : Item) → Has c place (added_cells c.version place os v)
-    → RunStands c place (behind_list place (length os)) os v
+run_stands : (c : Cells) (at place : ℕ) (os : List ℕ) (v : Item) → place + item_size c.version v ≡ at
+    → Has c place (added_cells c.version place os v) → RunStands c at place os v
 unfolding added_cells
-run_stands c place os v has =
-    let w = behind_list place (length os) in
+run_stands c at place os v behind has =
+    let value = item_cells c.version place v in
+    let list = offsets_text (os ++ place ∷ []) ∷ [] in
     record {
-      list = has.0;
-      value = has_next c place (4 * suc (length os)) (offsets_text (os ++ w ∷ [])) (item_cells c.version w v)
-          (length_offsets (os ++ w ∷ []) ∙ ap (λ (k : ℕ). 4 * k) (more_long os w)) has;
+      list = (has_behind c place (item_size c.version v) at value list (space_value c.version place v) behind has).0;
+      value = has_front c place value list has;
     }
 
 -- ---- what was put
 
-pub adds_value : (version : HiveVersion) (old new : List Bin) (x place count list : ℕ) (v : Item) (run : List ℕ)
-    (can : CanAdd (look_up version old) old x)
+pub adds_value : (version : HiveVersion) (old new : List Bin) (x place at count list : ℕ) (v : Item) (run : List ℕ)
+    (can : CanAdd (look_up version old) old x) → place + item_size version v ≡ at
     → count ≡ can.node.value_count → list ≡ can.node.value_list → run ≡ text (added_cells version place can.offsets v)
     → place + added_size version count v ≤ 16777216 → AreOffsets can.offsets → IsItem v → ItemNumbers v
     → count ≤ 4194304 → length v.bytes ≤ 1048576
-    → IsRelistedAt x list count place run old new → PutsValue version old new x v
-adds_value version old new x place count list v run can c_is l_is e room fit is numbers many few r = record {
+    → IsRelistedAt x list count place at run old new → PutsValue version old new x v
+adds_value version old new x place at count list v run can at_is c_is l_is e room fit is numbers many few r = record {
   node = can.node;
   offsets = os;
-  place = w;
-  text = patched 36 (two_numbers (count + 1) place) p.0;
-  list = place;
+  place = place;
+  text = patched 36 (two_numbers (count + 1) at) p.0;
+  list = at;
   read = can.read;
   places = can.places;
   adds = record {
     version = refl;
-    there = held_payload new x (patched 36 (two_numbers (count + 1) place) p.0)
-        (r.here ∙ ap (option_map (patched 36 (two_numbers (count + 1) place))) (stays x x_some ∙ x_held));
-    node = subst (λ (n : ℕ). HasNewValues (with_part 36 (two_numbers (count + 1) place) p.0) can.node n place) more
-        (values_written p.0 can.node (count + 1) place p.2 (omega (arith, many)) (omega (arith, room)));
-    lists = list_reads c place w os stands.list fit small;
-    reads = item_stands c w v stands.value is numbers within;
+    there = held_payload new x (patched 36 (two_numbers (count + 1) at) p.0)
+        (r.here ∙ ap (option_map (patched 36 (two_numbers (count + 1) at))) (stays x x_some ∙ x_held));
+    node = subst (λ (n : ℕ). HasNewValues (with_part 36 (two_numbers (count + 1) at) p.0) can.node n at) more
+        (values_written p.0 can.node (count + 1) at p.2 (omega (arith, many)) (omega (arith, at_is, room)));
+    lists = list_reads c at place os stands.list fit (omega (arith, room));
+    reads = item_stands c place v stands.value is numbers (omega (arith, room));
     others = λ o q held no_node no_list. held_payload new o q
         (r.others o no_node (λ n s. no_list
         (subst (In (value_list_at b x)) (sym (s ∙ l_is)) (can.list (λ z. n (c_is ∙ z)))))
@@ -201,9 +201,6 @@ adds_value version old new x place count list v run can c_is l_is e room fit is 
     os : List ℕ
     os = can.offsets
 
-    w : ℕ
-    w = behind_list place (length os)
-
     ps : List (List ℕ)
     ps = added_cells version place os v
 
@@ -215,18 +212,6 @@ adds_value version old new x place count list v run can c_is l_is e room fit is 
 
     size : space ps ≡ added_size version count v
     size = added_space version place os v ∙ ap (λ (k : ℕ). added_size version k v) counted
-
-    whole : behind_list place (length os) + item_size version v ≡ place + added_size version count v
-    whole = ap (λ (k : ℕ). behind_list place k + item_size version v) counted ∙ omega arith
-
-    behind : place + 8 ≤ behind_list place (length os)
-    behind = omega arith
-
-    within : behind_list place (length os) + item_size version v ≤ 16777216
-    within = omega (arith, whole, room)
-
-    small : behind_list place (length os) < 2 ^ 32
-    small = omega (arith, within)
 
     long : length run ≡ added_size version count v
     long = ap length e ∙ Rattle.hive_pack.proofs.Rows.length_text ps ∙ size
@@ -274,11 +259,12 @@ adds_value version old new x place count list v run can c_is l_is e room fit is 
         (r.others o (not_here o x q h x_some) (λ n. not_here o list q h (list_some n))
         ∙ put_held o ∙ ap (λ (z : Option (List ℕ)). or_else z (held_at old o)) h))
 
-    stands : RunStands c place w os v
-    stands = run_stands c place os v has
+    stands : RunStands c at place os v
+    stands = run_stands c at place os v at_is has
 
-    used : ValueUsed c place w v (place + added_size version count v)
-    used = value_used c place w v (place + added_size version count v) behind whole room few stands.value is numbers
+    used : ValueUsed c at place v (place + added_size version count v)
+    used = value_used c at place v (place + added_size version count v) at_is (omega (arith, at_is)) room few stands.value
+        is numbers
 
     unheld : (o : ℕ) → held_at old o ≡ None → IsUnheld b o
     unheld o n q h = absurd (let s = sym n ∙ payload_held old o q h in cc)

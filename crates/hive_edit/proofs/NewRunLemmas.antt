@@ -4,6 +4,7 @@ use Rattle.std.specs.Option.{IsSome}
 use Rattle.std.specs.Int.{w32, from_le_bytes, to_le_bytes}
 use Rattle.std.proofs.lemmas.Nat.{le_bytes_4}
 use Rattle.std.proofs.lemmas.List.{append-nil}
+use Rattle.std.proofs.lemmas.Grind.{flat_map-append}
 use Rattle.nt_bytes.specs.declared.version.HiveVersion.{HiveVersion}
 use Rattle.hive_model.specs.Bins.{Bin, bins_size}
 use Rattle.hive_model.specs.Size.{cell}
@@ -13,9 +14,9 @@ use Rattle.hive_model.specs.Lists.{AreOffsets, numbers_in, offsets_text}
 use Rattle.hive_model.specs.Packed.{data_place, item_form, data_cells, item_cells, cell_text, text}
 use Rattle.hive_model.proofs.Spelling.{length_offsets}
 use Rattle.hive_cells.specs.Held.{held_at, IsRun}
-use Rattle.hive_pack.proofs.Rows.{space, length_text, space_value}
+use Rattle.hive_pack.proofs.Rows.{space, length_text, space_append, space_value}
 use Rattle.key_index.proofs.Runs.{run_is}
-use Rattle.hive_edit.specs.NewValue.{behind_list, added_cells, added_size, ListsThese}
+use Rattle.hive_edit.specs.NewValue.{added_cells, added_size, ListsThese}
 use Rattle.hive_edit.proofs.GoneLemmas.{list_facts, is_held, offsets_few}
 use Rattle.hive_edit.proofs.ResultLemmas.{some_same}
 
@@ -93,11 +94,11 @@ pub added_space : (version : HiveVersion) (place : ℕ) (os : List ℕ) (v : Ite
     → space (added_cells version place os v) ≡ added_size version (length os) v
 unfolding added_cells
 added_space version place os v =
-    let w = behind_list place (length os) in
-    let n : length (offsets_text (os ++ w ∷ [])) ≡ 4 * suc (length os) =
-    length_offsets (os ++ w ∷ []) ∙ ap (λ (k : ℕ). 4 * k) (more_long os w) in
-    let c : cell (length (offsets_text (os ++ w ∷ []))) ≡ cell (4 * suc (length os)) = ap cell n in
-    omega (arith, c, space_value version w v)
+    let list = offsets_text (os ++ place ∷ []) in
+    let n : length list ≡ 4 * suc (length os) =
+    length_offsets (os ++ place ∷ []) ∙ ap (λ (k : ℕ). 4 * k) (more_long os place) in
+    let c : cell (length list) ≡ cell (4 * suc (length os)) = ap cell n in
+    omega (arith, c, space_append (item_cells version place v) (list ∷ []), space_value version place v)
 
 -- the run is its cells
 pub record IsAddedRun (version : HiveVersion) (place count : ℕ) (os : List ℕ) (v : Item) (run : List ℕ) : Type 0 where
@@ -117,14 +118,16 @@ added_run version place count os v run n e room =
     }
 
 -- written cell by cell
-pub run_written : (version : HiveVersion) (place at : ℕ) (os : List ℕ) (v : Item) (one two list : List ℕ)
-    → at ≡ behind_list place (length os)
-    → list ≡ offsets_text (os ++ at ∷ []) → one ≡ cell_text list → two ≡ one ++ text (item_cells version at v)
+pub run_written : (version : HiveVersion) (place : ℕ) (os : List ℕ) (v : Item) (one two list : List ℕ)
+    → one ≡ text (item_cells version place v) → list ≡ offsets_text (os ++ place ∷ []) → two ≡ one ++ cell_text list
     → two ≡ text (added_cells version place os v)
 unfolding added_cells
-run_written version place at os v one two list a l f g =
-    g ∙ ap (λ (xs : List ℕ). xs ++ text (item_cells version at v)) (f ∙ ap cell_text l)
-    ∙ ap (λ (w : ℕ). cell_text (offsets_text (os ++ w ∷ [])) ++ text (item_cells version w v)) a
+run_written version place os v one two list o l g =
+    let value = item_cells version place v in
+    let last = offsets_text (os ++ place ∷ []) in
+    g ∙ (λ i. o i ++ cell_text (l i))
+    ∙ ap (λ (xs : List ℕ). text value ++ xs) (sym (append-nil (cell_text last)))
+    ∙ sym (flat_map-append cell_text value (last ∷ []))
 
 pub value_written : (version : HiveVersion) (at behind : ℕ) (v : Item) (out one two p : List ℕ)
     → p ≡ key_value_text (item_form at v) → one ≡ out ++ cell_text p

@@ -24,14 +24,10 @@ use Rattle.hive_edit.specs.Hive.{HiveCells, cells_in}
 use Rattle.hive_edit.specs.Places.{value_place}
 use Rattle.hive_edit.specs.Runs.{IsRunPutAt}
 
--- where the value is in a run at a place, after the list of that many and itself
-abbrev pub behind_list : ℕ → ℕ → ℕ
-behind_list place count = place + cell (4 * suc count)
-
--- the cells of the run: the list of these offsets with the value after them, the value's cell, and those of its data
+-- The cells of the run: the value's cell, those of its data, and the list of these offsets with the value after them. The list comes last, so
+-- that what is free once it is given up is one with the rest of its bin, and holds a list that is longer by one.
 unfoldable pub added_cells : HiveVersion → ℕ → List ℕ → Item → List (List ℕ)
-added_cells version place offsets v =
-    offsets_text (offsets ++ behind_list place (length offsets) ∷ []) ∷ item_cells version (behind_list place (length offsets)) v
+added_cells version place offsets v = item_cells version place v ++ offsets_text (offsets ++ place ∷ []) ∷ []
 
 -- how many bytes it has, for a key that had that many values
 abbrev pub added_size : HiveVersion → ℕ → Item → ℕ
@@ -52,12 +48,12 @@ pub record CanAdd (cells : Cells) (bins : List Bin) (x : ℕ) : Type 0 where
   pub list : (node.value_count ≡ 0 → ⊥) → In (value_list_at cells x) node.value_list
   pub apart : (node.value_count ≡ 0 → ⊥) → node.value_list ≡ x → ⊥
 
--- A run was put at a place, the node at x counts one value more and has their list there, and the old list of that many, if there
+-- A run was put at a place, the node at x counts one value more and has their list at an offset, and the old list of that many, if there
 -- was one, is freed.
-pub record IsRelistedAt (x list count place : ℕ) (run : List ℕ) (old new : List Bin) : Type 0 where
+pub record IsRelistedAt (x list count place at : ℕ) (run : List ℕ) (old new : List Bin) : Type 0 where
   pub mid : List Bin
   pub put : IsRunPutAt (length run) place (run_cells run) old mid
-  pub here : held_at new x ≡ option_map (patched 36 (two_numbers (count + 1) place)) (held_at mid x)
+  pub here : held_at new x ≡ option_map (patched 36 (two_numbers (count + 1) at)) (held_at mid x)
   pub freed : (count ≡ 0 → ⊥) → held_at new list ≡ None
   pub others : (o : ℕ) → (o ≡ x → ⊥) → ((count ≡ 0 → ⊥) → o ≡ list → ⊥) → held_at new o ≡ held_at mid o
   pub long : bins_size new ≡ bins_size mid

@@ -1,17 +1,13 @@
 //! What a key's node says of its children, how that is written, and the count of its security.
 
-ghost use Rattle.std.specs.Prelude.{◌≡◌, ◌≤◌, ◌<◌, ◌^◌, length, IfOk};
+ghost use Rattle.std.specs.Prelude.{◌≡◌, ◌≤◌, ◌<◌, ◌^◌, length};
 ghost use Rattle.std.specs.Option.{IsSomeAnd};
 ghost use Rattle.nt_bytes.specs.Fields.{u32_in};
-ghost use Rattle.hive_model.specs.Limits.{most_bins};
-ghost use Rattle.hive_model.specs.Packed.{cell_text};
 ghost use Rattle.hive_cells.specs.Held.{held_at};
 ghost use Rattle.hive_edit.specs.Making.{child_fields, IsWritten};
 
 use hive_cells::OpenHeap;
-use hive_pack::put_cell;
-use nt_bytes::{Bytes, put_u32, u32_at};
-use std::alloc::{AllocError, Global};
+use nt_bytes::{put_u32, u32_at};
 
 /// What a parent's node says of its children, and where its security is.
 #[derive(Clone, Copy)]
@@ -20,16 +16,6 @@ pub(crate) struct Above {
     pub(crate) count: u32,
     pub(crate) volatile: u32,
     pub(crate) security: u32,
-}
-
-/// The bytes of an allocated cell with this payload.
-pub(crate) fn cell_bytes(alloc: Global, payload: &[u8]) -> Result<Bytes, AllocError>
-    requires { length payload.now ≤ most_bins }
-    ensures { IfOk result (λ b. b ≡ cell_text payload.now) }
-{
-    let mut out = Bytes::new(alloc);
-    put_cell(&mut out, payload)?;
-    Ok(out)
 }
 
 /// Twelve bytes for a node's count of children, its count of volatile ones, and its list of children.

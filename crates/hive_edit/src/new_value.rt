@@ -27,7 +27,6 @@ ghost use Rattle.hive_model.specs.Valid.{longest_data, longest_value_name};
 use crate::cells::{are_bytes, place_for, put_run};
 use crate::give::own_number;
 use crate::hive::HiveBytes;
-use crate::making::cell_bytes;
 use crate::measure::{cell_len, data_len};
 use crate::path::key_at;
 use crate::telling::{VALUES, wide_len};
@@ -182,10 +181,10 @@ fn added_run(
     requires few { length bytes.now ≤ longest_data }
     ensures { IfOk result (λ b. b ≡ text (added_cells version place (numbers_in 4 count old.now) (item name.now kind bytes.now))) }
 {
-    let at = place + cell_size(4 * (count as usize + 1)) as u32;
-    let offsets = longer_list(alloc, old, count, at)?;
-    let mut run = cell_bytes(alloc, offsets.as_slice())?;
-    write_value(alloc, &mut run, version, at, name, kind, bytes)?;
+    let mut run = Bytes::new(alloc);
+    write_value(alloc, &mut run, version, place, name, kind, bytes)?;
+    let offsets = longer_list(alloc, old, count, place)?;
+    put_cell(&mut run, offsets.as_slice())?;
     Ok(run)
 }
 
@@ -214,13 +213,14 @@ fn free_list(heap: &mut OpenHeap, list: u32, count: u32)
     }
 }
 
-/// Puts a run with a key's longer value list at a place; the key's node says so, and the old list is freed.
+/// Puts a run at a place in which a key's longer value list is at an offset; the key's node says so, and the old list is freed.
 fn relist(
     heap: &mut OpenHeap,
     key: u32,
     list: u32,
     count: u32,
     place: u32,
+    at: u32,
     run: &[u8],
 ) -> Result<(), AllocError>
     requires few { count ≤ 4194304 }
@@ -229,12 +229,12 @@ fn relist(
     requires node { IsSomeAnd (held_at heap.old.bins key) (λ p. 76 ≤ length p) }
     requires list { (count ≡ 0 → ⊥) → IsSome (held_at heap.old.bins list) }
     requires apart { (count ≡ 0 → ⊥) → list ≡ key → ⊥ }
-    ensures put { OnOk result (IsRelistedAt key list count place run.now heap.old.bins heap.new.bins) }
+    ensures put { OnOk result (IsRelistedAt key list count place at run.now heap.old.bins heap.new.bins) }
     ensures refused { OnErr result (heap.new ≡ heap.old) }
     ensures base { heap.new.base ≡ heap.old.base }
 {
     put_run(heap, place, run)?;
-    let fields = two_fields(count + 1, place);
+    let fields = two_fields(count + 1, at);
     heap.patch(key, 36, &fields);
     free_list(heap, list, count);
     Ok(())
@@ -265,7 +265,8 @@ fn add_at(
     let old = list_bytes(heap, list, count);
     offsets_fit(old, count);
     let run = added_run(alloc, old, version, count, place, name, kind, bytes)?;
-    relist(heap, key, list, count, place, run.as_slice())
+    let at = place + (run.len() - cell_size(4 * (count as usize + 1))) as u32;
+    relist(heap, key, list, count, place, at, run.as_slice())
 }
 
 /// Puts a value after the others of a key. `false` where there is no room for its run; the heap is as it was then, and
