@@ -239,6 +239,13 @@ def with_many_names(count):
     return system([service(i, 2, 0, [f"S{k:06d}" for k in range(max(0, i - 10), i)]) for i in range(count)])
 
 
+def with_a_wide_key(count):
+    """Ten services, and a key `A` of the root with that many keys below it."""
+    sets = control_set(b"ControlSet001", [service(i, 1, 0, []) for i in range(10)], ["G0"], {"G0": list(range(20, 0, -1))})
+    key = (b"A", [], [(b"K%06d" % i, [], []) for i in range(count)])
+    return hive(layout((b"SYSTEM", [], [key, sets, select(1, 1, 0, 0)]), 32)[0])
+
+
 def with_a_key(count, values=1):
     """That many services, and a key `A` of the root with that many values, of which each has a cell for its data."""
     services = [service(i, 1, 0, []) for i in range(count)]

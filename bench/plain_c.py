@@ -131,7 +131,12 @@ def main(words):
         starting(table, put(room, "guarded", hives.with_services(1_000, good=1)), " of 1,000 services, with the guard's commit")
         put(room, "many", 64 * START)
         table.row("64 starts of 1,000 services", run(made, "many"))
-        steps(table, "one deletion in a key of 100,000 values", "delete A V{}", put(room, "values", hives.with_a_key(10, 100_000)))
+        values = put(room, "values", hives.with_a_key(10, 100_000))
+        steps(table, "one deletion in a key of 100,000 values", "delete A V{}", values)
+        steps(table, "one new value there, before any commit", "set A N{0} dword {0}", values, commit="")
+        wide = put(room, "wide", hives.with_a_wide_key(100_000))
+        steps(table, "one key made among 100,000, before any commit", "make A\\N{}", wide, commit="")
+        steps(table, "one key removed among 100,000, before any commit", "remove A\\K{:06d}", wide, commit="")
 
 
 main(sys.argv[1:])
