@@ -11,8 +11,9 @@ use Rattle.arc_path.specs.declared.arc.ArcFaultKind.TheVariants.{Kind, Word, Num
 use Rattle.arc_path.specs.declared.arc.ArcKind.{ArcKind}
 use Rattle.arc_path.specs.declared.arc.ArcKind.TheVariants.{Multi, Scsi, Signature}
 use Rattle.arc_path.specs.declared.reading.Early.{Early}
-use Rattle.arc_path.specs.Reading.{◌>>=◌, fault_at, number_at, word_at, item_at, kind_at, partition_at, numbers_at, directory_at, parts_at, arc_of, placed, radix_of, most_of}
+use Rattle.arc_path.specs.Reading.{fault_at, number_at, word_at, item_at, kind_at, partition_at, numbers_at, directory_at, parts_at, arc_of, placed, radix_of, most_of}
 use Rattle.nt_bytes.specs.Text.{is_printable}
+use Rattle.nt_bytes.specs.Reading.{◌>>=◌}
 use Rattle.arc_path.specs.Spelling.{IsNumeral, word_of}
 use Rattle.arc_path.specs.Faults.{Piece, Name, Digits, Counted, pieces_of, StartsNoDigit, HasNoNumber, HasZero, BeginsNot, IsFaultIn, IsFaultAt, IsFirstFault}
 use Rattle.arc_path.proofs.Ends.{prefix_whole}

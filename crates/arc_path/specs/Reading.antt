@@ -16,12 +16,7 @@ use Rattle.arc_path.specs.declared.arc.ArcStop.TheVariants as stops
 use Rattle.arc_path.specs.declared.reading.Early.{Early}
 use Rattle.arc_path.specs.declared.reading.Numbers.{Numbers}
 use Rattle.nt_bytes.specs.Text.{is_printable, is_backslash}
-
--- one reader after the other; the first fault decides
-infixl 10 ◌>>=◌
-abbrev pub ◌>>=◌ : {A B : Type 0} → Result A Early → (A → Result B Early) → Result B Early
-(Ok x) >>= f = f x
-(Err e) >>= f = Err e
+use Rattle.nt_bytes.specs.Reading.{◌>>=◌}
 
 -- a fault of this kind where the rest of the text begins
 abbrev pub fault_at : {A : Type 0} → ArcFaultKind → List ℕ → Result A Early
@@ -120,8 +115,3 @@ abbrev pub Gives : Result Arc ArcStop → Result Arc ArcFault → Type 0
 Gives (Ok a) read = read ≡ Ok a
 Gives (Err stops.Memory) read = Unit {0}
 Gives (Err (stops.Fault f)) read = read ≡ Err f
-
--- what a function returned, seen by view, is what reading gives
-abbrev pub Sees : {X Y : Type 0} → (X → Y) → Result X Early → Result Y Early → Type 0
-Sees view (Ok x) read = read ≡ Ok (view x)
-Sees view (Err e) read = read ≡ Err e

@@ -7,8 +7,9 @@ ghost use Rattle.std.specs.List.{All, prefix_len};
 ghost use Rattle.std.specs.Str.Parse.{digits_value};
 ghost use Rattle.std.specs.Str.{str_eq_ignore_ascii_case};
 ghost use Rattle.std.specs.Char.{is_digit};
-ghost use Rattle.arc_path.specs.Reading.{word_at, number_at, item_at, kind_at, radix_of, most_of, partition_at, numbers_at, directory_at, parts_at, arc_of, Gives, Sees, without_last_backslashes};
+ghost use Rattle.arc_path.specs.Reading.{word_at, number_at, item_at, kind_at, radix_of, most_of, partition_at, numbers_at, directory_at, parts_at, arc_of, Gives, without_last_backslashes};
 ghost use Rattle.nt_bytes.specs.Text.{is_printable};
+ghost use Rattle.nt_bytes.specs.Reading.{Sees};
 
 use crate::arc::{Arc, ArcFault, ArcFaultKind, ArcKind, ArcStop};
 use nt_bytes::Bytes;

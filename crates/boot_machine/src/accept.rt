@@ -12,15 +12,7 @@ use crate::refusal::EventRefusal;
 use crate::start::Start;
 use boot_script::Event;
 use nt_bytes::{Units, same_folded};
-
-const CURRENT: [u16; 17] = [
-    0x43, 0x75, 0x72, 0x72, 0x65, 0x6e, 0x74, 0x43, 0x6f, 0x6e, 0x74, 0x72, 0x6f, 0x6c, 0x53, 0x65,
-    0x74,
-];
-
-const CONTROL_SET: [u16; 10] = [0x43, 0x6f, 0x6e, 0x74, 0x72, 0x6f, 0x6c, 0x53, 0x65, 0x74];
-
-const SELECT: [u16; 6] = [0x53, 0x65, 0x6c, 0x65, 0x63, 0x74];
+use startup_names::{CONTROL_SET, CURRENT_CONTROL_SET, SELECT};
 
 /// What is taken where no start runs.
 pub(crate) fn accept_off(event: &Event) -> Result<(), EventRefusal>
@@ -125,7 +117,7 @@ fn is_protected_child(name: &[u16]) -> bool
 pub fn is_current(name: &[u16]) -> bool
     ensures { result ≡ is_current name.now }
 {
-    same_folded(name, &CURRENT)
+    same_folded(name, &CURRENT_CONTROL_SET)
 }
 
 /// Whether the name is `ControlSet` and exactly three digits.

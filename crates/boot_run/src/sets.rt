@@ -14,13 +14,9 @@ use boot_machine::SetLists;
 use hive_store::Hive;
 use nt_bytes::{Names, Units};
 use reg_tree::Key;
-use select_keys::{
-    CURRENT, DEFAULT, FAILED, GOOD, SelectNumbers, TakenNumbers, select_path, set_path, sets_named,
-};
+use select_keys::{SelectNumbers, TakenNumbers, select_path, set_path, sets_named};
+use startup_names::{CURRENT, DEFAULT, FAILED, LAST_KNOWN_GOOD, SERVICES};
 use std::alloc::{AllocError, Global};
-
-/// `Services`.
-const SERVICES: [u16; 8] = [0x53, 0x65, 0x72, 0x76, 0x69, 0x63, 0x65, 0x73];
 
 /// A number of the key at the path, 0 where it is absent or no DWORD.
 fn number_in(hive: &Hive, path: &Names, name: &[u16]) -> u32
@@ -38,7 +34,7 @@ pub(crate) fn live_numbers(alloc: Global, hive: &Hive) -> Result<SelectNumbers, 
         current: number_in(hive, &path, &CURRENT),
         default: number_in(hive, &path, &DEFAULT),
         failed: number_in(hive, &path, &FAILED),
-        good: number_in(hive, &path, &GOOD),
+        good: number_in(hive, &path, &LAST_KNOWN_GOOD),
     })
 }
 
@@ -66,7 +62,7 @@ pub(crate) fn good_is_usable(alloc: Global, hive: &Hive) -> Result<bool, AllocEr
     ensures { IfOk result (λ usable. usable ≡ good_is_usable hive.now.tree) }
 {
     let path = select_path(alloc)?;
-    let number = number_in(hive, &path, &GOOD);
+    let number = number_in(hive, &path, &LAST_KNOWN_GOOD);
     is_usable(alloc, hive, number)
 }
 

@@ -8,13 +8,14 @@ use Rattle.std.proofs.lemmas.Bool.{false≢true, eqb-true, ne_eqb, le-ltb, ltb-f
 use Rattle.std.proofs.lemmas.List.{take-append-drop, length-append}
 use Rattle.std.proofs.lemmas.List.Elements.{All-nil, All-cons}
 use Rattle.std.proofs.lemmas.List.Splits.{length-slice_split}
+use Rattle.nt_bytes.specs.Reading.{◌>>=◌}
 use Rattle.boot_script.specs.declared.event.Event.{Event}
 use Rattle.boot_script.specs.declared.event.Event.TheVariants.{Boot, Go, Fail, Vital, Set, Delete, Make, Remove, Flush, Logon, Off, CutNow, ArmCut, ArmFault}
 use Rattle.boot_script.specs.declared.stop.ScriptFaultKind.{ScriptFaultKind}
 use Rattle.boot_script.specs.declared.stop.ScriptFaultKind.TheVariants.{TooLong, TooManyStarts}
 use Rattle.boot_script.specs.declared.stop.ScriptFault.{ScriptFault}
 use Rattle.boot_script.specs.declared.stop.ScriptStop.{ScriptStop}
-use Rattle.boot_script.specs.Words.{◌>>=◌, words_of, word_at, without_spaces, is_space}
+use Rattle.boot_script.specs.Words.{words_of, word_at, without_spaces, is_space}
 use Rattle.boot_script.specs.Commands.{command_of, event_of}
 use Rattle.boot_script.specs.Script.{trimmed_event, line_event, starts, starts_in, at_line, put_before, after_line, events_from, script_of, HasCounts, IsBounded, GivesScript}
 use Rattle.boot_script.specs.Events.{IsSpelledBy}

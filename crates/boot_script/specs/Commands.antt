@@ -10,6 +10,7 @@
 use Rattle.std.specs.Prelude.{ℕ, true, false, ◌&&◌, List, [], ◌∷◌, Option, Some, None, Result, Ok, Err, if◌then◌else◌, codes}
 use Rattle.std.specs.Str.{bytes_eq}
 use Rattle.nt_bytes.specs.Text.{is_digits}
+use Rattle.nt_bytes.specs.Reading.{◌>>=◌}
 use Rattle.nt_edge.specs.declared.disk.Keep.{Keep}
 use Rattle.nt_edge.specs.declared.disk.Keep.TheVariants.{Nothing, Everything, OddOnes, Torn}
 use Rattle.nt_edge.specs.declared.disk.DiskCall.{DiskCall}
@@ -18,7 +19,7 @@ use Rattle.boot_script.specs.declared.event.Event.{Event}
 use Rattle.boot_script.specs.declared.event.Event.TheVariants.{Boot, Go, Fail, Vital, Set, Delete, Make, Remove, Flush, Logon, Off, CutNow, ArmCut, ArmFault}
 use Rattle.boot_script.specs.declared.stop.ScriptFaultKind.{ScriptFaultKind}
 use Rattle.boot_script.specs.declared.stop.ScriptFaultKind.TheVariants.{Word}
-use Rattle.boot_script.specs.Words.{◌>>=◌, number_from}
+use Rattle.boot_script.specs.Words.{number_from}
 use Rattle.boot_script.specs.Values.{path_of, data_of}
 
 -- `boot [K] [lkg]`, K from 1

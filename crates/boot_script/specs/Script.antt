@@ -5,6 +5,7 @@
 use Rattle.std.specs.Prelude.{◌≡◌, ℕ, ◌+◌, ◌≤◌, List, [], ◌∷◌, ◌++◌, length, Option, Some, None, Result, Ok, Err, nat_lt, ◌==◌, if◌then◌else◌, option_to_list}
 use Rattle.std.specs.List.{All}
 use Rattle.std.specs.Str.Lines.{lines}
+use Rattle.nt_bytes.specs.Reading.{◌>>=◌}
 use Rattle.boot_script.specs.declared.event.Event.{Event}
 use Rattle.boot_script.specs.declared.event.Event.TheVariants.{Boot, Go, Fail, ArmCut, ArmFault}
 use Rattle.boot_script.specs.declared.stop.ScriptFaultKind.{ScriptFaultKind}
@@ -12,7 +13,7 @@ use Rattle.boot_script.specs.declared.stop.ScriptFaultKind.TheVariants.{TooLong,
 use Rattle.boot_script.specs.declared.stop.ScriptFault.{ScriptFault}
 use Rattle.boot_script.specs.declared.stop.ScriptStop.{ScriptStop}
 use Rattle.boot_script.specs.declared.stop.ScriptStop.TheVariants as stops
-use Rattle.boot_script.specs.Words.{◌>>=◌, words_of, without_spaces}
+use Rattle.boot_script.specs.Words.{words_of, without_spaces}
 use Rattle.boot_script.specs.Commands.{event_of}
 
 -- the event of a line that begins with no space; a comment and an empty line have none

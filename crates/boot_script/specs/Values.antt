@@ -7,8 +7,9 @@ use Rattle.std.specs.Int.{w32, to_le_bytes}
 use Rattle.std.specs.Str.{bytes_eq}
 use Rattle.boot_script.specs.declared.stop.ScriptFaultKind.{ScriptFaultKind}
 use Rattle.boot_script.specs.declared.stop.ScriptFaultKind.TheVariants.{Word, Number}
-use Rattle.boot_script.specs.Words.{◌>>=◌, number_from}
+use Rattle.boot_script.specs.Words.{number_from}
 use Rattle.nt_bytes.specs.Text.{is_backslash}
+use Rattle.nt_bytes.specs.Reading.{◌>>=◌}
 
 -- the names between backslashes, empty ones too
 abbrev pub path_of : List ℕ → List (List ℕ)

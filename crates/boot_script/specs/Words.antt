@@ -6,22 +6,13 @@ use Rattle.std.specs.Prelude.{◌≡◌, ℕ, suc, zero, Bool, ◌&&◌, ◌||�
 use Rattle.std.specs.List.{prefix_len, take_while}
 use Rattle.std.specs.Str.Parse.{digits_value}
 use Rattle.nt_bytes.specs.Text.{is_digits}
+use Rattle.nt_bytes.specs.Reading.{◌>>=◌}
 use Rattle.boot_script.specs.declared.stop.ScriptFaultKind.{ScriptFaultKind}
 use Rattle.boot_script.specs.declared.stop.ScriptFaultKind.TheVariants.{Line, Number}
 use Rattle.boot_script.specs.declared.stop.LineStop.{LineStop}
 use Rattle.boot_script.specs.declared.stop.LineStop.TheVariants as stops
 
 -- ---- what a function of the code returned, against what the grammar gives
-
-infixl 10 ◌>>=◌
-abbrev pub ◌>>=◌ : {A B : Type 0} → Result A ScriptFaultKind → (A → Result B ScriptFaultKind) → Result B ScriptFaultKind
-(Ok x) >>= f = f x
-(Err e) >>= f = Err e
-
--- what was returned, seen by view, is what reading gives
-abbrev pub Sees : {X Y : Type 0} → (X → Y) → Result X ScriptFaultKind → Result Y ScriptFaultKind → Type 0
-Sees view (Ok x) read = read ≡ Ok (view x)
-Sees view (Err e) read = read ≡ Err e
 
 abbrev pub Fails : {Y : Type 0} → LineStop → Result Y ScriptFaultKind → Type 0
 Fails stops.Memory read = Unit {0}

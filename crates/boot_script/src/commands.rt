@@ -2,7 +2,8 @@
 
 ghost use Rattle.std.specs.Prelude.{◌≡◌, false, map, codes};
 ghost use Rattle.std.specs.Str.{bytes_eq};
-ghost use Rattle.boot_script.specs.Words.{Sees, Gives};
+ghost use Rattle.nt_bytes.specs.Reading.{Sees};
+ghost use Rattle.boot_script.specs.Words.{Gives};
 ghost use Rattle.boot_script.specs.Commands.{set_of, delete_of, make_of, remove_of, alone_of, edit_of, command_of, event_of};
 
 use crate::data::data;

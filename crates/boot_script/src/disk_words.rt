@@ -1,7 +1,7 @@
 //! The words about the disk: `cut` and `fault`.
 
 ghost use Rattle.std.specs.Prelude.{map};
-ghost use Rattle.boot_script.specs.Words.{Sees};
+ghost use Rattle.nt_bytes.specs.Reading.{Sees};
 ghost use Rattle.boot_script.specs.Commands.{keep_of, call_of, cut_of, fault_of};
 
 use crate::event::Event;

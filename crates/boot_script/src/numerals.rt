@@ -1,6 +1,7 @@
 //! Numbers in words.
 
-ghost use Rattle.boot_script.specs.Words.{number_from, Sees};
+ghost use Rattle.nt_bytes.specs.Reading.{Sees};
+ghost use Rattle.boot_script.specs.Words.{number_from};
 
 use crate::stop::ScriptFaultKind;
 use nt_bytes::{are_digits, value_of};

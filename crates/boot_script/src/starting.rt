@@ -1,7 +1,8 @@
 //! The words about starts: `boot`, `go`, `fail` and `vital`.
 
 ghost use Rattle.std.specs.Prelude.{map};
-ghost use Rattle.boot_script.specs.Words.{Sees, Gives};
+ghost use Rattle.nt_bytes.specs.Reading.{Sees};
+ghost use Rattle.boot_script.specs.Words.{Gives};
 ghost use Rattle.boot_script.specs.Commands.{boot_of, go_of, fail_of, vital_of};
 
 use crate::event::Event;

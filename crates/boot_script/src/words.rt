@@ -2,7 +2,8 @@
 
 ghost use Rattle.std.specs.Prelude.{◌≡◌, ◌<◌, ◌≤◌, length, IfOk, map};
 ghost use Rattle.std.specs.List.{prefix_len};
-ghost use Rattle.boot_script.specs.Words.{is_plain, is_quotable, without_spaces, word_at, ended, words_of, Sees, Gives};
+ghost use Rattle.nt_bytes.specs.Reading.{Sees};
+ghost use Rattle.boot_script.specs.Words.{is_plain, is_quotable, without_spaces, word_at, ended, words_of, Gives};
 
 use crate::stop::{LineStop, ScriptFaultKind};
 use std::alloc::Global;

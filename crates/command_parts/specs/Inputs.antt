@@ -2,6 +2,7 @@
 --
 -- A system's path without a reading is bad usage; a file is absent; boot.ini is too long or has too many entries.
 use Rattle.std.specs.Prelude.{◌≡◌, ◌+◌, ℕ, true, nat_lt, List, [], length, Option, Some, None, Result, Ok, Err, if◌then◌else◌}
+use Rattle.nt_bytes.specs.Reading.{◌>>=◌}
 use Rattle.nt_edge.specs.Host.{Files, HostState}
 use Rattle.arc_path.specs.declared.arc.Arc.{Arc}
 use Rattle.arc_path.specs.declared.arc.ArcFault.{ArcFault}
@@ -13,11 +14,6 @@ use Rattle.command_parts.specs.declared.refusal.Obstacle.{Obstacle}
 use Rattle.command_parts.specs.declared.inputs.HiveFiles.{HiveFiles}
 use Rattle.command_parts.specs.declared.status.Status.{Status}
 use Rattle.command_parts.specs.Leaves.{AsksUntil, AsksBy, named, stop_in}
-
--- the first refusal, or what follows
-abbrev pub ◌>>=◌ : {A B : Type 0} → Result A Refusal → (A → Result B Refusal) → Result B Refusal
-◌>>=◌ (Ok a) next = next a
-◌>>=◌ (Err r) next = Err r
 
 -- ---- the steps
 

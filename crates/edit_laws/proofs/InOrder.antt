@@ -3,6 +3,7 @@
 use Rattle.std.proofs.Common.{◌≡◌, ℕ, Bool, true, false, cond, List, [], ◌∷◌, refl, sym, ◌∙◌, ap, subst, inl, Option, Some, Result, Ok}
 use Rattle.std.specs.Prelude.{find, option_and_then}
 use Rattle.std.specs.Option.{option_map_or}
+use Rattle.nt_bytes.specs.Reading.{◌>>=◌}
 use Rattle.hive_model.specs.Bins.{Cells}
 use Rattle.hive_model.specs.Tree.{Tree, key, trees, listed, is_named, find_key}
 use Rattle.hive_model.specs.Edit.{Step, Refusal, make_key, at_first, of_children, at_key, has_child, with_key, placed, new_key, after_steps}
@@ -14,7 +15,6 @@ use Rattle.edit_laws.specs.Done.{IsDone, AreDone}
 use Rattle.edit_laws.specs.Parents.{NamesParents}
 use Rattle.edit_laws.proofs.Compose.{unchanged_outside}
 use Rattle.edit_laws.proofs.Replaced.{trees_listed}
-use Rattle.hive_model.specs.Forms.{◌>>=◌}
 
 -- ---- steps in order
 

@@ -4,8 +4,8 @@ use Rattle.std.specs.Prelude.{find, is_some, not, nat_lt}
 use Rattle.std.specs.Option.{is_none, option_map_or}
 use Rattle.nt_bytes.specs.Folding.{folds_same}
 use Rattle.nt_bytes.specs.declared.fault.HiveFaultKind.{HiveFaultKind}
+use Rattle.nt_bytes.specs.Reading.{◌>>=◌}
 use Rattle.hive_model.specs.Bins.{Cells}
-use Rattle.hive_model.specs.Forms.{◌>>=◌}
 use Rattle.hive_model.specs.KeyValue.{KeyValue}
 use Rattle.hive_model.specs.Tree.{Tree, key, head, Item, is_item, find_key, find_item}
 use Rattle.hive_model.specs.Edit.{Step, Refusal, no_key, no_value, name_too_long, data_too_long, unless, set_value, delete_value, has_item, at_first, without_first, of_items, at_key, with_item, after_step}

@@ -12,14 +12,9 @@ use crate::told::{Fate, Told};
 use name_places::NamePlaces;
 use nt_bytes::{Names, Units};
 use reg_tree::Key;
+use startup_names::{SERVICES, START, TYPE};
 use std::alloc::{AllocError, Global};
 use std::marker::Model;
-
-const SERVICES: [u16; 8] = [0x53, 0x65, 0x72, 0x76, 0x69, 0x63, 0x65, 0x73];
-
-const START: [u16; 5] = [0x53, 0x74, 0x61, 0x72, 0x74];
-
-const TYPE: [u16; 4] = [0x54, 0x79, 0x70, 0x65];
 
 /// What the plain start said, each entry found by its name without a scan. Contracts see what it said.
 #[derive(Drop)]

@@ -8,11 +8,8 @@ ghost use Rattle.failure_effects.specs.Switching.{as_four, off_key, off_set};
 
 use nt_bytes::{Bytes, Units, same_folded};
 use reg_tree::{Key, Keys, Value, Values};
+use startup_names::{SERVICES, START};
 use std::alloc::{AllocError, Global};
-
-const SERVICES: [u16; 8] = [0x53, 0x65, 0x72, 0x76, 0x69, 0x63, 0x65, 0x73];
-
-const START: [u16; 5] = [0x53, 0x74, 0x61, 0x72, 0x74];
 
 /// A DWORD.
 const DWORD: u32 = 4;

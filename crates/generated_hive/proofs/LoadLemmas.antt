@@ -5,6 +5,7 @@ use Rattle.std.proofs.lemmas.Bool.{lt-ltb}
 use Rattle.std.proofs.lemmas.List.{length-replicate}
 use Rattle.std.proofs.Math.Seq.{take-append_seam, drop-append-add}
 use Rattle.nt_bytes.specs.declared.version.HiveVersion.TheVariants.{V3}
+use Rattle.nt_bytes.specs.Reading.{◌>>=◌}
 use Rattle.hive_model.specs.Base.{Base, IsBase, is_bins_size, base_text}
 use Rattle.hive_model.specs.Bins.{Bin, IsBins, look_up}
 use Rattle.hive_model.specs.Carries.{Carries}
@@ -17,7 +18,6 @@ use Rattle.hive_model.proofs.BaseLemmas.{base_back, text_long}
 use Rattle.hive_log.proofs.Appending.{sized}
 use Rattle.hive_log.proofs.Finding.{carries_recovered}
 use Rattle.generated_hive.specs.File.{clean_base, clean_file}
-use Rattle.hive_model.specs.Forms.{◌>>=◌}
 
 -- ---- sectors of a file
 

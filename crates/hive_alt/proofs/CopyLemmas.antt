@@ -2,6 +2,7 @@
 use Rattle.std.proofs.Common.{◌≡◌, ◌<◌, ◌+◌, ◌-◌, ◌*◌, ◌==◌, ◌&&◌, ℕ, Bool, true, false, List, length, Some, Result, Ok, Err, refl, sym, ◌∙◌, ap, subst, arith, inl, inr, ⊎_elim}
 use Rattle.std.specs.Prelude.{nat_lt, nat_le, OnOk}
 use Rattle.std.proofs.lemmas.Bool.{ne_eqb, le-leb, lt-ltb, and_from, and_right, cases_Bool}
+use Rattle.nt_bytes.specs.Reading.{◌>>=◌}
 use Rattle.hive_model.specs.Base.{Base, IsBase, base_of, base_text}
 use Rattle.hive_model.specs.Image.{Image, File, Primary, Log, Address, Bytes, put, same_file}
 use Rattle.hive_model.specs.Recovery.{sector, base_at}
@@ -13,7 +14,6 @@ use Rattle.hive_commit.specs.Growing.{HasMarkedBelow}
 use Rattle.hive_commit.specs.Stages.{HasMarked}
 use Rattle.hive_alt.specs.Copies.{copy_in, HasCopy, in_copy, is_block, is_bin, BlockIsBeforeOr, IsWritten, IsRewriting}
 use Rattle.hive_alt.specs.Twin.{copy_at}
-use Rattle.hive_model.specs.Forms.{◌>>=◌}
 
 file_same : (f : File) → same_file f f ≡ true
 file_same Primary = refl

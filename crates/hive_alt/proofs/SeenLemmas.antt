@@ -3,6 +3,7 @@ use Rattle.std.proofs.Common.{◌≡◌, ◌<◌, ◌+◌, ◌*◌, ◌/◌, ℕ
 use Rattle.std.specs.Prelude.{not}
 use Rattle.nt_bytes.specs.declared.fault.HiveFault.{HiveFault}
 use Rattle.nt_bytes.specs.declared.fault.HiveFaultKind.TheVariants.{LogSequence}
+use Rattle.nt_bytes.specs.Reading.{◌>>=◌}
 use Rattle.hive_model.specs.Base.{Base, fault_at, is_bins_size}
 use Rattle.hive_model.specs.Image.{Image, File, Primary, Log, Bytes}
 use Rattle.hive_model.specs.Recovery.{sector, log_in, gathered, recovered_with, goes_with, base_in}
@@ -14,7 +15,6 @@ use Rattle.hive_log.proofs.Looked.{bytes_back}
 use Rattle.hive_alt.specs.Copies.{HasCopy, IsBehind, StandsBy}
 use Rattle.hive_alt.specs.Twin.{copy_at, absent_at, torn_at, read_in, second_in, is_second, standing, by_second_block, twin_of}
 use Rattle.hive_alt.proofs.TwinLemmas.{by_clean, by_unfinished, block_back, first_stands, second_block_stands, second_stands, true_is_second}
-use Rattle.hive_model.specs.Forms.{◌>>=◌}
 
 -- a sector that was read is there
 read_back : (file : File) (image : Image) (i : ℕ) (bytes : List ℕ) → read_in file image i ≡ Ok bytes

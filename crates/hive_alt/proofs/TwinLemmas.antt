@@ -5,6 +5,7 @@ use Rattle.std.proofs.lemmas.Bool.{eq-eqb, eqb-true, ne_eqb, lt-leb, and_right, 
 use Rattle.std.proofs.lemmas.Slice.Eq.{bytes_eq-Decides}
 use Rattle.nt_bytes.specs.declared.fault.HiveFault.{HiveFault}
 use Rattle.nt_bytes.specs.declared.fault.HiveFaultKind.TheVariants.{LogAbsent, LogUnreadable, LogSequence}
+use Rattle.nt_bytes.specs.Reading.{◌>>=◌}
 use Rattle.hive_model.specs.Base.{Base, base_of, fault_at, is_bins_size}
 use Rattle.hive_model.specs.Image.{Image, File, Primary, Log, Content, Bytes, Unreadable}
 use Rattle.hive_model.specs.Recovery.{log_in, sector, bytes_or, gathered, recovered_with, goes_with, as_log_base, base_at, base_in}
@@ -18,7 +19,6 @@ use Rattle.hive_log.proofs.Runs.{gathered_whole}
 use Rattle.hive_alt.specs.Copies.{HasCopy, IsPair, IsBehind}
 use Rattle.hive_alt.specs.Twin.{copy_at, absent_at, torn_at, read_in, second_in, same_fields, has_fields, has_bytes, second_has, is_second, standing, by_first, by_second, by_second_block, by_copies, twin_of}
 use Rattle.hive_read.proofs.TakenLemmas.{same-bytes}
-use Rattle.hive_model.specs.Forms.{◌>>=◌}
 
 -- whole sectors
 pub whole_of : (n : ℕ) → is_bins_size n ≡ true → 512 * (n / 512) ≡ n

@@ -13,10 +13,10 @@
 use Rattle.std.specs.Prelude.{◌+◌, ◌*◌, ◌/◌, ◌==◌, ◌&&◌, Bool, true, false, not, bytes_eq, if◌then◌else◌, ℕ, zero, suc, List, length, Option, Some, None, Result, Ok, Err}
 use Rattle.nt_bytes.specs.declared.fault.HiveFault.{HiveFault}
 use Rattle.nt_bytes.specs.declared.fault.HiveFaultKind.TheVariants as kinds
+use Rattle.nt_bytes.specs.Reading.{◌>>=◌}
 use Rattle.hive_model.specs.Base.{Base, base_of, fault_at}
 use Rattle.hive_model.specs.Image.{Image, File, Primary, Log, Address, Content, Bytes, Unreadable}
 use Rattle.hive_model.specs.Recovery.{Recovered, Sectors, log_in, sector, bytes_or, gathered, recovered_with, goes_with, as_log_base, base_in}
-use Rattle.hive_model.specs.Forms.{◌>>=◌}
 
 -- sector n of a copy
 abbrev pub copy_at : File → ℕ → Address

@@ -18,13 +18,8 @@ use hive_pack::pack;
 use hive_read::read_tree;
 use nt_bytes::{Bytes, HiveVersion, Names, ReadStop, Units};
 use reg_tree::{EditStop, Key, Steps, TreeStep};
+use startup_names::{DEFAULT, SELECT};
 use std::alloc::{AllocError, Global};
-
-/// `Select`.
-const SELECT: [u16; 6] = [0x53, 0x65, 0x6c, 0x65, 0x63, 0x74];
-
-/// `Default`.
-const DEFAULT: [u16; 7] = [0x44, 0x65, 0x66, 0x61, 0x75, 0x6c, 0x74];
 
 /// The type of a number of 32 bits.
 const DWORD: u32 = 4;

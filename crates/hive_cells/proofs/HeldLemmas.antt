@@ -4,7 +4,8 @@ use Rattle.std.specs.Prelude.{IfOk}
 use Rattle.nt_bytes.specs.declared.fault.HiveFaultKind.{HiveFaultKind}
 use Rattle.nt_bytes.specs.declared.fault.HiveFaultKind.TheVariants.{FreeCell}
 use Rattle.nt_bytes.specs.declared.fault.HiveFault.{HiveFault}
-use Rattle.hive_model.specs.Bins.{Cell, Bin, cell_at, payload_of, payload_at, with_place, Sees}
+use Rattle.nt_bytes.specs.Reading.{Sees}
+use Rattle.hive_model.specs.Bins.{Cell, Bin, cell_at, payload_of, payload_at, with_place}
 use Rattle.hive_cells.specs.Held.{allocated_payload, held_at}
 
 -- what was looked up is held

@@ -1,7 +1,8 @@
 //! The heap of cells.
 
 ghost use Rattle.std.specs.Prelude.{◌≡◌, ◌*◌, ◌%◌, ◌≤◌, List, length, IfOk};
-ghost use Rattle.hive_model.specs.Bins.{bins_size, payload_at, with_place, spelled, Bin, IsBins, Sees};
+ghost use Rattle.nt_bytes.specs.Reading.{Sees};
+ghost use Rattle.hive_model.specs.Bins.{bins_size, payload_at, with_place, spelled, Bin, IsBins};
 ghost use Rattle.saved_pages.specs.Overlay.{before};
 
 use crate::lookup::{free_at, head};

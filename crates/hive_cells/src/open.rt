@@ -2,8 +2,9 @@
 
 ghost use Rattle.std.specs.Prelude.{◌≡◌, ℕ, ◌+◌, ◌-◌, ◌%◌, ◌<◌, ◌≤◌, List, length, replicate, Some, None, IfOk, OnErr, OnOk};
 ghost use Rattle.std.specs.Option.{IfSome, IsSome, IsSomeAnd, option_map};
+ghost use Rattle.nt_bytes.specs.Reading.{Sees};
 ghost use Rattle.hive_model.specs.Limits.{most_bins};
-ghost use Rattle.hive_model.specs.Bins.{spelled, or_else, bins_size, payload_at, with_place, Bin, IsBins, IsHeap, Sees};
+ghost use Rattle.hive_model.specs.Bins.{spelled, or_else, bins_size, payload_at, with_place, Bin, IsBins, IsHeap};
 ghost use Rattle.hive_model.specs.Size.{cell};
 ghost use Rattle.hive_cells.specs.Held.{held_at, held_among, patched, run_cells, IsRun};
 ghost use Rattle.hive_cells.specs.Holes.{new_bin_size, FindsHole, Grows, IsHole, MakesRoom};

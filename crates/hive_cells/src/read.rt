@@ -1,8 +1,9 @@
 //! Bins and cells checked.
 
 ghost use Rattle.std.specs.Prelude.{◌≡◌, ◌+◌, ◌/◌, ◌%◌, ◌<◌, ◌≤◌, List, false, length, drop, replicate, IfOk, MatchResult};
+ghost use Rattle.nt_bytes.specs.Reading.{Sees};
 ghost use Rattle.hive_model.specs.Limits.{most_bins};
-ghost use Rattle.hive_model.specs.Bins.{Bin, header_at, size_at, with_place, Sees, BinFails, BinsFault, IsBins};
+ghost use Rattle.hive_model.specs.Bins.{Bin, header_at, size_at, with_place, BinFails, BinsFault, IsBins};
 ghost use Rattle.hive_cells.specs.Reading.{BinMarked, IsBinRead, IsKept, Stops};
 
 use crate::heap::CellHeap;

@@ -1,6 +1,7 @@
 -- What a cut in each stage of a commit leaves.
 use Rattle.std.proofs.Common.{◌≡◌, ◌⊎◌, ◌<◌, ◌+◌, ◌*◌, ◌/◌, ◌^◌, ℕ, Bool, true, false, List, length, Some, Ok, refl, sym, ◌∙◌, ap, arith, inl, inr, ⊎_elim}
 use Rattle.std.proofs.lemmas.Bool.{ne_eqb, cases_Bool}
+use Rattle.nt_bytes.specs.Reading.{◌>>=◌}
 use Rattle.hive_model.specs.Base.{Base, IsBase, base_of, base_text, is_bins_size}
 use Rattle.hive_model.specs.Image.{Address, Image, Bytes, Unreadable, IsCrashImage, IsLeftBy}
 use Rattle.hive_model.specs.Recovery.{primary_in, sector, bit, base_at}
@@ -18,7 +19,6 @@ use Rattle.hive_commit.specs.Stages.{in_log, is_base, is_marked, BlockIsBeforeOr
 use Rattle.regf_base.specs.Fitting.{NumbersFit, TextsFit}
 use Rattle.hive_model.specs.Asked.{bin_at, log_at, primary_at}
 use Rattle.hive_commit.proofs.Growth.{unmarked_at}
-use Rattle.hive_model.specs.Forms.{◌>>=◌}
 
 -- what is held may be left
 pub held_left : (s : DiskState) → IsCrashImage s.held s.flight s.held

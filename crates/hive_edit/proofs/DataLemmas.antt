@@ -9,9 +9,10 @@ use Rattle.nt_bytes.specs.declared.fault.HiveFaultKind.{HiveFaultKind}
 use Rattle.nt_bytes.specs.declared.fault.HiveFaultKind.TheVariants.{FormLength, FormShort}
 use Rattle.nt_bytes.specs.declared.version.HiveVersion.{HiveVersion}
 use Rattle.nt_bytes.specs.Fields.{u32_in}
+use Rattle.nt_bytes.specs.Reading.{◌>>=◌}
 use Rattle.hive_model.specs.Bins.{Cells}
 use Rattle.hive_model.specs.Size.{is_big, segment_count, segment_sizes, segment_part, segment_bytes, data_sizes, data_size, cells_sum}
-use Rattle.hive_model.specs.Forms.{◌>>=◌, bytes_in}
+use Rattle.hive_model.specs.Forms.{bytes_in}
 use Rattle.hive_model.specs.KeyValue.{KeyValue, data_inside, is_in_place}
 use Rattle.hive_model.specs.BigData.{BigData, big_data_at}
 use Rattle.hive_model.specs.Lists.{offsets_in}

@@ -3,6 +3,7 @@ use Rattle.std.proofs.Common.{◌≡◌, ◌<◌, ℕ, ◌+◌, ◌||◌, Bool, 
 use Rattle.std.specs.Prelude.{nat_lt, ◌==◌, ◌⊎◌, OnOk}
 use Rattle.std.specs.Option.{is_none}
 use Rattle.nt_bytes.specs.declared.version.HiveVersion.{HiveVersion}
+use Rattle.nt_bytes.specs.Reading.{◌>>=◌}
 use Rattle.hive_model.specs.Bins.{bins_size}
 use Rattle.hive_model.specs.Tree.{Tree, find_key}
 use Rattle.hive_model.specs.Size.{bulk_of}
@@ -15,7 +16,6 @@ use Rattle.hive_edit.specs.Edits.{IsPackedAnew, IsPackedForRoom}
 use Rattle.hive_edit.specs.Stepped.{LacksStepRoom}
 use Rattle.hive_edit.proofs.EditLemmas.{the_tree}
 use Rattle.hive_edit.proofs.SteppedLemmas.{packed_for_room}
-use Rattle.hive_model.specs.Forms.{◌>>=◌}
 
 -- ---- one step as an edit
 

@@ -7,12 +7,12 @@ use Rattle.nt_bytes.specs.declared.version.HiveVersion.{HiveVersion}
 use Rattle.nt_bytes.specs.Folding.{folded_unit, folds_same}
 use Rattle.hive_model.specs.Size.{cell, name_bytes, segment_count, segment_sizes, data_sizes, cells_sum, item_size, items_sum, items_size, size, bulk_of}
 use Rattle.nt_bytes.specs.Counts.{capped}
+use Rattle.nt_bytes.specs.Reading.{◌>>=◌}
 use Rattle.hive_model.specs.Tree.{Tree, Item, head, find_key, find_item, is_item}
 use Rattle.hive_model.specs.Edit.{Step, set_value, Refusal, no_key, name_too_long, data_too_long, full, unless, at_first, with_item, of_items, at_key, value_set, after_steps, most_bulk, edited}
 use Rattle.hive_pack.proofs.Items.{not_big}
 use Rattle.edit_laws.proofs.Sizes.{revalued_size}
 use Rattle.hive_edit.proofs.ResultLemmas.{some, some_same}
-use Rattle.hive_model.specs.Forms.{◌>>=◌}
 
 -- ---- names
 

@@ -9,8 +9,9 @@ use Rattle.std.proofs.lemmas.Bool.{ltb-false, eqb-true, le-leb, lt-leb, ne_eqb}
 use Rattle.nt_bytes.specs.declared.fault.HiveFaultKind.TheVariants.{FormShort, FormLength}
 use Rattle.nt_bytes.specs.declared.version.HiveVersion.{HiveVersion}
 use Rattle.nt_bytes.specs.Fields.{u32_in}
+use Rattle.nt_bytes.specs.Reading.{◌>>=◌}
 use Rattle.hive_model.specs.Bins.{Bin, Cells, look_up}
-use Rattle.hive_model.specs.Forms.{◌>>=◌, bytes_in}
+use Rattle.hive_model.specs.Forms.{bytes_in}
 use Rattle.hive_model.specs.KeyValue.{KeyValue, is_in_place, data_inside}
 use Rattle.hive_model.specs.BigData.{BigData, big_data_at}
 use Rattle.hive_model.specs.Lists.{offsets_in}

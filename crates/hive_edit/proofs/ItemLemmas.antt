@@ -13,8 +13,9 @@ use Rattle.nt_bytes.specs.declared.version.HiveVersion.{HiveVersion}
 use Rattle.nt_bytes.specs.declared.version.HiveVersion.TheVariants.{V3, V5}
 use Rattle.nt_bytes.specs.Fields.{u16_in, u32_in}
 use Rattle.nt_bytes.specs.Folding.{folds_same}
+use Rattle.nt_bytes.specs.Reading.{◌>>=◌}
 use Rattle.hive_model.specs.Bins.{Cells}
-use Rattle.hive_model.specs.Forms.{◌>>=◌, bytes_in}
+use Rattle.hive_model.specs.Forms.{bytes_in}
 use Rattle.hive_model.specs.StoredNames.{stored_name, has_half_unit, is_bad_value_name, value_name_at}
 use Rattle.hive_model.specs.KeyValue.{is_narrow_value, is_in_place, is_overfull, KeyValue, key_value_in, key_value_at, data_inside}
 use Rattle.hive_model.specs.BigData.{big_data_at, BigData}

@@ -7,7 +7,7 @@ use Rattle.std.proofs.lemmas.Map.Steps.{length-le_from_distinct_below}
 use Rattle.std.proofs.lemmas.Map.Made.{IsDistinct-from_AllPairs}
 use Rattle.std.proofs.lemmas.Map.Views.{Contains-from_any}
 use Rattle.nt_bytes.specs.declared.version.HiveVersion.{HiveVersion}
-use Rattle.hive_model.specs.Forms.{◌>>=◌}
+use Rattle.nt_bytes.specs.Reading.{◌>>=◌}
 use Rattle.hive_model.specs.Bins.{Bin, Cell, Cells, bin_size, bins_size, cell_size, cells_size, in_cells, in_bins, or_else, cell_at, look_up}
 use Rattle.hive_model.specs.Size.{cell, name_bytes, is_narrow, cells_sum, is_big, segment_count, segment_sizes, data_sizes, item_size, items_sum, items_size, class_size, security_size, has_own, part_count, list_size, count, size, size_of_all, bulk_of}
 use Rattle.hive_model.specs.Tree.{Tree, Trees, Item, key, none, more}

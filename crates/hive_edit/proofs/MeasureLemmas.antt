@@ -11,8 +11,9 @@ use Rattle.nt_bytes.specs.declared.fault.HiveFaultKind.TheVariants.{FormLength, 
 use Rattle.nt_bytes.specs.declared.version.HiveVersion.{HiveVersion}
 use Rattle.nt_bytes.specs.Fields.{u16_in, u32_in}
 use Rattle.nt_bytes.specs.Text.{wide_of}
+use Rattle.nt_bytes.specs.Reading.{◌>>=◌}
 use Rattle.hive_model.specs.Bins.{Cells}
-use Rattle.hive_model.specs.Forms.{◌>>=◌, bytes_in}
+use Rattle.hive_model.specs.Forms.{bytes_in}
 use Rattle.hive_model.specs.StoredNames.{stored_name, has_half_unit, is_bad_value_name, value_name_at}
 use Rattle.hive_model.specs.KeyValue.{is_narrow_value, KeyValue, key_value_at, is_in_place, data_inside}
 use Rattle.hive_model.specs.Lists.{offsets_in}

@@ -5,8 +5,8 @@ use Rattle.std.specs.Option.{is_none, option_and_then, option_map_or}
 use Rattle.std.proofs.lemmas.Bool.{le-ltb, lt-ltb, ne_eqb, eqb-true, eqb-false}
 use Rattle.nt_bytes.specs.declared.fault.HiveFaultKind.{HiveFaultKind}
 use Rattle.nt_bytes.specs.declared.version.HiveVersion.{HiveVersion}
+use Rattle.nt_bytes.specs.Reading.{◌>>=◌}
 use Rattle.hive_model.specs.Bins.{Bin, Cells, bins_size, look_up, spelled}
-use Rattle.hive_model.specs.Forms.{◌>>=◌}
 use Rattle.hive_model.specs.KeyNode.{KeyNode, key_node_at}
 use Rattle.hive_model.specs.Lists.{offsets_in}
 use Rattle.hive_model.specs.Size.{cell, item_size, items_sum, items_size, size, bulk_of}

@@ -4,8 +4,8 @@ use Rattle.std.specs.Prelude.{min, replicate, Contains}
 use Rattle.std.specs.Int.{w32, to_le_bytes}
 use Rattle.nt_bytes.specs.declared.fault.HiveFaultKind.{HiveFaultKind}
 use Rattle.nt_bytes.specs.Fields.{u32_in}
+use Rattle.nt_bytes.specs.Reading.{◌>>=◌}
 use Rattle.hive_model.specs.Bins.{Cells}
-use Rattle.hive_model.specs.Forms.{◌>>=◌}
 use Rattle.hive_model.specs.Tree.{Tree, key}
 use Rattle.hive_model.specs.Edit.{Step, set_value, delete_value}
 use Rattle.hive_model.specs.Security.{SecurityCell, security_at}

@@ -6,6 +6,7 @@ use Rattle.std.specs.Option.{IfSome}
 use Rattle.std.specs.List.{All}
 use Rattle.std.proofs.lemmas.Bool.{le-ltb, lt-ltb}
 use Rattle.nt_bytes.specs.declared.version.HiveVersion.{HiveVersion}
+use Rattle.nt_bytes.specs.Reading.{◌>>=◌}
 use Rattle.hive_model.specs.Bins.{Bin, bins_size, look_up, spelled}
 use Rattle.hive_model.specs.Size.{bulk_of}
 use Rattle.hive_model.specs.Tree.{Tree}
@@ -39,7 +40,6 @@ use Rattle.hive_edit.specs.GivenUp.{given_up}
 use Rattle.hive_edit.specs.NewRun.{HasNewRun, run_trees}
 use Rattle.hive_cells.specs.Held.{held_at}
 use Rattle.edit_laws.specs.Owned.{In}
-use Rattle.hive_model.specs.Forms.{◌>>=◌}
 use Rattle.hive_model.specs.InPlace.{KeepsSecurity}
 
 -- ---- one step

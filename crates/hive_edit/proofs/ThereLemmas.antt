@@ -6,8 +6,8 @@ use Rattle.std.proofs.lemmas.Bool.{le-ltb}
 use Rattle.nt_bytes.specs.declared.fault.HiveFaultKind.{HiveFaultKind}
 use Rattle.nt_bytes.specs.declared.version.HiveVersion.{HiveVersion}
 use Rattle.nt_bytes.specs.Folding.{folds_same}
+use Rattle.nt_bytes.specs.Reading.{◌>>=◌}
 use Rattle.hive_model.specs.Bins.{Bin, Cells, bins_size, look_up}
-use Rattle.hive_model.specs.Forms.{◌>>=◌}
 use Rattle.hive_model.specs.KeyValue.{KeyValue, key_value_at}
 use Rattle.hive_model.specs.Size.{cell, name_bytes, data_size, items_size, size, bulk_of}
 use Rattle.hive_model.specs.Tree.{Tree, Item, head, find_key, find_item}

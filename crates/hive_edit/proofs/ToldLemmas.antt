@@ -8,8 +8,8 @@ use Rattle.std.proofs.lemmas.Nat.{from_le_bytes-to_le_bytes_4}
 use Rattle.nt_bytes.specs.Fields.{u16_in, u32_in}
 use Rattle.nt_bytes.specs.declared.fault.HiveFaultKind.{HiveFaultKind}
 use Rattle.nt_bytes.specs.declared.version.HiveVersion.{HiveVersion}
+use Rattle.nt_bytes.specs.Reading.{◌>>=◌}
 use Rattle.hive_model.specs.Bins.{Bin, Cells, bins_size, look_up}
-use Rattle.hive_model.specs.Forms.{◌>>=◌}
 use Rattle.hive_model.specs.KeyNode.{KeyNode, key_node_in, key_node_at}
 use Rattle.hive_model.specs.Walk.{reading}
 use Rattle.hive_model.specs.InPlace.{count_after, IsKeptSecurity, KeepsSecurity}

@@ -7,8 +7,8 @@ use Rattle.nt_bytes.specs.declared.fault.HiveFaultKind.{HiveFaultKind}
 use Rattle.nt_bytes.specs.declared.fault.HiveFaultKind.TheVariants.{FormShort, FormSign, FormKind}
 use Rattle.nt_bytes.specs.declared.version.HiveVersion.{HiveVersion}
 use Rattle.nt_bytes.specs.declared.version.HiveVersion.TheVariants.{V3, V5}
+use Rattle.nt_bytes.specs.Reading.{◌>>=◌}
 use Rattle.hive_model.specs.Bins.{Bin, Cells, payload_at}
-use Rattle.hive_model.specs.Forms.{◌>>=◌}
 use Rattle.hive_model.specs.KeyNode.{KeyNode, key_node_at, is_narrow_key}
 use Rattle.hive_model.specs.Lists.{Li, Lf, Lh, Ri, SubkeyList, list_of, list_at, lf_text, lh_text, ri_text}
 use Rattle.hive_model.specs.Packed.{list_text}

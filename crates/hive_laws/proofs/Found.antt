@@ -4,6 +4,7 @@ use Rattle.std.proofs.Common.{◌≡◌, ◌⊎◌, ◌+◌, ◌-◌, ◌*◌, �
 use Rattle.std.proofs.lemmas.Bool.{eq-eqb, ne_eqb}
 use Rattle.nt_bytes.specs.declared.fault.HiveFault.{HiveFault}
 use Rattle.nt_bytes.specs.declared.fault.HiveFaultKind.TheVariants as kinds
+use Rattle.nt_bytes.specs.Reading.{◌>>=◌}
 use Rattle.hive_model.specs.Asked.{primary_at, is_readable}
 use Rattle.hive_model.specs.Base.{Base, base_of, fault_at}
 use Rattle.hive_model.specs.Image.{Image, Address, Content, Bytes, Unreadable}
@@ -13,7 +14,6 @@ use Rattle.hive_log.specs.Found.{IsUnfinished}
 use Rattle.hive_laws.specs.Looking.{IsOpen, HasLogBase, HasBits, bits_of, bins_sectors, marks, marked_in, bins_by, LooksAt}
 use Rattle.hive_laws.specs.Looking.LooksAt.{at_the_block, at_a_clean_one, at_the_log, at_the_sign, at_more_bits, at_a_marked_one, at_another_one}
 use Rattle.hive_laws.proofs.Alike.{rest_there, first_there, is_ok_by, signed, there}
-use Rattle.hive_model.specs.Forms.{◌>>=◌}
 
 -- a step without a fault had something to go on with
 pub went_on : {A B : Type 0} (s : Result A HiveFault) (next : A → Result B HiveFault) (b : B) → (s >>= next) ≡ Ok b

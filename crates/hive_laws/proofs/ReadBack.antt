@@ -2,6 +2,7 @@
 use Rattle.std.proofs.Common.{◌≡◌, ◌+◌, ◌*◌, ◌/◌, ◌==◌, ℕ, Bool, true, false, List, length, Option, Some, None, Result, Ok, Err, refl, sym, inl, inr, arith}
 use Rattle.std.proofs.lemmas.Bool.{eqb-true, and_parts}
 use Rattle.nt_bytes.specs.declared.fault.HiveFault.{HiveFault}
+use Rattle.nt_bytes.specs.Reading.{◌>>=◌}
 use Rattle.hive_model.specs.Base.{Base, IsBase, is_bins_size, base_of}
 use Rattle.hive_model.specs.Image.{Image, Content, Bytes, Unreadable}
 use Rattle.hive_model.specs.Recovery.{primary_in, base_at, recovered_of}
@@ -11,7 +12,6 @@ use Rattle.hive_log.proofs.Appending.{sized}
 use Rattle.hive_log.proofs.Finding.{carries_recovered}
 use Rattle.hive_log.proofs.Opened.{IsCommitOf, opened_recovered}
 use Rattle.hive_laws.specs.Opened.{IsClosing, IsUnderWay}
-use Rattle.hive_model.specs.Forms.{◌>>=◌}
 
 -- bins data of a size that a base block may have are whole bins
 pages : (size : ℕ) (bins : List ℕ) → size ≡ length bins → is_bins_size size ≡ true

@@ -5,6 +5,7 @@ use Rattle.std.proofs.lemmas.Bool.{eqb-true, ne_eqb}
 use Rattle.std.proofs.lemmas.List.Sums.{sum_by-append, sum_by-cons}
 use Rattle.std.proofs.lemmas.List.Folds.{sum_by-replicate}
 use Rattle.nt_bytes.specs.declared.version.HiveVersion.{HiveVersion}
+use Rattle.nt_bytes.specs.Reading.{◌>>=◌}
 use Rattle.hive_model.specs.Tree.{Item, Head, Tree, Trees, key, none, more}
 use Rattle.hive_model.specs.Size.{cell, name_bytes, cells_sum, data_sizes, item_size, items_sum, items_size, class_size, security_size, node_size, head_size, part_count, list_size, count, size, size_of_all}
 use Rattle.hive_model.specs.Edit.{Step, Refusal, after_step, after_steps}
@@ -12,7 +13,6 @@ use Rattle.hive_model.specs.Bins.{Cells}
 use Rattle.hive_model.specs.Packed.{rounded}
 use Rattle.hive_model.specs.Owned.{IsInFootprint}
 use Rattle.hive_model.specs.Footprint.{unless_refused, some_cell, item_sizes, value_list_sizes, head_sizes, list_sizes, sizes, sizes_of_all, room_of, needed_sizes, strain_of, list_strain_of}
-use Rattle.hive_model.specs.Forms.{◌>>=◌}
 
 -- ---- sums of sizes
 

@@ -5,6 +5,7 @@ use Rattle.std.specs.Prelude.{nat_le}
 use Rattle.std.proofs.lemmas.Bool.{leb-true}
 use Rattle.nt_bytes.specs.declared.fault.HiveFault.{HiveFault}
 use Rattle.nt_bytes.specs.declared.fault.HiveFaultKind.TheVariants as kinds
+use Rattle.nt_bytes.specs.Reading.{◌>>=◌}
 use Rattle.hive_model.specs.Base.{Base, fault_at, is_bins_size}
 use Rattle.hive_model.specs.Image.{Image, Address, Content, Bytes, Unreadable}
 use Rattle.hive_model.specs.Asked.{log_at, bin_at}
@@ -12,7 +13,6 @@ use Rattle.hive_model.specs.Recovery.{Recovered, Sectors, bytes_or, read_bin, re
 use Rattle.hive_model.proofs.BaseLemmas.{base_in_checked, logged_in_checked}
 use Rattle.hive_laws.specs.Whole.{HasWholeSectors, HasBytes}
 use Rattle.hive_laws.proofs.Found.{went_on}
-use Rattle.hive_model.specs.Forms.{◌>>=◌}
 
 -- ---- a run of sectors
 

@@ -5,13 +5,13 @@ use Rattle.std.specs.List.{starts_with}
 use Rattle.std.proofs.lemmas.Bool.{eq-eqb, eqb-true, ne_eqb, and_parts}
 use Rattle.nt_bytes.specs.declared.fault.HiveFault.{HiveFault}
 use Rattle.nt_bytes.specs.declared.fault.HiveFaultKind.TheVariants.{LogAbsent, LogUnreadable, LogShort, LogDirt, LogSequence, Size, Unreadable as UnreadableKind}
+use Rattle.nt_bytes.specs.Reading.{◌>>=◌}
 use Rattle.hive_model.specs.Base.{Base, base_of, fault_at}
 use Rattle.hive_model.specs.Image.{Image, Bytes, Unreadable}
 use Rattle.hive_model.specs.Recovery.{Recovered, Sectors, primary_in, log_in, sector, bytes_or, read_log, read_bin, joined, gathered, recovered_with, by_primary, bit, rank, bitmap_sectors, first_dirty, picked, by_bits, bitmap_in, closed_by, goes_with, by_logged, as_log_base, by_log, base_at, base_in, by_base, recovered_of}
 use Rattle.hive_model.specs.Carries.{HasBase, Carries}
 use Rattle.hive_log.specs.Found.{IsUnfinished, HasLogBits, bins_by, Found}
 use Rattle.hive_log.proofs.Runs.{gathered_whole, gathered_same}
-use Rattle.hive_model.specs.Forms.{◌>>=◌}
 
 -- bytes that are there are read
 pub bin_read : (image : Image) (i : ℕ) (bytes : List ℕ) → primary_in image (8 + i) ≡ Some (Bytes bytes)

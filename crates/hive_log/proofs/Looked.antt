@@ -2,6 +2,7 @@
 use Rattle.std.proofs.Common.{◌≡◌, ◌<◌, ◌+◌, ◌*◌, ◌/◌, ◌%◌, ◌^◌, ◌==◌, ℕ, zero, suc, Bool, true, false, cond, List, [], length, drop, Option, None, Some, Result, Ok, Err, refl, sym, ◌∙◌, ap, arith}
 use Rattle.nt_bytes.specs.declared.fault.HiveFault.{HiveFault}
 use Rattle.nt_bytes.specs.declared.fault.HiveFaultKind.TheVariants.{LogSequence, Size, Unreadable as UnreadableKind}
+use Rattle.nt_bytes.specs.Reading.{◌>>=◌}
 use Rattle.hive_model.specs.Base.{Base, fault_at, is_bins_size}
 use Rattle.hive_model.specs.Image.{Image, Content, Bytes, Unreadable}
 use Rattle.hive_model.specs.Recovery.{Recovered, Sectors, primary_in, sector, bytes_or, read_log, read_bin, gathered, recovered_with, bit, rank, first_dirty, picked, by_bits, closed_by, goes_with, by_logged, bitmap_in, logged_in, by_log, base_in, recovered_of}
@@ -12,7 +13,6 @@ use Rattle.hive_log.proofs.Appending.{sized}
 use Rattle.hive_log.proofs.Ranks.{rank_below}
 use Rattle.hive_log.proofs.Runs.{gathered_same}
 use Rattle.hive_log.proofs.Finding.{by_clean, by_unfinished, by_log_bits}
-use Rattle.hive_model.specs.Forms.{◌>>=◌}
 
 -- bytes that were read are there
 pub bytes_back : (absent unreadable : HiveFault) (c : Option Content) (bytes : List ℕ)

@@ -5,6 +5,7 @@ use Rattle.std.specs.List.{starts_with}
 use Rattle.std.proofs.lemmas.List.{take-append-drop, drop-drop}
 use Rattle.std.proofs.lemmas.Bool.{eq-eqb, and_from}
 use Rattle.nt_bytes.specs.declared.fault.HiveFaultKind.TheVariants.{LogAbsent, LogUnreadable, LogDirt}
+use Rattle.nt_bytes.specs.Reading.{◌>>=◌}
 use Rattle.hive_model.specs.Base.{Base, IsBase, base_of, fault_at}
 use Rattle.hive_model.specs.Image.{Image, Bytes, Unreadable}
 use Rattle.hive_model.specs.Recovery.{primary_in, log_in, sector, read_log, read_bin, gathered, bit, rank, bitmap_sectors, first_dirty, picked, closed_by, goes_with, bytes_or, joined, as_log_base, front_in, bitmap_in, logged_in, base_at, base_in, recovered_of}
@@ -17,7 +18,6 @@ use Rattle.hive_log.proofs.Ranks.{rank_same, rank_below}
 use Rattle.hive_log.proofs.Runs.{gathered_whole, run_counted}
 use Rattle.hive_log.proofs.LogParts.{bitmap_long, run_long, log_long, log_block, log_bitmap, log_run, log_marked}
 use Rattle.hive_log.proofs.Finding.{bin_read, log_read, found_recovered}
-use Rattle.hive_model.specs.Forms.{◌>>=◌}
 
 -- the base block is another or can't be read, the log is whole, and the sectors whose bit is off are there
 pub record IsOpened (image : Image) (opened closed : Base) (bits : ℕ → Bool) (bins : List ℕ) : Type 0 where

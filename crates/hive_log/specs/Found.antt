@@ -1,10 +1,10 @@
 -- What a look at an unfinished commit and its log finds, sector by sector. (This project's own.)
 use Rattle.std.specs.Prelude.{◌≡◌, ◌<◌, ◌+◌, ◌*◌, ◌/◌, Bool, true, false, ℕ, List, length, drop, Option, Some, None, Result, Ok}
 use Rattle.nt_bytes.specs.declared.fault.HiveFault.{HiveFault}
+use Rattle.nt_bytes.specs.Reading.{◌>>=◌}
 use Rattle.hive_model.specs.Base.{Base}
 use Rattle.hive_model.specs.Image.{Image, Bytes}
 use Rattle.hive_model.specs.Recovery.{primary_in, read_log, sector, gathered, bit, rank, first_dirty, picked, closed_by, goes_with, logged_in, bitmap_in, base_in}
-use Rattle.hive_model.specs.Forms.{◌>>=◌}
 
 -- the primary's base block, which can't be read or has two numbers, is that of an unfinished commit
 abbrev pub IsUnfinished : Option Base → Type 0

@@ -11,10 +11,10 @@ use Rattle.std.proofs.Math.Nat.{mod-lt}
 use Rattle.nt_bytes.specs.declared.fault.HiveFault.{HiveFault}
 use Rattle.nt_bytes.specs.Fields.{u32_in, u64_in}
 use Rattle.nt_bytes.specs.declared.fault.HiveFaultKind.TheVariants.{LogAbsent, LogUnreadable}
+use Rattle.nt_bytes.specs.Reading.{◌>>=◌}
 use Rattle.hive_model.specs.Image.{Image, Content, Bytes, Unreadable}
 use Rattle.hive_model.specs.Recovery.{log_in, primary_in, bytes_or, as_log_base, base_at, base_in, logged_in}
 use Rattle.hive_model.specs.Base.{Base, IsBase, fault_at, mixed_words, moved_off, checksum_of, is_bins_size, is_minor, base_checks, first_failing, fields_of, unless_fault, base_of, head_text, summed_text, base_text}
-use Rattle.hive_model.specs.Forms.{◌>>=◌}
 
 -- each is a byte
 pub record AreBytes (bytes : List ℕ) : Type 0 where

@@ -192,8 +192,3 @@ look_up version bins = record { version = version; payload = payload_at bins }
 abbrev pub with_place : {A : Type 0} → ℕ → Result A HiveFaultKind → Result A HiveFault
 with_place at (Ok x) = Ok x
 with_place at (Err k) = Err (record { kind = k; at = at })
-
--- what a function answered, seen by view, is this
-abbrev pub Sees : {X Y E : Type 0} → (X → Y) → Result X E → Result Y E → Type 0
-Sees view (Ok x) answer = answer ≡ Ok (view x)
-Sees view (Err e) answer = answer ≡ Err e

@@ -9,8 +9,8 @@ use Rattle.nt_bytes.specs.declared.version.HiveVersion.{HiveVersion}
 use Rattle.hive_model.specs.Tree.{Item, Tree, key, none, trees, listed, head, children, is_named, is_item, find_key, find_item}
 use Rattle.hive_model.specs.Valid.{longest_key_name, longest_value_name, deepest_level, levels, longest_data}
 use Rattle.nt_bytes.specs.Text.{is_backslash}
+use Rattle.nt_bytes.specs.Reading.{◌>>=◌}
 use Rattle.hive_model.specs.Size.{bulk_of}
-use Rattle.hive_model.specs.Forms.{◌>>=◌}
 
 -- one edit: of a value of the key at a path, of a key at a path, or of a child of the root
 pub data Step : Type 0 where

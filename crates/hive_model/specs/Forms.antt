@@ -15,12 +15,6 @@ Gives view at (Ok x) read = read ≡ Ok (view x)
 Gives view at (Err stops.Memory) read = Unit {0}
 Gives view at (Err (stops.Fault f)) read = (read ≡ Err f.kind) × (f.at ≡ at)
 
--- the second of the first's value, where that is Ok
-infixl 10 ◌>>=◌
-abbrev pub ◌>>=◌ : {A B E : Type 0} → Result A E → (A → Result B E) → Result B E
-(Ok x) >>= f = f x
-(Err e) >>= f = Err e
-
 -- the first n bytes of a payload, as of a cell of data or a class, or its fault
 unfoldable pub bytes_in : ℕ → List ℕ → Result (List ℕ) HiveFaultKind
 bytes_in n p = if nat_lt (length p) n then Err FormShort else Ok (take n p)

@@ -22,7 +22,7 @@ use Rattle.nt_bytes.specs.declared.fault.HiveFaultKind.{HiveFaultKind}
 use Rattle.nt_bytes.specs.declared.fault.HiveFaultKind.TheVariants.{FormShort, FormSign}
 use Rattle.hive_model.specs.Valid.{longest_key_name}
 use Rattle.nt_bytes.specs.Text.{is_backslash}
-use Rattle.hive_model.specs.Forms.{◌>>=◌}
+use Rattle.nt_bytes.specs.Reading.{◌>>=◌}
 use Rattle.hive_model.specs.StoredNames.{name_text, key_name_at, UnitsFit}
 
 -- the fields of a key node, as they are stored but for the name

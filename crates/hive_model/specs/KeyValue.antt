@@ -13,8 +13,8 @@ use Rattle.std.specs.Int.{w16, w32, to_le_bytes}
 use Rattle.nt_bytes.specs.Fields.{u16_in, u32_in}
 use Rattle.nt_bytes.specs.declared.fault.HiveFaultKind.{HiveFaultKind}
 use Rattle.nt_bytes.specs.declared.fault.HiveFaultKind.TheVariants.{FormShort, FormSign, FormLength}
+use Rattle.nt_bytes.specs.Reading.{◌>>=◌}
 use Rattle.hive_model.specs.Valid.{longest_value_name}
-use Rattle.hive_model.specs.Forms.{◌>>=◌}
 use Rattle.hive_model.specs.StoredNames.{name_text, value_name_at, UnitsFit}
 
 -- the fields of a value, as they are stored but for the name

@@ -12,9 +12,9 @@ use Rattle.std.specs.Prelude.{◌+◌, ◌-◌, ◌*◌, ◌/◌, ◌%◌, ◌^�
 use Rattle.std.specs.List.{starts_with}
 use Rattle.nt_bytes.specs.declared.fault.HiveFault.{HiveFault}
 use Rattle.nt_bytes.specs.declared.fault.HiveFaultKind.TheVariants as kinds
+use Rattle.nt_bytes.specs.Reading.{◌>>=◌}
 use Rattle.hive_model.specs.Base.{Base, base_of, fault_at}
 use Rattle.hive_model.specs.Image.{Image, Primary, Log, Content, Bytes, Unreadable}
-use Rattle.hive_model.specs.Forms.{◌>>=◌}
 
 -- what an image is recovered as: the base block, the bins data, and whether the log was needed
 pub record Recovered : Type 0 where

@@ -17,7 +17,8 @@ use Rattle.nt_bytes.specs.Folding.{folds_same}
 use Rattle.nt_bytes.specs.declared.fault.HiveFaultKind.{HiveFaultKind}
 use Rattle.nt_bytes.specs.declared.fault.HiveFaultKind.TheVariants.{Shared, FormLength, FormName, FormKind, DoubleName, Count, TooDeep}
 use Rattle.nt_bytes.specs.declared.fault.HiveFault.{HiveFault}
-use Rattle.hive_model.specs.Forms.{◌>>=◌, bytes_in}
+use Rattle.nt_bytes.specs.Reading.{◌>>=◌}
+use Rattle.hive_model.specs.Forms.{bytes_in}
 use Rattle.hive_model.specs.KeyNode.{KeyNode, key_node_at}
 use Rattle.hive_model.specs.KeyValue.{KeyValue, key_value_at, data_inside}
 use Rattle.hive_model.specs.BigData.{BigData, big_data_at}

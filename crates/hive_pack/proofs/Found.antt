@@ -4,10 +4,10 @@ use lib.ListN.{replicate}
 use Rattle.std.proofs.lemmas.Bool.{ne_eqb}
 use Rattle.nt_bytes.specs.declared.fault.HiveFaultKind.{HiveFaultKind}
 use Rattle.nt_bytes.specs.declared.version.HiveVersion.{HiveVersion}
+use Rattle.nt_bytes.specs.Reading.{◌>>=◌}
 use Rattle.hive_model.specs.Tree.{Tree}
 use Rattle.hive_model.specs.Size.{cell}
 use Rattle.hive_model.specs.Bins.{Cell, Cells, cell_size, in_cells, or_else, payload_of, look_up}
-use Rattle.hive_model.specs.Forms.{◌>>=◌}
 use Rattle.hive_model.specs.Walk.{reading}
 use Rattle.hive_model.specs.Packed.{filled, allocated_cell, packed_cells, whole, rounded, free_cells, packed_bins}
 use Rattle.hive_pack.proofs.Rows.{space, length_filled}

@@ -6,11 +6,12 @@ use Rattle.std.proofs.lemmas.Bool.{ne_eqb}
 use Rattle.std.proofs.lemmas.Slice.Eq.{bytes_eq-Decides}
 use Rattle.nt_bytes.specs.declared.fault.HiveFaultKind.{HiveFaultKind}
 use Rattle.nt_bytes.specs.declared.version.HiveVersion.{HiveVersion}
+use Rattle.nt_bytes.specs.Reading.{◌>>=◌}
 use Rattle.hive_model.specs.Tree.{Head, Tree, Trees, key, none, more, listed, trees}
 use Rattle.hive_model.specs.Valid.{IsKey, HoldsKeys, AllHoldKeys}
 use Rattle.hive_model.specs.Size.{is_narrow, has_own, class_size, security_size, node_size, head_size, list_size, count, size, size_of_all}
 use Rattle.hive_model.specs.Bins.{Cells, look_up}
-use Rattle.hive_model.specs.Forms.{◌>>=◌, bytes_in}
+use Rattle.hive_model.specs.Forms.{bytes_in}
 use Rattle.hive_model.specs.StoredNames.{UnitsFit}
 use Rattle.hive_model.specs.KeyNode.{KeyNode, IsKeyNode, key_node_text, key_node_at}
 use Rattle.hive_model.specs.Security.{SecurityCell, IsSecurityCell, security_text, security_at}

@@ -9,7 +9,7 @@ use Rattle.std.specs.FinMap as map
 use Rattle.nt_bytes.specs.declared.fault.HiveFaultKind.{HiveFaultKind}
 use Rattle.nt_bytes.specs.declared.fault.HiveFaultKind.TheVariants.{Shared}
 use Rattle.nt_bytes.specs.declared.fault.HiveFault.{HiveFault}
-use Rattle.hive_model.specs.Forms.{◌>>=◌}
+use Rattle.nt_bytes.specs.Reading.{◌>>=◌}
 use Rattle.hive_model.specs.Bins.{Cells, with_place, or_else}
 use Rattle.hive_model.specs.Walk.{Check, uses, tests, found, failing, clash, at_place, first_among}
 use Rattle.hive_read.specs.Walked.{Seen, clashes, marked, walk}

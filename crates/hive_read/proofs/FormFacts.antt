@@ -8,13 +8,14 @@ use Rattle.std.proofs.lemmas.Bool.{eqb-true, eqb-false, or_parts}
 use Rattle.nt_bytes.specs.declared.fault.HiveFaultKind.{HiveFaultKind}
 use Rattle.nt_bytes.specs.declared.fault.HiveFaultKind.TheVariants.{FormShort, FormSign, FormLength, FormName}
 use Rattle.nt_bytes.specs.Fields.{u16_in, u32_in}
-use Rattle.hive_model.specs.Forms.{◌>>=◌, bytes_in}
+use Rattle.hive_model.specs.Forms.{bytes_in}
 use Rattle.hive_model.specs.StoredNames.{stored_name, has_half_unit, is_bad_key_name, is_bad_value_name, key_name_at, value_name_at}
 use Rattle.hive_model.specs.KeyNode.{KeyNode, is_narrow_key, key_node_in, key_node_at}
 use Rattle.hive_model.specs.KeyValue.{KeyValue, is_in_place, is_overfull, is_narrow_value, key_value_in, key_value_at, data_inside}
 use Rattle.hive_model.specs.Security.{SecurityCell, security_in, security_at}
 use Rattle.hive_model.specs.Lists.{numbers_in, offsets_in}
 use Rattle.nt_bytes.specs.Text.{is_backslash}
+use Rattle.nt_bytes.specs.Reading.{◌>>=◌}
 use Rattle.hive_model.specs.Stands.{tree_flags}
 
 -- ---- bytes

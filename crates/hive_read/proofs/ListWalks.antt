@@ -2,7 +2,7 @@
 use Rattle.std.proofs.Common.{◌≡◌, ℕ, ◌≤◌, length, get_or, arith, true, false, List, [], ◌∷◌, ◌++◌, Ok, Err, refl, sym, ap, ◌∙◌, append_assoc}
 use Rattle.std.specs.Prelude.{if◌then◌else◌}
 use Rattle.nt_bytes.specs.declared.fault.HiveFault.{HiveFault}
-use Rattle.hive_model.specs.Forms.{◌>>=◌}
+use Rattle.nt_bytes.specs.Reading.{◌>>=◌}
 use Rattle.hive_model.specs.Lists.{SubkeyList, list_at}
 use Rattle.hive_model.specs.Bins.{Cells}
 use Rattle.hive_model.specs.Walk.{Check, reading, below_of, use_as, is_list_of_lists, leaf_at, joined_at, entries_of, entries_at, leaves_checks, entries_checks}

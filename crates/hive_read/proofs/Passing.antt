@@ -4,7 +4,7 @@ use Rattle.std.specs.List.{list_any}
 use Rattle.nt_bytes.specs.declared.fault.HiveFaultKind.{HiveFaultKind}
 use Rattle.nt_bytes.specs.declared.fault.HiveFaultKind.TheVariants.{Shared}
 use Rattle.nt_bytes.specs.declared.fault.HiveFault.{HiveFault}
-use Rattle.hive_model.specs.Forms.{◌>>=◌}
+use Rattle.nt_bytes.specs.Reading.{◌>>=◌}
 use Rattle.hive_model.specs.Bins.{Cells, or_else}
 use Rattle.hive_model.specs.Walk.{Check, uses, tests, reading, found, below_of, use_as, failing, clash, at_place, first_among}
 use Rattle.hive_model.proofs.UsedOnce.{OnceBehind}

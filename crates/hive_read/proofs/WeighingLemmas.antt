@@ -7,12 +7,13 @@ use Rattle.std.proofs.lemmas.Bool.{le-ltb}
 use Rattle.nt_bytes.specs.declared.fault.HiveFaultKind.TheVariants.{FormShort}
 use Rattle.nt_bytes.specs.declared.version.HiveVersion.{HiveVersion}
 use Rattle.nt_bytes.specs.declared.version.HiveVersion.TheVariants.{V3, V5}
-use Rattle.hive_model.specs.Forms.{◌>>=◌, bytes_in}
+use Rattle.hive_model.specs.Forms.{bytes_in}
 use Rattle.hive_model.specs.KeyNode.{KeyNode}
 use Rattle.hive_model.specs.KeyValue.{KeyValue, key_value_at, data_inside}
 use Rattle.hive_model.specs.Bins.{Cells}
 use Rattle.hive_model.specs.Size.{cell, cells_sum, data_sizes, data_size, is_big, segment_part, segment_count, segment_sizes, name_bytes, item_size, items_size}
 use Rattle.nt_bytes.specs.Counts.{capped}
+use Rattle.nt_bytes.specs.Reading.{◌>>=◌}
 use Rattle.hive_model.specs.Tree.{Item}
 use Rattle.hive_model.specs.Walk.{reading, use_as, segments_checks, data_checks, value_checks, values_in_turn, values_checks}
 use Rattle.hive_model.specs.Stands.{joined_segments, data_or, data_of, item_at, items_at, values_of}

@@ -7,7 +7,8 @@ ghost use Rattle.start_model.specs.Sets.{select_numbers_of};
 
 use hive_edit::HiveBytes;
 use nt_bytes::Names;
-use select_keys::{CURRENT, DEFAULT, FAILED, GOOD, SelectNumbers, select_path};
+use select_keys::{SelectNumbers, select_path};
+use startup_names::{CURRENT, DEFAULT, FAILED, LAST_KNOWN_GOOD};
 use std::alloc::{AllocError, Global};
 
 /// A number of the key at the path, 0 where it is absent or no DWORD.
@@ -26,6 +27,6 @@ pub fn select_numbers(alloc: Global, hive: &HiveBytes) -> Result<SelectNumbers, 
         current: number_in(hive, &path, &CURRENT),
         default: number_in(hive, &path, &DEFAULT),
         failed: number_in(hive, &path, &FAILED),
-        good: number_in(hive, &path, &GOOD),
+        good: number_in(hive, &path, &LAST_KNOWN_GOOD),
     })
 }

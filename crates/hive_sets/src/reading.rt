@@ -11,9 +11,8 @@ use hive_edit::HiveBytes;
 use nt_bytes::{Names, Units, same_folded};
 use reg_tree::{Key, Keys};
 use select_keys::set_name;
+use startup_names::SELECT;
 use std::alloc::{AllocError, Global};
-
-const SELECT: [u16; 6] = [0x53, 0x65, 0x6c, 0x65, 0x63, 0x74];
 
 /// Whether the name is that of the set of a number.
 fn is_set(alloc: Global, name: &[u16], number: u32) -> Result<bool, AllocError>

@@ -7,6 +7,7 @@ use Rattle.std.proofs.lemmas.List.{length-append}
 use Rattle.std.proofs.lemmas.Bool.{ltb-false, le-ltb}
 use Rattle.nt_bytes.specs.Folding.{folded_order}
 use Rattle.nt_bytes.specs.declared.version.HiveVersion.{HiveVersion}
+use Rattle.nt_bytes.specs.Reading.{◌>>=◌}
 use Rattle.hive_model.specs.Tree.{Item, Tree, Trees, key, trees, listed, head, children, is_named, is_item, find_key, find_item}
 use Rattle.hive_model.specs.Size.{bulk_of}
 use Rattle.hive_model.specs.Valid.{levels}
@@ -15,7 +16,6 @@ use Rattle.reg_tree.proofs.Trees.{listed_trees, trees_listed}
 use Rattle.hive_edit.specs.Found.{HoldsValue}
 use Rattle.hive_store.specs.Same.{Keep, HasValue}
 use Rattle.std.proofs.lemmas.Option.{same_Some}
-use Rattle.hive_model.specs.Forms.{◌>>=◌}
 
 abbrev pub made : Tree → Result Tree Refusal
 made t = Ok t

@@ -4,10 +4,10 @@ use Rattle.std.specs.Prelude.{find, nat_lt, is_none, ◌↔◌}
 use Rattle.std.proofs.lemmas.Bool.{ltb-false, le-ltb}
 use Rattle.std.proofs.lemmas.List.{map-append}
 use Rattle.nt_bytes.specs.declared.version.HiveVersion.{HiveVersion}
+use Rattle.nt_bytes.specs.Reading.{◌>>=◌}
 use Rattle.hive_model.specs.Tree.{Item, Tree, key, head, is_item, find_key}
 use Rattle.hive_model.specs.Size.{bulk_of}
 use Rattle.hive_model.specs.Edit.{Step, Refusal, set_value, no_key, name_too_long, data_too_long, full, at_first, of_items, at_key, with_item, value_set, after_step, after_steps, most_bulk, edited}
-use Rattle.hive_model.specs.Forms.{◌>>=◌}
 use Rattle.reg_tree.specs.declared.steps.TreeStep.{TreeStep}
 use Rattle.reg_tree.specs.Makes.{step_of}
 use Rattle.edit_laws.proofs.Patch.{folds_itself}

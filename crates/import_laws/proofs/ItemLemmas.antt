@@ -7,13 +7,14 @@ use Rattle.nt_bytes.specs.Text.{wide_of, trimmed}
 use Rattle.hive_model.specs.Edit.{Step, no_key, set_value, delete_value, delete_key, edited}
 use Rattle.hive_model.specs.Tree.{Tree}
 use Rattle.nt_bytes.specs.declared.version.HiveVersion.{HiveVersion}
+use Rattle.nt_bytes.specs.Reading.{◌>>=◌}
 use Rattle.reg_text.specs.declared.item.LineItem.{LineItem}
 use Rattle.reg_text.specs.declared.item.LineItem.TheVariants.{Nothing, InKey, NoKey, Named, NoValue, GoesOn}
 use Rattle.reg_text.specs.declared.state.State.{State}
 use Rattle.reg_text.specs.declared.stop.RegFault.{RegFault}
 use Rattle.reg_text.specs.declared.stop.RegFaultKind.{RegFaultKind}
 use Rattle.reg_text.specs.declared.stop.RegFaultKind.TheVariants.{Mark, Line}
-use Rattle.reg_text.specs.Gives.{◌>>=◌, at_line}
+use Rattle.reg_text.specs.Gives.{at_line}
 use Rattle.reg_text.specs.Items.{item_at}
 use Rattle.reg_text.specs.Reading.{making, edits_of, key_after, state_after, number_of, line_said, with_edits, then_lines, lines_said, first_state, body_of, unended, closed, lines_behind, units_said, behind_mark, reg_steps_of}
 use Rattle.command_words.specs.declared.asked.AskedEncoding.{AskedEncoding}

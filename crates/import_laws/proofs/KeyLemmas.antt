@@ -5,8 +5,8 @@ use Rattle.std.specs.List.{list_any}
 use Rattle.std.specs.Option.{is_none}
 use Rattle.std.specs.Result.{result_ok}
 use Rattle.nt_bytes.specs.declared.version.HiveVersion.{HiveVersion}
+use Rattle.nt_bytes.specs.Reading.{◌>>=◌}
 use Rattle.hive_model.specs.Edit.{Step, Refusal, no_key, no_value, bad_name, name_too_long, too_deep, data_too_long, full, set_value, delete_value, make_key, delete_key, unless, of_items, of_children, at_key, with_item, without_first, with_key, new_key, placed, is_bad_name, has_item, after_step, after_steps, most_bulk, edited}
-use Rattle.hive_model.specs.Forms.{◌>>=◌}
 use Rattle.hive_model.specs.Size.{bulk_of}
 use Rattle.hive_model.specs.Tree.{Item, Tree, key, children, listed, is_named, is_item, find_key}
 use Rattle.hive_model.specs.Valid.{longest_key_name, longest_value_name, longest_data, deepest_level}

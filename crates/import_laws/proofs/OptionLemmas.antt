@@ -7,9 +7,9 @@ use Rattle.std.specs.Option.{is_none, option_map_or}
 use Rattle.std.specs.Str.{is_utf8}
 use Rattle.nt_bytes.specs.Folding.{folds_same}
 use Rattle.nt_bytes.specs.declared.version.HiveVersion.{HiveVersion}
+use Rattle.nt_bytes.specs.Reading.{◌>>=◌}
 use Rattle.nt_edge.specs.Disk.{DiskState}
 use Rattle.hive_model.specs.Edit.{Step, Refusal, no_key, no_value, bad_name, name_too_long, too_deep, data_too_long, full, set_value, delete_value, make_key, delete_key, copy_child, add_child, unless, at_key, of_items, with_item, without_first, with_key, is_bad_name, has_item, key_deleted, without_key, after_step, after_steps, most_bulk, edited}
-use Rattle.hive_model.specs.Forms.{◌>>=◌}
 use Rattle.hive_model.specs.Size.{bulk_of}
 use Rattle.hive_model.specs.State.{HiveState}
 use Rattle.hive_model.specs.Tree.{Tree, find_key, is_item}

@@ -12,13 +12,8 @@ ghost use Rattle.import_steps.specs.Made.{made_steps};
 use nt_bytes::{Names, Row, Units, same_folded};
 use reg_tree::{Steps, TreeStep};
 use select_keys::set_name;
+use startup_names::CURRENT_CONTROL_SET;
 use std::alloc::{AllocError, Global};
-
-/// `CurrentControlSet`.
-const CURRENT_SET: [u16; 17] = [
-    0x43, 0x75, 0x72, 0x72, 0x65, 0x6e, 0x74, 0x43, 0x6f, 0x6e, 0x74, 0x72, 0x6f, 0x6c, 0x53, 0x65,
-    0x74,
-];
 
 /// The steps to be made, and whether there is one after them that is refused since it deletes the set as a whole.
 #[derive(Drop)]
@@ -30,7 +25,7 @@ pub struct SetSteps {
 fn is_named_current(name: &[u16]) -> bool
     ensures { result ≡ folds_same current_name name.now }
 {
-    same_folded(&CURRENT_SET, name)
+    same_folded(&CURRENT_CONTROL_SET, name)
 }
 
 /// The set's name in place of `CurrentControlSet`.

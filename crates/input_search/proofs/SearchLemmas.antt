@@ -2,6 +2,7 @@
 use Rattle.std.proofs.Common.{◌≡◌, ◌≤◌, ℕ, ◌+◌, List, Some, refl, sym, ap, subst, ◌∙◌, arith}
 use Rattle.std.specs.Prelude.{Option, Result, Ok, Err, IfErr}
 use Rattle.std.specs.Result.{IsErrAnd}
+use Rattle.nt_bytes.specs.Reading.{◌>>=◌ as ok_then}
 use Rattle.nt_edge.specs.Host.{Files, HostState, KeepsHost, KeepsCounts, Counts, Asks}
 use Rattle.nt_edge.specs.declared.host.HostStop.{HostStop}
 use Rattle.nt_edge.specs.declared.host.HostStop.TheVariants.{Read, Write, Memory}
@@ -9,7 +10,7 @@ use Rattle.command_parts.specs.declared.inputs.HiveFiles.{HiveFiles}
 use Rattle.command_parts.specs.declared.refusal.Refusal.{Refusal}
 use Rattle.command_parts.specs.declared.refusal.Obstacle.{Obstacle}
 use Rattle.command_parts.specs.declared.refusal.Obstacle.TheVariants.{Refused, Stopped}
-use Rattle.command_parts.specs.Inputs.{◌>>=◌ as ok_then, file_in, bytes_in, hive_in, behind_step, AsksHive}
+use Rattle.command_parts.specs.Inputs.{file_in, bytes_in, hive_in, behind_step, AsksHive}
 use Rattle.command_parts.specs.Leaves.{AsksUntil, AsksSome, AsksStopped, CountsObstacle, Gives, Looks, Reads, more, named}
 use Rattle.command_parts.proofs.AskLemmas.{more_behind, some_behind}
 use Rattle.command_parts.proofs.LeaveLemmas.{keeps_then, files_then, counts_by}

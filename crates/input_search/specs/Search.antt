@@ -2,12 +2,13 @@
 --
 -- A search is written once, as its steps in their order: what it finds and how many files it asks for are two readings of it.
 use Rattle.std.specs.Prelude.{◌≡◌, ◌+◌, ℕ, true, List, Option, Some, None, Result, Ok}
+use Rattle.nt_bytes.specs.Reading.{◌>>=◌ as ok_then}
 use Rattle.nt_edge.specs.Host.{Files, HostState}
 use Rattle.boot_ini.specs.declared.ini.BootIni.{BootIni}
 use Rattle.command_parts.specs.declared.refusal.Refusal.{Refusal}
 use Rattle.command_parts.specs.declared.refusal.Obstacle.{Obstacle}
 use Rattle.command_parts.specs.declared.inputs.HiveFiles.{HiveFiles}
-use Rattle.command_parts.specs.Inputs.{◌>>=◌ as ok_then, file_in, bytes_in, ini_in, hive_in, behind_step, asks_hive}
+use Rattle.command_parts.specs.Inputs.{file_in, bytes_in, ini_in, hive_in, behind_step, asks_hive}
 use Rattle.command_parts.specs.Leaves.{AsksUntil, Looks, named}
 use Rattle.input_search.specs.declared.searching.BootFiles.{BootFiles}
 

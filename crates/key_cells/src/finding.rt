@@ -14,13 +14,8 @@ use hive_cells::Source;
 use hive_levels::read_along;
 use nt_bytes::{Names, ReadStop, Units, same_folded};
 use select_keys::{select_numbers, select_path, set_name};
+use startup_names::CURRENT_CONTROL_SET;
 use std::alloc::{AllocError, Global};
-
-/// `CurrentControlSet`.
-const CURRENT: [u16; 17] = [
-    0x43, 0x75, 0x72, 0x72, 0x65, 0x6e, 0x74, 0x43, 0x6f, 0x6e, 0x74, 0x72, 0x6f, 0x6c, 0x53, 0x65,
-    0x74,
-];
 
 /// A name, and the names after it.
 fn path_from(alloc: Global, first: Units, rest: &[Units]) -> Result<Names, AllocError>
@@ -56,10 +51,10 @@ fn has_child(alloc: Global, cells: &Source, root: u32, name: &[u16]) -> Result<b
 fn means_current(alloc: Global, cells: &Source, root: u32, name: &[u16]) -> Result<bool, ReadStop>
     ensures { (t : Tree) → Stands (cells_of cells.now) root t → Shows (means_current t name.now) result }
 {
-    if !same_folded(&CURRENT, name) {
+    if !same_folded(&CURRENT_CONTROL_SET, name) {
         return Ok(false);
     }
-    let there = has_child(alloc, cells, root, &CURRENT)?;
+    let there = has_child(alloc, cells, root, &CURRENT_CONTROL_SET)?;
     Ok(!there)
 }
 

@@ -6,8 +6,8 @@ use Rattle.std.proofs.lemmas.List.Elements.{All-append, All-cons, All-nil}
 use Rattle.std.proofs.lemmas.Bool.{ne_eqb}
 use Rattle.nt_bytes.specs.declared.fault.HiveFaultKind.{HiveFaultKind}
 use Rattle.nt_bytes.specs.declared.fault.HiveFaultKind.TheVariants.{FormKind}
+use Rattle.nt_bytes.specs.Reading.{◌>>=◌}
 use Rattle.hive_model.specs.Bins.{Cells}
-use Rattle.hive_model.specs.Forms.{◌>>=◌}
 use Rattle.hive_model.specs.Lists.{SubkeyList, list_at}
 use Rattle.hive_model.specs.Walk.{reading, below_of, leaves_checks, entries_checks, is_list_of_lists, leaf_at, joined_at, entries_of, entries_at}
 use Rattle.hive_model.specs.Footprint.{of_read, used_in}

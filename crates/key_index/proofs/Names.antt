@@ -54,7 +54,7 @@ node_read cells at h = go (cells.payload at) refl h
   where
     go : (r : Result (List ℕ) HiveFaultKind) → cells.payload at ≡ r
         → IsOk (key_node_at (Rattle.hive_model.specs.Footprint.of_read r (λ p. p)))
-        → Rattle.hive_model.specs.Forms.◌>>=◌ r key_node_at
+        → Rattle.nt_bytes.specs.Reading.◌>>=◌ r key_node_at
         ≡ key_node_at (Rattle.hive_model.specs.Footprint.of_read r (λ p. p))
     go (Ok p) e k = refl
     go (Err kind) e k = absurd (none_there k)

@@ -5,7 +5,7 @@ use Rattle.std.specs.Result.{IsOk}
 use Rattle.nt_bytes.specs.declared.fault.HiveFaultKind.{HiveFaultKind}
 use Rattle.nt_bytes.specs.declared.fault.HiveFaultKind.TheVariants.{FormShort, FormSign, FormLength, FormName}
 use Rattle.nt_bytes.specs.Fields.{u16_in}
-use Rattle.hive_model.specs.Forms.{◌>>=◌}
+use Rattle.nt_bytes.specs.Reading.{◌>>=◌}
 use Rattle.hive_model.specs.StoredNames.{stored_name, has_half_unit, is_bad_key_name, key_name_at}
 use Rattle.hive_model.specs.KeyNode.{is_narrow_key, KeyNode, key_node_in, key_node_at}
 use Rattle.hive_model.specs.Footprint.{of_read}

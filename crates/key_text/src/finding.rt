@@ -7,18 +7,13 @@ ghost use Rattle.key_text.specs.Found.{means_current, default_path, true_path, s
 use nt_bytes::{Names, Units, same_folded};
 use reg_tree::Key;
 use select_keys::{select_numbers, set_name, set_of};
+use startup_names::CURRENT_CONTROL_SET;
 use std::alloc::{AllocError, Global};
-
-/// `CurrentControlSet`.
-const CURRENT: [u16; 17] = [
-    0x43, 0x75, 0x72, 0x72, 0x65, 0x6e, 0x74, 0x43, 0x6f, 0x6e, 0x74, 0x72, 0x6f, 0x6c, 0x53, 0x65,
-    0x74,
-];
 
 fn means_current(root: &Key, name: &[u16]) -> bool
     ensures { result ≡ means_current root.now name.now }
 {
-    same_folded(&CURRENT, name) && !root.has_child(&CURRENT)
+    same_folded(&CURRENT_CONTROL_SET, name) && !root.has_child(&CURRENT_CONTROL_SET)
 }
 
 /// The path with one more name before it.

@@ -4,6 +4,7 @@
 -- absent, too long or with too many entries; the hive, absent; its log, absent. Of `show`: the hive and its log. What is in hive
 -- and log is judged after all of them.
 use Rattle.std.specs.Prelude.{ℕ, List, Result, Ok, Err}
+use Rattle.nt_bytes.specs.Reading.{◌>>=◌ as ok_then}
 use Rattle.nt_edge.specs.Host.{Files}
 use Rattle.arc_path.specs.Reading.{arc_of}
 use Rattle.boot_script.specs.declared.event.Event.{Event}
@@ -12,7 +13,7 @@ use Rattle.boot_script.specs.Script.{script_of}
 use Rattle.command_words.specs.Words.{Reading, asks, help, refused, version, sweep, graph, why, diff, salvage, whatif, check, key, replay, export, import, twin, control, safe, run, show, make, RunAsked, ShowAsked}
 use Rattle.command_parts.specs.declared.refusal.Refusal.{Refusal}
 use Rattle.command_parts.specs.declared.refusal.Refusal.TheVariants.{Usage, ScriptFault as BadScript}
-use Rattle.command_parts.specs.Inputs.{◌>>=◌ as ok_then, system_in, asks_hive}
+use Rattle.command_parts.specs.Inputs.{system_in, asks_hive}
 use Rattle.input_search.specs.Search.{Search, ◌>>=◌, reads, finds, file, boot_files}
 use Rattle.safe_command.specs.Inputs.{asks_safe, arguments_in as safe_arguments_in}
 use Rattle.control_command.specs.Inputs.{asks_control}

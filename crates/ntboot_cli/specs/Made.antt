@@ -4,6 +4,7 @@
 use Rattle.std.specs.Prelude.{◌≡◌, ◌≤◌, ◌++◌, ℕ, false, List, [], ◌∷◌, Option, Some, None, Result, Ok, Err, codes}
 use Rattle.std.specs.Fmt.{decimal}
 use Rattle.nt_bytes.specs.declared.version.HiveVersion.TheVariants.{V3}
+use Rattle.nt_bytes.specs.Reading.{◌>>=◌}
 use Rattle.hive_model.specs.Image.{Image}
 use Rattle.nt_edge.specs.Disk.{DiskState}
 use Rattle.arc_path.specs.Reading.{arc_of}
@@ -28,7 +29,7 @@ use Rattle.line_text.specs.declared.form.ReportForm.TheVariants as forms
 use Rattle.generated_hive.specs.Generated.{generated}
 use Rattle.ntboot_cli.specs.declared.making.Usual.{Usual}
 use Rattle.command_parts.specs.declared.refusal.Refusal.{Refusal}
-use Rattle.command_parts.specs.Inputs.{◌>>=◌, system_in, ini_in}
+use Rattle.command_parts.specs.Inputs.{system_in, ini_in}
 
 -- the usual system, and a boot.ini without text; both are there
 abbrev pub usual_in : Result Usual Refusal

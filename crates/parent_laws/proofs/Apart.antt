@@ -5,8 +5,8 @@ use Rattle.std.proofs.lemmas.Bool.{or_parts}
 use Rattle.nt_bytes.specs.Folding.{folds_same}
 use Rattle.nt_bytes.specs.declared.fault.HiveFaultKind.{HiveFaultKind}
 use Rattle.nt_bytes.specs.declared.fault.HiveFaultKind.TheVariants.{DoubleName}
+use Rattle.nt_bytes.specs.Reading.{◌>>=◌}
 use Rattle.hive_model.specs.Base.{fault_at}
-use Rattle.hive_model.specs.Forms.{◌>>=◌}
 use Rattle.hive_model.specs.KeyNode.{KeyNode}
 use Rattle.hive_model.specs.Tree.{Head, Tree, Trees, key, none, more, trees, listed}
 use Rattle.hive_model.specs.Walk.{node_at}

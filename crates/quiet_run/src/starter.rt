@@ -25,10 +25,8 @@ use boot_script::Event;
 use nt_bytes::{Names, Units};
 use reg_tree::Key;
 use select_keys::set_of;
+use startup_names::SERVICES;
 use std::alloc::{AllocError, Global};
-
-/// `Services`.
-const SERVICES: [u16; 8] = [0x53, 0x65, 0x72, 0x76, 0x69, 0x63, 0x65, 0x73];
 
 // ---- an attempt
 

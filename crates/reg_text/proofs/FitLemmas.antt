@@ -6,6 +6,7 @@ use Rattle.std.specs.Option.{option_map_or}
 use Rattle.std.specs.Str.Lines.{lines}
 use Rattle.std.proofs.lemmas.List.Elements.{All-nil, All-cons, All-append}
 use Rattle.nt_bytes.specs.Text.{wide_of, trimmed}
+use Rattle.nt_bytes.specs.Reading.{◌>>=◌}
 use Rattle.hive_model.specs.Edit.{Step, set_value, delete_value, make_key, delete_key}
 use Rattle.reg_tree.specs.declared.steps.TreeStep.{TreeStep}
 use Rattle.reg_tree.specs.Makes.{step_of}
@@ -17,7 +18,7 @@ use Rattle.reg_text.specs.declared.stop.RegStop.{RegStop}
 use Rattle.reg_text.specs.declared.item.LineItem.{LineItem}
 use Rattle.reg_text.specs.declared.item.LineItem.TheVariants.{Nothing, InKey, NoKey, Named, NoValue, GoesOn}
 use Rattle.reg_text.specs.declared.state.State.{State}
-use Rattle.reg_text.specs.Gives.{◌>>=◌, at_line, GivesSteps}
+use Rattle.reg_text.specs.Gives.{at_line, GivesSteps}
 use Rattle.reg_text.specs.Items.{item_at}
 use Rattle.reg_text.specs.Reading.{making, edits_of, number_of, state_after, line_said, with_edits, then_lines, lines_said, first_state, body_of, unended, closed, lines_behind, units_said, behind_mark, reg_steps_of}
 

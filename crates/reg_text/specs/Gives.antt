@@ -12,12 +12,6 @@ use Rattle.reg_text.specs.declared.stop.RegLineStop.TheVariants as line_stops
 
 -- ---- one line
 
-infixl 10 ◌>>=◌
--- what follows, unless there is a fault
-abbrev pub ◌>>=◌ : {A B : Type 0} → Result A RegFaultKind → (A → Result B RegFaultKind) → Result B RegFaultKind
-(Ok x) >>= f = f x
-(Err e) >>= f = Err e
-
 -- the fault is in this line
 abbrev pub at_line : {A : Type 0} → ℕ → Result A RegFaultKind → Result A RegFault
 at_line n (Ok x) = Ok x
@@ -27,11 +21,6 @@ at_line n (Err kind) = Err (record { kind = kind; line = n })
 abbrev pub Finds : {X Y : Type 0} → (X → Y) → Option X → Option Y → Type 0
 Finds view (Some x) found = found ≡ Some (view x)
 Finds view None found = found ≡ None
-
--- what was returned, seen by view, is what reading gives
-abbrev pub Sees : {X Y : Type 0} → (X → Y) → Result X RegFaultKind → Result Y RegFaultKind → Type 0
-Sees view (Ok x) read = read ≡ Ok (view x)
-Sees view (Err e) read = read ≡ Err e
 
 -- the line has this fault, or memory ran out
 abbrev pub Fails : {Y : Type 0} → RegLineStop → Result Y RegFaultKind → Type 0

@@ -18,13 +18,13 @@ use Rattle.std.specs.Int.{w32, to_le_bytes}
 use Rattle.std.specs.Str.Parse.{digits_value}
 use Rattle.nt_bytes.specs.Folding.{folded_unit}
 use Rattle.nt_bytes.specs.Text.{is_backslash}
+use Rattle.nt_bytes.specs.Reading.{◌>>=◌}
 use Rattle.reg_text.specs.declared.stop.RegFaultKind.{RegFaultKind}
 use Rattle.reg_text.specs.declared.stop.RegFaultKind.TheVariants.{Line, Root}
 use Rattle.reg_text.specs.declared.item.Begun.{Begun}
 use Rattle.reg_text.specs.declared.item.LineItem.{LineItem}
 use Rattle.reg_text.specs.declared.item.LineItem.TheVariants.{Nothing, InKey, NoKey, Named, NoValue, GoesOn}
 use Rattle.reg_text.specs.Writing.{system, unit_bytes}
-use Rattle.reg_text.specs.Gives.{◌>>=◌}
 use Rattle.reg_text.specs.Digits.{is_hex, bytes_of}
 use Rattle.reg_text.specs.Quotes.{quoted_from}
 

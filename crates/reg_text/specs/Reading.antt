@@ -8,6 +8,7 @@ use Rattle.std.specs.Option.{option_map_or, is_some}
 use Rattle.std.specs.Str.{bytes_eq}
 use Rattle.std.specs.Str.Lines.{lines}
 use Rattle.nt_bytes.specs.Text.{wide_of, trimmed}
+use Rattle.nt_bytes.specs.Reading.{◌>>=◌}
 use Rattle.hive_model.specs.Edit.{Step, set_value, delete_value, make_key, delete_key}
 use Rattle.reg_text.specs.declared.stop.RegFaultKind.{RegFaultKind}
 use Rattle.reg_text.specs.declared.stop.RegFaultKind.TheVariants.{Mark, Header, Line}
@@ -17,7 +18,7 @@ use Rattle.reg_text.specs.declared.item.LineItem.{LineItem}
 use Rattle.reg_text.specs.declared.item.LineItem.TheVariants.{Nothing, InKey, NoKey, Named, NoValue, GoesOn}
 use Rattle.reg_text.specs.declared.state.State.{State}
 use Rattle.reg_text.specs.Writing.{header}
-use Rattle.reg_text.specs.Gives.{◌>>=◌, at_line}
+use Rattle.reg_text.specs.Gives.{at_line}
 use Rattle.reg_text.specs.Items.{ends_in, item_at}
 
 -- ---- the edits of a line

@@ -4,7 +4,8 @@ ghost use Rattle.std.specs.Prelude.{◌≡◌, ◌<◌, ◌≤◌, true, length,
 ghost use Rattle.std.specs.List.{list_all, prefix_len};
 ghost use Rattle.std.specs.Char.{digit_value};
 ghost use Rattle.std.specs.Str.Parse.{digits_value};
-ghost use Rattle.reg_text.specs.Gives.{Gives, Sees};
+ghost use Rattle.nt_bytes.specs.Reading.{Sees};
+ghost use Rattle.reg_text.specs.Gives.{Gives};
 ghost use Rattle.reg_text.specs.Digits.{is_hex, byte_of, pair_at, behind_comma, pairs_of, bytes_of};
 
 use crate::stop::{RegFaultKind, RegLineStop};

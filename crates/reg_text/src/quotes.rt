@@ -1,7 +1,8 @@
 //! Texts in quotes.
 
 ghost use Rattle.std.specs.Prelude.{◌<◌, false, length, IfOk};
-ghost use Rattle.reg_text.specs.Gives.{Gives, Sees};
+ghost use Rattle.nt_bytes.specs.Reading.{Sees};
+ghost use Rattle.reg_text.specs.Gives.{Gives};
 ghost use Rattle.reg_text.specs.Quotes.{quoted_from, escaped_unit, first_unit};
 
 use crate::stop::{RegFaultKind, RegLineStop};

@@ -1,7 +1,8 @@
 //! The line of a value.
 
 ghost use Rattle.std.specs.Prelude.{◌≡◌, [], ◌++◌, OnOk, IfOk};
-ghost use Rattle.reg_text.specs.Gives.{Finds, Gives, Sees};
+ghost use Rattle.nt_bytes.specs.Reading.{Sees};
+ghost use Rattle.reg_text.specs.Gives.{Finds, Gives};
 ghost use Rattle.reg_text.specs.Writing.{unit_bytes};
 ghost use Rattle.reg_text.specs.Items.{comma_ended, continued, named, name_at, string_bytes, string_ended, string_item, dword_item, bytes_item, kind_ended, kind_in, wide_kind, kind_at, hex_item, number_item, data_item, value_item};
 

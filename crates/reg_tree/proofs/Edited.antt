@@ -10,12 +10,12 @@ use Rattle.hive_model.specs.Tree.{Item, Tree, key, listed, head, children, is_na
 use Rattle.hive_model.specs.Valid.{IsItem, IsValid, levels}
 use Rattle.nt_bytes.specs.Text.{is_backslash}
 use Rattle.nt_bytes.specs.declared.version.HiveVersion.{HiveVersion}
+use Rattle.nt_bytes.specs.Reading.{◌>>=◌}
 use Rattle.hive_model.specs.Size.{bulk_of}
 use Rattle.hive_model.specs.Edit.{Step, set_value, delete_value, make_key, delete_key, copy_child, add_child, Refusal, no_key, no_value, exists, name_too_long, too_deep, data_too_long, full, unless, at_first, without_first, of_items, of_children, at_key, with_item, has_item, has_child, placed, is_bad_name, name_tests, new_key, with_key, without_key, renamed, with_child, after_step, after_steps, most_bulk, edited}
 use Rattle.reg_tree.specs.Fitting.{Fits}
 use Rattle.reg_tree.proofs.Unlike.{Each, Unlike, each_from, each_first, unlike_first, each_gone, unlike_gone, none_found, each_push, unlike_push, lacks_from}
 use Rattle.reg_tree.proofs.Sound.{key_name, item_name, IsNamed, Sound, parts, whole, sound_from, valid_back}
-use Rattle.hive_model.specs.Forms.{◌>>=◌}
 
 -- ---- an edit that was not refused
 

@@ -5,12 +5,12 @@ use Rattle.std.proofs.lemmas.Bool.{lt-ltb, le-ltb}
 use Rattle.hive_model.specs.Tree.{Tree, key, find_key, is_named}
 use Rattle.hive_model.specs.Valid.{levels}
 use Rattle.nt_bytes.specs.declared.version.HiveVersion.{HiveVersion}
+use Rattle.nt_bytes.specs.Reading.{◌>>=◌}
 use Rattle.hive_model.specs.Size.{bulk_of}
 use Rattle.hive_model.specs.Edit.{Step, Refusal, full, most_bulk, at_first, at_key, of_children, without_first, without_key, key_deleted, after_step, after_steps, edited}
 use Rattle.reg_tree.specs.declared.stop.EditStop.{EditStop}
 use Rattle.reg_tree.specs.declared.stop.EditStop.TheVariants as stops
 use Rattle.reg_tree.specs.Makes.{IsRefused}
-use Rattle.hive_model.specs.Forms.{◌>>=◌}
 
 -- ---- a key is removed from the children of the one that the path but its last name leads to
 

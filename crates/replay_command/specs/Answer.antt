@@ -4,12 +4,12 @@
 use Rattle.std.specs.Prelude.{Bool, Result, Ok, Err}
 use Rattle.std.specs.Option.{is_some}
 use Rattle.nt_bytes.specs.declared.fault.HiveFault.{HiveFault}
+use Rattle.nt_bytes.specs.Reading.{◌>>=◌}
 use Rattle.nt_edge.specs.Host.{Files}
 use Rattle.command_words.specs.Words.{ReplayAsked}
 use Rattle.command_parts.specs.declared.refusal.Refusal.{Refusal}
 use Rattle.command_parts.specs.declared.refusal.Refusal.TheVariants.{HiveFault as BadHive}
 use Rattle.command_parts.specs.declared.reporting.FileReport.{FileReport}
-use Rattle.command_parts.specs.Inputs.{◌>>=◌}
 use Rattle.line_text.specs.declared.form.ReportForm.{ReportForm}
 use Rattle.log_replay.specs.declared.replaying.Outcome.{Outcome}
 use Rattle.log_replay.specs.Replay.{replay_of}

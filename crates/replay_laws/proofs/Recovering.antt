@@ -5,9 +5,9 @@ use Rattle.std.proofs.lemmas.Bool.{eq-eqb, ne_eqb}
 use Rattle.std.proofs.lemmas.List.{take-append-drop}
 use Rattle.nt_bytes.specs.declared.fault.HiveFault.{HiveFault}
 use Rattle.nt_bytes.specs.declared.fault.HiveFaultKind.TheVariants as kinds
+use Rattle.nt_bytes.specs.Reading.{◌>>=◌}
 use Rattle.hive_model.specs.Base.{Base, IsBase, base_of, base_text, fault_at}
 use Rattle.hive_model.specs.Carries.{HasBase}
-use Rattle.hive_model.specs.Forms.{◌>>=◌}
 use Rattle.hive_model.specs.Image.{Image, Bytes, image_of}
 use Rattle.hive_model.specs.Load.{Loads}
 use Rattle.hive_model.specs.Recovery.{Recovered, sector, bytes_or, read_bin, read_log, gathered, recovered_with, bit, rank, first_dirty, picked, closed_by, base_at, recovered_of}

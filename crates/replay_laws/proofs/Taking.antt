@@ -5,8 +5,8 @@ use Rattle.std.proofs.lemmas.Bool.{eq-eqb, eqb-true, le-leb, ltb-true, and_parts
 use Rattle.nt_bytes.specs.declared.fault.HiveFault.{HiveFault}
 use Rattle.nt_bytes.specs.declared.fault.HiveFaultKind.TheVariants as kinds
 use Rattle.nt_bytes.specs.Fields.{u32_in}
+use Rattle.nt_bytes.specs.Reading.{◌>>=◌}
 use Rattle.hive_model.specs.Base.{Base, base_of, base_checks, fault_at, fields_of, first_failing, is_bins_size, unless_fault}
-use Rattle.hive_model.specs.Forms.{◌>>=◌}
 use Rattle.hive_model.specs.Image.{Image, Bytes, padded, image_of}
 use Rattle.hive_model.specs.Recovery.{Recovered, sector, read_bin, read_log, joined, gathered, recovered_with, by_primary, bit, rank, first_dirty, picked, by_bits, bitmap_in, closed_by, goes_with, by_logged, logged_in, by_log, base_at, base_in, by_base, recovered_of}
 use Rattle.hive_log.specs.Found.{bins_by}

@@ -3,6 +3,7 @@ use Rattle.std.proofs.Common.{◌≡◌, ◌⊎◌, inl, inr, ℕ, true, false, 
 use Rattle.std.specs.Prelude.{Result, Ok, codes}
 use Rattle.std.specs.Option.{IsSome}
 use Rattle.std.proofs.lemmas.Bool.{false≢true}
+use Rattle.nt_bytes.specs.Reading.{◌>>=◌}
 use Rattle.hive_model.specs.Image.{image_of}
 use Rattle.hive_model.specs.Load.{Loads}
 use Rattle.hive_cells.proofs.Again.{one_list}
@@ -22,7 +23,7 @@ use Rattle.command_words.specs.Reading.{reading_of}
 use Rattle.command_parts.specs.declared.refusal.Refusal.{Refusal}
 use Rattle.command_parts.specs.declared.status.Status.{Status}
 use Rattle.command_parts.specs.declared.status.Status.TheVariants as statuses
-use Rattle.command_parts.specs.Inputs.{◌>>=◌, system_in, file_in, ini_in}
+use Rattle.command_parts.specs.Inputs.{system_in, file_in, ini_in}
 use Rattle.command_parts.specs.Leaves.{Leaves, CountsBy, stop_in}
 use Rattle.command_parts.specs.Placed.{placed_disk}
 use Rattle.command_parts.specs.Saves.{no_saves}

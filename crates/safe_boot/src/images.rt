@@ -8,11 +8,8 @@ ghost use Rattle.safe_boot.specs.Images.{file_of, image_of};
 
 use nt_bytes::Units;
 use reg_tree::Key;
+use startup_names::{IMAGE_PATH, TYPE};
 use std::alloc::{AllocError, Global};
-
-const TYPE: [u16; 4] = [0x54, 0x79, 0x70, 0x65];
-
-const IMAGE_PATH: [u16; 9] = [0x49, 0x6d, 0x61, 0x67, 0x65, 0x50, 0x61, 0x74, 0x68];
 
 /// Whether this Type is that of a driver.
 fn is_driver(kind: u32) -> bool

@@ -11,15 +11,8 @@ use name_places::NamePlaces;
 use nt_bytes::{Names, Units, same_folded};
 use reg_tree::Key;
 use service_entries::Entry;
+use startup_names::{CONTROL, MINIMAL, NETWORK, SAFE_BOOT};
 use std::alloc::{AllocError, Global};
-
-const CONTROL: [u16; 7] = [0x43, 0x6f, 0x6e, 0x74, 0x72, 0x6f, 0x6c];
-
-const SAFE_BOOT: [u16; 8] = [0x53, 0x61, 0x66, 0x65, 0x42, 0x6f, 0x6f, 0x74];
-
-const MINIMAL: [u16; 7] = [0x4d, 0x69, 0x6e, 0x69, 0x6d, 0x61, 0x6c];
-
-const NETWORK: [u16; 7] = [0x4e, 0x65, 0x74, 0x77, 0x6f, 0x72, 0x6b];
 
 /// Whether the mode's list in the control set has the entry, by its name or by its group. Without the
 /// list nothing is listed.

@@ -14,15 +14,8 @@ use crate::mode::SafeMode;
 use name_places::NamePlaces;
 use nt_bytes::{Bytes, Units, same_folded};
 use reg_tree::{Key, Keys, Value, Values};
+use startup_names::{GROUP, SERVICES, START, TYPE};
 use std::alloc::{AllocError, Global};
-
-const SERVICES: [u16; 8] = [0x53, 0x65, 0x72, 0x76, 0x69, 0x63, 0x65, 0x73];
-
-const START: [u16; 5] = [0x53, 0x74, 0x61, 0x72, 0x74];
-
-const TYPE: [u16; 4] = [0x54, 0x79, 0x70, 0x65];
-
-const GROUP: [u16; 5] = [0x47, 0x72, 0x6f, 0x75, 0x70];
 
 /// The control set without the services that the mode leaves out: the children of `Services` that are entries with a
 /// Start other than 0 and are not listed, a driver by its image too where images count. Takes n log n time in the services and the

@@ -2,6 +2,7 @@
 --
 -- The system's path, without a reading; boot.ini, absent, too long or with too many entries; the hive, absent; its log, absent.
 use Rattle.std.specs.Prelude.{ℕ, Option, Some, None, Result, Ok}
+use Rattle.nt_bytes.specs.Reading.{◌>>=◌ as ok_then}
 use Rattle.nt_edge.specs.Host.{Files}
 use Rattle.arc_path.specs.Reading.{arc_of}
 use Rattle.command_words.specs.Words.{SafeAsked}
@@ -10,7 +11,7 @@ use Rattle.command_words.specs.declared.asked.AskedMode.TheVariants as asked
 use Rattle.safe_boot.specs.declared.mode.SafeMode.{SafeMode}
 use Rattle.safe_boot.specs.declared.mode.SafeMode.TheVariants.{Minimal, Network}
 use Rattle.command_parts.specs.declared.refusal.Refusal.{Refusal}
-use Rattle.command_parts.specs.Inputs.{◌>>=◌ as ok_then, system_in}
+use Rattle.command_parts.specs.Inputs.{system_in}
 use Rattle.input_search.specs.Search.{Search, ◌>>=◌, reads, finds, boot_files}
 use Rattle.safe_command.specs.declared.inputs.SafeInputs.{SafeInputs}
 

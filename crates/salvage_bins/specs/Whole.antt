@@ -1,7 +1,7 @@
 -- When is a bin whole, and where do its cells begin (regf format 1.3 and 1.5, hive bins and hive bin cells)?
 use Rattle.std.specs.Prelude.{ℕ, zero, suc, ◌+◌, ◌-◌, ◌*◌, ◌/◌, List, [], ◌∷◌, drop, Result, Ok}
 use Rattle.nt_bytes.specs.declared.fault.HiveFault.{HiveFault}
-use Rattle.hive_model.specs.Forms.{◌>>=◌}
+use Rattle.nt_bytes.specs.Reading.{◌>>=◌}
 use Rattle.hive_model.specs.Bins.{header_at, size_at, with_place}
 use Rattle.salvage_bins.specs.declared.layout.Mark.{Mark}
 use Rattle.salvage_bins.specs.declared.layout.Mark.TheVariants.{Nothing, InBin}

@@ -1,7 +1,7 @@
 //! Cells looked up.
 
 ghost use Rattle.std.specs.Prelude.{◌≡◌, ◌+◌, ◌≤◌, length};
-ghost use Rattle.hive_model.specs.Bins.{Sees};
+ghost use Rattle.nt_bytes.specs.Reading.{Sees};
 ghost use Rattle.salvage_bins.specs.Ground.{ground_of, mark_at, payload_here};
 
 use crate::layout::Mark;

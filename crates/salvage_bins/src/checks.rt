@@ -1,7 +1,8 @@
 //! The checks of a bin's header and of a cell's length.
 
 ghost use Rattle.std.specs.Prelude.{◌≡◌, ◌%◌, ◌≤◌, length, IfOk};
-ghost use Rattle.hive_model.specs.Bins.{header_at, size_at, with_place, Sees};
+ghost use Rattle.nt_bytes.specs.Reading.{Sees};
+ghost use Rattle.hive_model.specs.Bins.{header_at, size_at, with_place};
 
 use nt_bytes::{HiveFault, HiveFaultKind, u32_at};
 

@@ -1,7 +1,7 @@
 //! Bins that are whole.
 
 ghost use Rattle.std.specs.Prelude.{◌≡◌, ◌+◌, ◌≤◌, ◌*◌, ◌∷◌, length, IfOk};
-ghost use Rattle.hive_model.specs.Bins.{Sees};
+ghost use Rattle.nt_bytes.specs.Reading.{Sees};
 ghost use Rattle.salvage_bins.specs.declared.layout.Mark.TheVariants.{Nothing};
 ghost use Rattle.salvage_bins.specs.Whole.{bin_marks, cell_marks, slot_mark};
 

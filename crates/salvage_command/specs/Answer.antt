@@ -3,12 +3,13 @@
 -- The report on the hive is printed, and then the sound hive is saved, where the command line asks for that and there is one.
 use Rattle.std.specs.Prelude.{ℕ, List, [], Option, Some, None, Result, Ok}
 use Rattle.std.specs.Option.{is_some}
+use Rattle.nt_bytes.specs.Reading.{◌>>=◌}
 use Rattle.nt_edge.specs.Host.{Files}
 use Rattle.command_words.specs.Words.{SalvageAsked}
 use Rattle.command_parts.specs.declared.inputs.HiveFiles.{HiveFiles}
 use Rattle.command_parts.specs.declared.refusal.Refusal.{Refusal}
 use Rattle.command_parts.specs.declared.reporting.FileReport.{FileReport}
-use Rattle.command_parts.specs.Inputs.{◌>>=◌, hive_in, asks_hive}
+use Rattle.command_parts.specs.Inputs.{hive_in, asks_hive}
 use Rattle.line_text.specs.declared.form.ReportForm.{ReportForm}
 use Rattle.salvage_file.specs.Salvage.{salvaged_as}
 use Rattle.salvage_text.specs.declared.reporting.Report.{Report}

@@ -9,7 +9,8 @@ use Rattle.nt_bytes.specs.Folding.{folds_same}
 use Rattle.nt_bytes.specs.declared.fault.HiveFault.{HiveFault}
 use Rattle.nt_bytes.specs.declared.fault.HiveFaultKind.{HiveFaultKind}
 use Rattle.nt_bytes.specs.declared.fault.HiveFaultKind.TheVariants.{FormShort, FormSign, FormName, FormKind, DoubleName, Shared}
-use Rattle.hive_model.specs.Forms.{◌>>=◌, bytes_in}
+use Rattle.nt_bytes.specs.Reading.{◌>>=◌}
+use Rattle.hive_model.specs.Forms.{bytes_in}
 use Rattle.hive_model.specs.Bins.{with_place}
 use Rattle.hive_model.specs.KeyNode.{KeyNode, key_node_at}
 use Rattle.hive_model.specs.KeyValue.{KeyValue, key_value_at, data_inside}

@@ -13,9 +13,9 @@ use Rattle.nt_bytes.specs.Fields.{u16_in}
 use Rattle.nt_bytes.specs.Folding.{folds_same}
 use Rattle.nt_bytes.specs.declared.fault.HiveFaultKind.{HiveFaultKind}
 use Rattle.nt_bytes.specs.declared.fault.HiveFaultKind.TheVariants.{Shared, FormShort, FormKind, DoubleName}
+use Rattle.nt_bytes.specs.Reading.{◌>>=◌}
 use Rattle.hive_model.specs.Base.{fault_at}
 use Rattle.hive_model.specs.Bins.{Cells}
-use Rattle.hive_model.specs.Forms.{◌>>=◌}
 use Rattle.hive_model.specs.Lists.{ListKind, Li, Lf, Lh, Ri, SubkeyList, numbers_in, list_of, list_at, offsets_in}
 use Rattle.hive_model.specs.Walk.{Check, reading, below_of, use_as, name_check, is_list_of_lists, leaf_at}
 use Rattle.hive_read.specs.Walked.{Seen, clashes as meets, walk}

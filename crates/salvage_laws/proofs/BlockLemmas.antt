@@ -7,8 +7,8 @@ use Rattle.nt_bytes.specs.Fields.{u32_in}
 use Rattle.nt_bytes.specs.declared.fault.HiveFault.{HiveFault}
 use Rattle.nt_bytes.specs.declared.fault.HiveFaultKind.TheVariants as kinds
 use Rattle.nt_bytes.specs.declared.version.HiveVersion.TheVariants.{V3, V5}
+use Rattle.nt_bytes.specs.Reading.{◌>>=◌}
 use Rattle.hive_model.specs.Base.{checksum_of, is_minor, version_of, fault_at, is_bins_size, base_checks, first_failing, fields_of, unless_fault, base_of}
-use Rattle.hive_model.specs.Forms.{◌>>=◌}
 use Rattle.hive_model.specs.Image.{Image, image_of}
 use Rattle.hive_model.specs.Recovery.{base_at, base_in}
 use Rattle.log_parts.specs.Filled.{filled}

@@ -5,9 +5,9 @@ use Rattle.std.proofs.lemmas.List.{length-replicate}
 use Rattle.std.proofs.Math.Seq.{take-append_seam, drop-append-add}
 use Rattle.nt_bytes.specs.declared.version.HiveVersion.{HiveVersion}
 use Rattle.nt_bytes.specs.declared.version.HiveVersion.TheVariants.{V3, V5}
+use Rattle.nt_bytes.specs.Reading.{◌>>=◌}
 use Rattle.hive_model.specs.Base.{Base, IsBase, is_bins_size, is_minor, version_of, base_text}
 use Rattle.hive_model.specs.Carries.{Carries}
-use Rattle.hive_model.specs.Forms.{◌>>=◌}
 use Rattle.hive_model.specs.Image.{Bytes, padded, sector_of, image_of}
 use Rattle.hive_model.specs.Load.{Loads, state_of}
 use Rattle.hive_model.specs.Packed.{packed, packed_bins}

@@ -6,7 +6,7 @@ use Rattle.std.proofs.lemmas.List.{length-append, length-drop, drop-drop, get_or
 use Rattle.nt_bytes.specs.Fields.{u32_in}
 use Rattle.nt_bytes.specs.declared.fault.HiveFault.{HiveFault}
 use Rattle.nt_bytes.specs.declared.fault.HiveFaultKind.{HiveFaultKind}
-use Rattle.hive_model.specs.Forms.{◌>>=◌}
+use Rattle.nt_bytes.specs.Reading.{◌>>=◌}
 use Rattle.hive_model.specs.Bins.{magnitude, size_at, header_at, with_place}
 use Rattle.hive_cells.proofs.Tools.{IsBytes, IsBytes-drop, word_at}
 use Rattle.hive_cells.proofs.Taken.{size_passed, header_taken}

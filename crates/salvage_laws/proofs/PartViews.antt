@@ -3,7 +3,7 @@ use Rattle.std.proofs.Common.{◌≡◌, ℕ, ◌+◌, Bool, true, false, cond, 
 use Rattle.std.specs.Prelude.{◌&&◌, is_some}
 use Rattle.nt_bytes.specs.declared.fault.HiveFaultKind.{HiveFaultKind}
 use Rattle.nt_bytes.specs.declared.fault.HiveFaultKind.TheVariants.{Shared}
-use Rattle.hive_model.specs.Forms.{◌>>=◌}
+use Rattle.nt_bytes.specs.Reading.{◌>>=◌}
 use Rattle.salvage_bins.specs.Ground.{Ground}
 use Rattle.salvage_walk.specs.declared.claims.Claim.{Claim}
 use Rattle.salvage_walk.specs.Uses.{claim_of, clashes, admitted, overlaps, claim_at, claimed}

@@ -8,8 +8,8 @@ use Rattle.std.proofs.lemmas.Bool.Decides.{nat_tests}
 use Rattle.std.proofs.lemmas.List.{length-append, length-replicate, length-drop, length-take, drop-drop, drop-take, take-take}
 use Rattle.nt_bytes.specs.declared.fault.HiveFault.{HiveFault}
 use Rattle.nt_bytes.specs.declared.fault.HiveFaultKind.TheVariants as kinds
+use Rattle.nt_bytes.specs.Reading.{◌>>=◌}
 use Rattle.hive_model.specs.Base.{Base, fault_at, fields_of, base_of, is_bins_size}
-use Rattle.hive_model.specs.Forms.{◌>>=◌}
 use Rattle.hive_model.specs.Image.{Image, image_of}
 use Rattle.hive_model.specs.Recovery.{Recovered, sector, bytes_or, read_bin, read_log, joined, gathered, recovered_with, bit, rank, bitmap_sectors, first_dirty, picked, by_bits, front_in, bitmap_in, closed_by, goes_with, by_logged, as_log_base, logged_in, by_log}
 use Rattle.hive_model.proofs.BaseLemmas.{base_checked}

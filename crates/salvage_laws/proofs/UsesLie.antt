@@ -4,7 +4,8 @@ use Rattle.std.specs.Prelude.{◌==◌, is_some}
 use Rattle.std.specs.List.{All}
 use Rattle.std.proofs.lemmas.List.Elements.{All-append, All-cons, All-nil}
 use Rattle.nt_bytes.specs.declared.fault.HiveFaultKind.{HiveFaultKind}
-use Rattle.hive_model.specs.Forms.{◌>>=◌, bytes_in}
+use Rattle.nt_bytes.specs.Reading.{◌>>=◌}
+use Rattle.hive_model.specs.Forms.{bytes_in}
 use Rattle.hive_model.specs.KeyNode.{KeyNode}
 use Rattle.hive_model.specs.KeyValue.{KeyValue, key_value_at, data_inside}
 use Rattle.hive_model.specs.Lists.{offsets_in}

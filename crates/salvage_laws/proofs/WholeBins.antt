@@ -5,7 +5,7 @@ use Rattle.std.proofs.lemmas.Bool.Decides.{nat_tests}
 use Rattle.std.proofs.lemmas.List.{drop_at, drop-drop, length-append, map-append}
 use Rattle.nt_bytes.specs.declared.fault.HiveFaultKind.{HiveFaultKind}
 use Rattle.nt_bytes.specs.declared.fault.HiveFault.{HiveFault}
-use Rattle.hive_model.specs.Forms.{◌>>=◌}
+use Rattle.nt_bytes.specs.Reading.{◌>>=◌}
 use Rattle.hive_model.specs.Bins.{Cell, Bin, cell_size, cells_size, bin_size, bins_size, head_bytes, cell_bytes, bin_bytes, spelled, IsCell, IsBin, IsBins, size_at, with_place, BinFails, BinsFault}
 use Rattle.hive_cells.specs.Reading.{cell_marks as marks_of_cell, bin_marks as marks_of_bin, marks as marks_of}
 use Rattle.hive_cells.proofs.Tools.{IsBytes, IsBytes-drop, length_cell, length_cells, length_head, length_bin, length_spelled}

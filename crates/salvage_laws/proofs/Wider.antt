@@ -7,9 +7,10 @@ use Rattle.std.proofs.lemmas.List.Folds.{find-append, list_any-append}
 use Rattle.nt_bytes.specs.Folding.{folds_same}
 use Rattle.nt_bytes.specs.declared.fault.HiveFault.{HiveFault}
 use Rattle.nt_bytes.specs.declared.fault.HiveFaultKind.{HiveFaultKind}
+use Rattle.nt_bytes.specs.Reading.{◌>>=◌}
 use Rattle.hive_model.specs.BigData.{BigData}
 use Rattle.hive_model.specs.Bins.{with_place}
-use Rattle.hive_model.specs.Forms.{◌>>=◌, bytes_in}
+use Rattle.hive_model.specs.Forms.{bytes_in}
 use Rattle.hive_model.specs.KeyValue.{KeyValue, key_value_at, data_inside}
 use Rattle.hive_model.specs.Lists.{offsets_in}
 use Rattle.hive_model.specs.Size.{segment_bytes, is_big, segment_part}

@@ -9,7 +9,8 @@ use Rattle.nt_bytes.specs.declared.fault.HiveFault.{HiveFault}
 use Rattle.nt_bytes.specs.declared.fault.HiveFaultKind.{HiveFaultKind}
 use Rattle.nt_bytes.specs.declared.fault.HiveFaultKind.TheVariants.{FormShort, Shared}
 use Rattle.nt_bytes.specs.Fields.{u32_in}
-use Rattle.hive_model.specs.Forms.{◌>>=◌, bytes_in}
+use Rattle.nt_bytes.specs.Reading.{◌>>=◌}
+use Rattle.hive_model.specs.Forms.{bytes_in}
 use Rattle.hive_model.specs.Lists.{numbers_in}
 use Rattle.hive_model.specs.Size.{segment_bytes}
 use Rattle.salvage_bins.specs.Ground.{Ground}

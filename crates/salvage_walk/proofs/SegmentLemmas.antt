@@ -7,9 +7,10 @@ use Rattle.nt_bytes.specs.declared.fault.HiveFaultKind.TheVariants.{FormShort, S
 use Rattle.nt_bytes.specs.declared.fault.ReadStop.{ReadStop}
 use Rattle.nt_bytes.specs.declared.fault.ReadStop.TheVariants as stops
 use Rattle.hive_model.specs.Bins.{with_place}
-use Rattle.hive_model.specs.Forms.{◌>>=◌, bytes_in}
+use Rattle.hive_model.specs.Forms.{bytes_in}
 use Rattle.hive_model.specs.Lists.{numbers_in}
 use Rattle.nt_bytes.specs.Fields.{u32_in}
+use Rattle.nt_bytes.specs.Reading.{◌>>=◌}
 use Rattle.hive_model.specs.Size.{segment_bytes, segment_part}
 use Rattle.salvage_bins.specs.Ground.{Ground}
 use Rattle.salvage_walk.specs.declared.claims.Claim.{Claim}

@@ -5,7 +5,7 @@ use Rattle.std.specs.List.{list_any}
 use Rattle.nt_bytes.specs.Folding.{folds_same}
 use Rattle.nt_bytes.specs.declared.fault.HiveFaultKind.{HiveFaultKind}
 use Rattle.nt_bytes.specs.declared.fault.HiveFaultKind.TheVariants.{DoubleName}
-use Rattle.hive_model.specs.Forms.{◌>>=◌}
+use Rattle.nt_bytes.specs.Reading.{◌>>=◌}
 use Rattle.hive_model.specs.KeyNode.{KeyNode, is_narrow_key}
 use Rattle.hive_model.specs.KeyValue.{KeyValue, key_value_at, is_narrow_value}
 use Rattle.hive_model.specs.BigData.{BigData}

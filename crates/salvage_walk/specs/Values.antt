@@ -1,7 +1,8 @@
 -- A value with its data (forms: regf format 1.3 and 1.5, key value, big data; the order of checks is this project's own).
 use Rattle.std.specs.Prelude.{ℕ, ◌-◌, false, if◌then◌else◌, List, [], ◌∷◌, ◌++◌, Option, Some, None, Result, Ok}
 use Rattle.nt_bytes.specs.declared.fault.HiveFault.{HiveFault}
-use Rattle.hive_model.specs.Forms.{◌>>=◌, bytes_in}
+use Rattle.nt_bytes.specs.Reading.{◌>>=◌}
+use Rattle.hive_model.specs.Forms.{bytes_in}
 use Rattle.hive_model.specs.Bins.{with_place}
 use Rattle.hive_model.specs.KeyValue.{KeyValue, data_inside}
 use Rattle.hive_model.specs.Lists.{offsets_in}

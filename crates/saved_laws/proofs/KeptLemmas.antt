@@ -5,6 +5,7 @@ use Rattle.std.proofs.Common.{◌≡◌, ◌<◌, ◌≤◌, ◌+◌, ◌-◌, �
 use Rattle.std.proofs.lemmas.Bool.{leb-true}
 use Rattle.nt_bytes.specs.declared.fault.HiveFault.{HiveFault}
 use Rattle.nt_bytes.specs.declared.fault.HiveFaultKind.TheVariants as kinds
+use Rattle.nt_bytes.specs.Reading.{◌>>=◌}
 use Rattle.hive_model.specs.Base.{Base, base_of, fault_at, is_bins_size}
 use Rattle.hive_model.specs.Image.{Image, Primary, Log, Content, Bytes, Unreadable}
 use Rattle.hive_model.specs.Load.{Loads}
@@ -12,7 +13,6 @@ use Rattle.hive_model.specs.Recovery.{Recovered, Sectors, primary_in, log_in, by
 use Rattle.hive_model.specs.State.{HiveState}
 use Rattle.hive_model.proofs.BaseLemmas.{base_in_checked, logged_in_checked}
 use Rattle.saved_laws.specs.Saved.{HasUntornBlock, KeepsSectors}
-use Rattle.hive_model.specs.Forms.{◌>>=◌}
 
 -- ---- answers that stay
 

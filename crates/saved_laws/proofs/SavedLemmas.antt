@@ -3,6 +3,7 @@ use Rattle.std.specs.Prelude.{nat_lt}
 use Rattle.std.proofs.Common.{◌≡◌, ◌⊎◌, ◌<◌, ◌-◌, ◌*◌, ℕ, Bool, false, cond, List, ◌++◌, length, take, drop, replicate, Some, None, Ok, Err, refl, sym, ◌∙◌, ap, subst, ⊎_elim, arith, append-nil, length-take, length-drop}
 use Rattle.std.proofs.lemmas.Bool.{lt-ltb, cases_lt}
 use Rattle.nt_bytes.specs.declared.fault.HiveFaultKind.TheVariants.{NotRegf}
+use Rattle.nt_bytes.specs.Reading.{◌>>=◌}
 use Rattle.hive_model.specs.Image.{Image, File, Primary, Log, Bytes, Unreadable, Write, padded, sector_of, image_of, bytes_of, IsFileOf, IsCrashImage}
 use Rattle.hive_model.specs.Asked.{primary_at}
 use Rattle.hive_model.specs.Base.{base_of, fault_at}
@@ -15,7 +16,6 @@ use Rattle.nt_edge.specs.Disk.{DiskState}
 use Rattle.nt_edge.proofs.Images.{still_crash}
 use Rattle.saved_laws.specs.Saved.{HasUntornBlock, KeepsSectors, LoadsWithin}
 use Rattle.saved_laws.proofs.KeptLemmas.{load_stays, clean_load_stays}
-use Rattle.hive_model.specs.Forms.{◌>>=◌}
 
 pub filled : (bytes : List ℕ) → length bytes ≡ 512 → padded bytes ≡ bytes
 filled bytes long = ap (λ n. bytes ++ replicate (512 - n) 0) long ∙ append-nil bytes

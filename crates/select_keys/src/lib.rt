@@ -15,7 +15,7 @@ mod stop;
 mod taken;
 
 pub use name::{set_name, set_path};
-pub use numbers::{CURRENT, DEFAULT, FAILED, GOOD, SelectNumbers, read_select};
+pub use numbers::{SelectNumbers, read_select};
 pub use plan::{SetPlan, plan_begin, plan_save};
 pub use sets::{select_numbers, set_of};
 pub use steps::select_path;

@@ -5,10 +5,8 @@ ghost use Rattle.start_model.specs.Sets.{set_name};
 ghost use Rattle.select_keys.specs.Names.{IsNumberOf, AreDigitsOf, IsDigitOf};
 
 use nt_bytes::{Names, Units, same_folded};
+use startup_names::CONTROL_SET;
 use std::alloc::{AllocError, Global};
-
-/// `ControlSet`.
-const CONTROL_SET: [u16; 10] = [0x43, 0x6f, 0x6e, 0x74, 0x72, 0x6f, 0x6c, 0x53, 0x65, 0x74];
 
 /// `0`.
 const ZERO: u16 = 0x30;

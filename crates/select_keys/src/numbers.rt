@@ -6,6 +6,7 @@ ghost use Rattle.start_model.specs.Sets.{select_number, numbers_in, four_of, has
 ghost use Rattle.select_keys.specs.Plans.{gives_up};
 
 use reg_tree::Key;
+use startup_names::{CURRENT, DEFAULT, FAILED, LAST_KNOWN_GOOD};
 use std::marker::Model;
 
 /// The numbers of the sets that `Select` names, each 0 where it names none.
@@ -31,23 +32,6 @@ impl Model for SelectNumbers {
     ghost inverse = { λ n. record { current = n.current; default = n.default; failed = n.failed; good = n.good } };
 }
 
-/// `Select`.
-pub(crate) const SELECT: [u16; 6] = [0x53, 0x65, 0x6c, 0x65, 0x63, 0x74];
-
-/// `Current`, the name of a number of `Select`.
-pub const CURRENT: [u16; 7] = [0x43, 0x75, 0x72, 0x72, 0x65, 0x6e, 0x74];
-
-/// `Default`, the name of a number of `Select`.
-pub const DEFAULT: [u16; 7] = [0x44, 0x65, 0x66, 0x61, 0x75, 0x6c, 0x74];
-
-/// `Failed`, the name of a number of `Select`.
-pub const FAILED: [u16; 6] = [0x46, 0x61, 0x69, 0x6c, 0x65, 0x64];
-
-/// `LastKnownGood`, the name of a number of `Select`.
-pub const GOOD: [u16; 13] = [
-    0x4c, 0x61, 0x73, 0x74, 0x4b, 0x6e, 0x6f, 0x77, 0x6e, 0x47, 0x6f, 0x6f, 0x64,
-];
-
 /// The numbers in the key `Select`. Each is 0 where it is absent or no DWORD, or where there is no such key.
 pub fn read_select(select: Option<&Key>) -> SelectNumbers
     ensures { result ≡ numbers_in (option_copied select.entry) }
@@ -56,7 +40,7 @@ pub fn read_select(select: Option<&Key>) -> SelectNumbers
         current: number_in(&CURRENT, select),
         default: number_in(&DEFAULT, select),
         failed: number_in(&FAILED, select),
-        good: number_in(&GOOD, select),
+        good: number_in(&LAST_KNOWN_GOOD, select),
     }
 }
 

@@ -7,8 +7,9 @@ ghost use Rattle.start_model.specs.Sets.{select_numbers_of};
 ghost use Rattle.select_keys.specs.Sets.{usable_set};
 
 use crate::name::set_units;
-use crate::numbers::{SELECT, SelectNumbers, read_select};
+use crate::numbers::{SelectNumbers, read_select};
 use reg_tree::Key;
+use startup_names::SELECT;
 
 /// The four numbers of the tree's key `Select`, each 0 where it is absent or no DWORD.
 pub fn select_numbers(root: &Key) -> SelectNumbers

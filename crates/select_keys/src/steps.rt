@@ -4,9 +4,10 @@ ghost use Rattle.std.specs.Prelude.{◌≡◌, ◌∷◌, [], ◌++◌, codes, m
 ghost use Rattle.reg_tree.specs.Makes.{step_of};
 ghost use Rattle.start_model.specs.Sets.{written, writes_of};
 
-use crate::numbers::{CURRENT, DEFAULT, FAILED, GOOD, SELECT, SelectNumbers};
+use crate::numbers::SelectNumbers;
 use nt_bytes::{Bytes, Names, Units};
 use reg_tree::{Steps, TreeStep};
+use startup_names::{CURRENT, DEFAULT, FAILED, LAST_KNOWN_GOOD, SELECT};
 use std::alloc::{AllocError, Global};
 
 /// The type of a number of 32 bits.
@@ -24,7 +25,7 @@ pub(crate) fn write_numbers(
     write_number(alloc, &CURRENT, old.current, new.current, steps)?;
     write_number(alloc, &DEFAULT, old.default, new.default, steps)?;
     write_number(alloc, &FAILED, old.failed, new.failed, steps)?;
-    write_number(alloc, &GOOD, old.good, new.good, steps)
+    write_number(alloc, &LAST_KNOWN_GOOD, old.good, new.good, steps)
 }
 
 /// Puts the step after that writes a number, if it differs from the old one.

@@ -18,19 +18,9 @@ use group_order::read_orders;
 use nt_bytes::Units;
 use reg_tree::Key;
 use select_keys::{SelectNumbers, select_numbers, set_of};
+use startup_names::{CURRENT_CONTROL_SET, SERVICES, START, TYPE};
 use std::alloc::{AllocError, Global};
 use std::marker::Model;
-
-const SERVICES: [u16; 8] = [0x53, 0x65, 0x72, 0x76, 0x69, 0x63, 0x65, 0x73];
-
-const CURRENT_CONTROL_SET: [u16; 17] = [
-    0x43, 0x75, 0x72, 0x72, 0x65, 0x6e, 0x74, 0x43, 0x6f, 0x6e, 0x74, 0x72, 0x6f, 0x6c, 0x53, 0x65,
-    0x74,
-];
-
-const START: [u16; 5] = [0x53, 0x74, 0x61, 0x72, 0x74];
-
-const TYPE: [u16; 4] = [0x54, 0x79, 0x70, 0x65];
 
 /// The lines of a check, and how many of them tell of something suspicious.
 #[derive(Drop)]

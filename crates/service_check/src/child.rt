@@ -13,18 +13,9 @@ use group_order::{GroupOrder, Orders};
 use nt_bytes::Units;
 use reg_tree::Key;
 use service_entries::Entry;
+use startup_names::{ERROR_CONTROL, IMAGE_PATH, START, TYPE};
 use std::alloc::{AllocError, Global};
 use std::marker::Model;
-
-const START: [u16; 5] = [0x53, 0x74, 0x61, 0x72, 0x74];
-
-const TYPE: [u16; 4] = [0x54, 0x79, 0x70, 0x65];
-
-const ERROR_CONTROL: [u16; 12] = [
-    0x45, 0x72, 0x72, 0x6f, 0x72, 0x43, 0x6f, 0x6e, 0x74, 0x72, 0x6f, 0x6c,
-];
-
-const IMAGE_PATH: [u16; 9] = [0x49, 0x6d, 0x61, 0x67, 0x65, 0x50, 0x61, 0x74, 0x68];
 
 /// What a child is judged by.
 #[derive(Drop)]

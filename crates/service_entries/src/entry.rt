@@ -7,6 +7,7 @@ ghost use Rattle.std.specs.Option.{option_copied};
 
 use nt_bytes::{Names, Row, Units};
 use reg_tree::Key;
+use startup_names::{DEPEND_ON_GROUP, DEPEND_ON_SERVICE, ERROR_CONTROL, GROUP, START, TAG, TYPE};
 use std::alloc::{AllocError, Global};
 use std::marker::Model;
 
@@ -50,26 +51,6 @@ impl Model for Entry {
       groups = a.groups;
     } };
 }
-
-const START: [u16; 5] = [0x53, 0x74, 0x61, 0x72, 0x74];
-
-const TYPE: [u16; 4] = [0x54, 0x79, 0x70, 0x65];
-
-const ERROR_CONTROL: [u16; 12] = [
-    0x45, 0x72, 0x72, 0x6f, 0x72, 0x43, 0x6f, 0x6e, 0x74, 0x72, 0x6f, 0x6c,
-];
-
-const GROUP: [u16; 5] = [0x47, 0x72, 0x6f, 0x75, 0x70];
-
-const TAG: [u16; 3] = [0x54, 0x61, 0x67];
-
-const DEPEND_ON_SERVICE: [u16; 15] = [
-    0x44, 0x65, 0x70, 0x65, 0x6e, 0x64, 0x4f, 0x6e, 0x53, 0x65, 0x72, 0x76, 0x69, 0x63, 0x65,
-];
-
-const DEPEND_ON_GROUP: [u16; 13] = [
-    0x44, 0x65, 0x70, 0x65, 0x6e, 0x64, 0x4f, 0x6e, 0x47, 0x72, 0x6f, 0x75, 0x70,
-];
 
 /// The entry that a child of `Services` is, or none where `Start` or `Type` is no DWORD.
 pub(crate) fn read_entry(alloc: Global, key: &Key) -> Result<Option<Entry>, AllocError>

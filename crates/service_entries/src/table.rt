@@ -14,6 +14,7 @@ use indexmap::IndexMap;
 use name_places::folded;
 use nt_bytes::Units;
 use reg_tree::Key;
+use startup_names::SERVICES;
 use std::alloc::{AllocError, Global};
 use std::marker::Model;
 
@@ -107,8 +108,6 @@ impl ServiceTable {
         Ok(Entries::from_vec(entries))
     }
 }
-
-const SERVICES: [u16; 8] = [0x53, 0x65, 0x72, 0x76, 0x69, 0x63, 0x65, 0x73];
 
 /// The entries of a control set.
 pub fn entries(alloc: Global, set: &Key) -> Result<ServiceTable, AllocError>

@@ -3,6 +3,7 @@
 -- The system's path, without a reading; the script, absent or without a reading, where one is named; boot.ini, absent, too long or with too
 -- many entries; the hive, absent; its log, absent. What is in hive and log is judged after all of them.
 use Rattle.std.specs.Prelude.{ℕ, false, List, [], ◌∷◌, Option, Some, None, Result, Ok, Err, option_map}
+use Rattle.nt_bytes.specs.Reading.{◌>>=◌ as ok_then}
 use Rattle.nt_edge.specs.Host.{Files, HostState}
 use Rattle.arc_path.specs.Reading.{arc_of}
 use Rattle.boot_script.specs.declared.event.Event.{Event}
@@ -13,7 +14,7 @@ use Rattle.command_words.specs.Words.{Text}
 use Rattle.command_parts.specs.declared.refusal.Refusal.{Refusal}
 use Rattle.command_parts.specs.declared.refusal.Refusal.TheVariants.{ScriptFault as BadScript}
 use Rattle.command_parts.specs.declared.refusal.Obstacle.{Obstacle}
-use Rattle.command_parts.specs.Inputs.{◌>>=◌ as ok_then, system_in}
+use Rattle.command_parts.specs.Inputs.{system_in}
 use Rattle.input_search.specs.Search.{Search, ◌>>=◌, reads, finds, file, boot_files, AsksFor}
 use Rattle.start_inputs.specs.declared.inputs.StartFiles.{StartFiles}
 use Rattle.start_inputs.specs.declared.inputs.StartInputs.{StartInputs}

@@ -7,6 +7,7 @@ use Rattle.std.specs.Int.{w32, to_le_bytes}
 use Rattle.std.proofs.lemmas.Bool.{false≢true, le-ltb, or_left, or_right}
 use Rattle.std.proofs.lemmas.Bool.Decides.{nat_tests}
 use Rattle.nt_bytes.specs.declared.version.HiveVersion.{HiveVersion}
+use Rattle.nt_bytes.specs.Reading.{◌>>=◌}
 use Rattle.hive_model.specs.Tree.{Tree, children, is_named, find_key}
 use Rattle.hive_model.specs.Size.{bulk_of}
 use Rattle.hive_model.specs.Valid.{levels}
@@ -18,7 +19,6 @@ use Rattle.start_laws.proofs.StepLemmas.{select_key, set_found, KeepsOthers, wit
 use Rattle.start_laws.proofs.PlanLemmas.{deletions, retired}
 use Rattle.start_laws.proofs.BeginLemmas.{BeginCase, guarded, plain, begin_case, some_tree}
 use Rattle.start_laws.proofs.SaveLemmas.{save_case}
-use Rattle.hive_model.specs.Forms.{◌>>=◌}
 
 -- ---- results
 

@@ -7,6 +7,7 @@ use Rattle.std.proofs.lemmas.Bool.{false≢true}
 use Rattle.std.proofs.lemmas.Nat.{from_le_bytes-to_le_bytes_4}
 use Rattle.nt_bytes.specs.Folding.{folds_same}
 use Rattle.nt_bytes.specs.declared.version.HiveVersion.{HiveVersion}
+use Rattle.nt_bytes.specs.Reading.{◌>>=◌}
 use Rattle.hive_model.specs.Tree.{Item, Tree, key, trees, listed, head, children, is_named, is_item, find_key, dword_in}
 use Rattle.hive_model.specs.Size.{bulk_of}
 use Rattle.hive_model.specs.Valid.{levels}
@@ -14,7 +15,6 @@ use Rattle.hive_model.specs.Edit.{Step, set_value, delete_key, copy_child, add_c
 use Rattle.start_model.specs.Sets.{set_name, set_of, select_number, stepped}
 use Rattle.start_laws.proofs.NameLemmas.{apart, other_number, select_is_no_set, no_set_is_select, folds_itself}
 use Rattle.start_laws.proofs.FindLemmas.{find-at_first_other, find-at_first, find-without_first, find-placed_other, find-placed, find-push_other, find-push}
-use Rattle.hive_model.specs.Forms.{◌>>=◌}
 
 -- ---- results
 

@@ -3,6 +3,7 @@
 -- The system's path, without a reading; the script, absent or without a reading; boot.ini, absent, too long or with too many entries; the
 -- hive, absent; its log, absent. What is in hive and log is judged after all of them.
 use Rattle.std.specs.Prelude.{ℕ, Option, Result, Ok, Err, option_map}
+use Rattle.nt_bytes.specs.Reading.{◌>>=◌ as ok_then}
 use Rattle.nt_edge.specs.Host.{Files}
 use Rattle.arc_path.specs.Reading.{arc_of}
 use Rattle.sweep_script.specs.declared.reading.SweepScript.{SweepScript}
@@ -12,7 +13,7 @@ use Rattle.sweep_script.specs.Sweep.{sweep_of}
 use Rattle.command_words.specs.Words.{Text}
 use Rattle.command_parts.specs.declared.refusal.Refusal.{Refusal}
 use Rattle.command_parts.specs.declared.refusal.Refusal.TheVariants.{NoSweep, ScriptFault as BadScript}
-use Rattle.command_parts.specs.Inputs.{◌>>=◌ as ok_then, system_in}
+use Rattle.command_parts.specs.Inputs.{system_in}
 use Rattle.input_search.specs.Search.{Search, ◌>>=◌, reads, finds, file, boot_files}
 use Rattle.sweep_inputs.specs.declared.inputs.SweepFiles.{SweepFiles}
 use Rattle.sweep_inputs.specs.declared.inputs.SweepInputs.{SweepInputs}

@@ -7,9 +7,9 @@ use Rattle.std.specs.Prelude.{codes, nat_eq}
 use Rattle.std.specs.List.{starts_with}
 use Rattle.nt_bytes.specs.Fields.{u32_in}
 use Rattle.nt_bytes.specs.declared.fault.HiveFault.{HiveFault}
+use Rattle.nt_bytes.specs.Reading.{◌>>=◌}
 use Rattle.hive_model.specs.Base.{Base, base_of}
 use Rattle.hive_model.specs.Carries.{HasLog}
-use Rattle.hive_model.specs.Forms.{◌>>=◌}
 use Rattle.hive_model.specs.Image.{Image, Log, Content, Bytes, Unreadable, bytes_of, IsFileOf}
 use Rattle.hive_model.specs.Log.{log_of}
 use Rattle.hive_model.specs.Recovery.{log_in, sector, bytes_or, read_log, joined, gathered, bit, bitmap_sectors, front_in, as_log_base}

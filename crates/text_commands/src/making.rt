@@ -19,7 +19,8 @@ use import_steps::{SetSteps, left_steps, set_steps};
 use nt_bytes::Names;
 use nt_edge::Disk;
 use reg_tree::{EditStop, Key, Steps};
-use select_keys::{DEFAULT, select_path, set_path};
+use select_keys::{select_path, set_path};
+use startup_names::DEFAULT;
 use std::alloc::{AllocError, Global};
 
 /// Commits the hive, where an edit gave another tree.

@@ -12,11 +12,11 @@ use Rattle.std.proofs.lemmas.Fmt.{digits_is_IsNumeral}
 use Rattle.std.proofs.lemmas.List.{append-nil}
 use Rattle.std.proofs.lemmas.Nat.{le_bytes_4}
 use Rattle.nt_bytes.specs.Text.{wide_of, is_zero, sz_of}
+use Rattle.nt_bytes.specs.Reading.{◌>>=◌}
 use Rattle.reg_text.specs.declared.stop.RegFaultKind.{RegFaultKind}
 use Rattle.reg_text.specs.declared.stop.RegFaultKind.TheVariants.{Line}
 use Rattle.reg_text.specs.declared.item.LineItem.TheVariants.{Named, GoesOn}
 use Rattle.reg_text.specs.Digits.{is_hex, byte_of, with_bytes, pairs_of, bytes_of}
-use Rattle.reg_text.specs.Gives.{◌>>=◌}
 use Rattle.reg_text.specs.Items.{ends_in, front, continued, comma_ended, string_bytes, string_ended, string_item, dword_item, bytes_item, kind_ended, kind_in, kind_at, hex_item, number_item, data_item}
 use Rattle.reg_text.specs.Quotes.{with_units, quoted_from}
 use Rattle.reg_text.specs.Writing.{quoted_unit, quoted, byte_digits, bytes_text, number_digits, is_line_end, breaks, is_dword, is_string, binary_text, data_text}

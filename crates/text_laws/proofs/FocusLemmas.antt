@@ -2,11 +2,11 @@
 use Rattle.std.proofs.Common.{◌≡◌, ℕ, Bool, true, false, cond, List, [], ◌∷◌, ◌++◌, Option, Some, None, Result, Ok, Err, refl, sym, ◌∙◌, ap}
 use Rattle.std.specs.Prelude.{find, option_and_then}
 use Rattle.nt_bytes.specs.Folding.{folds_same}
+use Rattle.nt_bytes.specs.Reading.{◌>>=◌}
 use Rattle.hive_model.specs.Edit.{Step, Refusal, at_first, of_children, at_key, unless, after_step, after_steps}
 use Rattle.hive_model.specs.Tree.{Tree, Trees, key, none, more, trees, listed, head, children, is_named, find_key}
 use Rattle.std.proofs.lemmas.Option.{same_Some}
 use Rattle.reg_tree.proofs.Trees.{listed_trees}
-use Rattle.hive_model.specs.Forms.{◌>>=◌}
 
 pub trees_listed : (ts : Trees) → trees (listed ts) ≡ ts
 trees_listed none = refl

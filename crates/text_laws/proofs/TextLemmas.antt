@@ -8,6 +8,7 @@ use Rattle.std.proofs.lemmas.List.{append-nil}
 use Rattle.std.proofs.lemmas.List.Elements.{All-nil, All-cons}
 use Rattle.std.proofs.lemmas.List.Splits.{slice_split_at, slice_split_none}
 use Rattle.nt_bytes.specs.Text.{trimmed, is_backslash}
+use Rattle.nt_bytes.specs.Reading.{◌>>=◌}
 use Rattle.hive_model.specs.Edit.{Step, set_value}
 use Rattle.hive_model.specs.Tree.{Item, Tree, Trees, key, none, more, head}
 use Rattle.reg_text.specs.declared.stop.RegFaultKind.{RegFaultKind}
@@ -17,7 +18,6 @@ use Rattle.reg_text.specs.declared.item.LineItem.{LineItem}
 use Rattle.reg_text.specs.declared.item.LineItem.TheVariants.{Nothing, InKey, Named}
 use Rattle.reg_text.specs.declared.item.Begun.{Begun}
 use Rattle.reg_text.specs.declared.state.State.{State}
-use Rattle.reg_text.specs.Gives.{◌>>=◌}
 use Rattle.reg_text.specs.Items.{ends_in, front, parts_behind, path_at, bracketed, key_item, named, name_at, data_item, value_item, fresh_item, item_at}
 use Rattle.reg_text.specs.Quotes.{quoted_from}
 use Rattle.reg_text.specs.Reading.{making, edits_of, state_after, line_said, with_edits, lines_said, first_state, body_of, closed, unended, lines_behind, units_said, behind_mark, reg_steps_of}

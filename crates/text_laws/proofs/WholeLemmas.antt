@@ -3,6 +3,7 @@ use Rattle.std.specs.Prelude.{nat_lt}
 use Rattle.std.proofs.Common.{◌≡◌, ℕ, Bool, true, false, cond, List, Result, Ok, Err, refl, sym, ◌∙◌, ap, subst}
 use Rattle.std.specs.List.{All}
 use Rattle.nt_bytes.specs.declared.version.HiveVersion.{HiveVersion}
+use Rattle.nt_bytes.specs.Reading.{◌>>=◌}
 use Rattle.hive_model.specs.Edit.{Step, Refusal, full, most_bulk, after_steps, edited}
 use Rattle.hive_model.specs.Size.{bulk_of}
 use Rattle.hive_model.specs.Tree.{Tree}
@@ -13,7 +14,6 @@ use Rattle.text_laws.specs.Back.{key_steps, IsPart, IsTextual, IsOrdered, IsFree
 use Rattle.text_laws.proofs.FocusLemmas.{done, ok_one}
 use Rattle.text_laws.proofs.BuildLemmas.{has_back}
 use Rattle.text_laws.proofs.TextLemmas.{read_back}
-use Rattle.hive_model.specs.Forms.{◌>>=◌}
 
 -- edits that are made are not refused one by one
 made_steps : (version : HiveVersion) (root made : Tree) (steps : List Step) → edited version root steps ≡ Ok made

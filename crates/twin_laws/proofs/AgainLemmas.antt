@@ -4,6 +4,7 @@ use Rattle.std.proofs.Common.{◌≡◌, inl, ◌<◌, ◌≤◌, ◌+◌, ◌*�
 use Rattle.std.proofs.lemmas.Bool.{lt-ltb, eqb-true, eq-eqb, cases_lt, and_parts, false≢true}
 use Rattle.nt_bytes.specs.declared.fault.HiveFault.{HiveFault}
 use Rattle.nt_bytes.specs.declared.fault.HiveFaultKind.TheVariants.{LogAbsent, LogUnreadable, LogSequence, NotRegf}
+use Rattle.nt_bytes.specs.Reading.{◌>>=◌}
 use Rattle.hive_model.specs.Asked.{primary_at}
 use Rattle.hive_model.specs.Base.{Base, base_of, fault_at}
 use Rattle.hive_model.specs.Image.{Image, File, Primary, Log, Content, Bytes, Unreadable, padded, sector_of, image_of, bytes_of, IsFileOf}
@@ -22,7 +23,6 @@ use Rattle.hive_alt.proofs.TwinLemmas.{by_fault, by_clean, by_unfinished, has_sa
 use Rattle.command_words.specs.declared.asked.AskedScheme.{AskedScheme}
 use Rattle.command_words.specs.declared.asked.AskedScheme.TheVariants as schemes
 use Rattle.twin_command.specs.Twinned.{stands_by}
-use Rattle.hive_model.specs.Forms.{◌>>=◌}
 
 -- ---- the sectors of a file
 

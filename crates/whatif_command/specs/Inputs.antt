@@ -2,11 +2,12 @@
 --
 -- The system's path, without a reading; boot.ini, absent, too long or with too many entries; the hive, absent; its log, absent.
 use Rattle.std.specs.Prelude.{ℕ, Result, Ok}
+use Rattle.nt_bytes.specs.Reading.{◌>>=◌ as ok_then}
 use Rattle.nt_edge.specs.Host.{Files}
 use Rattle.arc_path.specs.Reading.{arc_of}
 use Rattle.command_words.specs.Words.{WhatifAsked}
 use Rattle.command_parts.specs.declared.refusal.Refusal.{Refusal}
-use Rattle.command_parts.specs.Inputs.{◌>>=◌ as ok_then, system_in}
+use Rattle.command_parts.specs.Inputs.{system_in}
 use Rattle.input_search.specs.Search.{Search, ◌>>=◌, reads, finds, boot_files}
 use Rattle.whatif_command.specs.declared.inputs.WhatifInputs.{WhatifInputs}
 

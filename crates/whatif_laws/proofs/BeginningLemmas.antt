@@ -7,7 +7,7 @@ use Rattle.std.specs.Int.{w32, to_le_bytes}
 use Rattle.std.proofs.lemmas.Bool.{ltb-false, le-ltb}
 use Rattle.nt_bytes.specs.Folding.{folds_same}
 use Rattle.nt_bytes.specs.declared.version.HiveVersion.{HiveVersion}
-use Rattle.hive_model.specs.Forms.{◌>>=◌}
+use Rattle.nt_bytes.specs.Reading.{◌>>=◌}
 use Rattle.hive_model.specs.Tree.{Tree, children, is_named, find_key}
 use Rattle.hive_model.specs.Size.{bulk_of}
 use Rattle.hive_model.specs.Edit.{Step, set_value, delete_key, copy_child, Refusal, no_key, exists, name_too_long, data_too_long, full, unless, at_first, without_first, of_items, of_children, with_item, has_child, with_child, name_tests, after_step, after_steps, most_bulk, edited}

@@ -10,18 +10,11 @@ ghost use Rattle.why_answer.specs.Answer.{lines_with, key_lines, named_lines, un
 use nt_bytes::{Names, Units};
 use reg_tree::Key;
 use service_entries::Entry;
+use startup_names::{ERROR_CONTROL, START, TYPE};
 use std::alloc::{AllocError, Global};
 use why_lines::{WhyLine, WhyLines};
 use why_place::entry_line;
 use why_state::{ViewedRun, key_named, state_of};
-
-const START: [u16; 5] = [0x53, 0x74, 0x61, 0x72, 0x74];
-
-const TYPE: [u16; 4] = [0x54, 0x79, 0x70, 0x65];
-
-const ERROR_CONTROL: [u16; 12] = [
-    0x45, 0x72, 0x72, 0x6f, 0x72, 0x43, 0x6f, 0x6e, 0x74, 0x72, 0x6f, 0x6c,
-];
 
 /// A name as the set has it, else as it is.
 fn spelled(alloc: Global, set: &Key, name: &[u16]) -> Result<Units, AllocError>

@@ -16,16 +16,8 @@ use name_places::NamePlaces;
 use nt_bytes::Names;
 use reg_tree::Key;
 use service_entries::{Entry, entries};
+use startup_names::{CONTROL, LIST, SERVICE_GROUP_ORDER};
 use std::alloc::{AllocError, Global};
-
-const CONTROL: [u16; 7] = [0x43, 0x6f, 0x6e, 0x74, 0x72, 0x6f, 0x6c];
-
-const SERVICE_GROUP_ORDER: [u16; 17] = [
-    0x53, 0x65, 0x72, 0x76, 0x69, 0x63, 0x65, 0x47, 0x72, 0x6f, 0x75, 0x70, 0x4f, 0x72, 0x64, 0x65,
-    0x72,
-];
-
-const LIST: [u16; 4] = [0x4c, 0x69, 0x73, 0x74];
 
 /// What decides the order of a set's entries in a phase.
 #[derive(Drop)]

@@ -6,13 +6,8 @@ ghost use Rattle.start_model.specs.Entries.{is_driver, is_service};
 ghost use Rattle.why_state.specs.States.{reason_at, reason_with, reason_in, key_named, reason_of};
 
 use reg_tree::Key;
+use startup_names::{SERVICES, START, TYPE};
 use why_lines::Reason;
-
-const SERVICES: [u16; 8] = [0x53, 0x65, 0x72, 0x76, 0x69, 0x63, 0x65, 0x73];
-
-const START: [u16; 5] = [0x53, 0x74, 0x61, 0x72, 0x74];
-
-const TYPE: [u16; 4] = [0x54, 0x79, 0x70, 0x65];
 
 /// Whether this Type is that of a driver.
 pub(crate) fn is_driver(kind: u32) -> bool

@@ -1,5 +1,5 @@
 use Rattle.std.proofs.Common.{◌≡◌, ◌+◌, ◌*◌, ◌++◌, List, length, Ok}
-use Rattle.hive_model.specs.Forms.{◌>>=◌}
+use Rattle.nt_bytes.specs.Reading.{◌>>=◌}
 use Rattle.hive_model.specs.Tree.{Tree}
 use Rattle.hive_cells.specs.Sources.{cells_of}
 use Rattle.hive_levels.specs.Reading.{cut_at, in_turn}

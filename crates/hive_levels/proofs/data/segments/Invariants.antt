@@ -1,5 +1,5 @@
 use Rattle.std.proofs.Common.{◌≡◌, ◌++◌, ℕ, List, length, Ok}
-use Rattle.hive_model.specs.Forms.{◌>>=◌}
+use Rattle.nt_bytes.specs.Reading.{◌>>=◌}
 use Rattle.hive_model.specs.Stands.{joined_segments}
 use Rattle.hive_cells.specs.Sources.{cells_of}
 use Rattle.hive_levels.proofs.data.segments.Given as goal

@@ -3,6 +3,7 @@ use Rattle.std.specs.Prelude.{nat_eq, codes}
 use Rattle.std.specs.List.{starts_with}
 use Rattle.nt_bytes.specs.declared.fault.HiveFault.{HiveFault}
 use Rattle.nt_bytes.specs.declared.fault.HiveFaultKind.TheVariants.{LogDirt}
+use Rattle.nt_bytes.specs.Reading.{◌>>=◌}
 use Rattle.hive_model.specs.Asked.{log_at}
 use Rattle.hive_model.specs.Base.{fault_at}
 use Rattle.hive_model.specs.Recovery.{read_log, front_in}
@@ -15,7 +16,6 @@ use Rattle.hive_log.proofs.SoFar.{fault_on}
 use Rattle.hive_log.proofs.blocks.read_bitmap_front.Given.{Over}
 use Rattle.hive_log.proofs.blocks.read_bitmap_front.Goals as goal
 use Rattle.hive_log.proofs.blocks.read_bitmap_front.Goals.{After-read_log_sector, After-starts_with}
-use Rattle.hive_model.specs.Forms.{◌>>=◌}
 
 -- the sector, once it has its signature
 abbrev signed : Result (List ℕ) HiveFault → Result (List ℕ) HiveFault

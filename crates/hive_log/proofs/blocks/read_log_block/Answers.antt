@@ -1,6 +1,7 @@
 use Rattle.std.proofs.Common.{◌≡◌, true, Ok, Err, List, ℕ, Result, sym, ◌∙◌, ap}
 use Rattle.nt_bytes.specs.declared.fault.HiveFault.{HiveFault}
 use Rattle.nt_bytes.specs.declared.fault.HiveFaultKind.TheVariants.{LogAbsent, LogUnreadable}
+use Rattle.nt_bytes.specs.Reading.{◌>>=◌}
 use Rattle.hive_model.specs.Asked.{log_at}
 use Rattle.hive_model.specs.Base.{Base, base_of, fault_at}
 use Rattle.hive_model.specs.Recovery.{logged_in, as_log_base, bytes_or}
@@ -14,7 +15,6 @@ use Rattle.hive_model.proofs.BaseLemmas.{base_checked, log_base_back}
 use Rattle.hive_log.proofs.blocks.read_log_block.Given.{Over}
 use Rattle.hive_log.proofs.blocks.read_log_block.Goals as goal
 use Rattle.hive_log.proofs.blocks.read_log_block.Goals.{After-read_sector, After-read_logged}
-use Rattle.hive_model.specs.Forms.{◌>>=◌}
 
 -- the base block of the sector
 abbrev block_of : Result (List ℕ) HiveFault → Result Base HiveFault

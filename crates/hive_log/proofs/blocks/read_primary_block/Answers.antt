@@ -1,5 +1,6 @@
 use Rattle.std.proofs.Common.{◌≡◌, true, Option, Some, None, Result, Ok, Err, sym, ◌∙◌, ap}
 use Rattle.nt_bytes.specs.declared.fault.HiveFaultKind.TheVariants.{NotRegf}
+use Rattle.nt_bytes.specs.Reading.{◌>>=◌}
 use Rattle.hive_model.specs.Asked.{primary_at}
 use Rattle.hive_model.specs.Image.{Content, Bytes, Unreadable}
 use Rattle.hive_model.specs.Base.{Base, fault_at}
@@ -15,7 +16,6 @@ use Rattle.hive_model.proofs.BaseLemmas.{base_checked}
 use Rattle.hive_log.proofs.blocks.read_primary_block.Given.{Over}
 use Rattle.hive_log.proofs.blocks.read_primary_block.Goals as goal
 use Rattle.hive_log.proofs.blocks.read_primary_block.Goals.{After-read, After-read_base}
-use Rattle.hive_model.specs.Forms.{◌>>=◌}
 
 -- the sector is read, and what it is read as decides how the look goes on
 asks : (g : Over) (c : After-read g) (result : Result (Option Base) LoadStop)
