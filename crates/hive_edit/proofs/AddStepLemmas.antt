@@ -23,14 +23,14 @@ use Rattle.hive_pack.proofs.Formed.{apart}
 use Rattle.reg_tree.specs.Makes.{IsRefused, refusal_of}
 use Rattle.reg_tree.specs.declared.stop.EditStop.{EditStop}
 use Rattle.reg_tree.specs.declared.stop.EditStop.TheVariants as stops
-use Rattle.edit_laws.specs.Owned.{In}
-use Rattle.edit_laws.specs.Done.{IsDone}
-use Rattle.edit_laws.specs.Sizes.{total}
-use Rattle.edit_laws.proofs.KeySteps.{a_child_added, renamed_name, renamed_levels}
-use Rattle.edit_laws.proofs.Patch.{folds_itself}
-use Rattle.edit_laws.proofs.Replaced.{listed_trees}
-use Rattle.edit_laws.proofs.RoomLemmas.{added_needs, room_for}
-use Rattle.edit_laws.proofs.Totals.{tree_total, placed_length, found_placed}
+use Rattle.edited_cells.specs.Owned.{In}
+use Rattle.edited_cells.specs.Done.{IsDone}
+use Rattle.edited_cells.specs.Sizes.{total}
+use Rattle.edited_cells.proofs.KeySteps.{a_child_added, renamed_name, renamed_levels}
+use Rattle.edited_cells.proofs.Patch.{folds_itself}
+use Rattle.edited_cells.proofs.Replaced.{listed_trees}
+use Rattle.edited_cells.proofs.RoomLemmas.{added_needs, room_for}
+use Rattle.edited_cells.proofs.Totals.{tree_total, placed_length, found_placed}
 use Rattle.hive_edit.specs.declared.making.Above.{Above}
 use Rattle.hive_edit.specs.Making.{AboveIs}
 use Rattle.hive_edit.specs.Grafted.{descriptor_of, sharing}
@@ -43,8 +43,8 @@ use Rattle.hive_edit.specs.Standing.{tree_of}
 use Rattle.hive_edit.proofs.EditLemmas.{the_tree}
 use Rattle.hive_edit.proofs.JudgeLemmas.{key_present, key_absent, counted_children}
 use Rattle.hive_edit.proofs.KeyLemmas.{node_read, no_slash}
-use Rattle.hive_edit.proofs.ParentLemmas.{IsParent, node_stands, security_at_node, security_there}
-use Rattle.hive_edit.proofs.ResultLemmas.{done, ok_same}
+use Rattle.hive_look.proofs.ParentLemmas.{IsParent, node_stands, security_at_node, security_there}
+use Rattle.hive_look.proofs.ResultLemmas.{done, ok_same}
 use Rattle.hive_edit.proofs.SecuredLemmas.{keeps_security}
 use Rattle.hive_edit.specs.Secured.{changes_of, comers}
 use Rattle.reg_tree.proofs.Sound.{some_size}
@@ -180,7 +180,7 @@ add_stepped old new name k well f holds low a =
     let made : IsDone (cells_in old) (cells_in new) old.root t u (add_child name k) =
     a_child_added (cells_in old) (cells_in new) old.root t u k name g.at g.front g.back (security_listed a.security)
     well ok (apart k holds) g.changes (λ o i. subst (λ (l : List ℕ). In l o) a.same i) g.stands
-    (subst (λ (z : List ℕ). Rattle.edit_laws.specs.Relists.HasPlace (cells_in old) z g.front g.back)
+    (subst (λ (z : List ℕ). Rattle.edited_cells.specs.Relists.HasPlace (cells_in old) z g.front g.back)
     (renamed_name name k) g.place) in
     record {
       version = g.version;

@@ -14,7 +14,7 @@ use Rattle.hive_cells.proofs.Again.{one_list}
 use Rattle.reg_tree.specs.declared.stop.EditStop.{EditStop}
 use Rattle.reg_tree.specs.declared.stop.EditStop.TheVariants.{Memory}
 use Rattle.reg_tree.specs.Makes.{IsRefused}
-use Rattle.edit_laws.specs.Parents.{NamesParents}
+use Rattle.edited_cells.specs.Parents.{NamesParents}
 use Rattle.hive_edit.specs.Hive.{hive_of, IsHive}
 use Rattle.hive_edit.specs.Edits.{IsPackedAnew}
 use Rattle.hive_edit.specs.Standing.{tree_of}

@@ -12,19 +12,19 @@ use Rattle.hive_model.specs.Walk.{reading}
 use Rattle.hive_model.specs.Footprint.{key_place, child_places, is_node_named, has_key, of_key, security_cell_at}
 use Rattle.hive_model.specs.Stands.{IsWellFormed}
 use Rattle.hive_model.specs.InPlace.{IsKeptSecurity}
-use Rattle.edit_laws.proofs.InOrder.{a_key_there}
-use Rattle.edit_laws.proofs.Out.{placed_at}
+use Rattle.edited_cells.proofs.InOrder.{a_key_there}
+use Rattle.edited_cells.proofs.Out.{placed_at}
 use Rattle.hive_edit.specs.Grafted.{sharing}
 use Rattle.hive_edit.specs.Hive.{HiveCells, cells_in, hive_of, IsHive}
 use Rattle.hive_edit.specs.Standing.{tree_of}
 use Rattle.hive_edit.specs.Stepped.{IsStepped, LacksStepRoom}
 use Rattle.hive_edit.specs.Tells.{IsToldStep}
 use Rattle.hive_edit.proofs.ToldLemmas.{there_told}
-use Rattle.edit_laws.specs.Owned.{In}
+use Rattle.edited_cells.specs.Owned.{In}
 use Rattle.hive_edit.specs.Making.{made_tree, IsOpen, MayMake}
-use Rattle.hive_edit.specs.Places.{IsKeyAt}
-use Rattle.hive_edit.proofs.ResultLemmas.{done, some}
-use Rattle.hive_edit.proofs.PlaceLemmas.{KeyThere, key_there, no_place}
+use Rattle.hive_look.specs.Places.{IsKeyAt}
+use Rattle.hive_look.proofs.ResultLemmas.{done, some}
+use Rattle.hive_look.proofs.PlaceLemmas.{KeyThere, key_there, no_place}
 use Rattle.hive_edit.proofs.EditLemmas.{the_tree}
 use Rattle.hive_edit.proofs.LowLemmas.{bulk_is}
 use Rattle.hive_edit.proofs.SteppedLemmas.{lacks_room}

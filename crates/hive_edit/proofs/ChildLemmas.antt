@@ -20,13 +20,13 @@ use Rattle.hive_pack.specs.Numbers.{HasNumbers}
 use Rattle.hive_pack.proofs.Formed.{apart}
 use Rattle.hive_read.proofs.FormFacts.{IsBytes, then-so}
 use Rattle.reg_tree.proofs.Sound.{some_size}
-use Rattle.edit_laws.specs.Owned.{In}
-use Rattle.edit_laws.proofs.Ins.{in_from, contains_from}
+use Rattle.edited_cells.specs.Owned.{In}
+use Rattle.edited_cells.proofs.Ins.{in_from, contains_from}
 use Rattle.hive_read.proofs.ValidTrees.{well-formed-valid, cells-bytes}
-use Rattle.edit_laws.specs.Relists.{ChangesChildren, HasPlace}
-use Rattle.edit_laws.proofs.KeySteps.{root_gets}
-use Rattle.edit_laws.proofs.RoomLemmas.{room_for}
-use Rattle.edit_laws.proofs.Totals.{list_total, list_more, child_size}
+use Rattle.edited_cells.specs.Relists.{ChangesChildren, HasPlace}
+use Rattle.edited_cells.proofs.KeySteps.{root_gets}
+use Rattle.edited_cells.proofs.RoomLemmas.{room_for}
+use Rattle.edited_cells.proofs.Totals.{list_total, list_more, child_size}
 use Rattle.key_index.specs.Lists.{children_at, name_in, is_behind}
 use Rattle.key_index.proofs.Runs.{list_least}
 use Rattle.hive_edit.specs.declared.making.Above.{Above}
@@ -40,7 +40,7 @@ use Rattle.hive_edit.specs.Standing.{tree_of}
 use Rattle.hive_edit.proofs.HiveLemmas.{hive_opened}
 use Rattle.hive_edit.proofs.JudgeLemmas.{counted_children}
 use Rattle.hive_edit.proofs.KeyLemmas.{node_read}
-use Rattle.hive_edit.proofs.ParentLemmas.{Keeps, kept_well}
+use Rattle.hive_look.proofs.ParentLemmas.{Keeps, kept_well}
 use Rattle.hive_edit.proofs.StandingLemmas.{tree_is}
 use Rattle.hive_edit.proofs.ChildRuns.{run_made}
 use Rattle.hive_edit.proofs.GraftRuns.{graft_run, run_there}
@@ -367,7 +367,7 @@ lacks_many h shared k count e many =
     let t = list_total n in
     let room = room_for (list_sizes n) (omega (arith, t, least, e, many)) in
     over (bins_size h.bins) (new_bin_size (size h.version shared k)) n (list_size n) (room_of (list_sizes n))
-    (Rattle.edit_laws.specs.Sizes.total (list_sizes n)) least t room (omega (arith, e, many))
+    (Rattle.edited_cells.specs.Sizes.total (list_sizes n)) least t room (omega (arith, e, many))
   where
     over : (o x n s y w : ℕ) → 8 * n ≤ s → w ≡ s → rounded (w + 32) ≤ y → 2097151 < n → 16777216 < o + (x + y)
     over o x n s y w a b c d = omega (arith, a, b, c, d)

@@ -16,9 +16,9 @@ use Rattle.hive_pack.specs.Below.{beside}
 use Rattle.hive_pack.proofs.Rows.{space_tree}
 use Rattle.hive_pack.proofs.Whole.{used_size}
 use Rattle.hive_read.proofs.FormFacts.{then-so}
-use Rattle.edit_laws.specs.Owned.{In}
-use Rattle.edit_laws.proofs.ChildrenColumn.{places_listed}
-use Rattle.edit_laws.proofs.Ins.{in_right}
+use Rattle.edited_cells.specs.Owned.{In}
+use Rattle.edited_cells.proofs.ChildrenColumn.{places_listed}
+use Rattle.edited_cells.proofs.Ins.{in_right}
 use Rattle.key_index.proofs.Runs.{among_from}
 use Rattle.hive_edit.specs.declared.making.Above.{Above}
 use Rattle.hive_edit.specs.Grafted.{IsGrafted}
@@ -28,7 +28,7 @@ use Rattle.hive_edit.proofs.GraftLemmas.{in_run, changes}
 use Rattle.hive_edit.proofs.GraftRuns.{graft_run}
 use Rattle.hive_edit.proofs.GraftedLemmas.{Ready, front, back, grafts}
 use Rattle.hive_edit.proofs.KeyLemmas.{node_read}
-use Rattle.hive_edit.proofs.ResultLemmas.{some, no_some}
+use Rattle.hive_look.proofs.ResultLemmas.{some, no_some}
 
 -- each cell of a run begins inside it
 run_inside : (version : HiveVersion) (up : PackedAbove) (at : ℕ) (k : Tree) (o : ℕ) (p : List ℕ)

@@ -20,11 +20,11 @@ use Rattle.hive_cells.specs.Holes.{new_bin_size}
 use Rattle.hive_pack.proofs.Formed.{apart}
 use Rattle.reg_tree.specs.Makes.{IsRefused, refusal_of}
 use Rattle.reg_tree.specs.declared.stop.EditStop.{EditStop}
-use Rattle.edit_laws.specs.Owned.{In, Folds, Extends}
-use Rattle.edit_laws.specs.Done.{IsDone}
-use Rattle.edit_laws.specs.Relists.{HasPlace}
-use Rattle.edit_laws.proofs.KeySteps.{a_child_copied, renamed_name}
-use Rattle.edit_laws.proofs.Out.{placed_at}
+use Rattle.edited_cells.specs.Owned.{In, Folds, Extends}
+use Rattle.edited_cells.specs.Done.{IsDone}
+use Rattle.edited_cells.specs.Relists.{HasPlace}
+use Rattle.edited_cells.proofs.KeySteps.{a_child_copied, renamed_name}
+use Rattle.edited_cells.proofs.Out.{placed_at}
 use Rattle.hive_edit.specs.Grafted.{descriptor_of, sharing}
 use Rattle.hive_edit.specs.Children.{IsFreeName, RefusesName, LacksGraftRoom, security_listed}
 use Rattle.hive_edit.specs.Copying.{SharesChild, IsCopiedIn}
@@ -36,9 +36,9 @@ use Rattle.hive_edit.specs.NewRun.{HasNewRun}
 use Rattle.hive_edit.proofs.EditLemmas.{the_tree}
 use Rattle.hive_edit.proofs.JudgeLemmas.{shared_own}
 use Rattle.hive_edit.proofs.KeyLemmas.{node_read}
-use Rattle.hive_edit.proofs.ParentLemmas.{node_stands, security_at_node, security_there}
-use Rattle.hive_edit.proofs.PlaceLemmas.{key_there}
-use Rattle.hive_edit.proofs.ResultLemmas.{done, some, some_same}
+use Rattle.hive_look.proofs.ParentLemmas.{node_stands, security_at_node, security_there}
+use Rattle.hive_look.proofs.PlaceLemmas.{key_there}
+use Rattle.hive_look.proofs.ResultLemmas.{done, some, some_same}
 use Rattle.hive_edit.proofs.AddStepLemmas.{needs_both, with_again, sharing_renamed}
 use Rattle.hive_edit.proofs.SecuredLemmas.{keeps_security}
 use Rattle.hive_edit.specs.Secured.{changes_of, comers}
@@ -142,10 +142,10 @@ shares_child bins heap root version bulk h from at place is view same found says
     key_at : key_place (look_up version bins.bins) (from ∷ []) root ≡ some at
     key_at = ap (λ (o : Option ℕ). option_and_then (key_place (look_up version bins.bins) []) o) here
 
-    there : Rattle.hive_edit.proofs.PlaceLemmas.KeyThere (look_up version bins.bins) (from ∷ []) t at
+    there : Rattle.hive_look.proofs.PlaceLemmas.KeyThere (look_up version bins.bins) (from ∷ []) t at
     there = key_there (look_up version bins.bins) (from ∷ []) root t at is.stands key_at
 
-    placed : Rattle.edit_laws.proofs.Out.IsPlaced (look_up version bins.bins) root (from ∷ []) at
+    placed : Rattle.edited_cells.proofs.Out.IsPlaced (look_up version bins.bins) root (from ∷ []) at
     placed = placed_at (look_up version bins.bins) (from ∷ []) root at key_at
 
     node : (n : KeyNode) × (reading key_node_at (look_up version bins.bins) at ≡ done n)

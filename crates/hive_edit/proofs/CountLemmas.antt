@@ -6,9 +6,9 @@ use Rattle.nt_bytes.specs.Fields.{u16_in, u32_in}
 use Rattle.nt_bytes.specs.declared.fault.HiveFaultKind.{HiveFaultKind}
 use Rattle.nt_bytes.specs.declared.fault.HiveFaultKind.TheVariants.{FormShort, FormSign}
 use Rattle.hive_model.specs.Security.{SecurityCell, security_in, security_at}
-use Rattle.edit_laws.specs.Written.{with_part}
-use Rattle.edit_laws.proofs.Patches.{IsPatchOf, part_patches, in_part}
-use Rattle.hive_edit.proofs.ResultLemmas.{done, only_if, ok_same}
+use Rattle.edited_cells.specs.Written.{with_part}
+use Rattle.edited_cells.proofs.Patches.{IsPatchOf, part_patches, in_part}
+use Rattle.hive_look.proofs.ResultLemmas.{done, only_if, ok_same}
 use Rattle.std.proofs.lemmas.Nat.{from_le_bytes-to_le_bytes_4}
 use Rattle.hive_read.proofs.FormFacts.{unless}
 

@@ -21,13 +21,13 @@ use Rattle.hive_cells.specs.Held.{held_at}
 use Rattle.hive_cells.proofs.HeldLemmas.{payload_held, held_payload}
 use Rattle.hive_read.proofs.ValidTrees.{AreBytes, well-formed-valid, cells-bytes}
 use Rattle.hive_read.proofs.FormFacts.{IsBytes, then-so}
-use Rattle.edit_laws.specs.Done.{IsDone}
-use Rattle.edit_laws.specs.Lessened.{HasChildThere}
-use Rattle.edit_laws.specs.Uses.{tree_uses}
-use Rattle.edit_laws.proofs.Lessening.{deleted_step, lessened_size, lessened_strain}
-use Rattle.edit_laws.specs.Takes.{TakesChild}
-use Rattle.edit_laws.proofs.Ins.{contains_from}
-use Rattle.edit_laws.proofs.TakenOut.{key_taken_out, noted as noted_node, recounted, removed}
+use Rattle.edited_cells.specs.Done.{IsDone}
+use Rattle.edited_cells.specs.Lessened.{HasChildThere}
+use Rattle.edited_cells.specs.Uses.{tree_uses}
+use Rattle.edited_cells.proofs.Lessening.{deleted_step, lessened_size, lessened_strain}
+use Rattle.edited_cells.specs.Takes.{TakesChild}
+use Rattle.edited_cells.proofs.Ins.{contains_from}
+use Rattle.edited_cells.proofs.TakenOut.{key_taken_out, noted as noted_node, recounted, removed}
 use Rattle.key_index.specs.Lists.{children_at, lists_at, without_child}
 use Rattle.hive_edit.specs.declared.deleting.KeyPair.{KeyPair}
 use Rattle.hive_edit.specs.declared.making.Above.{Above}
@@ -42,9 +42,9 @@ use Rattle.hive_edit.proofs.StandingLemmas.{tree_is}
 use Rattle.hive_edit.proofs.HiveLemmas.{hive_opened}
 use Rattle.hive_edit.proofs.EditLemmas.{the_tree}
 use Rattle.hive_edit.proofs.LowLemmas.{bulk_is, bulk_then}
-use Rattle.hive_edit.proofs.ParentLemmas.{lists_are, children_are, node_no_security, list_no_security}
+use Rattle.hive_look.proofs.ParentLemmas.{lists_are, children_are, node_no_security, list_no_security}
 use Rattle.hive_edit.proofs.JudgeLemmas.{counted_children}
-use Rattle.edit_laws.specs.Owned.{In, security}
+use Rattle.edited_cells.specs.Owned.{In, security}
 use Rattle.hive_edit.proofs.DroppedLemmas.{shortened_keeps}
 use Rattle.hive_edit.proofs.RemovedLemmas.{SplitsAt, split_one, kids_apart, takes}
 use Rattle.hive_edit.proofs.PairLemmas.{a_pair, no_pair, PairHere, pair_here, pair_absent, no_node, no_list, secure_cells, in_lists, can_remove, in_hive}
@@ -53,12 +53,12 @@ use Rattle.hive_edit.proofs.ListedLemmas.{removed_lists}
 use Rattle.hive_edit.specs.GivenUp.{plain_cells}
 use Rattle.hive_edit.proofs.GivenUpLemmas.{plain_use}
 use Rattle.hive_edit.proofs.SecuredLemmas.{keeps_security, secure_reads, secure_own, secure_same, many_go}
-use Rattle.hive_edit.proofs.ResultLemmas.{done}
-use Rattle.edit_laws.proofs.FromLists.{length_more}
-use Rattle.edit_laws.proofs.Around.{once_two, hive_uses, hive_once, used_held}
-use Rattle.edit_laws.proofs.OwnedUses.{secure_there}
-use Rattle.edit_laws.proofs.Held.{are_held}
-use Rattle.edit_laws.specs.Relists.{IsSecurityCell}
+use Rattle.hive_look.proofs.ResultLemmas.{done}
+use Rattle.edited_cells.proofs.FromLists.{length_more}
+use Rattle.edited_cells.proofs.Around.{once_two, hive_uses, hive_once, used_held}
+use Rattle.edited_cells.proofs.OwnedUses.{secure_there}
+use Rattle.edited_cells.proofs.Held.{are_held}
+use Rattle.edited_cells.specs.Relists.{IsSecurityCell}
 
 -- ---- what the step makes of the tree
 
@@ -115,7 +115,7 @@ left_length version bins root t path p above h says =
     let whole = ap (λ (l : List ℕ). length l) s.whole in
     let one = length_more s.front p.at s.back in
     let count = counted_children b root t h.stored p.above h.there h.node h.parent_is in
-    let number = (Rattle.hive_edit.proofs.ParentLemmas.siblings_are b root t h.stored p.above h.there h.node
+    let number = (Rattle.hive_look.proofs.ParentLemmas.siblings_are b root t h.stored p.above h.there h.node
     h.parent_is).number in
     let same = ap (λ (l : List ℕ). length l) kids in
     omega (arith, others, whole, one, count, number, same)
@@ -395,7 +395,7 @@ pub pair_refused : (version : HiveVersion) (bins : List Bin) (root : ℕ) (t : T
 pair_refused version bins root t path well none =
     ⊎_elim (λ e. ap (λ (l : List (List ℕ)). key_deleted l t) e)
     (λ e. ap (λ (o : Option Tree). unless (((length path == 0) || is_none o, no_key) ∷ []) (without_key path t))
-    (Rattle.hive_edit.proofs.PlaceLemmas.no_place (look_up version bins) path root t well e)
+    (Rattle.hive_look.proofs.PlaceLemmas.no_place (look_up version bins) path root t well e)
     ∙ either (length path == 0))
     (pair_absent (look_up version bins) path root none)
   where

@@ -10,19 +10,19 @@ use Rattle.hive_model.specs.Bins.{Bin, bins_size, look_up}
 use Rattle.hive_model.specs.Security.{SecurityCell}
 use Rattle.hive_model.specs.InPlace.{recounted}
 use Rattle.hive_cells.specs.Held.{held_at, patched}
-use Rattle.edit_laws.specs.Owned.{In}
-use Rattle.edit_laws.specs.Uses.{Agree, Once}
-use Rattle.edit_laws.proofs.Around.{once_two}
-use Rattle.edit_laws.proofs.Patches.{IsPatchOf, part_patches}
+use Rattle.edited_cells.specs.Owned.{In}
+use Rattle.edited_cells.specs.Uses.{Agree, Once}
+use Rattle.edited_cells.proofs.Around.{once_two}
+use Rattle.edited_cells.proofs.Patches.{IsPatchOf, part_patches}
 use Rattle.key_index.specs.Lists.{lists_at}
 use Rattle.hive_edit.specs.declared.making.Above.{Above}
 use Rattle.hive_edit.specs.Making.{IsWritten}
 use Rattle.hive_edit.specs.Dropped.{AreDropped, AreShortened, CanDrop, CanRemove, IsLowered, IsRecounted, is_secured, times}
-use Rattle.hive_edit.proofs.ResultLemmas.{done, some}
+use Rattle.hive_look.proofs.ResultLemmas.{done, some}
 use Rattle.hive_edit.proofs.CountLemmas.{security_counted, security_text_is}
 use Rattle.hive_edit.proofs.GoneLemmas.{is_held, held_of, and_some}
 use Rattle.hive_edit.proofs.LinkLemmas.{some_and}
-use Rattle.hive_edit.proofs.UsesLemmas.{use_of}
+use Rattle.hive_look.proofs.UsesLemmas.{use_of}
 
 -- ---- among the first
 
@@ -248,7 +248,7 @@ module _ {us : List (ℕ × Bool)} {old mid : List Bin} {k : ℕ} {x : ℕ × Bo
           let q = next.dropped.counted o p i h in
           let here : held_at mid x.0 ≡ Some q.0 = ap (held_at mid) (sym is) ∙ q.1 in
           let now = counted_now secure in
-          let one : now.1 ≡ q.0 = Rattle.hive_edit.proofs.ResultLemmas.some_same now.1 q.0 (sym now.2 ∙ here) in (
+          let one : now.1 ≡ q.0 = Rattle.hive_look.proofs.ResultLemmas.some_same now.1 q.0 (sym now.2 ∙ here) in (
             patched 12 (to_le_bytes w32 (recounted false (u32_in q.0 12))) q.0,
             ap (held_at new) is ∙ l.here q.0 here,
             subst (λ (n : ℕ). IsRecounted n p (patched 12 (to_le_bytes w32 (recounted false (u32_in q.0 12))) q.0))

@@ -11,8 +11,8 @@ use Rattle.nt_bytes.specs.Reading.{◌>>=◌}
 use Rattle.hive_model.specs.Tree.{Tree, Item, head, find_key, find_item, is_item}
 use Rattle.hive_model.specs.Edit.{Step, set_value, Refusal, no_key, name_too_long, data_too_long, full, unless, at_first, with_item, of_items, at_key, value_set, after_steps, most_bulk, edited}
 use Rattle.hive_pack.proofs.Items.{not_big}
-use Rattle.edit_laws.proofs.Sizes.{revalued_size}
-use Rattle.hive_edit.proofs.ResultLemmas.{some, some_same}
+use Rattle.edited_cells.proofs.Sizes.{revalued_size}
+use Rattle.hive_look.proofs.ResultLemmas.{some, some_same}
 
 -- ---- names
 

@@ -5,7 +5,7 @@ use Rattle.std.specs.List.{find}
 use Rattle.hive_model.specs.Tree.{Tree, Trees, key, none, more, listed, is_named, find_key}
 use Rattle.hive_model.specs.Valid.{HoldsKeys, AllHoldKeys, levels, most_levels, IsValid}
 use Rattle.hive_edit.specs.Found.{FitsBelow}
-use Rattle.hive_edit.proofs.ResultLemmas.{some, some_same}
+use Rattle.hive_look.proofs.ResultLemmas.{some, some_same}
 
 -- a key that is found among these can be held, and has no more levels than the deepest of them
 found_among : (test : Tree → Bool) (ts : Trees) (u : Tree) → AllHoldKeys ts → find test (listed ts) ≡ some u

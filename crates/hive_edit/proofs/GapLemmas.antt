@@ -8,7 +8,7 @@ use Rattle.std.proofs.lemmas.List.{drop-drop, drop-take, take-take}
 use Rattle.nt_bytes.specs.Fields.{u32_in}
 use Rattle.hive_model.specs.Bins.{Bin, bins_size}
 use Rattle.hive_cells.specs.Held.{held_at, patched}
-use Rattle.edit_laws.proofs.Patches.{IsPatchOf, part_patches, in_part}
+use Rattle.edited_cells.proofs.Patches.{IsPatchOf, part_patches, in_part}
 use Rattle.hive_edit.specs.Gone.{IsClosed, ClosesGap}
 use Rattle.hive_edit.proofs.GoneLemmas.{some_and}
 

@@ -22,15 +22,15 @@ use Rattle.hive_pack.proofs.Rows.{space, length_text, space_data, segments_room}
 use Rattle.hive_pack.proofs.Found.{Has, reads_in}
 use Rattle.hive_pack.proofs.Items.{BigStands, big_stands}
 use Rattle.key_index.proofs.Runs.{among_from, has_held, run_is, none_some}
-use Rattle.edit_laws.specs.Owned.{In}
-use Rattle.edit_laws.specs.Pairs.{Pairwise}
-use Rattle.edit_laws.proofs.FromCells.{data_held_inside, data_in_cell, data_in_segments}
+use Rattle.edited_cells.specs.Owned.{In}
+use Rattle.edited_cells.specs.Pairs.{Pairwise}
+use Rattle.edited_cells.proofs.FromCells.{data_held_inside, data_in_cell, data_in_segments}
 use Rattle.hive_edit.specs.Edits.{value_fields}
 use Rattle.hive_edit.specs.Given.{with_fields, IsGiven}
 use Rattle.hive_edit.specs.Runs.{IsRunPutAt}
-use Rattle.hive_edit.proofs.ResultLemmas.{done}
+use Rattle.hive_look.proofs.ResultLemmas.{done}
 use Rattle.hive_edit.proofs.InPlaceLemmas.{inside_size, inside_again, inside_data}
-use Rattle.hive_edit.proofs.DataLemmas.{big_used}
+use Rattle.hive_look.proofs.DataLemmas.{big_used}
 use Rattle.hive_pack.proofs.Whole.{used_size}
 
 -- ---- a run of data

@@ -8,13 +8,13 @@ use Rattle.hive_model.specs.KeyNode.{KeyNode, key_node_at}
 use Rattle.hive_model.specs.Walk.{reading, value_checks}
 use Rattle.hive_model.specs.Footprint.{used_in, of_key, key_place}
 use Rattle.hive_cells.specs.Held.{held_at}
-use Rattle.edit_laws.specs.Owned.{In, value_list_at, value_places}
-use Rattle.edit_laws.proofs.Ins.{in_cases}
-use Rattle.edit_laws.proofs.Out.{of_node_is}
+use Rattle.edited_cells.specs.Owned.{In, value_list_at, value_places}
+use Rattle.edited_cells.proofs.Ins.{in_cases}
+use Rattle.edited_cells.proofs.Out.{of_node_is}
 use Rattle.hive_edit.specs.Given.{place_in}
-use Rattle.hive_edit.specs.Places.{value_place, data_places}
+use Rattle.hive_look.specs.Places.{value_place, data_places}
 use Rattle.hive_edit.specs.GivenUp.{replaced_cells, dropped_cells, plain_cells}
-use Rattle.hive_edit.proofs.ResultLemmas.{done, some}
+use Rattle.hive_look.proofs.ResultLemmas.{done, some}
 
 -- the data of a value that is there
 pub replaced_there : (b : Cells) (path : List (List ℕ)) (name : List ℕ) (root v : ℕ) → place_in b path name root ≡ some v

@@ -11,11 +11,11 @@ use Rattle.hive_model.specs.Bins.{Bin, Cell, cell_size, cells_size, bin_size, bi
 use Rattle.hive_model.specs.BigData.{BigData, big_data_in, big_data_at}
 use Rattle.hive_model.specs.Lists.{numbers_in, offsets_in}
 use Rattle.hive_cells.specs.Held.{allocated_payload, held_at}
-use Rattle.edit_laws.specs.Owned.{In}
-use Rattle.edit_laws.specs.Pairs.{Pairwise}
+use Rattle.edited_cells.specs.Owned.{In}
+use Rattle.edited_cells.specs.Pairs.{Pairwise}
 use Rattle.hive_edit.specs.Gone.{CanGo, AreGone, HasOffsets, HasSegments, ClosesGap, Unlists}
-use Rattle.hive_edit.proofs.ResultLemmas.{done, some_same, ok_same, only_if}
-use Rattle.hive_edit.proofs.NodeLemmas.{numbers_there}
+use Rattle.hive_look.proofs.ResultLemmas.{done, some_same, ok_same, only_if}
+use Rattle.hive_look.proofs.NodeLemmas.{numbers_there}
 use Rattle.hive_read.proofs.FormFacts.{unless}
 
 -- ---- what is held

@@ -15,23 +15,23 @@ use Rattle.hive_model.specs.Walk.{reading, nowhere, entries_at, entries_checks}
 use Rattle.hive_model.specs.Footprint.{used_in, child_places, security_cell_at, list_cells_at}
 use Rattle.hive_model.specs.Stands.{Stands}
 use Rattle.hive_model.specs.InPlace.{count_after, IsKeptSecurity}
-use Rattle.edit_laws.specs.Owned.{In, security}
-use Rattle.edit_laws.specs.Framed.{IsUnheld}
-use Rattle.edit_laws.specs.Pairs.{Pairwise}
-use Rattle.edit_laws.specs.Uses.{Agree, Once, plain, tree_uses}
-use Rattle.edit_laws.specs.Written.{with_part, three_numbers}
-use Rattle.edit_laws.specs.Relists.{descriptor_at, IsSecurityCell, ChangesChildren}
-use Rattle.edit_laws.specs.Lists.{HasNewChildren, InsertsChild}
-use Rattle.edit_laws.proofs.Ins.{in_cases}
-use Rattle.edit_laws.proofs.Pairs.{pairwise_join, pairwise_map, in_map}
-use Rattle.edit_laws.proofs.Held.{are_held}
-use Rattle.edit_laws.proofs.OwnedUses.{use_owned}
-use Rattle.edit_laws.proofs.Same.{entries_used, entries_same}
-use Rattle.edit_laws.proofs.FromLists.{children_written, inserts_child, length_more}
-use Rattle.edit_laws.specs.Parents.{IsChildOf}
+use Rattle.edited_cells.specs.Owned.{In, security}
+use Rattle.edited_cells.specs.Framed.{IsUnheld}
+use Rattle.edited_cells.specs.Pairs.{Pairwise}
+use Rattle.edited_cells.specs.Uses.{Agree, Once, plain, tree_uses}
+use Rattle.edited_cells.specs.Written.{with_part, three_numbers}
+use Rattle.edited_cells.specs.Relists.{descriptor_at, IsSecurityCell, ChangesChildren}
+use Rattle.edited_cells.specs.Lists.{HasNewChildren, InsertsChild}
+use Rattle.edited_cells.proofs.Ins.{in_cases}
+use Rattle.edited_cells.proofs.Pairs.{pairwise_join, pairwise_map, in_map}
+use Rattle.edited_cells.proofs.Held.{are_held}
+use Rattle.edited_cells.proofs.OwnedUses.{use_owned}
+use Rattle.edited_cells.proofs.Same.{entries_used, entries_same}
+use Rattle.edited_cells.proofs.FromLists.{children_written, inserts_child, length_more}
+use Rattle.edited_cells.specs.Parents.{IsChildOf}
 use Rattle.hive_edit.specs.Grafted.{SharesAt, counted_more, sharing}
-use Rattle.hive_edit.proofs.ResultLemmas.{done}
-use Rattle.hive_edit.proofs.ParentLemmas.{Keeps, IsParent, parent_held, list_no_node, list_no_security, node_no_security, list_held, security_listed, security_some, security_in_list}
+use Rattle.hive_look.proofs.ResultLemmas.{done}
+use Rattle.hive_look.proofs.ParentLemmas.{Keeps, IsParent, parent_held, list_no_node, list_no_security, node_no_security, list_held, security_listed, security_some, security_in_list}
 use Rattle.hive_edit.proofs.PlacedLemmas.{entries_held}
 use Rattle.hive_edit.proofs.GraftRuns.{IsFormed, KeepsRange, still_stands, still_named, still_uses}
 use Rattle.hive_edit.proofs.SecuredLemmas.{secure_counted, secure_same, descriptor_kept, uses_in, many_come}

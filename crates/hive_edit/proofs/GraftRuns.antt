@@ -24,22 +24,22 @@ use Rattle.hive_pack.proofs.Singly.{key_good}
 use Rattle.hive_pack.proofs.Formed.{apart}
 use Rattle.hive_pack.proofs.Beside
 use Rattle.hive_pack.proofs.Beside.{Outside, Within, WithinCheck}
-use Rattle.edit_laws.specs.Owned.{Role, In, IsSecurity, HasRole, Reaches, Owns}
-use Rattle.edit_laws.specs.Parents.{IsChildOf}
-use Rattle.edit_laws.specs.Uses.{Once, tree_uses}
-use Rattle.edit_laws.specs.Relists.{descriptor_at}
-use Rattle.edit_laws.proofs.Uses.{mark_to, once_from, walk_uses, marks}
-use Rattle.edit_laws.proofs.Untouched.{root_node, are_once}
-use Rattle.edit_laws.proofs.Held.{are_held}
-use Rattle.edit_laws.proofs.Wellformed.{sound_tree, sound_hive}
-use Rattle.edit_laws.specs.Rewrites.{is_secure}
-use Rattle.edit_laws.proofs.OwnedUses.{secure_is, owned_use, use_owned}
-use Rattle.edit_laws.proofs.SameTree.{IsSameKey, tree_same, uses_same}
-use Rattle.edit_laws.proofs.ParentsKept.{child_still}
+use Rattle.edited_cells.specs.Owned.{Role, In, IsSecurity, HasRole, Reaches, Owns}
+use Rattle.edited_cells.specs.Parents.{IsChildOf}
+use Rattle.edited_cells.specs.Uses.{Once, tree_uses}
+use Rattle.edited_cells.specs.Relists.{descriptor_at}
+use Rattle.edited_cells.proofs.Uses.{mark_to, once_from, walk_uses, marks}
+use Rattle.edited_cells.proofs.Untouched.{root_node, are_once}
+use Rattle.edited_cells.proofs.Held.{are_held}
+use Rattle.edited_cells.proofs.Wellformed.{sound_tree, sound_hive}
+use Rattle.edited_cells.specs.Rewrites.{is_secure}
+use Rattle.edited_cells.proofs.OwnedUses.{secure_is, owned_use, use_owned}
+use Rattle.edited_cells.proofs.SameTree.{IsSameKey, tree_same, uses_same}
+use Rattle.edited_cells.proofs.ParentsKept.{child_still}
 use Rattle.key_index.proofs.Runs.{among_from, has_held, run_is}
 use Rattle.hive_edit.specs.Runs.{IsRunPutAt}
-use Rattle.hive_edit.proofs.ResultLemmas.{done, some, no_some}
-use Rattle.hive_edit.proofs.ParentLemmas.{Keeps}
+use Rattle.hive_look.proofs.ResultLemmas.{done, some, no_some}
+use Rattle.hive_look.proofs.ParentLemmas.{Keeps}
 use Rattle.hive_pack.proofs.Whole.{used_size}
 use Rattle.reg_tree.proofs.Sound.{some_size}
 

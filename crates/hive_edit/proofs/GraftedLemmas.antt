@@ -28,15 +28,15 @@ use Rattle.hive_pack.specs.Numbers.{HasNumbers}
 use Rattle.hive_pack.proofs.Beside.{Outside}
 use Rattle.hive_pack.proofs.Rising.{ring_fits}
 use Rattle.hive_pack.proofs.Standing.{AboveStands}
-use Rattle.edit_laws.specs.Owned.{In, security, node_name}
-use Rattle.edit_laws.specs.Relists.{descriptor_at, IsSecurityCell, HasPlace}
-use Rattle.edit_laws.proofs.Ins.{in_from, contains_from}
-use Rattle.edit_laws.proofs.Pairs.{pairwise_from}
-use Rattle.edit_laws.proofs.Out.{plain_node}
-use Rattle.edit_laws.proofs.Held.{are_held}
-use Rattle.edit_laws.proofs.Wellformed.{sound_hive, tree_name}
-use Rattle.edit_laws.proofs.Same.{lists_same, places_same}
-use Rattle.edit_laws.specs.Parents.{IsChildOf}
+use Rattle.edited_cells.specs.Owned.{In, security, node_name}
+use Rattle.edited_cells.specs.Relists.{descriptor_at, IsSecurityCell, HasPlace}
+use Rattle.edited_cells.proofs.Ins.{in_from, contains_from}
+use Rattle.edited_cells.proofs.Pairs.{pairwise_from}
+use Rattle.edited_cells.proofs.Out.{plain_node}
+use Rattle.edited_cells.proofs.Held.{are_held}
+use Rattle.edited_cells.proofs.Wellformed.{sound_hive, tree_name}
+use Rattle.edited_cells.proofs.Same.{lists_same, places_same}
+use Rattle.edited_cells.specs.Parents.{IsChildOf}
 use Rattle.key_index.specs.Lists.{children_at, lists_at, name_in, is_behind, payload_in, IsNode, ListsSiblings}
 use Rattle.key_index.specs.Relists.{AreApart}
 use Rattle.key_index.proofs.Meeting.{lists_apart}
@@ -44,10 +44,10 @@ use Rattle.hive_edit.specs.declared.making.Above.{Above}
 use Rattle.hive_edit.specs.Making.{above_lists, child_fields, IsLinkable}
 use Rattle.hive_edit.specs.Grafted.{sharing, counted_more, descriptor_of, SharesAt, IsRunPut, IsGrafted}
 use Rattle.hive_edit.specs.Children.{ListsAs}
-use Rattle.hive_edit.proofs.ResultLemmas.{done, some, no_some}
+use Rattle.hive_look.proofs.ResultLemmas.{done, some, no_some}
 use Rattle.hive_edit.proofs.CountLemmas.{security_text_is}
-use Rattle.hive_edit.proofs.ParentLemmas.{Keeps, IsParent, kept_parent, parent_held, node_kept, list_kept, lists_are, children_are, siblings_are, list_no_node, list_no_security, node_no_security}
-use Rattle.hive_edit.proofs.ParentLemmas.{lists_apart as parent_apart}
+use Rattle.hive_look.proofs.ParentLemmas.{Keeps, IsParent, kept_parent, parent_held, node_kept, list_kept, lists_are, children_are, siblings_are, list_no_node, list_no_security, node_no_security}
+use Rattle.hive_look.proofs.ParentLemmas.{lists_apart as parent_apart}
 use Rattle.hive_edit.proofs.PlacedLemmas.{one_list, name_read, node_name_read, has_place}
 use Rattle.hive_edit.proofs.KeyLemmas.{node_read}
 use Rattle.hive_edit.proofs.GraftRuns.{IsFormed, IsRunThere, run_there, formed}
@@ -201,7 +201,7 @@ module _ (version : HiveVersion) (old mid : List Bin) (root : ℕ) (t : Tree) (x
   pub linkable : IsLinkable version x above at mid
   linkable =
       let q = parent_held (look_up version mid) root t r.path x host n parent_mid in
-      let long = (Rattle.edit_laws.proofs.Patches.node_text q.0 n q.2).long in
+      let long = (Rattle.edited_cells.proofs.Patches.node_text q.0 n q.2).long in
       record {
         siblings = subst (λ (z : ℕ). ListsSiblings (look_up version mid) z above.count) (sym r.says.list)
             (subst (λ (z : ℕ). ListsSiblings (look_up version mid) n.child_list z) (sym r.says.count)

@@ -14,13 +14,14 @@ use Rattle.hive_model.specs.Stands.{IsWellFormed}
 use Rattle.hive_read.proofs.One.{one_stands}
 use Rattle.hive_read.proofs.Wellformed.{well-formed-passes}
 use Rattle.key_index.specs.Lists.{name_in}
-use Rattle.hive_edit.specs.Found.{found_dword, found_names, FitsBelow}
+use Rattle.hive_edit.specs.Found.{found_names, FitsBelow}
+use Rattle.hive_look.specs.Places.{found_dword}
 use Rattle.hive_edit.specs.Hive.{HiveCells, hive_of, IsHive, IsTaken}
-use Rattle.hive_edit.specs.Places.{IsKeyAt, value_place, dword_at}
+use Rattle.hive_look.specs.Places.{IsKeyAt, value_place, dword_at}
 use Rattle.hive_edit.specs.Standing.{tree_of}
 use Rattle.hive_edit.proofs.StandingLemmas.{tree_is}
-use Rattle.hive_edit.proofs.PlaceLemmas.{place_tells, no_place, key_there, child_names_stand, dword_found}
-use Rattle.hive_edit.proofs.NodeLemmas.{node_stands}
+use Rattle.hive_look.proofs.PlaceLemmas.{place_tells, no_place, key_there, child_names_stand, dword_found}
+use Rattle.hive_look.proofs.NodeLemmas.{node_stands}
 use Rattle.hive_edit.proofs.FoundLemmas.{found_fits}
 use Rattle.hive_cells.specs.Opened.{Opened}
 

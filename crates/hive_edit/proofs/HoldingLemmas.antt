@@ -24,15 +24,15 @@ use Rattle.hive_read.proofs.FormFacts.{unless, then-so}
 use Rattle.key_index.specs.Lists.{payload_in}
 use Rattle.key_index.proofs.Below.{in_payload}
 use Rattle.key_index.proofs.Tests.{value_of, is_ok_of}
-use Rattle.edit_laws.proofs.FromCells.{data_held_inside, data_in_cell, data_in_segments}
+use Rattle.edited_cells.proofs.FromCells.{data_held_inside, data_in_cell, data_in_segments}
 use Rattle.hive_edit.specs.Found.{HoldsValue}
 use Rattle.hive_edit.specs.Gone.{with_data, HasData}
 use Rattle.hive_edit.specs.Hive.{HiveCells, hive_of, IsHive}
-use Rattle.hive_edit.specs.Places.{IsItemHere, value_place}
-use Rattle.hive_edit.proofs.ResultLemmas.{done, some, some_same, only_if, ok_same}
-use Rattle.hive_edit.proofs.ItemLemmas.{item_facts}
+use Rattle.hive_look.specs.Places.{IsItemHere, value_place}
+use Rattle.hive_look.proofs.ResultLemmas.{done, some, some_same, only_if, ok_same}
+use Rattle.hive_look.proofs.ItemLemmas.{item_facts}
 use Rattle.hive_edit.proofs.HiveLemmas.{stands_there, subtree_nowhere}
-use Rattle.hive_edit.proofs.PlaceLemmas.{IsItemAt, KeyThere, key_there, place_of_item}
+use Rattle.hive_look.proofs.PlaceLemmas.{IsItemAt, KeyThere, key_there, place_of_item}
 use Rattle.hive_cells.specs.Opened.{Opened}
 
 -- ---- that many bytes of a payload

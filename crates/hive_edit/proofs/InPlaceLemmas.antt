@@ -23,21 +23,21 @@ use Rattle.hive_model.specs.Footprint.{of_read, used_in, is_value_named, key_pla
 use Rattle.hive_model.specs.Stands.{data_or, big_bytes_at, data_of, item_at, items_at, Stands, IsWellFormed}
 use Rattle.hive_cells.specs.Held.{held_at, patched}
 use Rattle.hive_cells.proofs.HeldLemmas.{payload_held, held_payload, payload_kept}
-use Rattle.edit_laws.specs.Owned.{In, first_or_empty, value_name, value_list_at, Reaches}
-use Rattle.edit_laws.specs.Owned.{value_places as owned_places}
-use Rattle.edit_laws.specs.Pairs.{Pairwise}
-use Rattle.edit_laws.specs.Revalues.{cells_of_values, ChangesValues}
-use Rattle.edit_laws.proofs.Ins.{in_left, in_right, in_cases, in_flat_from}
-use Rattle.edit_laws.proofs.Pairs.{pairwise_parts, pairwise_join}
-use Rattle.edit_laws.proofs.ChangedValues.{values_apart}
-use Rattle.hive_edit.specs.Places.{value_places, value_place}
+use Rattle.edited_cells.specs.Owned.{In, first_or_empty, value_name, value_list_at, Reaches}
+use Rattle.edited_cells.specs.Owned.{value_places as owned_places}
+use Rattle.edited_cells.specs.Pairs.{Pairwise}
+use Rattle.edited_cells.specs.Revalues.{cells_of_values, ChangesValues}
+use Rattle.edited_cells.proofs.Ins.{in_left, in_right, in_cases, in_flat_from}
+use Rattle.edited_cells.proofs.Pairs.{pairwise_parts, pairwise_join}
+use Rattle.edited_cells.proofs.ChangedValues.{values_apart}
+use Rattle.hive_look.specs.Places.{value_places, value_place}
 use Rattle.hive_edit.specs.Edits.{value_fields}
-use Rattle.hive_edit.proofs.ResultLemmas.{done, some, some_same}
-use Rattle.edit_laws.proofs.Out.{placed_at}
-use Rattle.edit_laws.specs.Done.{IsDone}
-use Rattle.edit_laws.proofs.ValueSteps.{a_value_set}
-use Rattle.hive_edit.proofs.PlaceLemmas.{key_there}
-use Rattle.edit_laws.proofs.Patches.{value_written}
+use Rattle.hive_look.proofs.ResultLemmas.{done, some, some_same}
+use Rattle.edited_cells.proofs.Out.{placed_at}
+use Rattle.edited_cells.specs.Done.{IsDone}
+use Rattle.edited_cells.proofs.ValueSteps.{a_value_set}
+use Rattle.hive_look.proofs.PlaceLemmas.{key_there, places_same, places_at_node}
+use Rattle.edited_cells.proofs.Patches.{value_written}
 use Rattle.std.proofs.Math.Bool.{or-false}
 use Rattle.hive_read.proofs.FormFacts.{then-so}
 
@@ -167,10 +167,6 @@ found_among test (y ∷ ys) x e = go (test y) refl e (λ d. found_among test ys 
         let d = deep e in
         record { front = y ∷ d.front; back = d.back; whole = ap (λ (zs : List ℕ). y ∷ zs) d.whole; passes = d.passes }
 
-pub places_same : (cells : Cells) (at : ℕ) → owned_places cells at ≡ value_places cells at
-unfolding owned_places value_places
-places_same cells at = refl
-
 -- a value's cell is the first of its own, and the only one where it holds its data itself
 pub value_first : (cells : Cells) (v : ℕ) → In (used_in (value_checks cells [] v)) v
 unfolding value_checks
@@ -206,15 +202,6 @@ one_list_at cells x node r o i =
     go : (b : Bool) → In (cond b [] (node.value_list ∷ [])) o → node.value_list ≡ o
     go true j = absurd j
     go false j = only_one node.value_list o j
-
-pub places_at_node : (cells : Cells) (x : ℕ) (node : KeyNode) → reading key_node_at cells x ≡ done node
-    → value_places cells x ≡ cond (eqb node.value_count 0) []
-    (of_read (reading (offsets_in node.value_count) cells node.value_list) (λ os. os))
-unfolding value_places
-places_at_node cells x node r =
-    ap (λ (q : Result KeyNode HiveFaultKind). of_read q
-    (λ n. cond (eqb n.value_count 0) []
-    (of_read (reading (offsets_in n.value_count) cells n.value_list) (λ os. os)))) r
 
 no_cons : (xs : List ℕ) (x : ℕ) (ys : List ℕ) → xs ++ (x ∷ ys) ≡ [] → ⊥
 no_cons [] x ys e = absurd cc

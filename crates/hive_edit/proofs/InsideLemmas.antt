@@ -11,15 +11,15 @@ use Rattle.hive_model.specs.Footprint.{key_place}
 use Rattle.hive_cells.specs.Opened.{Opened}
 use Rattle.hive_cells.specs.Held.{held_at, patched}
 use Rattle.hive_read.proofs.FormFacts.{IsBytes}
-use Rattle.edit_laws.specs.Owned.{In}
-use Rattle.edit_laws.proofs.Ins.{contains_from}
+use Rattle.edited_cells.specs.Owned.{In}
+use Rattle.edited_cells.proofs.Ins.{contains_from}
 use Rattle.hive_edit.specs.Edits.{inside_place, WritesFields}
 use Rattle.hive_edit.specs.Given.{place_in}
 use Rattle.hive_edit.specs.Hive.{HiveCells, cells_in, hive_of, IsHive}
-use Rattle.hive_edit.specs.Places.{value_place, data_places}
+use Rattle.hive_look.specs.Places.{value_place, data_places}
 use Rattle.hive_edit.specs.Standing.{tree_of}
 use Rattle.hive_edit.specs.Told.{length_place, IsTold, WritesGreater, WritesIfGreater, WritesValue}
-use Rattle.hive_edit.proofs.ResultLemmas.{some}
+use Rattle.hive_look.proofs.ResultLemmas.{some}
 use Rattle.hive_edit.proofs.EditLemmas.{set_tree}
 use Rattle.hive_edit.proofs.GivenUpLemmas.{replaced_there}
 use Rattle.hive_edit.proofs.InPlaceLemmas.{patched_at, fields_for, set_done}

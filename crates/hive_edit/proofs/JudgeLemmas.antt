@@ -14,20 +14,20 @@ use Rattle.hive_model.specs.Edit.{make_key, Refusal, no_key, bad_name, name_too_
 use Rattle.hive_model.specs.Packed.{rounded}
 use Rattle.hive_model.specs.Footprint.{child_places, is_node_named, has_key, some_cell, list_sizes, sizes, needed_sizes, room_of}
 use Rattle.hive_model.specs.Stands.{Stands, AllStand, IsWellFormed}
-use Rattle.edit_laws.specs.Sizes.{sizes_of}
-use Rattle.edit_laws.proofs.ChildEdits.{relisted_size}
-use Rattle.edit_laws.proofs.Found.{changed_alike}
-use Rattle.edit_laws.proofs.Patch.{folds_itself}
-use Rattle.edit_laws.proofs.Replaced.{listed_trees}
-use Rattle.edit_laws.proofs.RoomLemmas.{found_changed, make_needs, room_cons}
-use Rattle.edit_laws.proofs.InOrder.{at_key_itself}
-use Rattle.edit_laws.proofs.Wellformed.{places_are}
+use Rattle.edited_cells.specs.Sizes.{sizes_of}
+use Rattle.edited_cells.proofs.ChildEdits.{relisted_size}
+use Rattle.edited_cells.proofs.Found.{changed_alike}
+use Rattle.edited_cells.proofs.Patch.{folds_itself}
+use Rattle.edited_cells.proofs.Replaced.{listed_trees}
+use Rattle.edited_cells.proofs.RoomLemmas.{found_changed, make_needs, room_cons}
+use Rattle.edited_cells.proofs.InOrder.{at_key_itself}
+use Rattle.edited_cells.proofs.Wellformed.{places_are}
 use Rattle.hive_edit.specs.Making.{made_tree}
-use Rattle.hive_edit.proofs.ResultLemmas.{some}
-use Rattle.hive_edit.proofs.PlaceLemmas.{IsPlaceOf, child_place}
+use Rattle.hive_look.proofs.ResultLemmas.{some}
+use Rattle.hive_look.proofs.PlaceLemmas.{IsPlaceOf, child_place}
 use Rattle.hive_edit.proofs.LowLemmas.{BulkIs, bulk_then, name_low}
-use Rattle.hive_edit.proofs.ParentLemmas.{IsParent, children_are, siblings_are}
-use Rattle.edit_laws.proofs.Totals.{placed_length, placed_sizes, found_placed}
+use Rattle.hive_look.proofs.ParentLemmas.{IsParent, children_are, siblings_are}
+use Rattle.edited_cells.proofs.Totals.{placed_length, placed_sizes, found_placed}
 
 -- ---- the edit
 

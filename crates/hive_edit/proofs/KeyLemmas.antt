@@ -13,10 +13,10 @@ use Rattle.hive_model.specs.Stands.{Stands, IsWellFormed}
 use Rattle.key_index.specs.Lists.{payload_in}
 use Rattle.hive_edit.specs.declared.making.Above.{Above}
 use Rattle.hive_edit.specs.Making.{AboveIs}
-use Rattle.hive_edit.specs.Places.{IsKeyAt}
-use Rattle.hive_edit.proofs.ResultLemmas.{done, ok_same}
-use Rattle.hive_edit.proofs.NodeLemmas.{node_here as node_at_key}
-use Rattle.hive_edit.proofs.ParentLemmas.{node_stands}
+use Rattle.hive_look.specs.Places.{IsKeyAt}
+use Rattle.hive_look.proofs.ResultLemmas.{done, ok_same}
+use Rattle.hive_look.proofs.NodeLemmas.{node_here as node_at_key}
+use Rattle.hive_look.proofs.ParentLemmas.{node_stands}
 
 pub no_slash : (name : List ℕ) → is_bad_name name ≡ false → list_any is_backslash name ≡ false
 no_slash name e = go (length name == 0) (list_any is_backslash name) e

@@ -1,10 +1,4 @@
-pub mod ResultLemmas
 pub mod StandingLemmas
-pub mod OnceLemmas
-pub mod PlaceLemmas
-pub mod NodeLemmas
-pub mod ItemLemmas
-pub mod ScanLemmas
 pub mod FoundLemmas
 pub mod HiveLemmas
 pub mod SettledLemmas
@@ -16,16 +10,13 @@ pub mod PackedParents
 pub mod AnewLemmas
 pub mod OwnLemmas
 pub mod RunLemmas
-pub mod DataLemmas
 pub mod GiveLemmas
 pub mod StepLemmas
 pub mod ThereLemmas
 pub mod StrainLemmas
-pub mod MeasureLemmas
 pub mod GoneLemmas
 pub mod UnsetLemmas
 pub mod CountLemmas
-pub mod ParentLemmas
 pub mod SecuredLemmas
 pub mod PlacedLemmas
 pub mod ListedLemmas
@@ -36,7 +27,6 @@ pub mod LinkLemmas
 pub mod NewRunLemmas
 pub mod NewCellsLemmas
 pub mod NewValueLemmas
-pub mod UsesLemmas
 pub mod DroppedLemmas
 pub mod RemovedLemmas
 pub mod PairLemmas

@@ -7,7 +7,7 @@ use Rattle.hive_model.specs.Bins.{Bin}
 use Rattle.hive_cells.specs.Held.{held_at}
 use Rattle.key_index.specs.Relists.{AreRelisted}
 use Rattle.hive_edit.specs.Making.{IsWritten}
-use Rattle.hive_edit.proofs.ResultLemmas.{some}
+use Rattle.hive_look.proofs.ResultLemmas.{some}
 
 pub some_and : (o : Option (List ℕ)) (P : List ℕ → Type 0) → IsSomeAnd o P → (q : List ℕ) × (o ≡ some q) × P q
 some_and None P h = absurd h

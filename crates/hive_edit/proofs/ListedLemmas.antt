@@ -16,18 +16,18 @@ use Rattle.hive_model.specs.InPlace.{IsPackedList}
 use Rattle.hive_cells.specs.Opened.{Opened}
 use Rattle.hive_cells.specs.Held.{held_at}
 use Rattle.hive_cells.proofs.HeldLemmas.{payload_held, held_payload}
-use Rattle.edit_laws.specs.Owned.{Role, node, security, lists, In, node_name, HasRole, Reaches, Owns}
-use Rattle.edit_laws.specs.Uses.{tree_uses}
-use Rattle.edit_laws.specs.Written.{with_part, three_numbers}
-use Rattle.edit_laws.specs.Relists.{SaysTheRest, IsSecurityCell, ChangesChildren}
-use Rattle.edit_laws.specs.Lists.{RemovesChild}
-use Rattle.edit_laws.proofs.Ins.{in_cases, in_left, in_right}
-use Rattle.edit_laws.proofs.Held.{are_held}
-use Rattle.edit_laws.proofs.Untouched.{are_once}
-use Rattle.edit_laws.proofs.OwnedUses.{use_owned}
-use Rattle.edit_laws.proofs.Revalued.{one_node, reach_on}
-use Rattle.edit_laws.proofs.ChildrenColumn.{places_listed}
-use Rattle.edit_laws.proofs.FromLists.{children_written, removes_child}
+use Rattle.edited_cells.specs.Owned.{Role, node, security, lists, In, node_name, HasRole, Reaches, Owns}
+use Rattle.edited_cells.specs.Uses.{tree_uses}
+use Rattle.edited_cells.specs.Written.{with_part, three_numbers}
+use Rattle.edited_cells.specs.Relists.{SaysTheRest, IsSecurityCell, ChangesChildren}
+use Rattle.edited_cells.specs.Lists.{RemovesChild}
+use Rattle.edited_cells.proofs.Ins.{in_cases, in_left, in_right}
+use Rattle.edited_cells.proofs.Held.{are_held}
+use Rattle.edited_cells.proofs.Untouched.{are_once}
+use Rattle.edited_cells.proofs.OwnedUses.{use_owned}
+use Rattle.edited_cells.proofs.Revalued.{one_node, reach_on}
+use Rattle.edited_cells.proofs.ChildrenColumn.{places_listed}
+use Rattle.edited_cells.proofs.FromLists.{children_written, removes_child}
 use Rattle.key_index.specs.Lists.{node_hint, hints_in, lists_at, payload_in, without_child}
 use Rattle.key_index.specs.Relists.{AreRelisted}
 use Rattle.key_index.proofs.Packing.{relisted_packed}
@@ -35,8 +35,8 @@ use Rattle.hive_edit.specs.declared.making.Above.{Above}
 use Rattle.hive_edit.specs.Hive.{hive_of}
 use Rattle.hive_edit.specs.Dropped.{AreShortened, IsRemoved, left_children}
 use Rattle.hive_edit.specs.Listed.{HasNewLists}
-use Rattle.hive_edit.proofs.ResultLemmas.{done, no_some}
-use Rattle.hive_edit.proofs.ParentLemmas.{Keeps, IsParent, parent_held, list_no_node, list_no_security, role_code}
+use Rattle.hive_look.proofs.ResultLemmas.{done, no_some}
+use Rattle.hive_look.proofs.ParentLemmas.{Keeps, IsParent, parent_held, list_no_node, list_no_security, role_code}
 use Rattle.hive_edit.proofs.SecuredLemmas.{secure_own}
 
 -- ---- a child is no other cell of its parent

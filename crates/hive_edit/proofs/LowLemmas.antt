@@ -18,21 +18,21 @@ use Rattle.hive_model.specs.Stands.{item_at, items_at, IsWellFormed}
 use Rattle.hive_cells.specs.Held.{held_at, allocated_payload}
 use Rattle.hive_cells.proofs.HeldLemmas.{payload_held}
 use Rattle.reg_tree.proofs.Unlike.{Each, each_from}
-use Rattle.edit_laws.specs.Owned.{In, class_cell_at, value_list_at, value_places}
-use Rattle.edit_laws.specs.Pairs.{Pairwise}
-use Rattle.edit_laws.specs.Revalues.{cells_of_values}
-use Rattle.edit_laws.specs.Uses.{Agree, plain, secure, own_uses, tree_uses}
-use Rattle.edit_laws.proofs.Around.{hive_once, used_held}
-use Rattle.edit_laws.proofs.Ins.{in_from}
-use Rattle.edit_laws.proofs.Pairs.{pairwise_to}
+use Rattle.edited_cells.specs.Owned.{In, class_cell_at, value_list_at, value_places}
+use Rattle.edited_cells.specs.Pairs.{Pairwise}
+use Rattle.edited_cells.specs.Revalues.{cells_of_values}
+use Rattle.edited_cells.specs.Uses.{Agree, plain, secure, own_uses, tree_uses}
+use Rattle.edited_cells.proofs.Around.{hive_once, used_held}
+use Rattle.edited_cells.proofs.Ins.{in_from}
+use Rattle.edited_cells.proofs.Pairs.{pairwise_to}
 use Rattle.hive_edit.specs.Hive.{IsHive}
 use Rattle.hive_edit.specs.Standing.{tree_of}
 use Rattle.hive_edit.proofs.InPlaceLemmas.{value_first}
-use Rattle.hive_edit.proofs.InPlaceLemmas.{places_same}
-use Rattle.hive_edit.proofs.OnceLemmas.{AllWellFormed, children_well_formed}
-use Rattle.hive_edit.proofs.PlaceLemmas.{items_stand}
-use Rattle.hive_edit.proofs.ResultLemmas.{done, ok_same}
-use Rattle.edit_laws.proofs.Wellformed.{places_are}
+use Rattle.hive_look.proofs.PlaceLemmas.{places_same}
+use Rattle.hive_look.proofs.OnceLemmas.{AllWellFormed, children_well_formed}
+use Rattle.hive_look.proofs.PlaceLemmas.{items_stand}
+use Rattle.hive_look.proofs.ResultLemmas.{done, ok_same}
+use Rattle.edited_cells.proofs.Wellformed.{places_are}
 use Rattle.hive_read.proofs.FormFacts.{then-so}
 
 -- ---- values

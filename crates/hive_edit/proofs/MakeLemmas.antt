@@ -19,11 +19,11 @@ use Rattle.hive_cells.specs.Opened.{Opened}
 use Rattle.hive_cells.specs.Holes.{new_bin_size}
 use Rattle.hive_pack.specs.Below.{beside}
 use Rattle.hive_read.proofs.FormFacts.{IsBytes}
-use Rattle.edit_laws.specs.Owned.{In}
-use Rattle.edit_laws.specs.Done.{IsDone}
-use Rattle.edit_laws.specs.Relists.{HasPlace}
-use Rattle.edit_laws.proofs.KeySteps.{a_key_made}
-use Rattle.edit_laws.proofs.Out.{placed_at}
+use Rattle.edited_cells.specs.Owned.{In}
+use Rattle.edited_cells.specs.Done.{IsDone}
+use Rattle.edited_cells.specs.Relists.{HasPlace}
+use Rattle.edited_cells.proofs.KeySteps.{a_key_made}
+use Rattle.edited_cells.proofs.Out.{placed_at}
 use Rattle.hive_edit.specs.declared.adding.NewPlace.{NewPlace}
 use Rattle.hive_edit.specs.declared.making.Above.{Above}
 use Rattle.hive_edit.specs.Children.{security_listed}
@@ -42,8 +42,8 @@ use Rattle.hive_edit.proofs.GraftLemmas.{changes, stands_new, kept_secure}
 use Rattle.hive_edit.proofs.GraftedLemmas.{front, back, placed, grafts}
 use Rattle.hive_edit.proofs.JudgeLemmas.{MayTry, step_made, make_room, shared_own, new_size}
 use Rattle.hive_edit.proofs.KeyLemmas.{node_read, no_slash}
-use Rattle.hive_edit.proofs.ParentLemmas.{node_stands, security_at_node, security_there}
-use Rattle.hive_edit.proofs.ResultLemmas.{done}
+use Rattle.hive_look.proofs.ParentLemmas.{node_stands, security_at_node, security_there}
+use Rattle.hive_look.proofs.ResultLemmas.{done}
 use Rattle.hive_edit.proofs.SecuredLemmas.{keeps_security}
 use Rattle.hive_edit.proofs.SteppedLemmas.{IsStepMade, stepped, lacks_room}
 

@@ -25,12 +25,12 @@ use Rattle.hive_pack.proofs.Rows.{space, space_value}
 use Rattle.hive_pack.proofs.Found.{Has, has_behind, has_front, reads_in}
 use Rattle.hive_pack.proofs.Items.{item_read, data_has, item_stands}
 use Rattle.key_index.proofs.Runs.{among_from, has_held, run_is, none_some}
-use Rattle.edit_laws.specs.Owned.{In, value_list_at}
-use Rattle.edit_laws.specs.Framed.{IsUnheld}
-use Rattle.edit_laws.specs.Pairs.{Pairwise}
-use Rattle.edit_laws.specs.Written.{with_part, two_numbers, HasNewValues}
-use Rattle.edit_laws.proofs.FromCells.{value_uses, data_held_inside}
-use Rattle.edit_laws.proofs.Patches.{node_text, values_written}
+use Rattle.edited_cells.specs.Owned.{In, value_list_at}
+use Rattle.edited_cells.specs.Framed.{IsUnheld}
+use Rattle.edited_cells.specs.Pairs.{Pairwise}
+use Rattle.edited_cells.specs.Written.{with_part, two_numbers, HasNewValues}
+use Rattle.edited_cells.proofs.FromCells.{value_uses, data_held_inside}
+use Rattle.edited_cells.proofs.Patches.{node_text, values_written}
 use Rattle.hive_edit.specs.Given.{with_fields}
 use Rattle.hive_edit.specs.NewValue.{added_cells, added_size, CanAdd, IsRelistedAt, LacksRoomForValue, ListsThese, PutsValue}
 use Rattle.hive_cells.specs.Holes.{new_bin_size}
@@ -39,7 +39,7 @@ use Rattle.hive_edit.proofs.GivenUpLemmas.{list_free}
 use Rattle.hive_edit.proofs.GiveLemmas.{data_run_stands}
 use Rattle.hive_edit.proofs.GoneLemmas.{is_held, and_some}
 use Rattle.hive_edit.proofs.NewRunLemmas.{more_fit, more_long, added_space}
-use Rattle.hive_edit.proofs.ResultLemmas.{done, some}
+use Rattle.hive_look.proofs.ResultLemmas.{done, some}
 use Rattle.hive_pack.proofs.Whole.{used_size}
 use Rattle.hive_read.proofs.FormFacts.{then-so}
 

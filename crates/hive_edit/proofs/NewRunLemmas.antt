@@ -18,7 +18,7 @@ use Rattle.hive_pack.proofs.Rows.{space, length_text, space_append, space_value}
 use Rattle.key_index.proofs.Runs.{run_is}
 use Rattle.hive_edit.specs.NewValue.{added_cells, added_size, ListsThese}
 use Rattle.hive_edit.proofs.GoneLemmas.{list_facts, is_held, offsets_few}
-use Rattle.hive_edit.proofs.ResultLemmas.{some_same}
+use Rattle.hive_look.proofs.ResultLemmas.{some_same}
 
 -- ---- numbers and their bytes
 

@@ -20,31 +20,31 @@ use Rattle.hive_model.specs.Stands.{Stands, IsWellFormed, items_at, values_of}
 use Rattle.hive_cells.specs.Opened.{Opened}
 use Rattle.hive_cells.specs.Holes.{new_bin_size}
 use Rattle.hive_read.proofs.FormFacts.{IsBytes, then-so}
-use Rattle.edit_laws.specs.Owned.{In, value_list_at}
-use Rattle.edit_laws.specs.Owned.{value_places as owned_places}
-use Rattle.edit_laws.specs.Done.{item}
-use Rattle.edit_laws.specs.Revalues.{cells_of_values}
-use Rattle.edit_laws.specs.Sizes.{total}
-use Rattle.edit_laws.proofs.Ins.{in_left}
-use Rattle.edit_laws.proofs.Out.{placed_at}
-use Rattle.edit_laws.proofs.Patch.{folds_itself}
-use Rattle.edit_laws.proofs.ChangedValues.{values_apart}
-use Rattle.edit_laws.proofs.ItemSizes.{added_size as added_items}
-use Rattle.edit_laws.proofs.RoomLemmas.{room_for, found_changed, set_needs, item_total}
-use Rattle.edit_laws.proofs.Sizes.{revalued_size}
-use Rattle.edit_laws.proofs.ValueCells.{value_added}
+use Rattle.edited_cells.specs.Owned.{In, value_list_at}
+use Rattle.edited_cells.specs.Owned.{value_places as owned_places}
+use Rattle.edited_cells.specs.Done.{item}
+use Rattle.edited_cells.specs.Revalues.{cells_of_values}
+use Rattle.edited_cells.specs.Sizes.{total}
+use Rattle.edited_cells.proofs.Ins.{in_left}
+use Rattle.edited_cells.proofs.Out.{placed_at}
+use Rattle.edited_cells.proofs.Patch.{folds_itself}
+use Rattle.edited_cells.proofs.ChangedValues.{values_apart}
+use Rattle.edited_cells.proofs.ItemSizes.{added_size as added_items}
+use Rattle.edited_cells.proofs.RoomLemmas.{room_for, found_changed, set_needs, item_total}
+use Rattle.edited_cells.proofs.Sizes.{revalued_size}
+use Rattle.edited_cells.proofs.ValueCells.{value_added}
 use Rattle.hive_edit.specs.Given.{place_in}
 use Rattle.hive_edit.specs.Gone.{list_room, HasOffsets}
 use Rattle.hive_edit.specs.Hive.{HiveCells, cells_in, hive_of, IsHive}
 use Rattle.hive_edit.specs.NewValue.{added_size, CanAdd, IsNewIn, LacksRoomForValue, PutsValue, set_tree}
-use Rattle.hive_edit.specs.Places.{IsKeyAt, value_place, value_places}
+use Rattle.hive_look.specs.Places.{IsKeyAt, value_place, value_places}
 use Rattle.hive_edit.specs.Standing.{tree_of}
 use Rattle.hive_edit.specs.Stepped.{LacksStepRoom}
 use Rattle.hive_edit.proofs.EditLemmas.{made, the_tree}
 use Rattle.hive_edit.proofs.GoneLemmas.{list_facts}
-use Rattle.hive_edit.proofs.InPlaceLemmas.{places_same}
-use Rattle.hive_edit.proofs.PlaceLemmas.{key_there, no_place, items_stand}
-use Rattle.hive_edit.proofs.ResultLemmas.{done, some, ok_same}
+use Rattle.hive_look.proofs.PlaceLemmas.{places_same}
+use Rattle.hive_look.proofs.PlaceLemmas.{key_there, no_place, items_stand}
+use Rattle.hive_look.proofs.ResultLemmas.{done, some, ok_same}
 use Rattle.hive_edit.proofs.LowLemmas.{items_length, bulk_is, bulk_then}
 use Rattle.hive_edit.proofs.SteppedLemmas.{IsStepMade, stepped, lacks_room}
 use Rattle.hive_edit.proofs.UnsetLemmas.{held_offsets, sized, none_named}

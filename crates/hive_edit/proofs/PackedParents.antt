@@ -17,12 +17,12 @@ use Rattle.hive_pack.proofs.Counts.{few_of_all}
 use Rattle.hive_pack.proofs.Found.{Has, has_front, has_behind, has_all, reads_in}
 use Rattle.hive_pack.proofs.Named.{children_named}
 use Rattle.hive_pack.proofs.Standing.{AboveStands, below_stands, node_fits, head_has, places_fit, above_root}
-use Rattle.edit_laws.specs.Owned.{In}
-use Rattle.edit_laws.specs.Parents.{NamesParents, IsChildOf}
-use Rattle.edit_laws.proofs.Revalued.{one_node}
-use Rattle.edit_laws.proofs.ParentsKept.{children_name}
-use Rattle.edit_laws.proofs.ChildrenColumn.{places_listed}
-use Rattle.hive_edit.proofs.ResultLemmas.{done}
+use Rattle.edited_cells.specs.Owned.{In}
+use Rattle.edited_cells.specs.Parents.{NamesParents, IsChildOf}
+use Rattle.edited_cells.proofs.Revalued.{one_node}
+use Rattle.edited_cells.proofs.ParentsKept.{children_name}
+use Rattle.edited_cells.proofs.ChildrenColumn.{places_listed}
+use Rattle.hive_look.proofs.ResultLemmas.{done}
 
 mutual
   pub packed_names : (cells : Cells) (up : Above) (at : ℕ) (t : Tree) → AboveStands cells up

@@ -16,36 +16,36 @@ use Rattle.hive_model.specs.Footprint.{child_places, is_node_named, key_place, l
 use Rattle.hive_model.specs.Stands.{security_of, IsWellFormed}
 use Rattle.hive_cells.specs.Held.{held_at}
 use Rattle.hive_cells.proofs.HeldLemmas.{payload_held}
-use Rattle.edit_laws.specs.Owned.{In, node_name, class_cell_at, Reaches, Folds}
-use Rattle.edit_laws.specs.Relists.{IsSecurityCell}
-use Rattle.edit_laws.specs.Uses.{Agree, Once, plain, secure, own_uses, tree_uses}
-use Rattle.edit_laws.specs.Revalues.{all_value_cells}
-use Rattle.edit_laws.proofs.Ins.{in_from, in_right, in_flat_from, found_in}
-use Rattle.edit_laws.proofs.Pairs.{InParts, pairwise_parts, among, in_map_from}
-use Rattle.edit_laws.proofs.Out.{named_so, placed_at}
-use Rattle.edit_laws.proofs.Patches.{node_text}
-use Rattle.edit_laws.proofs.Wellformed.{sound_hive}
-use Rattle.edit_laws.proofs.Around.{IsSwapped, above_is, around, flat_append, hive_uses, hive_once, used_held}
-use Rattle.edit_laws.proofs.ChangedValues.{path_itself, same_itself}
-use Rattle.edit_laws.proofs.Revalued.{folds_length, reach_on}
-use Rattle.edit_laws.proofs.OwnedUses.{secure_is, use_owned}
-use Rattle.edit_laws.proofs.TakenOut.{hive_used}
+use Rattle.edited_cells.specs.Owned.{In, node_name, class_cell_at, Reaches, Folds}
+use Rattle.edited_cells.specs.Relists.{IsSecurityCell}
+use Rattle.edited_cells.specs.Uses.{Agree, Once, plain, secure, own_uses, tree_uses}
+use Rattle.edited_cells.specs.Revalues.{all_value_cells}
+use Rattle.edited_cells.proofs.Ins.{in_from, in_right, in_flat_from, found_in}
+use Rattle.edited_cells.proofs.Pairs.{InParts, pairwise_parts, among, in_map_from}
+use Rattle.edited_cells.proofs.Out.{named_so, placed_at}
+use Rattle.edited_cells.proofs.Patches.{node_text}
+use Rattle.edited_cells.proofs.Wellformed.{sound_hive}
+use Rattle.edited_cells.proofs.Around.{IsSwapped, above_is, around, flat_append, hive_uses, hive_once, used_held}
+use Rattle.edited_cells.proofs.ChangedValues.{path_itself, same_itself}
+use Rattle.edited_cells.proofs.Revalued.{folds_length, reach_on}
+use Rattle.edited_cells.proofs.OwnedUses.{secure_is, use_owned}
+use Rattle.edited_cells.proofs.TakenOut.{hive_used}
 use Rattle.key_index.specs.Lists.{lists_at, payload_in, ListsSiblings}
 use Rattle.key_index.proofs.Below.{in_payload}
 use Rattle.key_index.specs.Relists.{AreApart}
 use Rattle.hive_edit.specs.declared.deleting.KeyPair.{KeyPair}
 use Rattle.hive_edit.specs.declared.making.Above.{Above}
-use Rattle.hive_edit.specs.Places.{IsKeyAt}
+use Rattle.hive_look.specs.Places.{IsKeyAt}
 use Rattle.hive_edit.specs.Making.{AboveIs}
 use Rattle.hive_edit.specs.Dropped.{CanRemove}
 use Rattle.hive_edit.specs.Deleting.{pair, pair_from, pair_place, levels_left}
-use Rattle.hive_edit.proofs.ResultLemmas.{done, some, some_same, ok_same}
+use Rattle.hive_look.proofs.ResultLemmas.{done, some, some_same, ok_same}
 use Rattle.hive_edit.proofs.GoneLemmas.{is_held, and_some}
 use Rattle.hive_edit.proofs.CountLemmas.{security_text_is}
-use Rattle.hive_edit.proofs.PlaceLemmas.{IsPlaceOf, child_place, key_there}
+use Rattle.hive_look.proofs.PlaceLemmas.{IsPlaceOf, child_place, key_there}
 use Rattle.hive_edit.proofs.KeyLemmas.{node_read}
-use Rattle.hive_edit.proofs.NodeLemmas.{node_here}
-use Rattle.hive_edit.proofs.ParentLemmas.{IsParent, node_stands, security_read, parent_held, lists_are, children_are, siblings_are, lists_apart, list_no_node}
+use Rattle.hive_look.proofs.NodeLemmas.{node_here}
+use Rattle.hive_look.proofs.ParentLemmas.{IsParent, node_stands, security_read, parent_held, lists_are, children_are, siblings_are, lists_apart, list_no_node}
 use Rattle.hive_edit.proofs.SecuredLemmas.{role_security, secure_reads}
 use Rattle.hive_read.proofs.FormFacts.{then-so}
 

@@ -11,10 +11,10 @@ use Rattle.hive_model.specs.KeyNode.{KeyNode, key_node_at}
 use Rattle.hive_model.specs.Lists.{SubkeyList, list_at}
 use Rattle.hive_model.specs.Walk.{reading, leaf_at, joined_at, entries_of, entries_at, is_list_of_lists, leaves_checks, entries_checks, below_of, names_of}
 use Rattle.hive_model.specs.Footprint.{used_in, of_read}
-use Rattle.edit_laws.specs.Owned.{In, first_or_empty, node_name}
-use Rattle.edit_laws.specs.Relists.{HasPlace}
+use Rattle.edited_cells.specs.Owned.{In, first_or_empty, node_name}
+use Rattle.edited_cells.specs.Relists.{HasPlace}
 use Rattle.key_index.specs.Lists.{lists_at, name_in, name_of, payload_in}
-use Rattle.hive_edit.proofs.ResultLemmas.{done}
+use Rattle.hive_look.proofs.ResultLemmas.{done}
 use Rattle.hive_read.proofs.FormFacts.{then-so}
 
 -- ---- names

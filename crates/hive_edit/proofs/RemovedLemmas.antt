@@ -14,21 +14,21 @@ use Rattle.hive_model.specs.Walk.{entries_checks}
 use Rattle.hive_model.specs.Footprint.{used_in, child_places, list_cells_at}
 use Rattle.hive_cells.specs.Held.{held_at, patched}
 use Rattle.hive_cells.proofs.HeldLemmas.{held_payload, payload_held}
-use Rattle.edit_laws.specs.Owned.{In}
-use Rattle.edit_laws.specs.Pairs.{Pairwise}
-use Rattle.edit_laws.specs.Uses.{tree_uses}
-use Rattle.edit_laws.specs.Relists.{descriptor_at, IsSecurityCell}
-use Rattle.edit_laws.specs.Takes.{TakesChild}
-use Rattle.edit_laws.proofs.Ins.{in_from, contains_from}
-use Rattle.edit_laws.proofs.Pairs.{pairwise_from}
-use Rattle.edit_laws.proofs.Patch.{folds_itself}
+use Rattle.edited_cells.specs.Owned.{In}
+use Rattle.edited_cells.specs.Pairs.{Pairwise}
+use Rattle.edited_cells.specs.Uses.{tree_uses}
+use Rattle.edited_cells.specs.Relists.{descriptor_at, IsSecurityCell}
+use Rattle.edited_cells.specs.Takes.{TakesChild}
+use Rattle.edited_cells.proofs.Ins.{in_from, contains_from}
+use Rattle.edited_cells.proofs.Pairs.{pairwise_from}
+use Rattle.edited_cells.proofs.Patch.{folds_itself}
 use Rattle.key_index.specs.Lists.{children_at, lists_at, name_in, without_child}
 use Rattle.key_index.specs.Relists.{AreApart}
 use Rattle.hive_edit.specs.declared.making.Above.{Above}
 use Rattle.hive_edit.specs.Making.{AboveIs, child_fields}
 use Rattle.hive_edit.specs.Dropped.{IsRemoved, left_children}
-use Rattle.hive_edit.proofs.ResultLemmas.{done, some, no_some}
-use Rattle.hive_edit.proofs.ParentLemmas.{IsParent, lists_are, children_are, siblings_are}
+use Rattle.hive_look.proofs.ResultLemmas.{done, some, no_some}
+use Rattle.hive_look.proofs.ParentLemmas.{IsParent, lists_are, children_are, siblings_are}
 use Rattle.hive_edit.proofs.PlacedLemmas.{one_list}
 use Rattle.hive_edit.proofs.DroppedLemmas.{shortened_keeps}
 use Rattle.hive_edit.proofs.SecuredLemmas.{secure_reads}

@@ -13,21 +13,21 @@ use Rattle.hive_model.specs.InPlace.{count_after, recounted, IsKeptSecurity, Kee
 use Rattle.hive_model.specs.Walk.{Check, uses, tests, reading, all_checks}
 use Rattle.hive_model.specs.Footprint.{security_used_in}
 use Rattle.hive_model.specs.Stands.{Stands, IsWellFormed}
-use Rattle.edit_laws.specs.Owned.{Role, node, class, security, value_list, value, lists, In, HasRole, Owns, IsSecurity, Matches, IsMatched}
+use Rattle.edited_cells.specs.Owned.{Role, node, class, security, value_list, value, lists, In, HasRole, Owns, IsSecurity, Matches, IsMatched}
 use Rattle.hive_model.specs.Owned.{IsOfValue}
-use Rattle.edit_laws.specs.Uses.{tree_uses}
-use Rattle.edit_laws.specs.Written.{with_part}
-use Rattle.edit_laws.specs.Relists.{descriptor_at, IsSecurityCell}
-use Rattle.edit_laws.specs.Done.{IsDone}
-use Rattle.edit_laws.proofs.Ins.{in_from}
-use Rattle.edit_laws.proofs.Uses.{marks, walk_uses}
-use Rattle.edit_laws.proofs.Held.{are_held}
-use Rattle.edit_laws.proofs.Untouched.{root_node, are_once}
-use Rattle.edit_laws.proofs.Wellformed.{sound_tree, standing}
-use Rattle.edit_laws.proofs.OwnedUses.{secure_is, use_owned}
-use Rattle.hive_edit.proofs.ResultLemmas.{done}
+use Rattle.edited_cells.specs.Uses.{tree_uses}
+use Rattle.edited_cells.specs.Written.{with_part}
+use Rattle.edited_cells.specs.Relists.{descriptor_at, IsSecurityCell}
+use Rattle.edited_cells.specs.Done.{IsDone}
+use Rattle.edited_cells.proofs.Ins.{in_from}
+use Rattle.edited_cells.proofs.Uses.{marks, walk_uses}
+use Rattle.edited_cells.proofs.Held.{are_held}
+use Rattle.edited_cells.proofs.Untouched.{root_node, are_once}
+use Rattle.edited_cells.proofs.Wellformed.{sound_tree, standing}
+use Rattle.edited_cells.proofs.OwnedUses.{secure_is, use_owned}
+use Rattle.hive_look.proofs.ResultLemmas.{done}
 use Rattle.hive_edit.proofs.CountLemmas.{security_counted, security_text_is}
-use Rattle.hive_edit.proofs.ParentLemmas.{security_at_node, security_some, security_read}
+use Rattle.hive_look.proofs.ParentLemmas.{security_at_node, security_some, security_read}
 
 -- ---- which cells are they
 

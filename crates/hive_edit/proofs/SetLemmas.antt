@@ -21,18 +21,18 @@ use Rattle.hive_cells.specs.Opened.{Opened}
 use Rattle.hive_cells.specs.Held.{held_at}
 use Rattle.hive_read.proofs.FormFacts.{held-short, value-facts, then-so}
 use Rattle.key_index.specs.Lists.{payload_in}
-use Rattle.edit_laws.proofs.Ins.{in_from}
-use Rattle.edit_laws.proofs.FromCells.{data_held_inside}
+use Rattle.edited_cells.proofs.Ins.{in_from}
+use Rattle.edited_cells.proofs.FromCells.{data_held_inside}
 use Rattle.hive_edit.specs.Hive.{HiveCells, cells_in, hive_of, IsHive}
 use Rattle.hive_edit.specs.Edits.{value_fields, held_itself, holds_itself, if_inside, inside_place}
 use Rattle.hive_edit.specs.Tells.{new_name_length}
 use Rattle.hive_edit.proofs.ToldLemmas.{there_long}
-use Rattle.hive_edit.specs.Places.{IsItemHere, value_place, value_places, data_places}
+use Rattle.hive_look.specs.Places.{IsItemHere, value_place, value_places, data_places}
 use Rattle.hive_edit.specs.Standing.{tree_of}
-use Rattle.hive_edit.proofs.ResultLemmas.{done, some, some_same, ok_same}
-use Rattle.hive_edit.proofs.PlaceLemmas.{key_there, IsItemAt, place_of_item}
+use Rattle.hive_look.proofs.ResultLemmas.{done, some, some_same, ok_same}
+use Rattle.hive_look.proofs.PlaceLemmas.{key_there, IsItemAt, place_of_item}
 use Rattle.hive_cells.proofs.HeldLemmas.{payload_held}
-use Rattle.hive_edit.proofs.ItemLemmas.{item_facts, value_facts}
+use Rattle.hive_look.proofs.ItemLemmas.{item_facts, value_facts}
 use Rattle.hive_edit.proofs.InPlaceLemmas.{inside_data, found_among, named_folds}
 use Rattle.hive_edit.proofs.EditLemmas.{folds_length, set_tree, set_edited, same_bulk, made}
 use Rattle.hive_edit.specs.Freed.{FreesData}

@@ -8,7 +8,7 @@ use Rattle.hive_model.specs.Walk.{reading}
 use Rattle.hive_model.specs.Footprint.{child_places}
 use Rattle.hive_model.specs.Stands.{KeyStands, Stands, AllStand, IsWellFormed}
 use Rattle.hive_edit.specs.Standing.{list_read, head_of, tree_at, tree_of}
-use Rattle.edit_laws.proofs.Wellformed.{places_are}
+use Rattle.edited_cells.proofs.Wellformed.{places_are}
 
 -- what a key that stands says of itself
 pub head_stands : (cells : Cells) (at : ℕ) (h : Head) (offsets : List ℕ) → KeyStands cells at h offsets

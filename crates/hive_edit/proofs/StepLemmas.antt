@@ -13,19 +13,20 @@ use Rattle.hive_model.specs.Stands.{IsWellFormed}
 use Rattle.hive_cells.specs.Held.{held_at}
 use Rattle.hive_cells.proofs.HeldLemmas.{payload_held}
 use Rattle.key_index.specs.Relists.{AreApart}
-use Rattle.edit_laws.specs.Owned.{In}
-use Rattle.edit_laws.specs.Owned.{value_places as owned_places}
-use Rattle.edit_laws.specs.Pairs.{Pairwise}
-use Rattle.edit_laws.specs.Revalues.{cells_of_values}
-use Rattle.edit_laws.specs.Owned.{value_list_at}
-use Rattle.edit_laws.proofs.Ins.{in_right, in_flat_from}
-use Rattle.edit_laws.proofs.Pairs.{pairwise_parts, pairwise_to, all_from}
-use Rattle.edit_laws.proofs.Out.{placed_at}
-use Rattle.edit_laws.proofs.ChangedValues.{values_apart, values_held}
-use Rattle.edit_laws.proofs.FromCells.{value_uses}
-use Rattle.hive_edit.specs.Places.{value_places, value_place, data_places}
-use Rattle.hive_edit.proofs.ResultLemmas.{done, some}
-use Rattle.hive_edit.proofs.InPlaceLemmas.{found_among, places_same}
+use Rattle.edited_cells.specs.Owned.{In}
+use Rattle.edited_cells.specs.Owned.{value_places as owned_places}
+use Rattle.edited_cells.specs.Pairs.{Pairwise}
+use Rattle.edited_cells.specs.Revalues.{cells_of_values}
+use Rattle.edited_cells.specs.Owned.{value_list_at}
+use Rattle.edited_cells.proofs.Ins.{in_right, in_flat_from}
+use Rattle.edited_cells.proofs.Pairs.{pairwise_parts, pairwise_to, all_from}
+use Rattle.edited_cells.proofs.Out.{placed_at}
+use Rattle.edited_cells.proofs.ChangedValues.{values_apart, values_held}
+use Rattle.edited_cells.proofs.FromCells.{value_uses}
+use Rattle.hive_look.specs.Places.{value_places, value_place, data_places}
+use Rattle.hive_look.proofs.ResultLemmas.{done, some}
+use Rattle.hive_edit.proofs.InPlaceLemmas.{found_among}
+use Rattle.hive_look.proofs.PlaceLemmas.{places_same}
 
 -- ---- the cells of a value
 

@@ -19,12 +19,12 @@ use Rattle.hive_read.proofs.FormFacts.{IsBytes}
 use Rattle.hive_read.proofs.ValidTrees.{well-formed-valid, cells-bytes}
 use Rattle.reg_tree.specs.declared.stop.EditStop.{EditStop}
 use Rattle.reg_tree.specs.Makes.{IsRefused, Makes, refusal_of}
-use Rattle.edit_laws.specs.Done.{IsDone, AreDone}
-use Rattle.edit_laws.specs.Parents.{NamesParents}
-use Rattle.edit_laws.specs.Sizes.{AreGrown}
-use Rattle.edit_laws.proofs.Grown.{strain_behind}
-use Rattle.edit_laws.proofs.InOrder.{tree_done, parents_done, left_outside}
-use Rattle.edit_laws.proofs.RoomLemmas.{some_all, strain_one, strain_least}
+use Rattle.edited_cells.specs.Done.{IsDone, AreDone}
+use Rattle.edited_cells.specs.Parents.{NamesParents}
+use Rattle.edited_cells.specs.Sizes.{AreGrown}
+use Rattle.edited_cells.proofs.Grown.{strain_behind}
+use Rattle.edited_cells.proofs.InOrder.{tree_done, parents_done, left_outside}
+use Rattle.edited_cells.proofs.RoomLemmas.{some_all, strain_one, strain_least}
 use Rattle.hive_edit.specs.Edits.{IsEditedInPlace, IsPackedAnew, IsPackedForRoom, KeepsParents}
 use Rattle.hive_edit.specs.Hive.{HiveCells, cells_in, hive_of, IsHive}
 use Rattle.hive_edit.specs.Standing.{tree_of}
@@ -39,7 +39,7 @@ use Rattle.hive_edit.specs.Listed.{HasNewLists, relisted_keys}
 use Rattle.hive_edit.specs.GivenUp.{given_up}
 use Rattle.hive_edit.specs.NewRun.{HasNewRun, run_trees}
 use Rattle.hive_cells.specs.Held.{held_at}
-use Rattle.edit_laws.specs.Owned.{In}
+use Rattle.edited_cells.specs.Owned.{In}
 use Rattle.hive_model.specs.InPlace.{KeepsSecurity}
 
 -- ---- one step

@@ -13,15 +13,15 @@ use Rattle.hive_model.specs.Footprint.{value_list_sizes, item_sizes, needed_size
 use Rattle.hive_cells.specs.Opened.{Opened}
 use Rattle.hive_cells.specs.Holes.{new_bin_size}
 use Rattle.hive_read.proofs.FormFacts.{IsBytes}
-use Rattle.edit_laws.specs.Sizes.{total, AreSome}
-use Rattle.edit_laws.proofs.RoomLemmas.{some_all, some_right, room_some, room_for, found_changed, set_needs, item_total}
+use Rattle.edited_cells.specs.Sizes.{total, AreSome}
+use Rattle.edited_cells.proofs.RoomLemmas.{some_all, some_right, room_some, room_for, found_changed, set_needs, item_total}
 use Rattle.hive_edit.specs.Given.{place_in, IsGiven}
 use Rattle.hive_edit.specs.Hive.{HiveCells, cells_in, hive_of, IsHive}
 use Rattle.hive_edit.specs.NewValue.{set_tree}
-use Rattle.hive_edit.specs.Places.{data_places}
+use Rattle.hive_look.specs.Places.{data_places}
 use Rattle.hive_edit.specs.Standing.{tree_of}
 use Rattle.hive_edit.specs.Stepped.{LacksStepRoom}
-use Rattle.hive_edit.proofs.ResultLemmas.{some, some_same}
+use Rattle.hive_look.proofs.ResultLemmas.{some, some_same}
 use Rattle.hive_pack.proofs.Rows.{space_data}
 use Rattle.hive_edit.proofs.GiveLemmas.{some_size}
 use Rattle.hive_edit.proofs.SteppedLemmas.{IsStepMade, IsWithinRoom, stepped, lacks_room}
@@ -29,8 +29,8 @@ use Rattle.hive_edit.proofs.ThereLemmas.{ThereIs, there_in, edit_there, there_do
 use Rattle.hive_edit.proofs.NewValueLemmas.{kept_name}
 use Rattle.hive_edit.proofs.SecuredLemmas.{none_counted, set_counts_none}
 use Rattle.hive_edit.proofs.GivenUpLemmas.{replaced_there}
-use Rattle.edit_laws.specs.Owned.{In}
-use Rattle.edit_laws.proofs.Ins.{contains_from}
+use Rattle.edited_cells.specs.Owned.{In}
+use Rattle.edited_cells.proofs.Ins.{contains_from}
 
 abbrev become : ℕ → List ℕ → Item → Item
 become kind bytes v = record v { kind = kind; bytes = bytes }

@@ -15,10 +15,10 @@ use Rattle.hive_model.specs.Size.{bulk_of, cell, part_count}
 use Rattle.hive_model.specs.Tree.{Item, Tree, head, children, find_key, is_item}
 use Rattle.hive_model.specs.Tree.{key as tree_key}
 use Rattle.hive_model.specs.Walk.{reading}
-use Rattle.edit_laws.specs.Sizes.{AreGrown}
-use Rattle.edit_laws.proofs.Grown.{strain_behind}
-use Rattle.edit_laws.proofs.Out.{placed_at}
-use Rattle.edit_laws.proofs.RoomLemmas.{found_changed, room_some, some_all, some_left, strain_least, strain_one, room_cons}
+use Rattle.edited_cells.specs.Sizes.{AreGrown}
+use Rattle.edited_cells.proofs.Grown.{strain_behind}
+use Rattle.edited_cells.proofs.Out.{placed_at}
+use Rattle.edited_cells.proofs.RoomLemmas.{found_changed, room_some, some_all, some_left, strain_least, strain_one, room_cons}
 use Rattle.hive_edit.specs.Hive.{HiveCells, hive_of, IsHive}
 use Rattle.hive_edit.specs.Making.{made_tree}
 use Rattle.hive_edit.specs.NewValue.{set_tree}
@@ -29,9 +29,9 @@ use Rattle.hive_edit.proofs.EditLemmas.{the_tree}
 use Rattle.hive_edit.proofs.JudgeLemmas.{counted_children, nothing_made, room_both, room_alike}
 use Rattle.hive_edit.proofs.KeyLemmas.{node_read}
 use Rattle.hive_edit.proofs.NewValueLemmas.{can_add, kept_name, values_many}
-use Rattle.hive_edit.proofs.ParentLemmas.{IsParent}
-use Rattle.hive_edit.proofs.PlaceLemmas.{IsPlaceOf, key_there, place_of_key}
-use Rattle.hive_edit.proofs.ResultLemmas.{some}
+use Rattle.hive_look.proofs.ParentLemmas.{IsParent}
+use Rattle.hive_look.proofs.PlaceLemmas.{IsPlaceOf, key_there, place_of_key}
+use Rattle.hive_look.proofs.ResultLemmas.{some}
 use Rattle.hive_edit.proofs.SteppedLemmas.{same_version, steps_made, then_ok}
 use Rattle.hive_cells.specs.Opened.{Opened}
 

@@ -19,29 +19,30 @@ use Rattle.hive_cells.specs.Opened.{Opened}
 use Rattle.hive_cells.specs.Held.{held_at, patched}
 use Rattle.hive_cells.proofs.HeldLemmas.{payload_held, held_payload}
 use Rattle.key_index.specs.Relists.{AreApart}
-use Rattle.edit_laws.specs.Owned.{In}
-use Rattle.edit_laws.specs.Framed.{IsUnheld}
-use Rattle.edit_laws.specs.Pairs.{Pairwise}
-use Rattle.edit_laws.specs.Changes.{GetsData}
-use Rattle.edit_laws.specs.Done.{item, IsDone}
-use Rattle.edit_laws.proofs.FromCells.{item_is, value_uses, name_of_value}
-use Rattle.edit_laws.proofs.Ins.{in_from}
-use Rattle.edit_laws.proofs.ItemSizes.{set_size}
-use Rattle.edit_laws.proofs.Patches.{value_written}
-use Rattle.edit_laws.proofs.Sizes.{revalued_size}
-use Rattle.edit_laws.proofs.ValueCells.{data_set}
+use Rattle.edited_cells.specs.Owned.{In}
+use Rattle.edited_cells.specs.Framed.{IsUnheld}
+use Rattle.edited_cells.specs.Pairs.{Pairwise}
+use Rattle.edited_cells.specs.Changes.{GetsData}
+use Rattle.edited_cells.specs.Done.{item, IsDone}
+use Rattle.edited_cells.proofs.FromCells.{item_is, value_uses, name_of_value}
+use Rattle.edited_cells.proofs.Ins.{in_from}
+use Rattle.edited_cells.proofs.ItemSizes.{set_size}
+use Rattle.edited_cells.proofs.Patches.{value_written}
+use Rattle.edited_cells.proofs.Sizes.{revalued_size}
+use Rattle.edited_cells.proofs.ValueCells.{data_set}
 use Rattle.hive_edit.specs.Edits.{value_fields}
 use Rattle.hive_edit.specs.Given.{with_fields, place_in, IsGiven}
 use Rattle.hive_edit.specs.Hive.{HiveCells, cells_in, hive_of, IsHive}
 use Rattle.hive_edit.specs.NewValue.{set_tree}
-use Rattle.hive_edit.specs.Places.{value_places, value_place, data_places, data_room, room_for_item, IsItemHere}
+use Rattle.hive_look.specs.Places.{value_places, value_place, data_places, data_room, room_for_item, IsItemHere}
 use Rattle.hive_edit.specs.Standing.{tree_of}
-use Rattle.hive_edit.proofs.ResultLemmas.{done, some}
+use Rattle.hive_look.proofs.ResultLemmas.{done, some}
 use Rattle.hive_edit.proofs.EditLemmas.{made, the_tree}
-use Rattle.hive_edit.proofs.InPlaceLemmas.{found_among, named_folds, places_same}
-use Rattle.hive_edit.proofs.ItemLemmas.{item_facts, value_facts}
+use Rattle.hive_edit.proofs.InPlaceLemmas.{found_among, named_folds}
+use Rattle.hive_look.proofs.PlaceLemmas.{places_same}
+use Rattle.hive_look.proofs.ItemLemmas.{item_facts, value_facts}
 use Rattle.hive_edit.proofs.LowLemmas.{bulk_is, bulk_then}
-use Rattle.hive_edit.proofs.PlaceLemmas.{key_there, IsItemAt, place_of_item}
+use Rattle.hive_look.proofs.PlaceLemmas.{key_there, IsItemAt, place_of_item}
 use Rattle.hive_edit.proofs.SetLemmas.{name_short}
 use Rattle.hive_edit.proofs.StepLemmas.{ValueOwn, value_own, data_held, data_apart}
 use Rattle.hive_edit.proofs.KeyLemmas.{node_read}

@@ -24,21 +24,21 @@ use Rattle.hive_cells.specs.Opened.{Opened}
 use Rattle.hive_cells.specs.Changes.{at_cell, with_part}
 use Rattle.hive_cells.specs.Held.{held_at, patched}
 use Rattle.hive_cells.proofs.HeldLemmas.{payload_held, held_payload}
-use Rattle.edit_laws.specs.Done.{IsDone}
-use Rattle.edit_laws.specs.Greatest.{with_lengths, IsNoLonger, RaisesLengths, IsNamedPath}
-use Rattle.edit_laws.proofs.Made.{parent_is}
-use Rattle.edit_laws.proofs.Out.{IsPlaced, placed_at}
-use Rattle.edit_laws.specs.Owned.{In, node, Reaches}
-use Rattle.edit_laws.proofs.Back.{place_is}
-use Rattle.edit_laws.proofs.Wellformed.{sound_hive}
-use Rattle.edit_laws.proofs.Raised.{raised_well, owned_still, raised_done}
+use Rattle.edited_cells.specs.Done.{IsDone}
+use Rattle.edited_cells.specs.Greatest.{with_lengths, IsNoLonger, RaisesLengths, IsNamedPath}
+use Rattle.edited_cells.proofs.Made.{parent_is}
+use Rattle.edited_cells.proofs.Out.{IsPlaced, placed_at}
+use Rattle.edited_cells.specs.Owned.{In, node, Reaches}
+use Rattle.edited_cells.proofs.Back.{place_is}
+use Rattle.edited_cells.proofs.Wellformed.{sound_hive}
+use Rattle.edited_cells.proofs.Raised.{raised_well, owned_still, raised_done}
 use Rattle.key_index.specs.Lists.{payload_in}
-use Rattle.edit_laws.proofs.Patches.{IsPatchOf, IsNodeText, node_text, node_patched, part_patches, in_part}
+use Rattle.edited_cells.proofs.Patches.{IsPatchOf, IsNodeText, node_text, node_patched, part_patches, in_part}
 use Rattle.hive_edit.specs.Hive.{HiveCells, cells_in, hive_of, IsHive}
 use Rattle.hive_edit.specs.Listed.{HasNewLists}
 use Rattle.hive_edit.specs.Given.{place_in}
 use Rattle.hive_edit.specs.NewRun.{HasNewRun, run_trees}
-use Rattle.hive_edit.specs.Places.{IsKeyAt, value_place}
+use Rattle.hive_look.specs.Places.{IsKeyAt, value_place}
 use Rattle.hive_edit.specs.Secured.{changes_of}
 use Rattle.hive_edit.specs.Standing.{tree_of}
 use Rattle.hive_edit.specs.Stepped.{IsStepped}
@@ -47,11 +47,11 @@ use Rattle.hive_edit.specs.Told.{length_place, raised, IsRaisedTo, AreRaisedTo, 
 use Rattle.hive_edit.proofs.ChildRuns.{run_kept}
 use Rattle.hive_edit.proofs.EditLemmas.{the_tree}
 use Rattle.hive_edit.proofs.HiveLemmas.{hive_opened}
-use Rattle.hive_edit.proofs.NodeLemmas.{node_here}
+use Rattle.hive_look.proofs.NodeLemmas.{node_here}
 use Rattle.hive_edit.proofs.CountLemmas.{security_text_is}
 use Rattle.hive_edit.proofs.StandingLemmas.{tree_is}
 use Rattle.hive_edit.proofs.ToldLists.{held_alike, HasLists, lists_still, children_still}
-use Rattle.hive_edit.proofs.ResultLemmas.{done, some, some_same, ok_same}
+use Rattle.hive_look.proofs.ResultLemmas.{done, some, some_same, ok_same}
 use Rattle.hive_read.proofs.FormFacts.{then-so}
 
 -- ---- a node's text

@@ -18,12 +18,12 @@ use Rattle.hive_model.specs.InPlace.{BeginsWith, PartsAt, IsPackedList}
 use Rattle.hive_cells.specs.Held.{held_at}
 use Rattle.hive_cells.proofs.HeldLemmas.{payload_held, held_payload}
 use Rattle.hive_read.proofs.FormFacts.{then-so}
-use Rattle.edit_laws.specs.Greatest.{with_lengths, RaisesLengths}
-use Rattle.edit_laws.specs.Relists.{SaysTheRest}
-use Rattle.edit_laws.proofs.Out.{of_node_is}
-use Rattle.edit_laws.proofs.Patches.{node_text}
+use Rattle.edited_cells.specs.Greatest.{with_lengths, RaisesLengths}
+use Rattle.edited_cells.specs.Relists.{SaysTheRest}
+use Rattle.edited_cells.proofs.Out.{of_node_is}
+use Rattle.edited_cells.proofs.Patches.{node_text}
 use Rattle.key_index.specs.Lists.{payload_in, name_of, stored_hint, node_hint, hint_in, hints_in}
-use Rattle.hive_edit.proofs.ResultLemmas.{done, ok_same, some_same}
+use Rattle.hive_look.proofs.ResultLemmas.{done, ok_same, some_same}
 
 -- ---- results that are the same, but for which fault it is
 

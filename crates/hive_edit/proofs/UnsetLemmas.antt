@@ -26,35 +26,36 @@ use Rattle.hive_cells.specs.Opened.{Opened}
 use Rattle.hive_cells.specs.Held.{held_at, patched}
 use Rattle.hive_cells.proofs.HeldLemmas.{held_payload, payload_held}
 use Rattle.hive_read.proofs.FormFacts.{IsBytes, then-so}
-use Rattle.edit_laws.specs.Owned.{In, value_list_at}
-use Rattle.edit_laws.specs.Owned.{value_places as owned_places}
-use Rattle.edit_laws.specs.Pairs.{Pairwise}
-use Rattle.edit_laws.specs.Revalues.{cells_of_values, all_value_cells}
-use Rattle.edit_laws.proofs.Ins.{in_left, in_right, in_flat_from}
-use Rattle.edit_laws.proofs.Pairs.{pairwise_parts}
-use Rattle.edit_laws.proofs.Out.{placed_at}
-use Rattle.edit_laws.proofs.ChangedValues.{values_apart, values_held}
-use Rattle.edit_laws.proofs.FromCells.{value_uses, data_held_inside, data_in_cell, data_in_segments, name_of_value}
-use Rattle.edit_laws.proofs.ValueCells.{value_taken}
-use Rattle.edit_laws.proofs.ItemSizes.{deleted_sum}
-use Rattle.edit_laws.proofs.Sizes.{revalued_size}
-use Rattle.edit_laws.specs.Written.{with_part, two_numbers, HasNewValues}
-use Rattle.edit_laws.proofs.Patches.{node_text, values_written}
+use Rattle.edited_cells.specs.Owned.{In, value_list_at}
+use Rattle.edited_cells.specs.Owned.{value_places as owned_places}
+use Rattle.edited_cells.specs.Pairs.{Pairwise}
+use Rattle.edited_cells.specs.Revalues.{cells_of_values, all_value_cells}
+use Rattle.edited_cells.proofs.Ins.{in_left, in_right, in_flat_from}
+use Rattle.edited_cells.proofs.Pairs.{pairwise_parts}
+use Rattle.edited_cells.proofs.Out.{placed_at}
+use Rattle.edited_cells.proofs.ChangedValues.{values_apart, values_held}
+use Rattle.edited_cells.proofs.FromCells.{value_uses, data_held_inside, data_in_cell, data_in_segments, name_of_value}
+use Rattle.edited_cells.proofs.ValueCells.{value_taken}
+use Rattle.edited_cells.proofs.ItemSizes.{deleted_sum}
+use Rattle.edited_cells.proofs.Sizes.{revalued_size}
+use Rattle.edited_cells.specs.Written.{with_part, two_numbers, HasNewValues}
+use Rattle.edited_cells.proofs.Patches.{node_text, values_written}
 use Rattle.key_index.specs.Lists.{payload_in}
 use Rattle.key_index.proofs.Below.{in_payload}
 use Rattle.hive_edit.specs.Hive.{HiveCells, cells_in, hive_of, IsHive}
 use Rattle.hive_edit.specs.Gone.{AreGone, HasOffsets, HasSegments, Unlists, HasData, with_data, data_cells, CanTake, TakesOut, unset_tree, list_room}
-use Rattle.hive_edit.specs.Places.{IsItemHere, value_place, value_places}
+use Rattle.hive_look.specs.Places.{IsItemHere, value_place, value_places}
 use Rattle.hive_edit.specs.Standing.{tree_of}
-use Rattle.hive_edit.proofs.ResultLemmas.{done, some, ok_same, only_if}
-use Rattle.hive_edit.proofs.PlaceLemmas.{KeyThere, key_there, no_place, IsItemAt, place_of_item, items_stand}
-use Rattle.hive_edit.proofs.ItemLemmas.{item_facts}
-use Rattle.hive_edit.proofs.InPlaceLemmas.{found_among, listed_values, places_same, named_folds, one_list_at}
+use Rattle.hive_look.proofs.ResultLemmas.{done, some, ok_same, only_if}
+use Rattle.hive_look.proofs.PlaceLemmas.{KeyThere, key_there, no_place, IsItemAt, place_of_item, items_stand}
+use Rattle.hive_look.proofs.ItemLemmas.{item_facts}
+use Rattle.hive_edit.proofs.InPlaceLemmas.{found_among, listed_values, named_folds, one_list_at}
+use Rattle.hive_look.proofs.PlaceLemmas.{places_same}
 use Rattle.hive_edit.proofs.EditLemmas.{the_tree}
 use Rattle.hive_edit.proofs.LowLemmas.{items_length, bulk_is}
 use Rattle.hive_edit.proofs.SteppedLemmas.{IsStepMade, stepped}
 use Rattle.hive_edit.proofs.GoneLemmas.{is_held, and_some, at_place, ListFacts, list_facts}
-use Rattle.hive_edit.proofs.DataLemmas.{segments_used}
+use Rattle.hive_look.proofs.DataLemmas.{segments_used}
 use Rattle.hive_edit.proofs.KeyLemmas.{node_read}
 use Rattle.hive_edit.specs.Freed.{FreesValue}
 use Rattle.hive_edit.proofs.GivenUpLemmas.{dropped_free, dropped_there}

@@ -15,7 +15,7 @@ use Rattle.hive_model.specs.InPlace.{IsKeptSecurity}
 use Rattle.hive_cells.specs.Holes.{new_bin_size}
 use Rattle.reg_tree.specs.Makes.{refusal_of}
 use Rattle.reg_tree.specs.declared.stop.EditStop.{EditStop}
-use Rattle.edit_laws.specs.Relists.{ChangesChildren, HasPlace, IsSecurityCell}
+use Rattle.edited_cells.specs.Relists.{ChangesChildren, HasPlace, IsSecurityCell}
 use Rattle.hive_edit.specs.declared.making.Above.{Above}
 use Rattle.hive_edit.specs.Grafted.{SharesAt, sharing}
 use Rattle.hive_edit.specs.Hive.{HiveCells, cells_in}

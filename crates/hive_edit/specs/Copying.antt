@@ -2,7 +2,7 @@
 use Rattle.std.specs.Prelude.{◌≡◌, ◌<◌, ◌^◌, ℕ, List, [], ◌∷◌, find, Some}
 use Rattle.hive_model.specs.Tree.{Tree, head, children, is_named}
 use Rattle.hive_model.specs.Footprint.{of_key, security_cell_at}
-use Rattle.edit_laws.specs.Owned.{In, Extends, Owns, security}
+use Rattle.edited_cells.specs.Owned.{In, Extends, Owns, security}
 use Rattle.hive_edit.specs.Children.{IsGraftedIn, security_listed}
 use Rattle.hive_edit.specs.Grafted.{SharesAt}
 use Rattle.hive_edit.specs.Hive.{HiveCells, cells_in}

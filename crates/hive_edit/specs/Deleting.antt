@@ -9,8 +9,8 @@ use Rattle.hive_model.specs.Walk.{reading}
 use Rattle.hive_model.specs.Footprint.{child_places, is_node_named}
 use Rattle.hive_model.specs.Stands.{IsWellFormed}
 use Rattle.hive_cells.specs.Held.{held_at}
-use Rattle.edit_laws.specs.Owned.{In}
-use Rattle.edit_laws.specs.Uses.{tree_uses}
+use Rattle.edited_cells.specs.Owned.{In}
+use Rattle.edited_cells.specs.Uses.{tree_uses}
 use Rattle.hive_edit.specs.declared.deleting.KeyPair.{KeyPair}
 use Rattle.hive_edit.specs.declared.making.Above.{Above}
 use Rattle.hive_edit.specs.Making.{AboveIs}

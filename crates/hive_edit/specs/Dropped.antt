@@ -10,8 +10,8 @@ use Rattle.hive_model.specs.Security.{SecurityCell, security_at}
 use Rattle.hive_model.specs.InPlace.{recounted}
 use Rattle.hive_model.specs.Footprint.{list_strain_of}
 use Rattle.hive_cells.specs.Held.{held_at, patched}
-use Rattle.edit_laws.specs.Owned.{In}
-use Rattle.edit_laws.specs.Uses.{Once}
+use Rattle.edited_cells.specs.Owned.{In}
+use Rattle.edited_cells.specs.Uses.{Once}
 use Rattle.key_index.specs.Lists.{children_at, hints_in, lists_at, without_child, ListsSiblings}
 use Rattle.key_index.specs.Relists.{AreApart, AreFreed, AreRelisted}
 use Rattle.hive_edit.specs.declared.making.Above.{Above}

@@ -13,9 +13,9 @@ use Rattle.hive_model.specs.Owned.{IsInFootprint}
 use Rattle.hive_model.specs.Packed.{packed_bins}
 use Rattle.hive_cells.specs.Held.{held_at}
 use Rattle.hive_cells.specs.Changes.{at_cell, with_part}
-use Rattle.edit_laws.specs.Parents.{NamesParents}
+use Rattle.edited_cells.specs.Parents.{NamesParents}
 use Rattle.hive_edit.specs.Hive.{HiveCells, cells_in}
-use Rattle.hive_edit.specs.Places.{value_place}
+use Rattle.hive_look.specs.Places.{value_place}
 use Rattle.hive_edit.specs.Steps.{AreStepped}
 
 -- where each key below another named the node of that one as its parent, each does

@@ -1,12 +1,8 @@
 -- What is found in a hive's tree. (This project's own.)
-use Rattle.std.specs.Prelude.{◌≡◌, Some, ℕ, ◌+◌, ◌≤◌, List, [], map, length, Option}
-use Rattle.std.specs.Option.{option_and_then, option_map_or}
-use Rattle.hive_model.specs.Tree.{Item, Tree, head, children, find_key, find_item, find_dword}
+use Rattle.std.specs.Prelude.{◌≡◌, Some, ℕ, ◌+◌, ◌≤◌, List, [], map, length}
+use Rattle.std.specs.Option.{option_map_or}
+use Rattle.hive_model.specs.Tree.{Item, Tree, head, children, find_key, find_item}
 use Rattle.hive_model.specs.Valid.{deepest_level, HoldsKeys, levels}
-
--- the number under a name in the key that a path leads to
-abbrev pub found_dword : List (List ℕ) → List ℕ → Tree → Option ℕ
-found_dword path name t = option_and_then (find_dword name) (find_key path t)
 
 -- the names of the children of the key that a path leads to, in order; none where there is no such key
 abbrev pub found_names : List (List ℕ) → Tree → List (List ℕ)

@@ -3,10 +3,10 @@ use Rattle.std.specs.Prelude.{◌≡◌, ℕ, List, [], ◌∷◌, Contains, Som
 use Rattle.hive_model.specs.Walk.{value_checks}
 use Rattle.hive_model.specs.Footprint.{used_in, key_place}
 use Rattle.hive_cells.specs.Held.{held_at}
-use Rattle.edit_laws.specs.Owned.{In, value_places, value_list_at}
+use Rattle.edited_cells.specs.Owned.{In, value_places, value_list_at}
 use Rattle.hive_edit.specs.Given.{place_in}
 use Rattle.hive_edit.specs.Hive.{HiveCells, cells_in}
-use Rattle.hive_edit.specs.Places.{value_place, data_places}
+use Rattle.hive_look.specs.Places.{value_place, data_places}
 
 -- the cells of the value of a name in the key at a path are free, and so is the value list of the key, where it named no other
 pub record FreesValue (old : HiveCells) (path : List (List ℕ)) (name : List ℕ) (new : HiveCells) : Type 0 where

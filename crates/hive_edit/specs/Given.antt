@@ -10,9 +10,9 @@ use Rattle.hive_model.specs.Footprint.{used_in, key_place}
 use Rattle.hive_model.specs.Stands.{data_of}
 use Rattle.hive_cells.specs.Held.{held_at, patched}
 use Rattle.hive_cells.specs.Holes.{new_bin_size}
-use Rattle.edit_laws.specs.Owned.{In}
-use Rattle.edit_laws.specs.Pairs.{Pairwise}
-use Rattle.hive_edit.specs.Places.{value_place}
+use Rattle.edited_cells.specs.Owned.{In}
+use Rattle.edited_cells.specs.Pairs.{Pairwise}
+use Rattle.hive_look.specs.Places.{value_place}
 use Rattle.hive_edit.specs.Edits.{value_fields}
 use Rattle.hive_edit.specs.Runs.{LacksPlace}
 

@@ -5,9 +5,9 @@ use Rattle.hive_model.specs.Bins.{Cells}
 use Rattle.hive_model.specs.Edit.{Step, set_value, delete_value, make_key, delete_key, copy_child, add_child}
 use Rattle.hive_model.specs.Walk.{value_checks}
 use Rattle.hive_model.specs.Footprint.{used_in, of_key}
-use Rattle.edit_laws.specs.Owned.{value_list_at, value_places}
-use Rattle.edit_laws.specs.Uses.{tree_uses}
-use Rattle.hive_edit.specs.Places.{value_place, data_places}
+use Rattle.edited_cells.specs.Owned.{value_list_at, value_places}
+use Rattle.edited_cells.specs.Uses.{tree_uses}
+use Rattle.hive_look.specs.Places.{value_place, data_places}
 use Rattle.hive_edit.specs.Deleting.{levels_left, pair_place}
 
 -- where the key at an offset gets a value: the cells of the data that it had under this name, or else its value list, which is written

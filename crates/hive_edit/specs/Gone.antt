@@ -16,10 +16,10 @@ use Rattle.hive_model.specs.Walk.{reading, data_checks, value_checks}
 use Rattle.hive_model.specs.Footprint.{used_in}
 use Rattle.hive_model.specs.Stands.{data_of}
 use Rattle.hive_cells.specs.Held.{held_at}
-use Rattle.edit_laws.specs.Owned.{In, value_places, value_list_at}
-use Rattle.edit_laws.specs.Pairs.{Pairwise}
-use Rattle.edit_laws.specs.Changes.{TakesValue}
-use Rattle.hive_edit.specs.Places.{IsItemHere}
+use Rattle.edited_cells.specs.Owned.{In, value_places, value_list_at}
+use Rattle.edited_cells.specs.Pairs.{Pairwise}
+use Rattle.edited_cells.specs.Changes.{TakesValue}
+use Rattle.hive_look.specs.Places.{IsItemHere}
 
 -- cells that can be freed one by one: each is allocated, and no two are one
 pub record CanGo (bins : List Bin) (cells : List ℕ) : Type 0 where

@@ -5,7 +5,7 @@ use Rattle.std.specs.Int.{w32, to_le_bytes}
 use Rattle.nt_bytes.specs.Fields.{u32_in}
 use Rattle.nt_bytes.specs.declared.version.HiveVersion.{HiveVersion}
 use Rattle.nt_bytes.specs.declared.fault.HiveFaultKind.{HiveFaultKind}
-use Rattle.edit_laws.specs.Relists.{descriptor_at, IsSecurityCell}
+use Rattle.edited_cells.specs.Relists.{descriptor_at, IsSecurityCell}
 use Rattle.hive_model.specs.Limits.{most_bins}
 use Rattle.hive_model.specs.Bins.{Bin, Cells, bins_size, look_up}
 use Rattle.hive_model.specs.Tree.{Tree}

@@ -1,7 +1,6 @@
 pub mod Found
 pub mod Standing
 pub mod Hive
-pub mod Places
 pub mod Edits
 pub mod Runs
 pub mod Given

@@ -9,8 +9,8 @@ use Rattle.hive_model.specs.Walk.{reading}
 use Rattle.hive_model.specs.Footprint.{has_key, of_key, child_places, list_cells_at}
 use Rattle.hive_model.specs.InPlace.{IsPackedList}
 use Rattle.hive_cells.specs.Held.{held_at}
-use Rattle.edit_laws.specs.Owned.{In}
-use Rattle.edit_laws.specs.Relists.{SaysTheRest}
+use Rattle.edited_cells.specs.Owned.{In}
+use Rattle.edited_cells.specs.Relists.{SaysTheRest}
 use Rattle.key_index.specs.Lists.{hints_in}
 use Rattle.hive_edit.specs.Hive.{HiveCells, cells_in}
 use Rattle.hive_edit.specs.Deleting.{pair_place}

@@ -10,7 +10,7 @@ use Rattle.hive_model.specs.Edit.{Step, set_value, delete_value, make_key, delet
 use Rattle.hive_model.specs.Footprint.{child_places}
 use Rattle.hive_cells.specs.Held.{held_at, held_among}
 use Rattle.hive_pack.specs.Below.{beside}
-use Rattle.edit_laws.specs.Owned.{In}
+use Rattle.edited_cells.specs.Owned.{In}
 use Rattle.hive_edit.specs.Grafted.{SharesAt}
 use Rattle.hive_edit.specs.Hive.{HiveCells, cells_in}
 

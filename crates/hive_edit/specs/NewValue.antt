@@ -15,13 +15,13 @@ use Rattle.hive_model.specs.Footprint.{key_place}
 use Rattle.hive_model.specs.Valid.{longest_data, longest_value_name}
 use Rattle.hive_cells.specs.Held.{held_at, patched, run_cells}
 use Rattle.hive_cells.specs.Holes.{new_bin_size}
-use Rattle.edit_laws.specs.Owned.{In, value_places, value_list_at}
-use Rattle.edit_laws.specs.Changes.{AddsValue}
-use Rattle.edit_laws.specs.Written.{two_numbers}
+use Rattle.edited_cells.specs.Owned.{In, value_places, value_list_at}
+use Rattle.edited_cells.specs.Changes.{AddsValue}
+use Rattle.edited_cells.specs.Written.{two_numbers}
 use Rattle.hive_edit.specs.declared.new_value.ValuePlace.{ValuePlace}
 use Rattle.hive_edit.specs.Gone.{HasOffsets}
 use Rattle.hive_edit.specs.Hive.{HiveCells, cells_in}
-use Rattle.hive_edit.specs.Places.{value_place}
+use Rattle.hive_look.specs.Places.{value_place}
 use Rattle.hive_edit.specs.Runs.{IsRunPutAt}
 
 -- The cells of the run: the value's cell, those of its data, and the list of these offsets with the value after them. The list comes last, so

@@ -5,7 +5,7 @@ use Rattle.hive_model.specs.Bins.{Cells}
 use Rattle.hive_model.specs.Tree.{Tree, head, children, is_named, find_key}
 use Rattle.hive_model.specs.Edit.{Step, set_value, delete_value, make_key, delete_key, copy_child, add_child, new_key}
 use Rattle.hive_model.specs.Footprint.{has_key, of_key, security_cell_at}
-use Rattle.edit_laws.specs.Uses.{tree_uses}
+use Rattle.edited_cells.specs.Uses.{tree_uses}
 use Rattle.hive_edit.specs.Dropped.{times}
 use Rattle.hive_edit.specs.Grafted.{sharing}
 use Rattle.hive_edit.specs.Deleting.{levels_left, pair_place}

@@ -7,8 +7,8 @@ use Rattle.hive_model.specs.Edit.{Step, after_step}
 use Rattle.hive_model.specs.Footprint.{needed_sizes, room_of}
 use Rattle.hive_model.specs.InPlace.{KeepsSecurity}
 use Rattle.hive_cells.specs.Held.{held_at}
-use Rattle.edit_laws.specs.Owned.{In}
-use Rattle.edit_laws.specs.Done.{IsDone}
+use Rattle.edited_cells.specs.Owned.{In}
+use Rattle.edited_cells.specs.Done.{IsDone}
 use Rattle.hive_edit.specs.Hive.{HiveCells, cells_in}
 use Rattle.hive_edit.specs.Secured.{changes_of}
 use Rattle.hive_edit.specs.Listed.{HasNewLists, relisted_keys}

@@ -9,7 +9,7 @@ use Rattle.hive_model.specs.Walk.{reading}
 use Rattle.hive_model.specs.Edit.{Step, set_value, delete_value, make_key, delete_key, copy_child, add_child}
 use Rattle.hive_model.specs.Footprint.{has_key, key_place}
 use Rattle.hive_edit.specs.Hive.{HiveCells, cells_in}
-use Rattle.hive_edit.specs.Places.{value_place}
+use Rattle.hive_look.specs.Places.{value_place}
 use Rattle.hive_edit.specs.Stepped.{IsStepped}
 
 -- what a node tells in one of the four fields: of the names and the classes of its children, and of the names and the data of its values

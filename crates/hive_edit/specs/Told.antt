@@ -8,7 +8,7 @@ use Rattle.hive_model.specs.Bins.{Bin, bins_size, look_up}
 use Rattle.hive_model.specs.Footprint.{key_place}
 use Rattle.hive_cells.specs.Held.{held_at, patched}
 use Rattle.hive_cells.specs.Changes.{at_cell, with_part}
-use Rattle.edit_laws.specs.Greatest.{RaisesLengths}
+use Rattle.edited_cells.specs.Greatest.{RaisesLengths}
 use Rattle.hive_edit.specs.Edits.{WritesFields}
 use Rattle.hive_edit.specs.Hive.{HiveCells, cells_in}
 use Rattle.hive_edit.specs.Tells.{length_told}

@@ -11,8 +11,10 @@ ghost use Rattle.hive_model.specs.Valid.{IsValid};
 ghost use Rattle.hive_model.specs.Stands.{IsWellFormed};
 ghost use Rattle.reg_tree.specs.Makes.{IsRefused, Makes, step_of};
 ghost use Rattle.reg_tree.specs.declared.stop.EditStop.TheVariants.{Full, Memory};
+ghost use Rattle.hive_cells.specs.Sources.{cells_of};
+ghost use Rattle.hive_look.specs.Places.{IsItemHere};
 ghost use Rattle.hive_edit.specs.Hive.{cells_in, settled_as};
-ghost use Rattle.hive_edit.specs.Edits.{inside_place, value_fields, IsEditedInPlace, IsPackedAnew, IsPackedForRoom, KeepsParents, WritesFields};
+ghost use Rattle.hive_edit.specs.Edits.{if_inside, inside_place, value_fields, IsEditedInPlace, IsPackedAnew, IsPackedForRoom, KeepsParents, WritesFields};
 ghost use Rattle.hive_edit.specs.Stepped.{IsStepped};
 ghost use Rattle.hive_edit.specs.Tells.{IsToldStep};
 ghost use Rattle.hive_edit.specs.Told.{WritesValue};
@@ -23,14 +25,14 @@ use crate::cells::are_bytes;
 use crate::give::inside_fields;
 use crate::hive::HiveBytes;
 use crate::new_value::ValuePlace;
-use crate::path::key_at;
 use crate::strain::{MOST_PAGES, count_sets};
 use crate::telling::VALUES;
-use crate::values::{if_inside, value_at};
 use hive_cells::{Source, read_cells};
+use hive_look::{key_at, value_at};
 use hive_pack::{pack, tree_fits};
 use hive_read::read_tree;
-use nt_bytes::{Bytes, HiveVersion, Names, ReadStop, Row, Units};
+use key_index::payload;
+use nt_bytes::{Bytes, HiveVersion, Names, ReadStop, Row, Units, u32_at};
 use reg_tree::{EditStop, Key, LONGEST_DATA, MOST_BULK, Steps, TreeStep};
 use std::alloc::Global;
 use tree_draft::apply;
@@ -374,4 +376,20 @@ fn of_packed(alloc: Global, tree: &Key, version: HiveVersion) -> Result<HiveByte
         version,
         bulk,
     })
+}
+
+/// The offset of a value again, where it holds its data itself.
+fn if_inside(cells: &Source, at: u32) -> Option<u32>
+    requires { IsItemHere (cells_of cells.now) at }
+    ensures { result ≡ if_inside (cells_of cells.now) at }
+{
+    let value = payload(cells, at);
+    let size = u32_at(value, 4);
+    if size >= 0x8000_0000 {
+        return Some(at);
+    }
+    if size == 0 {
+        return Some(at);
+    }
+    None
 }

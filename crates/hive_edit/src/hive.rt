@@ -6,14 +6,13 @@ ghost use Rattle.hive_model.specs.Size.{bulk_of};
 ghost use Rattle.hive_model.specs.Tree.{Tree, find_key};
 ghost use Rattle.hive_model.specs.Valid.{IsValid};
 ghost use Rattle.hive_model.specs.Stands.{IsWellFormed};
-ghost use Rattle.hive_edit.specs.Found.{found_dword, found_names, FitsBelow};
+ghost use Rattle.hive_edit.specs.Found.{found_names, FitsBelow};
+ghost use Rattle.hive_look.specs.Places.{found_dword};
 ghost use Rattle.hive_edit.specs.Hive.{cells_in, settled_as, Takes};
 ghost use Rattle.saved_pages.specs.Overlay.{before, IsCovered};
 
-use crate::children::child_names;
-use crate::path::key_at;
-use crate::values::dword_under;
 use hive_cells::{CellHeap, OpenHeap, Source};
+use hive_look::{child_names, dword_under, key_at};
 use hive_read::{judge, read_tree};
 use nt_bytes::{HiveVersion, Names, ReadStop};
 use reg_tree::Key;

@@ -7,13 +7,11 @@ ghost use Rattle.hive_model.specs.Stands.{big_bytes_at, data_of, item_at, joined
 ghost use Rattle.hive_cells.specs.Sources.{cells_of};
 ghost use Rattle.hive_edit.specs.Found.{HoldsValue};
 ghost use Rattle.hive_edit.specs.Gone.{HasData, with_data};
-ghost use Rattle.hive_edit.specs.Places.{IsItemHere};
+ghost use Rattle.hive_look.specs.Places.{IsItemHere};
 
-use crate::data::{db_in, segments_in};
 use crate::hive::HiveBytes;
-use crate::path::key_at;
-use crate::values::value_at;
 use hive_cells::Source;
+use hive_look::{db_in, key_at, segments_in, value_at};
 use hive_pack::is_big;
 use key_index::payload;
 use nt_bytes::{Names, u32_at};

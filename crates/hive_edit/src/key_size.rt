@@ -7,10 +7,10 @@ ghost use Rattle.hive_model.specs.Tree.{Tree, head};
 ghost use Rattle.hive_model.specs.Stands.{IsWellFormed};
 ghost use Rattle.hive_model.specs.Size.{bulk_of, list_size, security_size, size};
 ghost use Rattle.hive_cells.specs.Sources.{cells_of};
-ghost use Rattle.hive_edit.specs.Places.{IsKeyAt};
+ghost use Rattle.hive_look.specs.Places.{IsKeyAt};
 
-use crate::measure::cell_len;
 use hive_cells::Source;
+use hive_look::cell_len;
 use hive_pack::NOWHERE;
 use hive_read::judge;
 use key_index::payload;

@@ -9,9 +9,7 @@
 mod adding;
 mod adding_child;
 mod cells;
-mod children;
 mod copying_child;
-mod data;
 mod deleting;
 mod dropping;
 mod edit;
@@ -21,15 +19,11 @@ mod hive;
 mod holding;
 mod key_size;
 mod making;
-mod measure;
 mod new_value;
-mod path;
 mod set;
 mod steps;
 mod strain;
 mod telling;
 mod unset;
-mod uses;
-mod values;
 
 pub use hive::HiveBytes;

@@ -9,15 +9,15 @@ ghost use Rattle.hive_edit.specs.Given.{place_in};
 ghost use Rattle.hive_edit.specs.NewValue.{set_tree};
 ghost use Rattle.hive_edit.specs.Stepped.{LacksStepRoom};
 ghost use Rattle.hive_edit.specs.Tells.{IsToldStep};
-ghost use Rattle.hive_edit.specs.Places.{data_places};
+ghost use Rattle.hive_look.specs.Places.{data_places};
 ghost use Rattle.hive_model.specs.Valid.{longest_data};
 
 use crate::cells::are_bytes;
-use crate::data::{data_places, data_room};
 use crate::give::give;
 use crate::hive::HiveBytes;
 use crate::telling::VALUES;
 use hive_cells::Source;
+use hive_look::{data_places, data_room};
 use hive_pack::data_len;
 use key_index::bins_fit;
 use nt_bytes::Names;

@@ -7,15 +7,15 @@ ghost use Rattle.hive_model.specs.Size.{bulk_of};
 ghost use Rattle.hive_model.specs.Walk.{reading};
 ghost use Rattle.reg_tree.specs.Makes.{step_of};
 ghost use Rattle.hive_cells.specs.Sources.{cells_of};
-ghost use Rattle.hive_edit.specs.Places.{IsKeyAt};
+ghost use Rattle.hive_look.specs.Places.{IsKeyAt};
 ghost use Rattle.hive_edit.specs.Stepped.{IsStepped};
 ghost use Rattle.hive_edit.specs.Steps.{IsLeastRoom, children_in, least_list_room, least_step_room, least_value_room, sets_value, values_in, values_set};
 ghost use Rattle.hive_edit.specs.Hive.{HiveCells};
 
 use crate::adding::above_at;
 use crate::hive::HiveBytes;
-use crate::path::{key_along, key_at};
 use hive_cells::Source;
+use hive_look::{key_along, key_at};
 use key_index::payload;
 use nt_bytes::{Names, Units, u32_at};
 use reg_tree::TreeStep;

@@ -9,8 +9,8 @@ ghost use Rattle.hive_cells.specs.Held.{held_at};
 ghost use Rattle.hive_edit.specs.Told.{AreRaisedTo, IsRaisedTo, IsTold};
 
 use crate::hive::HiveBytes;
-use crate::path::key_at;
 use hive_cells::{OpenHeap, Source};
+use hive_look::key_at;
 use nt_bytes::{Names, u32_at};
 use reg_tree::Key;
 use std::alloc::Global;

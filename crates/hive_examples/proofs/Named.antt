@@ -12,8 +12,8 @@ use Rattle.hive_model.specs.Packed.{packed_bins}
 use Rattle.hive_model.specs.Walk.{value_checks}
 use Rattle.hive_model.specs.Footprint.{unless_refused, used_in, child_places, security_cell_at, list_cells_at, has_key, parent_of}
 use Rattle.hive_model.specs.Owned.{Role, node, class, security, value_list, value, lists, In, node_name, value_name, value_places, value_list_at, class_cell_at, HasRole, Reaches, Owns, Folds, Extends, named_keys, IsNamed, IsOfValue, IsChanged, Matches, IsMatched, IsInFootprint}
-use Rattle.edit_laws.proofs.Ins.{in_left, in_right, in_cases, in_flat, in_flat_from}
-use Rattle.edit_laws.proofs.Pairs.{in_map, in_map_from}
+use Rattle.edited_cells.proofs.Ins.{in_left, in_right, in_cases, in_flat, in_flat_from}
+use Rattle.edited_cells.proofs.Pairs.{in_map, in_map_from}
 use Rattle.hive_laws.specs.Both.{HasFootprint}
 
 -- ---- does a step name what a key owns?

@@ -6,8 +6,8 @@ use Rattle.nt_bytes.specs.Folding.{folded_unit, folds_same}
 use Rattle.hive_model.specs.Tree.{Tree, head, is_named, find_key, children}
 use Rattle.hive_model.specs.Valid.{HoldsKeys}
 use Rattle.hive_model.proofs.HeldLemmas.{held_child}
-use Rattle.edit_laws.specs.Owned.{In}
-use Rattle.edit_laws.proofs.Ins.{found_in}
+use Rattle.edited_cells.specs.Owned.{In}
+use Rattle.edited_cells.proofs.Ins.{found_in}
 use Rattle.reg_tree.proofs.Unlike.{Each, Lacks, Unlike}
 use Rattle.hive_edit.proofs.EditLemmas.{folds_length}
 

@@ -11,7 +11,7 @@ use Rattle.hive_model.specs.Valid.{HoldsKeys, AllHoldKeys}
 use Rattle.hive_model.proofs.HeldLemmas.{held_child}
 use Rattle.start_model.specs.Sets.{set_name, set_of, numbers_in}
 use Rattle.select_keys.specs.Sets.{usable_set}
-use Rattle.edit_laws.proofs.Ins.{found_in}
+use Rattle.edited_cells.proofs.Ins.{found_in}
 use Rattle.reg_tree.proofs.Trees.{listed_trees}
 use Rattle.reg_tree.proofs.Unlike.{Each, each_from, unlike_from}
 use Rattle.hive_sets.specs.Parts.{bare, set_part, is_set, is_wanted, child_part, hive_part}

@@ -4,7 +4,7 @@ use Rattle.std.specs.Prelude.{find, option_and_then, unwrap_or, codes}
 use Rattle.nt_bytes.specs.Folding.{folds_same}
 use Rattle.hive_model.specs.Tree.{Tree, key, children, listed, is_named, find_key}
 use Rattle.hive_model.specs.Valid.{HoldsKeys}
-use Rattle.edit_laws.specs.Owned.{In}
+use Rattle.edited_cells.specs.Owned.{In}
 use Rattle.reg_tree.proofs.Unlike.{Unlike, unlike_from}
 use Rattle.hive_edit.specs.Found.{found_names}
 use Rattle.hive_sets.specs.Parts.{bare, of_two, set_part, is_wanted, child_part, hive_part}

@@ -2,7 +2,7 @@
 
 ghost use Rattle.std.specs.Prelude.{◌≡◌, IfOk};
 ghost use Rattle.std.specs.Option.{unwrap_or};
-ghost use Rattle.hive_edit.specs.Found.{found_dword};
+ghost use Rattle.hive_look.specs.Places.{found_dword};
 ghost use Rattle.start_model.specs.Sets.{select_numbers_of};
 
 use hive_edit::HiveBytes;

@@ -10,8 +10,8 @@ use Rattle.hive_model.specs.Size.{bulk_of}
 use Rattle.hive_model.specs.Edit.{Step, Refusal, set_value, no_key, name_too_long, data_too_long, full, at_first, of_items, at_key, with_item, value_set, after_step, after_steps, most_bulk, edited}
 use Rattle.reg_tree.specs.declared.steps.TreeStep.{TreeStep}
 use Rattle.reg_tree.specs.Makes.{step_of}
-use Rattle.edit_laws.proofs.Patch.{folds_itself}
-use Rattle.edit_laws.proofs.RoomLemmas.{found_changed}
+use Rattle.edited_cells.proofs.Patch.{folds_itself}
+use Rattle.edited_cells.proofs.RoomLemmas.{found_changed}
 use Rattle.hive_edit.specs.Found.{HoldsValue}
 use Rattle.hive_store.specs.Same.{Keep}
 use Rattle.hive_store.proofs.KeepLemmas.{made, kept_all, kept_one, alone, passed, passed_first, there, false_same}

@@ -10,7 +10,7 @@ use Rattle.hive_model.specs.Edit.{Step, Refusal, no_key, no_value, bad_name, nam
 use Rattle.hive_model.specs.Size.{bulk_of}
 use Rattle.hive_model.specs.Tree.{Item, Tree, key, children, listed, is_named, is_item, find_key}
 use Rattle.hive_model.specs.Valid.{longest_key_name, longest_value_name, longest_data, deepest_level}
-use Rattle.edit_laws.proofs.RoomLemmas.{found_changed}
+use Rattle.edited_cells.proofs.RoomLemmas.{found_changed}
 use Rattle.reg_tree.proofs.Edited.{with_key_name, of_items_name}
 use Rattle.reg_tree.proofs.Trees.{listed_trees}
 use Rattle.reg_text.specs.Reading.{making}

@@ -5,7 +5,7 @@ use Rattle.std.specs.Option.{is_some, is_none}
 use Rattle.hive_model.specs.Tree.{Tree, key, children, is_named, is_item, find_key}
 use Rattle.hive_model.specs.Valid.{longest_value_name, longest_data, deepest_level}
 use Rattle.hive_model.specs.Edit.{Step, Refusal, no_key, no_value, name_too_long, too_deep, data_too_long, set_value, delete_value, make_key, delete_key, copy_child, add_child, unless, at_first, without_first, of_items, of_children, at_key, with_item, has_item, name_tests, with_key, without_key, placed, new_key, after_step}
-use Rattle.edit_laws.proofs.InOrder.{at_key_itself}
+use Rattle.edited_cells.proofs.InOrder.{at_key_itself}
 use Rattle.reg_tree.proofs.Sound.{key_name}
 use Rattle.reg_tree.proofs.Edited.{with_key_name, of_items_name}
 use Rattle.import_steps.specs.declared.marks.Life.TheVariants.{Made, Gone}

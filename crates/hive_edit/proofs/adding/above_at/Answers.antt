@@ -1,6 +1,6 @@
 use Rattle.std.proofs.Common.{◌≤◌, length, arith}
 use Rattle.hive_cells.specs.Sources.{cells_of}
-use Rattle.hive_edit.proofs.NodeLemmas.{node_long}
+use Rattle.hive_look.proofs.NodeLemmas.{node_long}
 use Rattle.hive_edit.proofs.KeyLemmas.{above_is}
 use Rattle.hive_edit.proofs.adding.above_at.Goals as goal
 use Rattle.hive_edit.proofs.adding.above_at.Goals.{After-payload-node}

@@ -1,6 +1,6 @@
 use Rattle.std.proofs.Common.{arith}
 use Rattle.hive_cells.specs.Sources.{cells_of}
-use Rattle.hive_edit.proofs.NodeLemmas.{node_long}
+use Rattle.hive_look.proofs.NodeLemmas.{node_long}
 use Rattle.hive_edit.proofs.KeyLemmas.{stamp_is}
 use Rattle.hive_edit.proofs.adding.stamp_at.Goals as goal
 

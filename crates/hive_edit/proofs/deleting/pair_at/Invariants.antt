@@ -1,6 +1,6 @@
 use Rattle.std.proofs.Common.{◌≡◌, length}
 use Rattle.hive_cells.specs.Sources.{cells_of}
-use Rattle.hive_edit.specs.Places.{IsKeyAt}
+use Rattle.hive_look.specs.Places.{IsKeyAt}
 use Rattle.hive_edit.specs.Deleting.{pair_from, pair_place}
 use Rattle.hive_edit.proofs.deleting.pair_at.Given as goal
 

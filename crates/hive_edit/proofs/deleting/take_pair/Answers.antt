@@ -2,11 +2,11 @@ use Rattle.std.proofs.Common.{◌≡◌, ℕ, Bool, List, sym, subst, ◌∙◌,
 use Rattle.hive_model.specs.Bins.{Bin, look_up}
 use Rattle.hive_model.specs.KeyNode.{key_node_at}
 use Rattle.hive_model.specs.Walk.{reading}
-use Rattle.edit_laws.specs.Uses.{tree_uses}
-use Rattle.hive_edit.specs.Places.{IsKeyAt}
+use Rattle.edited_cells.specs.Uses.{tree_uses}
+use Rattle.hive_look.specs.Places.{IsKeyAt}
 use Rattle.hive_edit.specs.Dropped.{CanRemove}
 use Rattle.hive_edit.specs.Deleting.{levels_left}
-use Rattle.hive_edit.proofs.ResultLemmas.{done}
+use Rattle.hive_look.proofs.ResultLemmas.{done}
 use Rattle.hive_edit.proofs.PairLemmas.{PairHere, pair_here, above_stands, kid_stands, can_remove}
 use Rattle.hive_edit.proofs.deleting.take_pair.Goals as goal
 use Rattle.hive_edit.proofs.deleting.take_pair.Goals.{Start}

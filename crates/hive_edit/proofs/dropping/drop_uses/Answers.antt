@@ -1,6 +1,6 @@
 use Rattle.std.proofs.Common.{refl, false, ◌∙◌}
 use Rattle.std.specs.Prelude.{slice_index_or}
-use Rattle.hive_edit.proofs.UsesLemmas.{use_of}
+use Rattle.hive_look.proofs.UsesLemmas.{use_of}
 use Rattle.hive_edit.proofs.DroppedLemmas.{none_dropped, at_item, IsNextUse, can_free, can_lower, one_freed, one_lowered}
 use Rattle.hive_edit.proofs.dropping.drop_uses.Goals as goal
 use Rattle.hive_edit.proofs.dropping.drop_uses.Goals.{In-loop-used}

@@ -1,5 +1,5 @@
 use Rattle.std.proofs.Common.{length, arith}
-use Rattle.hive_edit.proofs.DataLemmas.{data_small}
+use Rattle.hive_look.proofs.DataLemmas.{data_small}
 use Rattle.hive_edit.proofs.GiveLemmas.{given_inside}
 use Rattle.hive_edit.proofs.give.give.Goals as goal
 

@@ -1,8 +1,8 @@
 use Rattle.std.proofs.Common.{sym, subst}
 use Rattle.std.specs.Option.{IsSome}
-use Rattle.edit_laws.specs.Owned.{In}
-use Rattle.edit_laws.proofs.Ins.{contains_from}
-use Rattle.edit_laws.proofs.Pairs.{in_at}
+use Rattle.edited_cells.specs.Owned.{In}
+use Rattle.edited_cells.proofs.Ins.{contains_from}
+use Rattle.edited_cells.proofs.Pairs.{in_at}
 use Rattle.hive_edit.proofs.give.refer.Goals as goal
 
 pub free_all-requires-clause-held : goal.free_all-requires-clause-held

@@ -1,6 +1,6 @@
 use Rattle.cell_forms.specs.Views.{big_data_of}
 use Rattle.hive_cells.specs.Sources.{cells_of}
-use Rattle.hive_edit.proofs.DataLemmas.{db_here, list_here}
+use Rattle.hive_look.proofs.DataLemmas.{db_here, list_here}
 use Rattle.hive_edit.proofs.HoldingLemmas.{big_joined, big_is_joined}
 use Rattle.hive_edit.proofs.holding.big_are.Goals as goal
 

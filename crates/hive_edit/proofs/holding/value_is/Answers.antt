@@ -2,7 +2,7 @@ use Rattle.std.proofs.Common.{◌≤◌, ◌+◌, length, arith}
 use Rattle.std.proofs.lemmas.Result.{IfOk-weaker}
 use Rattle.nt_bytes.specs.Fields.{u16_in}
 use Rattle.hive_cells.specs.Sources.{cells_of}
-use Rattle.hive_edit.proofs.ItemLemmas.{item_long}
+use Rattle.hive_look.proofs.ItemLemmas.{item_long}
 use Rattle.hive_edit.proofs.HoldingLemmas.{other_kind, this_kind, has_data, size_fits}
 use Rattle.hive_edit.proofs.holding.value_is.Goals as goal
 use Rattle.hive_edit.proofs.holding.value_is.Goals.{After-payload-value}

@@ -1,7 +1,7 @@
 use Rattle.std.proofs.Common.{◌+◌, ap, ◌∙◌, arith}
 use Rattle.std.specs.Prelude.{slice_range}
 use Rattle.hive_cells.specs.Sources.{cells_of}
-use Rattle.hive_edit.proofs.NodeLemmas.{node_long}
+use Rattle.hive_look.proofs.NodeLemmas.{node_long}
 use Rattle.hive_edit.proofs.PairLemmas.{DescriptorHere, no_descriptor, descriptor_here}
 use Rattle.hive_edit.proofs.key_size.descriptor_at.Goals as goal
 use Rattle.hive_edit.proofs.key_size.descriptor_at.Goals.{After-payload-security}

@@ -4,7 +4,7 @@ use Rattle.hive_model.specs.KeyNode.{key_node_at}
 use Rattle.hive_model.specs.Lists.{AreOffsets}
 use Rattle.hive_model.specs.Packed.{text}
 use Rattle.hive_model.specs.Walk.{reading}
-use Rattle.edit_laws.specs.Done.{item}
+use Rattle.edited_cells.specs.Done.{item}
 use Rattle.reg_tree.proofs.Outcomes.{on_ok}
 use Rattle.hive_edit.specs.NewValue.{ListsThese, added_cells, added_size}
 use Rattle.hive_cells.specs.Held.{IsRun}

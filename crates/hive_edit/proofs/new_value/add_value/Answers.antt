@@ -3,7 +3,7 @@ use Rattle.hive_model.specs.Bins.{look_up, bins_size}
 use Rattle.hive_model.specs.KeyNode.{key_node_at}
 use Rattle.hive_model.specs.Walk.{reading}
 use Rattle.hive_cells.specs.Holes.{new_bin_size}
-use Rattle.edit_laws.specs.Done.{item}
+use Rattle.edited_cells.specs.Done.{item}
 use Rattle.hive_edit.specs.NewValue.{LacksRoomForValue, added_size}
 use Rattle.hive_edit.specs.Runs.{IsPlace}
 use Rattle.hive_edit.proofs.NewCellsLemmas.{far_over, lacks_room}

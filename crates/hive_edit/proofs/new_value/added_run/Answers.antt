@@ -1,7 +1,7 @@
 use Rattle.std.proofs.Common.{◌++◌, ℕ, List, ap, ◌∙◌, arith}
 use Rattle.hive_model.specs.Lists.{numbers_in}
 use Rattle.hive_model.specs.Packed.{item_cells, text}
-use Rattle.edit_laws.specs.Done.{item}
+use Rattle.edited_cells.specs.Done.{item}
 use Rattle.hive_edit.proofs.GoneLemmas.{numbers_length}
 use Rattle.hive_edit.proofs.NewRunLemmas.{list_long, run_written}
 use Rattle.hive_edit.proofs.new_value.added_run.Goals as goal

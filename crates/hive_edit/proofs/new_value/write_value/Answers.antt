@@ -1,6 +1,6 @@
 use Rattle.std.proofs.Common.{◌+◌, ℕ, length, ap, ◌∙◌, arith}
 use Rattle.hive_model.specs.Size.{cell}
-use Rattle.edit_laws.specs.Done.{item}
+use Rattle.edited_cells.specs.Done.{item}
 use Rattle.reg_tree.proofs.Outcomes.{on_ok}
 use Rattle.hive_pack.proofs.Rows.{length_value}
 use Rattle.hive_edit.proofs.NewRunLemmas.{value_written}

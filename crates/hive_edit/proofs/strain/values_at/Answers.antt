@@ -1,6 +1,6 @@
 use Rattle.std.proofs.Common.{◌∙◌, sym, arith}
 use Rattle.hive_cells.specs.Sources.{cells_of}
-use Rattle.hive_edit.proofs.NodeLemmas.{node_long}
+use Rattle.hive_look.proofs.NodeLemmas.{node_long}
 use Rattle.hive_edit.proofs.UnsetLemmas.{node_numbers}
 use Rattle.hive_edit.proofs.strain.values_at.Goals as goal
 

@@ -2,7 +2,7 @@ use Rattle.std.proofs.Common.{◌≡◌, ◌≤◌, ◌+◌, List, length, ap, �
 use Rattle.nt_bytes.specs.Fields.{u16_in}
 use Rattle.hive_model.specs.Bins.{Bin, look_up}
 use Rattle.key_index.specs.Lists.{payload_in}
-use Rattle.hive_edit.proofs.ItemLemmas.{value_long, value_is_there}
+use Rattle.hive_look.proofs.ItemLemmas.{value_long, value_is_there}
 use Rattle.hive_edit.proofs.UnsetLemmas.{DataHere, data_here}
 use Rattle.hive_edit.proofs.unset.data_at.Goals as goal
 use Rattle.hive_edit.proofs.unset.data_at.Goals.{After-payload-value, After-u32_at-place}

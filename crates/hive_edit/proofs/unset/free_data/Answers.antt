@@ -1,6 +1,6 @@
 use Rattle.std.proofs.Common.{◌≡◌, ◌≤◌, ℕ, List, [], ◌∷◌, ◌⊎◌, inl, inr, refl, sym, subst, ◌∙◌, arith}
 use Rattle.hive_model.specs.Bins.{look_up}
-use Rattle.edit_laws.specs.Owned.{In}
+use Rattle.edited_cells.specs.Owned.{In}
 use Rattle.hive_edit.specs.Gone.{AreGone, CanGo, data_cells}
 use Rattle.hive_edit.proofs.GoneLemmas.{none_gone, one_gone}
 use Rattle.hive_edit.proofs.UnsetLemmas.{BigHere, none_apart, one_apart, big_here}

@@ -4,7 +4,7 @@ use Rattle.hive_model.specs.KeyNode.{key_node_at}
 use Rattle.hive_model.specs.Size.{bulk_of}
 use Rattle.hive_model.specs.Walk.{reading}
 use Rattle.hive_edit.specs.Gone.{CanTake, unset_tree}
-use Rattle.hive_edit.specs.Places.{IsItemHere}
+use Rattle.hive_look.specs.Places.{IsItemHere}
 use Rattle.hive_edit.proofs.UnsetLemmas.{hive_unset, hive_can_take, can_count, hive_bulk}
 use Rattle.hive_edit.proofs.hive.HiveBytes.bulk_without.Goals as goal
 use Rattle.hive_edit.proofs.hive.HiveBytes.bulk_without.Goals.{After-self, After-list_len-2}

@@ -2,7 +2,7 @@ use Rattle.std.proofs.Common.{◌≡◌, ◌≤◌, ◌+◌, ◌-◌, List, arit
 use Rattle.hive_model.specs.Bins.{Bin, look_up}
 use Rattle.hive_model.specs.Edit.{without_key}
 use Rattle.hive_model.specs.Size.{bulk_of}
-use Rattle.hive_edit.specs.Places.{IsKeyAt}
+use Rattle.hive_look.specs.Places.{IsKeyAt}
 use Rattle.hive_edit.specs.Standing.{tree_of}
 use Rattle.hive_edit.proofs.LowLemmas.{bulk_low}
 use Rattle.hive_edit.proofs.PairLemmas.{PairHere, above_stands, kid_stands}

@@ -7,7 +7,7 @@ use Rattle.hive_model.specs.Tree.{Tree}
 use Rattle.hive_cells.specs.Held.{held_at}
 use Rattle.hive_edit.specs.Given.{Gives, IsGiven}
 use Rattle.hive_edit.specs.Hive.{HiveCells, cells_in, hive_of}
-use Rattle.hive_edit.specs.Places.{data_places}
+use Rattle.hive_look.specs.Places.{data_places}
 use Rattle.hive_edit.proofs.StepLemmas.{ValueOwn}
 use Rattle.hive_edit.proofs.SteppedLemmas.{IsStepMade, stepped_bulk, same_hive}
 use Rattle.hive_edit.proofs.StrainLemmas.{there_lacks, there_set}

@@ -3,7 +3,7 @@ use Rattle.hive_edit.specs.Grafted.{LacksGraftLists}
 use Rattle.hive_model.specs.Bins.{look_up}
 use Rattle.hive_model.specs.Edit.{make_key}
 use Rattle.hive_edit.specs.Hive.{hive_of}
-use Rattle.hive_edit.specs.Places.{IsKeyAt}
+use Rattle.hive_look.specs.Places.{IsKeyAt}
 use Rattle.hive_edit.specs.Tells.{IsToldStep}
 use Rattle.hive_edit.proofs.AskedLemmas.{open_stands}
 use Rattle.hive_edit.proofs.ChildLemmas.{can_graft, no_shorter, still_hive, still_or}

@@ -4,7 +4,7 @@ use Rattle.hive_model.specs.Bins.{bins_size}
 use Rattle.hive_model.specs.Edit.{Step, after_steps}
 use Rattle.reg_tree.specs.Fitting.{Fits}
 use Rattle.reg_tree.specs.Makes.{IsRefused, step_of}
-use Rattle.edit_laws.specs.Sizes.{AreGrown}
+use Rattle.edited_cells.specs.Sizes.{AreGrown}
 use Rattle.hive_edit.specs.Steps.{AreStepped, AreStrained}
 use Rattle.hive_edit.specs.Tells.{IsToldStep}
 use Rattle.hive_edit.proofs.SteppedLemmas.{if_done, if_undone, stepped_more, refused_behind, stopped_strained, fits_here, map_more, map_parts}

@@ -1,7 +1,7 @@
 use Rattle.std.proofs.Common.{◌≡◌, ◌≤◌, ◌+◌, map, take}
 use Rattle.hive_model.specs.Bins.{bins_size}
 use Rattle.reg_tree.specs.Makes.{step_of}
-use Rattle.edit_laws.specs.Sizes.{AreGrown}
+use Rattle.edited_cells.specs.Sizes.{AreGrown}
 use Rattle.hive_edit.specs.Steps.{AreStepped}
 use Rattle.hive_edit.proofs.hive.HiveBytes.make_steps.Given as goal
 

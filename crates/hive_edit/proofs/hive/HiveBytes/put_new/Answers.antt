@@ -2,7 +2,7 @@ use Rattle.std.proofs.Common.{◌≡◌, sym, ap, ◌∙◌}
 use Rattle.hive_model.specs.Edit.{set_value}
 use Rattle.hive_model.specs.Size.{bulk_of}
 use Rattle.hive_model.specs.Tree.{Tree}
-use Rattle.edit_laws.specs.Done.{item}
+use Rattle.edited_cells.specs.Done.{item}
 use Rattle.hive_cells.specs.Opened.{Opened}
 use Rattle.hive_edit.specs.Hive.{hive_of}
 use Rattle.hive_edit.specs.NewValue.{LacksRoomForValue, PutsValue}

@@ -4,9 +4,9 @@ use Rattle.std.specs.Prelude.{Contains}
 use Rattle.hive_cells.specs.Held.{held_at}
 use Rattle.hive_edit.specs.Given.{place_in}
 use Rattle.hive_edit.specs.Hive.{cells_in}
-use Rattle.hive_edit.specs.Places.{data_places, value_place}
+use Rattle.hive_look.specs.Places.{data_places, value_place}
 use Rattle.hive_edit.proofs.NewValueLemmas.{placed_in}
-use Rattle.hive_edit.proofs.ResultLemmas.{some, some_same}
+use Rattle.hive_look.proofs.ResultLemmas.{some, some_same}
 use Rattle.hive_edit.proofs.hive.HiveBytes.set_at.Goals as goal
 use Rattle.hive_edit.proofs.hive.HiveBytes.set_at.Goals.{In-Some}
 

@@ -5,7 +5,7 @@ use Rattle.hive_model.specs.Size.{bulk_of}
 use Rattle.hive_edit.specs.Hive.{HiveCells}
 use Rattle.hive_edit.specs.Edits.{IsEditedInPlace, value_fields}
 use Rattle.hive_edit.specs.Told.{WritesValue}
-use Rattle.hive_edit.proofs.ResultLemmas.{some_same}
+use Rattle.hive_look.proofs.ResultLemmas.{some_same}
 use Rattle.hive_edit.proofs.SetLemmas.{set_full, inside_frees}
 use Rattle.hive_edit.proofs.SteppedLemmas.{stepped_edit, stepped_kept}
 use Rattle.hive_edit.proofs.hive.HiveBytes.set_value.Goals as goal

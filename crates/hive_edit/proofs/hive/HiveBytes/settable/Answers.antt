@@ -1,7 +1,7 @@
 use Rattle.std.proofs.Common.{◌≡◌, ◌∙◌}
 use Rattle.hive_model.specs.Footprint.{key_place}
 use Rattle.hive_edit.specs.Hive.{cells_in}
-use Rattle.hive_edit.proofs.ResultLemmas.{some}
+use Rattle.hive_look.proofs.ResultLemmas.{some}
 use Rattle.hive_edit.proofs.NewValueLemmas.{sets_nowhere, sets_long_name, sets_long_data, key_seen, stands_at, value_seen_in}
 use Rattle.hive_edit.proofs.hive.HiveBytes.settable.Goals as goal
 use Rattle.hive_edit.proofs.hive.HiveBytes.settable.Goals.{In-Some}

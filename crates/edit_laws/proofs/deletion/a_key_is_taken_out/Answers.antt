@@ -1,5 +1,0 @@
-use Rattle.edit_laws.proofs.TakenOut.{key_taken_out}
-use Rattle.edit_laws.proofs.deletion.a_key_is_taken_out.Goals as goal
-
-pub returns : goal.returns
-returns c = key_taken_out

@@ -1,5 +1,0 @@
-use Rattle.edit_laws.proofs.KeySteps.{a_child_copied}
-use Rattle.edit_laws.proofs.keys.a_child_is_copied.Goals as goal
-
-pub returns : goal.returns
-returns c = a_child_copied

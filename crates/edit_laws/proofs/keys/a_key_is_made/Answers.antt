@@ -1,5 +1,0 @@
-use Rattle.edit_laws.proofs.KeySteps.{a_key_made}
-use Rattle.edit_laws.proofs.keys.a_key_is_made.Goals as goal
-
-pub returns : goal.returns
-returns c = a_key_made

@@ -1,5 +1,0 @@
-use Rattle.edit_laws.proofs.Grown.{no_room_behind}
-use Rattle.edit_laws.proofs.rooms.a_step_without_room_is_strained.Goals as goal
-
-pub returns : goal.returns
-returns c = no_room_behind

@@ -1,5 +1,0 @@
-use Rattle.edit_laws.proofs.Grown.{grown_within}
-use Rattle.edit_laws.proofs.rooms.steps_grow_within_their_strain.Goals as goal
-
-pub returns : goal.returns
-returns c = grown_within

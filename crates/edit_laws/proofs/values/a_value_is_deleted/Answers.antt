@@ -1,5 +1,0 @@
-use Rattle.edit_laws.proofs.ValueSteps.{a_value_deleted}
-use Rattle.edit_laws.proofs.values.a_value_is_deleted.Goals as goal
-
-pub returns : goal.returns
-returns c = a_value_deleted

@@ -1,0 +1,5 @@
+use Rattle.edited_cells.proofs.KeySteps.{a_child_copied}
+use Rattle.edited_cells.proofs.keys.a_child_is_copied.Goals as goal
+
+pub returns : goal.returns
+returns c = a_child_copied

@@ -1,0 +1,10 @@
+pub mod ResultLemmas
+pub mod OnceLemmas
+pub mod PlaceLemmas
+pub mod NodeLemmas
+pub mod ItemLemmas
+pub mod ScanLemmas
+pub mod DataLemmas
+pub mod MeasureLemmas
+pub mod ParentLemmas
+pub mod UsesLemmas
