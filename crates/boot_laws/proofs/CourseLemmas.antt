@@ -8,7 +8,9 @@ use Rattle.nt_bytes.specs.Folding.{folded}
 use Rattle.hive_model.specs.Tree.{Tree}
 use Rattle.group_order.proofs.FirstLemmas.{position-map}
 use Rattle.start_model.specs.Entries.{Entry, Phase, Boot, System, Automatic, Done, need_of}
-use Rattle.start_model.specs.Lines.{Line, TryLine, UnmetLine, TryOk}
+use Rattle.report_words.specs.declared.words.TryWord.TheVariants as tries
+use Rattle.report_words.specs.declared.line.Line.{Line}
+use Rattle.report_words.specs.declared.line.Line.TheVariants.{Try as TryLine, Unmet as UnmetLine}
 use Rattle.start_model.specs.Machine.{Start, label_of, next_in, unmet_in, phase_after, after_attempt}
 use Rattle.start_model.specs.Ready.{is_ready}
 use Rattle.start_model.specs.Starter.{phase_line}
@@ -77,7 +79,7 @@ attempt_plain s k e = λ i. record s {
 
 tried_plain : (c : Course) (k : ℕ) (e : Entry) → plain_course (tried_at c k e) ≡ tried_at (plain_course c) k (plain e)
 tried_plain c k e = λ i. record {
-  lines = map-append plain_line c.lines (TryLine e.name TryOk ∷ []) i;
+  lines = map-append plain_line c.lines (TryLine e.name tries.Ok ∷ []) i;
   start = attempt_plain c.start k e i;
 }
 

@@ -7,7 +7,8 @@ use Rattle.std.proofs.lemmas.List.{map-append}
 use Rattle.nt_bytes.specs.Folding.{folded, folds_same}
 use Rattle.hive_model.specs.Tree.{Tree}
 use Rattle.group_order.proofs.FirstLemmas.{find_at_place, position-map}
-use Rattle.start_model.specs.Lines.{Line, StartLine, EntryLine, LoadLine, SetLine, CommitLine, SelectLine, PhaseLine, TryLine, UnmetLine, VitalLine, LogonLine, SaveRefusedLine, EditOkLine, FlushNothingLine, RefusedLine, VerdictLine, EndLine}
+use Rattle.report_words.specs.declared.line.Line.{Line}
+use Rattle.report_words.specs.declared.line.Line.TheVariants as lines
 use Rattle.safe_boot.specs.Played.{start_lines_of}
 use Rattle.set_diff.specs.declared.boot.Attempt.{Attempt}
 use Rattle.set_diff.specs.declared.boot.QuietBoot.{QuietBoot}
@@ -23,31 +24,31 @@ abbrev pub plain_boot : QuietBoot → QuietBoot
 plain_boot b = record { phase = b.phase; attempts = map plain_attempt b.attempts; unmet = map folded b.unmet }
 
 step_plain : (b : QuietBoot) (line : Line) → plain_boot (boot_step b line) ≡ boot_step (plain_boot b) (plain_line line)
-step_plain b (StartLine n) = refl
-step_plain b (EntryLine n path) = refl
-step_plain b (LoadLine n taken) = refl
-step_plain b (SetLine n good) = refl
-step_plain b (CommitLine word n) = refl
-step_plain b (SelectLine c d f g) = refl
-step_plain b (PhaseLine word) = refl
-step_plain b (TryLine name outcome) = λ i. record {
+step_plain b (lines.Start n) = refl
+step_plain b (lines.Entry n path) = refl
+step_plain b (lines.Load n taken) = refl
+step_plain b (lines.Set n good) = refl
+step_plain b (lines.Commit word n) = refl
+step_plain b (lines.Select c d f g) = refl
+step_plain b (lines.Phase word) = refl
+step_plain b (lines.Try name outcome) = λ i. record {
   phase = b.phase;
   attempts = map-append plain_attempt b.attempts (attempt_in b.phase name ∷ []) i;
   unmet = map folded b.unmet;
 }
-step_plain b (UnmetLine name) = λ i. record {
+step_plain b (lines.Unmet name) = λ i. record {
   phase = b.phase;
   attempts = map plain_attempt b.attempts;
   unmet = map-append folded b.unmet (name ∷ []) i;
 }
-step_plain b (VitalLine name) = refl
-step_plain b LogonLine = refl
-step_plain b (SaveRefusedLine full) = refl
-step_plain b EditOkLine = refl
-step_plain b FlushNothingLine = refl
-step_plain b (RefusedLine event reason) = refl
-step_plain b (VerdictLine verdict) = refl
-step_plain b EndLine = refl
+step_plain b (lines.Vital name) = refl
+step_plain b lines.Logon = refl
+step_plain b (lines.SaveRefused full) = refl
+step_plain b lines.EditOk = refl
+step_plain b lines.FlushNothing = refl
+step_plain b (lines.Refused event reason) = refl
+step_plain b (lines.Verdict verdict) = refl
+step_plain b lines.End = refl
 
 from_plain : (b : QuietBoot) (lines : List Line)
     → plain_boot (boot_from b lines) ≡ boot_from (plain_boot b) (map plain_line lines)

@@ -10,7 +10,9 @@ use Rattle.hive_model.specs.Tree.{Tree}
 use Rattle.dependencies.proofs.MeetLemmas.{folded_first, names_flip}
 use Rattle.reg_tree.proofs.Unlike.{Each}
 use Rattle.start_model.specs.Entries.{Entry, Phase, Boot, System, Automatic, Done, is_driver, is_service, was_tried, is_driver_of, is_open, entries_of}
-use Rattle.start_model.specs.Lines.{Line, TryLine, TryOk, UnmetLine}
+use Rattle.report_words.specs.declared.words.TryWord.TheVariants as tries
+use Rattle.report_words.specs.declared.line.Line.{Line}
+use Rattle.report_words.specs.declared.line.Line.TheVariants.{Try as TryLine, Unmet as UnmetLine}
 use Rattle.start_model.specs.Machine.{Start, next_in, unmet_in, phase_after}
 use Rattle.start_model.specs.Order.{plan_of}
 use Rattle.start_model.specs.Starter.{phase_line}
@@ -162,7 +164,7 @@ from_more b (x ∷ xs) ys = from_more (boot_step b x) xs ys
 -- ---- an attempt
 
 steady_tried : (c : Course) (k : ℕ) (e : Entry) → Fresh (boot_at c) e → IsSteady (boot_at c) c.start
-    → IsSteady (boot_step (boot_at c) (TryLine e.name TryOk)) (tried_at c k e).start
+    → IsSteady (boot_step (boot_at c) (TryLine e.name tries.Ok)) (tried_at c k e).start
 steady_tried c k e fresh s =
     let b : QuietBoot = boot_at c in
     let a : Attempt = attempt_in b.phase e.name in
@@ -172,7 +174,7 @@ steady_tried c k e fresh s =
           (each_more (λ (x : Attempt). has_tried c.start.tried x.name ≡ true)
           (λ (x : Attempt). has_tried (c.start.tried ++ folded e.name ∷ []) x.name ≡ true) b.attempts
           (λ x h. tried_more c.start.tried (folded e.name) x.name h) s.noted) (tried_last c.start.tried e.name);
-      fresh = each_more (Fresh b) (Fresh (boot_step b (TryLine e.name TryOk))) (remove c.start.waiting k)
+      fresh = each_more (Fresh b) (Fresh (boot_step b (TryLine e.name tries.Ok))) (remove c.start.waiting k)
           (λ f h. each_push (λ (x : Attempt). folds_same x.name f.name ≡ true → x.phase ≡ b.phase) b.attempts a h
           (λ is. refl))
           (each_remove (Fresh b) c.start.waiting k s.fresh);
@@ -182,7 +184,7 @@ steady_at : (c : Course) (k : ℕ) (e : Entry) → Fresh (boot_at c) e → IsSte
     → IsSteady (boot_at (tried_at c k e)) (tried_at c k e).start
 steady_at c k e fresh s =
     subst (λ (b : QuietBoot). IsSteady b (tried_at c k e).start)
-    (sym (from_more no_boot c.lines (TryLine e.name TryOk ∷ [])))
+    (sym (from_more no_boot c.lines (TryLine e.name tries.Ok ∷ [])))
     (steady_tried c k e fresh s)
 
 abbrev StaysSteady : ℕ → Type 0

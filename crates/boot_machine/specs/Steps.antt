@@ -3,7 +3,8 @@ use Rattle.std.specs.Prelude.{◌≡◌, ℕ, Bool, true, false, not, [], ◌∷
 use Rattle.nt_bytes.specs.Folding.{folded}
 use Rattle.hive_model.specs.Tree.{Tree}
 use Rattle.start_model.specs.Entries.{Entry, Phase, Boot, System, Automatic, Done}
-use Rattle.start_model.specs.Lines.{Verdict, Good, GoodUnsaved, Running, FallBack, Stopped, Cut, Device, Full, NoNumber, NoEntry, OtherLoader, NoSystem, NoControlSet, NoLastKnownGood}
+use Rattle.report_words.specs.declared.words.Verdict.{Verdict}
+use Rattle.report_words.specs.declared.words.Verdict.TheVariants as verdicts
 use Rattle.start_model.specs.Machine.{Start, MachineState, next_in, label_of}
 use Rattle.boot_machine.specs.Queue.{QueueState}
 
@@ -66,17 +67,17 @@ pub record AttemptsNext (old new : Start) (e : Entry) (ok : Bool) : Type 0 where
 
 -- the verdict after which the next start takes LastKnownGood
 abbrev pub falls_back : Verdict → Bool
-falls_back Good = false
-falls_back GoodUnsaved = false
-falls_back Running = false
-falls_back FallBack = true
-falls_back Stopped = false
-falls_back Cut = false
-falls_back Device = false
-falls_back Full = false
-falls_back NoNumber = false
-falls_back NoEntry = false
-falls_back OtherLoader = false
-falls_back NoSystem = false
-falls_back NoControlSet = false
-falls_back NoLastKnownGood = false
+falls_back verdicts.Good = false
+falls_back verdicts.GoodUnsaved = false
+falls_back verdicts.Running = false
+falls_back verdicts.FallBack = true
+falls_back verdicts.Stopped = false
+falls_back verdicts.Cut = false
+falls_back verdicts.Device = false
+falls_back verdicts.Full = false
+falls_back verdicts.NoNumber = false
+falls_back verdicts.NoEntry = false
+falls_back verdicts.OtherLoader = false
+falls_back verdicts.NoSystem = false
+falls_back verdicts.NoControlSet = false
+falls_back verdicts.NoLastKnownGood = false

@@ -5,7 +5,8 @@ use Rattle.boot_script.specs.declared.event.Event.TheVariants as script
 use Rattle.nt_edge.specs.Book.{call_of, keep_of}
 use Rattle.hive_model.specs.Image.{ArmedCut, ArmedFault}
 use Rattle.start_model.specs.Events as book
-use Rattle.start_model.specs.Lines.{RefusedWord, OffReason, RunningReason, EarlyReason, AgainReason, IdleReason, ProtectedReason}
+use Rattle.report_words.specs.declared.words.RefusedWord.{RefusedWord}
+use Rattle.report_words.specs.declared.words.RefusedWord.TheVariants as reasons
 use Rattle.boot_machine.specs.declared.refusal.EventRefusal.{EventRefusal}
 use Rattle.boot_machine.specs.declared.refusal.EventRefusal.TheVariants as code
 use Rattle.boot_machine.specs.declared.tried.Tried.{Tried}
@@ -29,12 +30,12 @@ event_in (script.ArmCut call n keep) = book.Arm (ArmedCut (call_of call) n (keep
 event_in (script.ArmFault call n) = book.Arm (ArmedFault (call_of call) n)
 
 abbrev pub word_of_refusal : EventRefusal → RefusedWord
-word_of_refusal code.Off = OffReason
-word_of_refusal code.Running = RunningReason
-word_of_refusal code.Early = EarlyReason
-word_of_refusal code.Again = AgainReason
-word_of_refusal code.Idle = IdleReason
-word_of_refusal code.Protected = ProtectedReason
+word_of_refusal code.Off = reasons.Off
+word_of_refusal code.Running = reasons.Running
+word_of_refusal code.Early = reasons.Early
+word_of_refusal code.Again = reasons.Again
+word_of_refusal code.Idle = reasons.Idle
+word_of_refusal code.Protected = reasons.Protected
 
 abbrev pub tried_in : Tried → machine.Tried
 tried_in t = record { name = t.name; ok = t.ok; judgement = judgement_in t.judgement }

@@ -3,7 +3,7 @@
 ghost use Rattle.std.specs.Prelude.{◌≡◌, ◌||◌, not, Some, None, if◌then◌else◌};
 ghost use Rattle.std.specs.List.{list_all};
 ghost use Rattle.start_model.specs.Events.{is_current, is_digit_unit, names_a_set, is_protected_child, begins_protected, is_current_alone};
-ghost use Rattle.start_model.specs.Lines.{EarlyReason, AgainReason, IdleReason, ProtectedReason};
+ghost use Rattle.report_words.specs.declared.words.RefusedWord.TheVariants as reasons;
 ghost use Rattle.start_model.specs.Machine.{is_done, takes_logons, refused_off, refused_running};
 ghost use Rattle.boot_machine.specs.Views.{event_in, Answers};
 
@@ -45,7 +45,7 @@ pub(crate) fn accept_running(start: &Start, event: &Event) -> Result<(), EventRe
 
 /// Steps of the starter are taken until all phases are over.
 fn accept_go(start: &Start) -> Result<(), EventRefusal>
-    ensures { Answers result (if is_done start.now.phase then Some IdleReason else None) }
+    ensures { Answers result (if is_done start.now.phase then Some reasons.Idle else None) }
 {
     if is_done(start.phase()) {
         Err(EventRefusal::Idle)
@@ -56,7 +56,7 @@ fn accept_go(start: &Start) -> Result<(), EventRefusal>
 
 /// A logon is taken once, from the automatic phase on.
 fn accept_logon(start: &Start) -> Result<(), EventRefusal>
-    ensures { Answers result (if not (takes_logons start.now.phase) then Some EarlyReason else (if start.now.logged_on then Some AgainReason else None)) }
+    ensures { Answers result (if not (takes_logons start.now.phase) then Some reasons.Early else (if start.now.logged_on then Some reasons.Again else None)) }
 {
     if !takes_logons(start.phase()) {
         Err(EventRefusal::Early)
@@ -68,7 +68,7 @@ fn accept_logon(start: &Start) -> Result<(), EventRefusal>
 }
 
 fn accept_edit(protected: bool) -> Result<(), EventRefusal>
-    ensures { Answers result (if protected then Some ProtectedReason else None) }
+    ensures { Answers result (if protected then Some reasons.Protected else None) }
 {
     if protected {
         Err(EventRefusal::Protected)

@@ -6,7 +6,6 @@ ghost use Rattle.hive_model.specs.Tree.{Tree};
 ghost use Rattle.hive_model.specs.Valid.{HoldsKeys};
 ghost use Rattle.boot_phases.specs.Lists.{lists_of};
 ghost use Rattle.boot_phases.specs.Phases.{phase_in};
-ghost use Rattle.boot_report.specs.Report.{verdict_of};
 ghost use Rattle.start_model.specs.Entries.{Done};
 ghost use Rattle.start_model.specs.Machine.{off_machine, failing, requiring, missing_in, attempt_of, after_phase, unmet_in, begun_with, with_start, save_due, ending_of, ended, refusal_of};
 ghost use Rattle.boot_machine.specs.Steps.{is_there, on_start, is_at_end, is_in_last_phase, falls_back, without_clone};
@@ -102,7 +101,7 @@ impl Machine {
     /// The verdict where the running start ends by switching off, or with the script. A start must run.
     pub fn ending(&self) -> Verdict
         requires { is_there self.now.start ≡ true }
-        ensures { Some (verdict_of result) ≡ option_map ending_of self.now.start }
+        ensures { Some result ≡ option_map ending_of self.now.start }
     {
         match &self.start {
             Some(start) => start.ending(),
@@ -328,7 +327,7 @@ impl Machine {
 
     /// Ends the start. After FallBack the next start takes LastKnownGood.
     pub fn end(&mut self, verdict: Verdict)
-        ensures { self.new ≡ ended (falls_back (verdict_of verdict)) self.old }
+        ensures { self.new ≡ ended (falls_back verdict) self.old }
     {
         self.start = None;
         self.fallback_due = self.fallback_due || verdict == Verdict::FallBack;

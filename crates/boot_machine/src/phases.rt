@@ -2,8 +2,7 @@
 
 ghost use Rattle.std.specs.Prelude.{◌≡◌};
 ghost use Rattle.boot_phases.specs.Phases.{phase_in};
-ghost use Rattle.boot_report.specs.Report.{phase_of};
-ghost use Rattle.start_model.specs.Lines.{PhaseLine};
+ghost use Rattle.report_words.specs.declared.line.Line.TheVariants.{Phase as PhaseLine};
 ghost use Rattle.start_model.specs.Machine.{phase_after, is_done, takes_logons};
 ghost use Rattle.start_model.specs.Starter.{phase_line};
 ghost use Rattle.boot_machine.specs.Steps.{is_last_phase};
@@ -54,7 +53,7 @@ pub(crate) fn takes_logons(phase: Phase) -> bool
 
 /// The word of the report for a phase.
 pub fn phase_word(phase: Phase) -> PhaseWord
-    ensures { PhaseLine (phase_of result) ≡ phase_line (phase_in phase) }
+    ensures { PhaseLine result ≡ phase_line (phase_in phase) }
 {
     match phase {
         Phase::Boot => PhaseWord::Boot,

@@ -5,7 +5,6 @@ ghost use Rattle.hive_model.specs.Tree.{Tree};
 ghost use Rattle.hive_model.specs.Valid.{HoldsKeys};
 ghost use Rattle.boot_phases.specs.Lists.{lists_of};
 ghost use Rattle.boot_phases.specs.Phases.{phase_in};
-ghost use Rattle.boot_report.specs.Report.{verdict_of};
 ghost use Rattle.start_model.specs.Order.{plan_of};
 ghost use Rattle.start_model.specs.Ready.{has_name};
 ghost use Rattle.start_model.specs.Machine.{next_in, failures_of, one_failure_less, missing_in, phase_after, unmet_in, after_phase, begun_with, is_good, save_due, ending_with, ending_of};
@@ -285,7 +284,7 @@ impl Start {
 
     /// The verdict where the start ends by switching off, or with the script.
     pub(crate) fn ending(&self) -> Verdict
-        ensures { verdict_of result ≡ ending_of self.now }
+        ensures { result ≡ ending_of self.now }
     {
         if self.is_good() {
             ending_with(self.saved)
@@ -296,7 +295,7 @@ impl Start {
 }
 
 fn ending_with(saved: Option<bool>) -> Verdict
-    ensures { verdict_of result ≡ ending_with saved }
+    ensures { result ≡ ending_with saved }
 {
     match saved {
         Some(true) => Verdict::Good,

@@ -60,7 +60,7 @@ taken entries Automatic tried =
     )
 taken entries Done tried = omega arith
 
--- a phase takes no more than there are
+-- a phase takes at most as many as there are
 among : (lists : Lists) (phase : Phase) (tried : List (List ℕ))
     → length (plan_among lists phase tried) ≤ length lists.entries
 among lists phase tried =

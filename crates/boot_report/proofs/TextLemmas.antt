@@ -7,8 +7,21 @@ use Rattle.std.proofs.lemmas.List.Folds.{list_all-append}
 use Rattle.std.proofs.lemmas.List.Splits.{length-slice_split}
 use Rattle.std.proofs.lemmas.Bool.{false≢true, ne_eqb, and_parts, and_from}
 use Rattle.std.proofs.lemmas.Bool.Decides.{nat_tests}
-use Rattle.start_model.specs.Lines as book
-use Rattle.start_model.specs.Lines.{Line, StartLine, EntryLine, LoadLine, SetLine, CommitLine, SelectLine, PhaseLine, TryLine, UnmetLine, VitalLine, LogonLine, SaveRefusedLine, EditOkLine, FlushNothingLine, RefusedLine, VerdictLine, EndLine, line_text, text_of, unit_text, name_text, path_text, shown_byte, escaped, commit_word, phase_word, try_word, event_word, refused_word, verdict_word, load_word, set_word, save_word}
+use Rattle.report_words.specs.declared.words.PhaseWord.{PhaseWord}
+use Rattle.report_words.specs.declared.words.Verdict.{Verdict}
+use Rattle.report_words.specs.declared.words.Verdict.TheVariants as verdicts
+use Rattle.report_words.specs.declared.words.PhaseWord.TheVariants as phases
+use Rattle.report_words.specs.declared.words.RefusedWord.{RefusedWord}
+use Rattle.report_words.specs.declared.words.EventWord.{EventWord}
+use Rattle.report_words.specs.declared.words.CommitWord.{CommitWord}
+use Rattle.report_words.specs.declared.words.TryWord.{TryWord}
+use Rattle.report_words.specs.declared.words.TryWord.TheVariants as tries
+use Rattle.report_words.specs.declared.words.CommitWord.TheVariants as commits
+use Rattle.report_words.specs.declared.words.EventWord.TheVariants as events
+use Rattle.report_words.specs.declared.words.RefusedWord.TheVariants as reasons
+use Rattle.report_words.specs.declared.line.Line.{Line}
+use Rattle.report_words.specs.declared.line.Line.TheVariants as lines
+use Rattle.start_model.specs.Lines.{line_text, text_of, unit_text, name_text, path_text, shown_byte, escaped, commit_word, phase_word, try_word, event_word, refused_word, verdict_word, load_word, set_word, save_word}
 use Rattle.nt_bytes.specs.Text.{is_printable}
 use Rattle.start_model.specs.Possible.{Outcome}
 use Rattle.start_model.specs.Fits.{outcomes_in, outcomes_of, outcome_of, whole_lines, verdict_outcome}
@@ -77,157 +90,157 @@ no_lf-path (c ∷ path) = and_from _ _ (no_lf-shown c) (no_lf-path path)
 -- ---- lines without their LF
 
 abbrev pub body : Line → List ℕ
-body (StartLine number) = codes "start " ++ decimal number
-body (EntryLine number path) = codes "entry " ++ decimal number ++ codes " " ++ path_text path
-body (LoadLine sequence recovered) = codes "load " ++ decimal sequence ++ codes " " ++ load_word recovered
-body (SetLine number on_good) = codes "set " ++ decimal number ++ codes " " ++ set_word on_good
-body (CommitLine what sequence) = codes "commit " ++ commit_word what ++ codes " " ++ decimal sequence
-body (SelectLine current default failed good) =
+body (lines.Start number) = codes "start " ++ decimal number
+body (lines.Entry number path) = codes "entry " ++ decimal number ++ codes " " ++ path_text path
+body (lines.Load sequence recovered) = codes "load " ++ decimal sequence ++ codes " " ++ load_word recovered
+body (lines.Set number on_good) = codes "set " ++ decimal number ++ codes " " ++ set_word on_good
+body (lines.Commit what sequence) = codes "commit " ++ commit_word what ++ codes " " ++ decimal sequence
+body (lines.Select current default failed good) =
     codes "select " ++ decimal current ++ codes " " ++ decimal default ++ codes " " ++ decimal failed ++ codes " "
     ++ decimal good
-body (PhaseLine word) = codes "phase " ++ phase_word word
-body (TryLine name outcome) = codes "try " ++ name_text name ++ codes " " ++ try_word outcome
-body (UnmetLine name) = codes "unmet " ++ name_text name
-body (VitalLine name) = codes "vital " ++ name_text name ++ codes " missing"
-body LogonLine = codes "logon"
-body (SaveRefusedLine full) = codes "save refused " ++ save_word full
-body EditOkLine = codes "edit ok"
-body FlushNothingLine = codes "flush nothing"
-body (RefusedLine event why) = codes "refused " ++ event_word event ++ codes " " ++ refused_word why
-body (VerdictLine word) = codes "verdict " ++ verdict_word word
-body EndLine = codes "end"
+body (lines.Phase word) = codes "phase " ++ phase_word word
+body (lines.Try name outcome) = codes "try " ++ name_text name ++ codes " " ++ try_word outcome
+body (lines.Unmet name) = codes "unmet " ++ name_text name
+body (lines.Vital name) = codes "vital " ++ name_text name ++ codes " missing"
+body lines.Logon = codes "logon"
+body (lines.SaveRefused full) = codes "save refused " ++ save_word full
+body lines.EditOk = codes "edit ok"
+body lines.FlushNothing = codes "flush nothing"
+body (lines.Refused event why) = codes "refused " ++ event_word event ++ codes " " ++ refused_word why
+body (lines.Verdict word) = codes "verdict " ++ verdict_word word
+body lines.End = codes "end"
 
 pub text-body : (l : Line) → line_text l ≡ body l ++ 10 ∷ []
 unfolding line_text
-text-body (StartLine number) = refl
-text-body (EntryLine number path) = refl
-text-body (LoadLine sequence recovered) = refl
-text-body (SetLine number on_good) = refl
-text-body (CommitLine what sequence) = refl
-text-body (SelectLine current default failed good) = refl
-text-body (PhaseLine word) = refl
-text-body (TryLine name outcome) = refl
-text-body (UnmetLine name) = refl
-text-body (VitalLine name) = sym (append_assoc (codes "vital " ++ name_text name) (codes " missing") (10 ∷ []))
-text-body LogonLine = refl
-text-body (SaveRefusedLine full) = refl
-text-body EditOkLine = refl
-text-body FlushNothingLine = refl
-text-body (RefusedLine event why) = refl
-text-body (VerdictLine word) = refl
-text-body EndLine = refl
+text-body (lines.Start number) = refl
+text-body (lines.Entry number path) = refl
+text-body (lines.Load sequence recovered) = refl
+text-body (lines.Set number on_good) = refl
+text-body (lines.Commit what sequence) = refl
+text-body (lines.Select current default failed good) = refl
+text-body (lines.Phase word) = refl
+text-body (lines.Try name outcome) = refl
+text-body (lines.Unmet name) = refl
+text-body (lines.Vital name) = sym (append_assoc (codes "vital " ++ name_text name) (codes " missing") (10 ∷ []))
+text-body lines.Logon = refl
+text-body (lines.SaveRefused full) = refl
+text-body lines.EditOk = refl
+text-body lines.FlushNothing = refl
+text-body (lines.Refused event why) = refl
+text-body (lines.Verdict word) = refl
+text-body lines.End = refl
 
-no_lf-commit : (w : book.CommitWord) → has_no_lf (commit_word w) ≡ true
-no_lf-commit book.BeginCommit = refl
-no_lf-commit book.SaveCommit = refl
-no_lf-commit book.FlushCommit = refl
-no_lf-commit book.OffCommit = refl
+no_lf-commit : (w : CommitWord) → has_no_lf (commit_word w) ≡ true
+no_lf-commit commits.Begin = refl
+no_lf-commit commits.Save = refl
+no_lf-commit commits.Flush = refl
+no_lf-commit commits.Off = refl
 
-no_lf-phase : (w : book.PhaseWord) → has_no_lf (phase_word w) ≡ true
-no_lf-phase book.BootPhase = refl
-no_lf-phase book.SystemPhase = refl
-no_lf-phase book.AutomaticPhase = refl
-no_lf-phase book.DonePhase = refl
+no_lf-phase : (w : PhaseWord) → has_no_lf (phase_word w) ≡ true
+no_lf-phase phases.Boot = refl
+no_lf-phase phases.System = refl
+no_lf-phase phases.Automatic = refl
+no_lf-phase phases.Done = refl
 
-no_lf-try : (w : book.TryWord) → has_no_lf (try_word w) ≡ true
-no_lf-try book.TryOk = refl
-no_lf-try book.TryIgnored = refl
-no_lf-try book.TryLogged = refl
-no_lf-try book.TryFallBack = refl
-no_lf-try book.TryStop = refl
+no_lf-try : (w : TryWord) → has_no_lf (try_word w) ≡ true
+no_lf-try tries.Ok = refl
+no_lf-try tries.Ignored = refl
+no_lf-try tries.Logged = refl
+no_lf-try tries.FallBack = refl
+no_lf-try tries.Stop = refl
 
-no_lf-event : (w : book.EventWord) → has_no_lf (event_word w) ≡ true
-no_lf-event book.BootEvent = refl
-no_lf-event book.GoEvent = refl
-no_lf-event book.FailEvent = refl
-no_lf-event book.VitalEvent = refl
-no_lf-event book.SetEvent = refl
-no_lf-event book.DeleteEvent = refl
-no_lf-event book.MakeEvent = refl
-no_lf-event book.RemoveEvent = refl
-no_lf-event book.FlushEvent = refl
-no_lf-event book.LogonEvent = refl
-no_lf-event book.OffEvent = refl
-no_lf-event book.CutEvent = refl
-no_lf-event book.FaultEvent = refl
+no_lf-event : (w : EventWord) → has_no_lf (event_word w) ≡ true
+no_lf-event events.Boot = refl
+no_lf-event events.Go = refl
+no_lf-event events.Fail = refl
+no_lf-event events.Vital = refl
+no_lf-event events.Set = refl
+no_lf-event events.Delete = refl
+no_lf-event events.Make = refl
+no_lf-event events.Remove = refl
+no_lf-event events.Flush = refl
+no_lf-event events.Logon = refl
+no_lf-event events.Off = refl
+no_lf-event events.Cut = refl
+no_lf-event events.Fault = refl
 
-no_lf-refused : (w : book.RefusedWord) → has_no_lf (refused_word w) ≡ true
-no_lf-refused book.OffReason = refl
-no_lf-refused book.RunningReason = refl
-no_lf-refused book.EarlyReason = refl
-no_lf-refused book.AgainReason = refl
-no_lf-refused book.IdleReason = refl
-no_lf-refused book.ProtectedReason = refl
-no_lf-refused book.NoKeyReason = refl
-no_lf-refused book.NoValueReason = refl
-no_lf-refused book.BadNameReason = refl
-no_lf-refused book.NameTooLongReason = refl
-no_lf-refused book.TooDeepReason = refl
-no_lf-refused book.DataTooLongReason = refl
-no_lf-refused book.FullReason = refl
+no_lf-refused : (w : RefusedWord) → has_no_lf (refused_word w) ≡ true
+no_lf-refused reasons.Off = refl
+no_lf-refused reasons.Running = refl
+no_lf-refused reasons.Early = refl
+no_lf-refused reasons.Again = refl
+no_lf-refused reasons.Idle = refl
+no_lf-refused reasons.Protected = refl
+no_lf-refused reasons.NoKey = refl
+no_lf-refused reasons.NoValue = refl
+no_lf-refused reasons.BadName = refl
+no_lf-refused reasons.NameTooLong = refl
+no_lf-refused reasons.TooDeep = refl
+no_lf-refused reasons.DataTooLong = refl
+no_lf-refused reasons.Full = refl
 
-no_lf-verdict : (w : book.Verdict) → has_no_lf (verdict_word w) ≡ true
-no_lf-verdict book.Good = refl
-no_lf-verdict book.GoodUnsaved = refl
-no_lf-verdict book.Running = refl
-no_lf-verdict book.FallBack = refl
-no_lf-verdict book.Stopped = refl
-no_lf-verdict book.Cut = refl
-no_lf-verdict book.Device = refl
-no_lf-verdict book.Full = refl
-no_lf-verdict book.NoNumber = refl
-no_lf-verdict book.NoEntry = refl
-no_lf-verdict book.OtherLoader = refl
-no_lf-verdict book.NoSystem = refl
-no_lf-verdict book.NoControlSet = refl
-no_lf-verdict book.NoLastKnownGood = refl
+no_lf-verdict : (w : Verdict) → has_no_lf (verdict_word w) ≡ true
+no_lf-verdict verdicts.Good = refl
+no_lf-verdict verdicts.GoodUnsaved = refl
+no_lf-verdict verdicts.Running = refl
+no_lf-verdict verdicts.FallBack = refl
+no_lf-verdict verdicts.Stopped = refl
+no_lf-verdict verdicts.Cut = refl
+no_lf-verdict verdicts.Device = refl
+no_lf-verdict verdicts.Full = refl
+no_lf-verdict verdicts.NoNumber = refl
+no_lf-verdict verdicts.NoEntry = refl
+no_lf-verdict verdicts.OtherLoader = refl
+no_lf-verdict verdicts.NoSystem = refl
+no_lf-verdict verdicts.NoControlSet = refl
+no_lf-verdict verdicts.NoLastKnownGood = refl
 
 -- after a text without LF, a blank and one more
 with_blank : (a b : List ℕ) → has_no_lf a ≡ true → has_no_lf b ≡ true → has_no_lf (a ++ codes " " ++ b) ≡ true
 with_blank a b e f = no_lf-append (a ++ codes " ") b (no_lf-append a (codes " ") e refl) f
 
 pub no_lf-body : (l : Line) → has_no_lf (body l) ≡ true
-no_lf-body (StartLine number) = no_lf-append (codes "start ") (decimal number) refl (no_lf-decimal number)
-no_lf-body (EntryLine number path) =
+no_lf-body (lines.Start number) = no_lf-append (codes "start ") (decimal number) refl (no_lf-decimal number)
+no_lf-body (lines.Entry number path) =
     with_blank (codes "entry " ++ decimal number) (path_text path)
     (no_lf-append (codes "entry ") (decimal number) refl (no_lf-decimal number)) (no_lf-path path)
-no_lf-body (LoadLine sequence recovered) =
+no_lf-body (lines.Load sequence recovered) =
     with_blank (codes "load " ++ decimal sequence) (load_word recovered)
     (no_lf-append (codes "load ") (decimal sequence) refl (no_lf-decimal sequence))
     (no_lf-bool recovered (codes "recovered") (codes "clean") refl refl)
-no_lf-body (SetLine number on_good) =
+no_lf-body (lines.Set number on_good) =
     with_blank (codes "set " ++ decimal number) (set_word on_good)
     (no_lf-append (codes "set ") (decimal number) refl (no_lf-decimal number))
     (no_lf-bool on_good (codes "last-known-good") (codes "default") refl refl)
-no_lf-body (CommitLine what sequence) =
+no_lf-body (lines.Commit what sequence) =
     with_blank (codes "commit " ++ commit_word what) (decimal sequence)
     (no_lf-append (codes "commit ") (commit_word what) refl (no_lf-commit what)) (no_lf-decimal sequence)
-no_lf-body (SelectLine current default failed good) =
+no_lf-body (lines.Select current default failed good) =
     with_blank (codes "select " ++ decimal current ++ codes " " ++ decimal default ++ codes " " ++ decimal failed)
     (decimal good)
     (with_blank (codes "select " ++ decimal current ++ codes " " ++ decimal default) (decimal failed)
     (with_blank (codes "select " ++ decimal current) (decimal default)
     (no_lf-append (codes "select ") (decimal current) refl (no_lf-decimal current)) (no_lf-decimal default))
     (no_lf-decimal failed)) (no_lf-decimal good)
-no_lf-body (PhaseLine word) = no_lf-append (codes "phase ") (phase_word word) refl (no_lf-phase word)
-no_lf-body (TryLine name outcome) =
+no_lf-body (lines.Phase word) = no_lf-append (codes "phase ") (phase_word word) refl (no_lf-phase word)
+no_lf-body (lines.Try name outcome) =
     with_blank (codes "try " ++ name_text name) (try_word outcome)
     (no_lf-append (codes "try ") (name_text name) refl (no_lf-name name)) (no_lf-try outcome)
-no_lf-body (UnmetLine name) = no_lf-append (codes "unmet ") (name_text name) refl (no_lf-name name)
-no_lf-body (VitalLine name) =
+no_lf-body (lines.Unmet name) = no_lf-append (codes "unmet ") (name_text name) refl (no_lf-name name)
+no_lf-body (lines.Vital name) =
     no_lf-append (codes "vital " ++ name_text name) (codes " missing")
     (no_lf-append (codes "vital ") (name_text name) refl (no_lf-name name)) refl
-no_lf-body LogonLine = refl
-no_lf-body (SaveRefusedLine full) =
+no_lf-body lines.Logon = refl
+no_lf-body (lines.SaveRefused full) =
     no_lf-append (codes "save refused ") (save_word full) refl
     (no_lf-bool full (codes "full") (codes "no-number") refl refl)
-no_lf-body EditOkLine = refl
-no_lf-body FlushNothingLine = refl
-no_lf-body (RefusedLine event why) =
+no_lf-body lines.EditOk = refl
+no_lf-body lines.FlushNothing = refl
+no_lf-body (lines.Refused event why) =
     with_blank (codes "refused " ++ event_word event) (refused_word why)
     (no_lf-append (codes "refused ") (event_word event) refl (no_lf-event event)) (no_lf-refused why)
-no_lf-body (VerdictLine word) = no_lf-append (codes "verdict ") (verdict_word word) refl (no_lf-verdict word)
-no_lf-body EndLine = refl
+no_lf-body (lines.Verdict word) = no_lf-append (codes "verdict ") (verdict_word word) refl (no_lf-verdict word)
+no_lf-body lines.End = refl
 
 -- ---- the lines of a text
 
@@ -263,41 +276,41 @@ abbrev told_before : Option Outcome → List Outcome → List Outcome
 told_before None more = more
 told_before (Some o) more = o ∷ more
 
-verdict_tells : (w : book.Verdict) (more : List Outcome)
-    → verdict_outcome w more ≡ told_before (outcome_of (body (VerdictLine w))) more
-verdict_tells book.Good more = refl
-verdict_tells book.GoodUnsaved more = refl
-verdict_tells book.Running more = refl
-verdict_tells book.FallBack more = refl
-verdict_tells book.Stopped more = refl
-verdict_tells book.Cut more = refl
-verdict_tells book.Device more = refl
-verdict_tells book.Full more = refl
-verdict_tells book.NoNumber more = refl
-verdict_tells book.NoEntry more = refl
-verdict_tells book.OtherLoader more = refl
-verdict_tells book.NoSystem more = refl
-verdict_tells book.NoControlSet more = refl
-verdict_tells book.NoLastKnownGood more = refl
+verdict_tells : (w : Verdict) (more : List Outcome)
+    → verdict_outcome w more ≡ told_before (outcome_of (body (lines.Verdict w))) more
+verdict_tells verdicts.Good more = refl
+verdict_tells verdicts.GoodUnsaved more = refl
+verdict_tells verdicts.Running more = refl
+verdict_tells verdicts.FallBack more = refl
+verdict_tells verdicts.Stopped more = refl
+verdict_tells verdicts.Cut more = refl
+verdict_tells verdicts.Device more = refl
+verdict_tells verdicts.Full more = refl
+verdict_tells verdicts.NoNumber more = refl
+verdict_tells verdicts.NoEntry more = refl
+verdict_tells verdicts.OtherLoader more = refl
+verdict_tells verdicts.NoSystem more = refl
+verdict_tells verdicts.NoControlSet more = refl
+verdict_tells verdicts.NoLastKnownGood more = refl
 
 tells : (l : Line) (ls : List Line) → outcomes_in (l ∷ ls) ≡ told_before (outcome_of (body l)) (outcomes_in ls)
-tells (StartLine number) ls = refl
-tells (EntryLine number path) ls = refl
-tells (LoadLine sequence recovered) ls = refl
-tells (SetLine number on_good) ls = refl
-tells (CommitLine what sequence) ls = refl
-tells (SelectLine current default failed good) ls = refl
-tells (PhaseLine word) ls = refl
-tells (TryLine name outcome) ls = refl
-tells (UnmetLine name) ls = refl
-tells (VitalLine name) ls = refl
-tells LogonLine ls = refl
-tells (SaveRefusedLine full) ls = refl
-tells EditOkLine ls = refl
-tells FlushNothingLine ls = refl
-tells (RefusedLine event why) ls = refl
-tells (VerdictLine word) ls = verdict_tells word (outcomes_in ls)
-tells EndLine ls = refl
+tells (lines.Start number) ls = refl
+tells (lines.Entry number path) ls = refl
+tells (lines.Load sequence recovered) ls = refl
+tells (lines.Set number on_good) ls = refl
+tells (lines.Commit what sequence) ls = refl
+tells (lines.Select current default failed good) ls = refl
+tells (lines.Phase word) ls = refl
+tells (lines.Try name outcome) ls = refl
+tells (lines.Unmet name) ls = refl
+tells (lines.Vital name) ls = refl
+tells lines.Logon ls = refl
+tells (lines.SaveRefused full) ls = refl
+tells lines.EditOk ls = refl
+tells lines.FlushNothing ls = refl
+tells (lines.Refused event why) ls = refl
+tells (lines.Verdict word) ls = verdict_tells word (outcomes_in ls)
+tells lines.End ls = refl
 
 told_is : (o : Option Outcome) (more : List Outcome) → cons_option o more ≡ told_before o more
 told_is None more = refl

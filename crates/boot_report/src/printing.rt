@@ -2,12 +2,12 @@
 
 ghost use Rattle.std.specs.Prelude.{◌≡◌};
 ghost use Rattle.start_model.specs.Lines.{commit_word, phase_word, try_word, event_word, refused_word, verdict_word, load_word, set_word, save_word};
-ghost use Rattle.boot_report.specs.Report.{commit_of, phase_of, try_of, event_of, refused_of, verdict_of};
 
-use crate::words::{CommitWord, EventWord, PhaseWord, RefusedWord, TryWord, Verdict};
+use report_words::{CommitWord, EventWord, PhaseWord, RefusedWord, TryWord, Verdict};
 
+/// The word for what a commit wrote.
 pub fn commit_text(what: CommitWord) -> &'static str
-    ensures { result.now ≡ commit_word (commit_of what) }
+    ensures { result.now ≡ commit_word what }
 {
     match what {
         CommitWord::Begin => "begin",
@@ -17,8 +17,9 @@ pub fn commit_text(what: CommitWord) -> &'static str
     }
 }
 
+/// The word of a phase.
 pub fn phase_text(phase: PhaseWord) -> &'static str
-    ensures { result.now ≡ phase_word (phase_of phase) }
+    ensures { result.now ≡ phase_word phase }
 {
     match phase {
         PhaseWord::Boot => "boot",
@@ -28,8 +29,9 @@ pub fn phase_text(phase: PhaseWord) -> &'static str
     }
 }
 
-pub fn outcome_text(outcome: TryWord) -> &'static str
-    ensures { result.now ≡ try_word (try_of outcome) }
+/// The words for how an attempt went.
+pub(crate) fn outcome_text(outcome: TryWord) -> &'static str
+    ensures { result.now ≡ try_word outcome }
 {
     match outcome {
         TryWord::Ok => "ok",
@@ -40,8 +42,9 @@ pub fn outcome_text(outcome: TryWord) -> &'static str
     }
 }
 
+/// The first word of a script's line.
 pub fn event_text(event: EventWord) -> &'static str
-    ensures { result.now ≡ event_word (event_of event) }
+    ensures { result.now ≡ event_word event }
 {
     match event {
         EventWord::Boot => "boot",
@@ -60,8 +63,9 @@ pub fn event_text(event: EventWord) -> &'static str
     }
 }
 
+/// The word for why an event was refused.
 pub fn reason_text(why: RefusedWord) -> &'static str
-    ensures { result.now ≡ refused_word (refused_of why) }
+    ensures { result.now ≡ refused_word why }
 {
     match why {
         RefusedWord::Off => "off",
@@ -82,7 +86,7 @@ pub fn reason_text(why: RefusedWord) -> &'static str
 
 /// The word of a verdict.
 pub fn verdict_text(verdict: Verdict) -> &'static str
-    ensures { result.now ≡ verdict_word (verdict_of verdict) }
+    ensures { result.now ≡ verdict_word verdict }
 {
     match verdict {
         Verdict::Good => "good",
@@ -102,12 +106,14 @@ pub fn verdict_text(verdict: Verdict) -> &'static str
     }
 }
 
+/// `recovered` where the log had to be taken, else `clean`.
 pub fn load_text(recovered: bool) -> &'static str
     ensures { result.now ≡ load_word recovered }
 {
     if recovered { "recovered" } else { "clean" }
 }
 
+/// `last-known-good` where the start is on it, else `default`.
 pub fn set_text(last_known_good: bool) -> &'static str
     ensures { result.now ≡ set_word last_known_good }
 {
@@ -118,6 +124,7 @@ pub fn set_text(last_known_good: bool) -> &'static str
     }
 }
 
+/// `full` where the hive would be too large, else `no-number`.
 pub fn save_text(full: bool) -> &'static str
     ensures { result.now ≡ save_word full }
 {

@@ -1,29 +1,28 @@
 //! A line as bytes.
 
 ghost use Rattle.std.specs.Prelude.{◌≡◌, IfOk};
-ghost use Rattle.start_model.specs.Lines.{StartLine, EntryLine, LoadLine, SetLine, CommitLine, SelectLine, PhaseLine, TryLine, UnmetLine, VitalLine, SaveRefusedLine, RefusedLine, VerdictLine, line_text};
-ghost use Rattle.boot_report.specs.Report.{commit_of, phase_of, try_of, event_of, refused_of, verdict_of, line_of};
+ghost use Rattle.report_words.specs.declared.line.Line.TheVariants as lines;
+ghost use Rattle.start_model.specs.Lines.{line_text};
 
-use crate::line::Line;
 use crate::name::{push_name, push_path};
 use crate::printing::{
     commit_text, event_text, load_text, outcome_text, phase_text, reason_text, save_text, set_text,
     verdict_text,
 };
-use crate::words::{CommitWord, EventWord, PhaseWord, RefusedWord, TryWord, Verdict};
 use nt_bytes::Bytes;
+use report_words::{CommitWord, EventWord, Line, PhaseWord, RefusedWord, TryWord, Verdict};
 use std::alloc::{AllocError, Global};
 
 #[tactic(auto, unfolding(start_model::specs::Lines::line_text))]
 fn start(alloc: Global, number: u32) -> Result<Vec<u8>, AllocError>
-    ensures { IfOk result (λ b. b.items ≡ line_text (StartLine number)) }
+    ensures { IfOk result (λ b. b.items ≡ line_text (lines.Start number)) }
 {
     Ok(format!(in alloc; "start {number}\n")?.into_bytes())
 }
 
 #[tactic(auto, unfolding(start_model::specs::Lines::line_text))]
 fn entry(alloc: Global, number: u32, path: &[u8]) -> Result<Vec<u8>, AllocError>
-    ensures { IfOk result (λ b. b.items ≡ line_text (EntryLine number path.now)) }
+    ensures { IfOk result (λ b. b.items ≡ line_text (lines.Entry number path.now)) }
 {
     let mut out = format!(in alloc; "entry {number} ")?.into_bytes();
     push_path(&mut out, path)?;
@@ -33,7 +32,7 @@ fn entry(alloc: Global, number: u32, path: &[u8]) -> Result<Vec<u8>, AllocError>
 
 #[tactic(auto, unfolding(start_model::specs::Lines::line_text))]
 fn load(alloc: Global, sequence: u32, recovered: bool) -> Result<Vec<u8>, AllocError>
-    ensures { IfOk result (λ b. b.items ≡ line_text (LoadLine sequence recovered)) }
+    ensures { IfOk result (λ b. b.items ≡ line_text (lines.Load sequence recovered)) }
 {
     let word = load_text(recovered);
     Ok(format!(in alloc; "load {sequence} {word}\n")?.into_bytes())
@@ -41,7 +40,7 @@ fn load(alloc: Global, sequence: u32, recovered: bool) -> Result<Vec<u8>, AllocE
 
 #[tactic(auto, unfolding(start_model::specs::Lines::line_text))]
 fn set(alloc: Global, number: u32, last_known_good: bool) -> Result<Vec<u8>, AllocError>
-    ensures { IfOk result (λ b. b.items ≡ line_text (SetLine number last_known_good)) }
+    ensures { IfOk result (λ b. b.items ≡ line_text (lines.Set number last_known_good)) }
 {
     let word = set_text(last_known_good);
     Ok(format!(in alloc; "set {number} {word}\n")?.into_bytes())
@@ -49,7 +48,7 @@ fn set(alloc: Global, number: u32, last_known_good: bool) -> Result<Vec<u8>, All
 
 #[tactic(auto, unfolding(start_model::specs::Lines::line_text))]
 fn commit(alloc: Global, what: CommitWord, sequence: u32) -> Result<Vec<u8>, AllocError>
-    ensures { IfOk result (λ b. b.items ≡ line_text (CommitLine (commit_of what) sequence)) }
+    ensures { IfOk result (λ b. b.items ≡ line_text (lines.Commit what sequence)) }
 {
     let word = commit_text(what);
     Ok(format!(in alloc; "commit {word} {sequence}\n")?.into_bytes())
@@ -63,14 +62,14 @@ fn select(
     failed: u32,
     good: u32,
 ) -> Result<Vec<u8>, AllocError>
-    ensures { IfOk result (λ b. b.items ≡ line_text (SelectLine current default failed good)) }
+    ensures { IfOk result (λ b. b.items ≡ line_text (lines.Select current default failed good)) }
 {
     Ok(format!(in alloc; "select {current} {default} {failed} {good}\n")?.into_bytes())
 }
 
 #[tactic(auto, unfolding(start_model::specs::Lines::line_text))]
 fn phase(alloc: Global, word: PhaseWord) -> Result<Vec<u8>, AllocError>
-    ensures { IfOk result (λ b. b.items ≡ line_text (PhaseLine (phase_of word))) }
+    ensures { IfOk result (λ b. b.items ≡ line_text (lines.Phase word)) }
 {
     let word = phase_text(word);
     Ok(format!(in alloc; "phase {word}\n")?.into_bytes())
@@ -78,7 +77,7 @@ fn phase(alloc: Global, word: PhaseWord) -> Result<Vec<u8>, AllocError>
 
 #[tactic(auto, unfolding(start_model::specs::Lines::line_text))]
 fn attempt(alloc: Global, name: &[u16], outcome: TryWord) -> Result<Vec<u8>, AllocError>
-    ensures { IfOk result (λ b. b.items ≡ line_text (TryLine name.now (try_of outcome))) }
+    ensures { IfOk result (λ b. b.items ≡ line_text (lines.Try name.now outcome)) }
 {
     let mut out = Vec::from_slice(alloc, b"try ")?;
     push_name(&mut out, name)?;
@@ -90,7 +89,7 @@ fn attempt(alloc: Global, name: &[u16], outcome: TryWord) -> Result<Vec<u8>, All
 
 #[tactic(auto, unfolding(start_model::specs::Lines::line_text))]
 fn unmet(alloc: Global, name: &[u16]) -> Result<Vec<u8>, AllocError>
-    ensures { IfOk result (λ b. b.items ≡ line_text (UnmetLine name.now)) }
+    ensures { IfOk result (λ b. b.items ≡ line_text (lines.Unmet name.now)) }
 {
     let mut out = Vec::from_slice(alloc, b"unmet ")?;
     push_name(&mut out, name)?;
@@ -100,7 +99,7 @@ fn unmet(alloc: Global, name: &[u16]) -> Result<Vec<u8>, AllocError>
 
 #[tactic(auto, unfolding(start_model::specs::Lines::line_text))]
 fn missing(alloc: Global, name: &[u16]) -> Result<Vec<u8>, AllocError>
-    ensures { IfOk result (λ b. b.items ≡ line_text (VitalLine name.now)) }
+    ensures { IfOk result (λ b. b.items ≡ line_text (lines.Vital name.now)) }
 {
     let mut out = Vec::from_slice(alloc, b"vital ")?;
     push_name(&mut out, name)?;
@@ -110,7 +109,7 @@ fn missing(alloc: Global, name: &[u16]) -> Result<Vec<u8>, AllocError>
 
 #[tactic(auto, unfolding(start_model::specs::Lines::line_text))]
 fn save_refused(alloc: Global, full: bool) -> Result<Vec<u8>, AllocError>
-    ensures { IfOk result (λ b. b.items ≡ line_text (SaveRefusedLine full)) }
+    ensures { IfOk result (λ b. b.items ≡ line_text (lines.SaveRefused full)) }
 {
     let word = save_text(full);
     Ok(format!(in alloc; "save refused {word}\n")?.into_bytes())
@@ -118,7 +117,7 @@ fn save_refused(alloc: Global, full: bool) -> Result<Vec<u8>, AllocError>
 
 #[tactic(auto, unfolding(start_model::specs::Lines::line_text))]
 fn refused(alloc: Global, event: EventWord, why: RefusedWord) -> Result<Vec<u8>, AllocError>
-    ensures { IfOk result (λ b. b.items ≡ line_text (RefusedLine (event_of event) (refused_of why))) }
+    ensures { IfOk result (λ b. b.items ≡ line_text (lines.Refused event why)) }
 {
     let (event, why) = (event_text(event), reason_text(why));
     Ok(format!(in alloc; "refused {event} {why}\n")?.into_bytes())
@@ -126,7 +125,7 @@ fn refused(alloc: Global, event: EventWord, why: RefusedWord) -> Result<Vec<u8>,
 
 #[tactic(auto, unfolding(start_model::specs::Lines::line_text))]
 fn verdict(alloc: Global, word: Verdict) -> Result<Vec<u8>, AllocError>
-    ensures { IfOk result (λ b. b.items ≡ line_text (VerdictLine (verdict_of word))) }
+    ensures { IfOk result (λ b. b.items ≡ line_text (lines.Verdict word)) }
 {
     let word = verdict_text(word);
     Ok(format!(in alloc; "verdict {word}\n")?.into_bytes())
@@ -134,7 +133,7 @@ fn verdict(alloc: Global, word: Verdict) -> Result<Vec<u8>, AllocError>
 
 #[tactic(auto, unfolding(start_model::specs::Lines::line_text))]
 fn text(alloc: Global, line: &Line) -> Result<Vec<u8>, AllocError>
-    ensures { IfOk result (λ b. b.items ≡ line_text (line_of line.now)) }
+    ensures { IfOk result (λ b. b.items ≡ line_text line.now) }
 {
     match line {
         Line::Start { number } => start(alloc, *number),
@@ -170,7 +169,7 @@ fn text(alloc: Global, line: &Line) -> Result<Vec<u8>, AllocError>
 
 /// The text of a line, LF at its end.
 pub fn line_bytes(alloc: Global, line: &Line) -> Result<Bytes, AllocError>
-    ensures exact { IfOk result (λ b. b ≡ line_text (line_of line.now)) }
+    ensures exact { IfOk result (λ b. b ≡ line_text line.now) }
 {
     Ok(Bytes::from_vec(text(alloc, line)?))
 }

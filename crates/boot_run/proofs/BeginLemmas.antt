@@ -13,7 +13,9 @@ use Rattle.nt_edge.specs.Crash.{EachCrash}
 use Rattle.hive_store.specs.Session.{Session}
 use Rattle.reg_tree.specs.Makes.{step_of}
 use Rattle.reg_tree.specs.declared.steps.TreeStep.{TreeStep}
-use Rattle.start_model.specs.Lines as lines
+use Rattle.report_words.specs.declared.words.Verdict.TheVariants as verdicts
+use Rattle.report_words.specs.declared.words.CommitWord.TheVariants as commits
+use Rattle.report_words.specs.declared.line.Line.TheVariants as lines
 use Rattle.start_model.specs.Entries.{Boot}
 use Rattle.start_model.specs.Order.{plan_of}
 use Rattle.start_model.specs.Sets.{SelectNumbers, SetPlan, SetStop, SetChange, NoPlan, select_numbers_of, usable_numbers_of, taken_number, is_usable, set_of, begin_plan_of, stepped, planned, changed_by, begin_of}
@@ -150,10 +152,10 @@ stepped_is m version t steps some same live =
 -- a plan with steps, that were made
 pub begin_made : (on_good : Bool) (m : RunState) (plan : SetPlan) (version : HiveVersion) (t u : Tree)
     → (plan.steps ≡ [] → ⊥) → m.version ≡ version → m.live ≡ t → edited version t plan.steps ≡ Ok u
-    → commit lines.BeginCommit u m (begin_start plan.chosen on_good plan.numbers)
+    → commit commits.Begin u m (begin_start plan.chosen on_good plan.numbers)
     ≡ begin_planned on_good m plan (stepped m.version m.live plan.steps)
 begin_made on_good m plan version t u some same live made =
-    let acts : Bool → Act = λ b. cond b (commit lines.BeginCommit u m (begin_start plan.chosen on_good plan.numbers))
+    let acts : Bool → Act = λ b. cond b (commit commits.Begin u m (begin_start plan.chosen on_good plan.numbers))
     (begin_start plan.chosen on_good plan.numbers m) in
     ap acts (sym (has_some plan.steps some))
     ∙ ap (begin_planned on_good m plan) (sym (stepped_is m version t plan.steps some same live ∙ made))
@@ -161,7 +163,7 @@ begin_made on_good m plan version t u some same live made =
 -- a plan with steps, that were refused
 pub begin_full : (on_good : Bool) (m : RunState) (plan : SetPlan) (version : HiveVersion) (t : Tree) (why : Refusal)
     → (plan.steps ≡ [] → ⊥) → m.version ≡ version → m.live ≡ t → edited version t plan.steps ≡ Err why
-    → end_with lines.Full false m ≡ begin_planned on_good m plan (stepped m.version m.live plan.steps)
+    → end_with verdicts.Full false m ≡ begin_planned on_good m plan (stepped m.version m.live plan.steps)
 begin_full on_good m plan version t why some same live made =
     ap (begin_planned on_good m plan) (sym (stepped_is m version t plan.steps some same live ∙ made))
 
@@ -207,9 +209,9 @@ take_stopped m t on_good stop live is =
 -- the line of the set
 pub set_line_is : (m : RunState) (t : Tree) (on_good : Bool) (number : ℕ) (numbers : SelectNumbers) → m.live ≡ t
     → numbers ≡ select_numbers_of t → number ≡ taken_number numbers on_good
-    → lines.SetLine number on_good ≡ set_line on_good m
+    → lines.Set number on_good ≡ set_line on_good m
 set_line_is m t on_good number numbers live is at =
-    ap (λ (n : ℕ). lines.SetLine n on_good)
+    ap (λ (n : ℕ). lines.Set n on_good)
     (at ∙ ap (λ (n : SelectNumbers). taken_number n on_good) is
     ∙ ap (λ (l : Tree). taken_number (select_numbers_of l) on_good) (sym live))
 

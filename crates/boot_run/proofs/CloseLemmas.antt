@@ -7,8 +7,10 @@ use Rattle.nt_edge.specs.Disk.{DiskState}
 use Rattle.nt_edge.specs.Crash.{EachCrash}
 use Rattle.nt_edge.specs.Bench.{turned_off}
 use Rattle.hive_store.specs.Session.{Session}
-use Rattle.start_model.specs.Lines as book
-use Rattle.start_model.specs.Lines.{VerdictLine, Verdict}
+use Rattle.report_words.specs.declared.words.Verdict.{Verdict}
+use Rattle.report_words.specs.declared.words.Verdict.TheVariants as verdicts
+use Rattle.report_words.specs.declared.words.CommitWord.TheVariants as commits
+use Rattle.report_words.specs.declared.line.Line.TheVariants as lines
 use Rattle.start_model.specs.Machine.{Start, MachineState, ending_of, ending_with, is_good, ended}
 use Rattle.start_model.specs.Fits.{outcomes_in, MayLoad}
 use Rattle.start_model.specs.Act.{Act, RunState, done, say, start_over, end_with}
@@ -39,20 +41,20 @@ commit_turn m tree r d (Some s) rest h = turn_left (Some s) h
 
 -- by the session's tree
 pub flush_by : {m : RunState} {s : Session} {d : DiskState} → IsLive m s d
-    → cond s.changed (commit book.FlushCommit s.tree m done) (say book.FlushNothingLine (done m)) ≡ flush_act m
+    → cond s.changed (commit commits.Flush s.tree m done) (say lines.FlushNothing (done m)) ≡ flush_act m
 flush_by {m = m} live = λ i.
-    cond (sym live.changed i) (commit book.FlushCommit (sym live.live i) m done) (say book.FlushNothingLine (done m))
+    cond (sym live.changed i) (commit commits.Flush (sym live.live i) m done) (say lines.FlushNothing (done m))
 
 -- ---- the end of a start
 
-ending_falls_by : (good : Bool) (saved : Option Bool) → falls_back (cond good (ending_with saved) book.Running) ≡ false
+ending_falls_by : (good : Bool) (saved : Option Bool) → falls_back (cond good (ending_with saved) verdicts.Running) ≡ false
 ending_falls_by false saved = refl
 ending_falls_by true None = refl
 ending_falls_by true (Some true) = refl
 ending_falls_by true (Some false) = refl
 
 ending_tells_by : (good : Bool) (saved : Option Bool)
-    → outcomes_in (VerdictLine (cond good (ending_with saved) book.Running) ∷ []) ≡ []
+    → outcomes_in (lines.Verdict (cond good (ending_with saved) verdicts.Running) ∷ []) ≡ []
 ending_tells_by false saved = refl
 ending_tells_by true None = refl
 ending_tells_by true (Some true) = refl
@@ -73,23 +75,23 @@ word_at counts is = is ∙ ap (λ (k : MachineState). option_map ending_of k.sta
 -- the same of a start that is turned off, by the verdict of the runner's machine
 pub off_by : {m : RunState} {r : Runner} {s : Session} {d : DiskState} {word : Verdict} → Counts m r
     → Some word ≡ option_map ending_of r.machine.start → IsLive m s d
-    → cond s.changed (commit book.OffCommit s.tree m (end_with word false)) (end_with word false m)
+    → cond s.changed (commit commits.Off s.tree m (end_with word false)) (end_with word false m)
     ≡ option_map_or (λ t. off_act t m) m.machine.start (done m)
 off_by {m = m} {s = s} {word = word} counts is live = by_start m.machine.start (word_at counts is)
   where
     by_start : (o : Option Start) → Some word ≡ option_map ending_of o
-        → cond s.changed (commit book.OffCommit s.tree m (end_with word false)) (end_with word false m)
+        → cond s.changed (commit commits.Off s.tree m (end_with word false)) (end_with word false m)
         ≡ option_map_or (λ t. off_act t m) o (done m)
     by_start None at = absurd cc
     by_start (Some t) at =
         let e : word ≡ ending_of t = cc in λ i.
-        cond (sym live.changed i) (commit book.OffCommit (sym live.live i) m (end_with (e i) false)) (end_with (e i) false m)
+        cond (sym live.changed i) (commit commits.Off (sym live.live i) m (end_with (e i) false)) (end_with (e i) false m)
 
 -- a start that ends by itself
 pub end_plays : {result : Result (Unit {0}) RunStop} {m : RunState} {x y : Moment} {r : Runner} → (word : Verdict)
     (r' : Runner) → IsEnding word → Counts m r → EachCrash x.disk (MayLoad m.disk)
     → r'.machine ≡ ended (falls_back word) r.machine → r'.starts ≡ r.starts → y.disk ≡ turned_off x.disk
-    → TellsOr (VerdictLine word) x.told y.told result → RunsTo (end_with word false m) x y result (OffLeft r' y.disk)
+    → TellsOr (lines.Verdict word) x.told y.told result → RunsTo (end_with word false m) x y result (OffLeft r' y.disk)
 end_plays {m = m} {x = x} {y = y} {r = r} word r' ends counts left machine starts off said =
     let kept : EachCrash y.disk (MayLoad m.disk) = left-off x.disk y.disk (MayLoad m.disk) off left in
     let over : Counts (start_over false m) r' = record {

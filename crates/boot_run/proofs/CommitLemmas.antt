@@ -17,7 +17,9 @@ use Rattle.hive_store.specs.Commits as store
 use Rattle.hive_store.proofs.Holding.{clean, held_by, carried}
 use Rattle.hive_commit.specs.Stages.{LoadsAsEither}
 use Rattle.hive_commit.specs.Stages.{next_number}
-use Rattle.start_model.specs.Lines.{CommitLine, VerdictLine, CommitWord, Verdict}
+use Rattle.report_words.specs.declared.words.Verdict.{Verdict}
+use Rattle.report_words.specs.declared.words.CommitWord.{CommitWord}
+use Rattle.report_words.specs.declared.line.Line.TheVariants.{Commit as CommitLine, Verdict as VerdictLine}
 use Rattle.start_model.specs.Fits.{outcomes_in, MayLoad}
 use Rattle.start_model.specs.Causes.{HasCause}
 use Rattle.line_objects.specs.Objects.{printed}

@@ -8,8 +8,8 @@ use Rattle.nt_edge.specs.Crash.{EachCrash}
 use Rattle.nt_edge.specs.Bench.{cut_off, turned_off, armed}
 use Rattle.nt_bytes.specs.Counts.{Rises}
 use Rattle.hive_store.specs.Session.{Session}
-use Rattle.start_model.specs.Lines as book
-use Rattle.start_model.specs.Lines.{VerdictLine}
+use Rattle.report_words.specs.declared.words.Verdict.TheVariants as verdicts
+use Rattle.report_words.specs.declared.line.Line.TheVariants.{Verdict as VerdictLine}
 use Rattle.start_model.specs.Machine.{ended}
 use Rattle.start_model.specs.Causes.{HasCause, Caused}
 use Rattle.start_model.specs.Orders.{ordered_in}
@@ -67,11 +67,11 @@ module _ (d f : DiskState) (bounded : IsBounded d) (marked : IsMarked d) (is : f
   cut_once = ap (λ (t : DiskState). tally_now t) is
 
   -- the verdict is reported
-  cut_goes : (m : RunState) (x y : Told) → Tells x y (VerdictLine book.Cut ∷ [])
+  cut_goes : (m : RunState) (x y : Told) → Tells x y (VerdictLine verdicts.Cut ∷ [])
       → Goes (play (cut_act m)) (play (done (start_over false m))) x y d f
   cut_goes m x y said = record {
     part = record {
-      lines = VerdictLine book.Cut ∷ [];
+      lines = VerdictLine verdicts.Cut ∷ [];
       notes = Cuts ∷ Ended PowerCut ∷ [];
       added = [];
       woken = [];
@@ -102,14 +102,14 @@ module _ (d f : DiskState) (bounded : IsBounded d) (marked : IsMarked d) (is : f
 
 cut_told : {x y : Moment} (result : Result (Unit {0}) RunStop) (m : RunState) (Left : Act → Type 0)
     → IsBounded x.disk → IsMarked x.disk → y.disk ≡ turned_off (cut_off x.disk) → EachCrash y.disk (MayLoad m.disk)
-    → Left (done (start_over false m)) → TellsOr (VerdictLine book.Cut) x.told y.told result
+    → Left (done (start_over false m)) → TellsOr (VerdictLine verdicts.Cut) x.told y.told result
     → RunsTo (cut_act m) x y result (λ u. Left)
 cut_told {x = x} {y = y} (Ok v) m Left bounded marked is left over said =
     record { is = (done (start_over false m), (cut_goes x.disk y.disk bounded marked is m x.told y.told said, over)) }
 cut_told {x = x} {y = y} (Err stop) m Left bounded marked is left over said =
-    let act : Outcome → Act = λ outcome. end_with book.Cut false m in
+    let act : Outcome → Act = λ outcome. end_with verdicts.Cut false m in
     record {
-      is = breaks-front (cut_act m) (ask m.disk act) (done (start_over false m)) (VerdictLine book.Cut) [] PowerCut x.told
+      is = breaks-front (cut_act m) (ask m.disk act) (done (start_over false m)) (VerdictLine verdicts.Cut) [] PowerCut x.told
           y.told.said x.disk y.disk (λ z told. cut_goes x.disk y.disk bounded marked is m x.told z told)
           (cut_untold x.disk y.disk bounded marked is m act x.told) refl said left left;
     }
@@ -117,7 +117,7 @@ cut_told {x = x} {y = y} (Err stop) m Left bounded marked is left over said =
 pub cut_plays : {result : Result (Unit {0}) RunStop} {m : RunState} {s : Session} {r : Runner} {x y : Moment}
     {e : DiskState} → (r' : Runner) → IsBounded x.disk → IsUp s x.disk → IsLive m s x.disk → Counts m r
     → e ≡ cut_off x.disk → y.disk ≡ turned_off e → r'.machine ≡ ended false r.machine → r'.starts ≡ r.starts
-    → TellsOr (VerdictLine book.Cut) x.told y.told result
+    → TellsOr (VerdictLine verdicts.Cut) x.told y.told result
     → RunsTo (cut_act m) x y result (OffLeft r' y.disk)
 cut_plays {result = result} {m = m} {x = x} {y = y} r' bounded up live counts is off machine starts said =
     let all : y.disk ≡ turned_off (cut_off x.disk) = off ∙ ap turned_off is in

@@ -5,7 +5,9 @@ use Rattle.std.specs.Option.{option_map_or}
 use Rattle.hive_model.specs.Tree.{Tree}
 use Rattle.nt_edge.specs.Disk.{DiskState}
 use Rattle.hive_store.specs.Session.{Session}
-use Rattle.start_model.specs.Lines.{CommitWord, SaveCommit, LogonLine}
+use Rattle.report_words.specs.declared.words.CommitWord.{CommitWord}
+use Rattle.report_words.specs.declared.words.CommitWord.TheVariants as commits
+use Rattle.report_words.specs.declared.line.Line.TheVariants.{Logon as LogonLine}
 use Rattle.start_model.specs.Machine.{Start, MachineState, save_due}
 use Rattle.start_model.specs.Fits.{MayLoad}
 use Rattle.start_model.specs.Sets.{SetChange, ChangeStop, NoPlan, Full, save_of}
@@ -47,12 +49,12 @@ same_commit what tree m n next disk same = λ i. ask (disk i) (λ o. same o i)
 same_saved : (s : Start) (clone : Tree) (m : RunState) (next : RunState → Act) (r : Result SetChange ChangeStop)
     → saved_by s clone (taken m) next r ≡ saved_by s clone m next r
 same_saved s clone m next (Ok change) =
-    ap (mark (Saved clone)) (same_commit SaveCommit change.tree (taken m) m (noting change.numbers s next)
+    ap (mark (Saved clone)) (same_commit commits.Save change.tree (taken m) m (noting change.numbers s next)
     refl by_outcome)
   where
     by_outcome : (o : Outcome)
-        → committed SaveCommit change.tree (taken m) (noting change.numbers s next) o
-        ≡ committed SaveCommit change.tree m (noting change.numbers s next) o
+        → committed commits.Save change.tree (taken m) (noting change.numbers s next) o
+        ≡ committed commits.Save change.tree m (noting change.numbers s next) o
     by_outcome Finished = refl
     by_outcome PowerCut = refl
     by_outcome DeviceFault = refl

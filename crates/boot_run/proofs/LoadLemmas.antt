@@ -15,7 +15,9 @@ use Rattle.nt_edge.specs.Host.{SaysFront}
 use Rattle.nt_edge.specs.Bench.{woken, turned_off}
 use Rattle.hive_store.specs.Session.{Session}
 use Rattle.hive_store.specs.Loading as store
-use Rattle.start_model.specs.Lines.{Line, LoadLine, VerdictLine, Verdict}
+use Rattle.report_words.specs.declared.words.Verdict.{Verdict}
+use Rattle.report_words.specs.declared.line.Line.{Line}
+use Rattle.report_words.specs.declared.line.Line.TheVariants.{Load as LoadLine, Verdict as VerdictLine}
 use Rattle.start_model.specs.Fits.{outcomes_in, MayLoad, IsPossible}
 use Rattle.start_model.specs.Causes.{HasCause}
 use Rattle.line_objects.specs.Objects.{printed}

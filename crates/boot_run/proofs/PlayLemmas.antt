@@ -8,7 +8,8 @@ use Rattle.nt_edge.specs.Disk.{DiskState}
 use Rattle.nt_edge.specs.Crash.{EachCrash}
 use Rattle.nt_edge.specs.Host.{SaysFront}
 use Rattle.hive_store.specs.Session.{Session}
-use Rattle.start_model.specs.Lines.{Line, Verdict}
+use Rattle.report_words.specs.declared.words.Verdict.{Verdict}
+use Rattle.report_words.specs.declared.line.Line.{Line}
 use Rattle.start_model.specs.Fits.{outcomes_in, MayLoad}
 use Rattle.start_model.specs.Machine.{Start, MachineState}
 use Rattle.start_model.specs.Possible.{Possible}
@@ -89,7 +90,7 @@ pub plays-line : {T : Type 0} {l : Line} {rest : Act} {t : Told} {x z : Moment} 
 plays-line {l = l} {rest = rest} {t = t} {x = x} none said p =
     plays-then (goes-line l rest x.told t x.disk x.disk (idle x.disk) none said) p
 
--- a front of it was printed, and the call was refused
+-- a prefix of it was printed, and the call was refused
 pub plays-front : {T : Type 0} {l : Line} {rest : Act} {t : Told} {x : Moment} {r : Result T RunStop}
     {Left : T → Act → Type 0} → is_err r ≡ true → outcomes_in (l ∷ []) ≡ []
     → SaysFront x.told.said t.said (printed x.told.form l) → EachCrash x.disk (MayLoad (play rest [] []).disk)
@@ -162,7 +163,7 @@ pub rests-silent : {T : Type 0} {a : Act} {m : RunState} {s : Session} {x : Mome
     {Left : T → Act → Type 0} → is_err r ≡ true → Rests m a → IsUp s x.disk → IsLive m s x.disk → RunsTo a x x r Left
 rests-silent {a = a} h rests up live = plays-silent h (rests_left a rests up live)
 
--- a front of its first line was printed, and the call was refused
+-- a prefix of its first line was printed, and the call was refused
 pub rests-front : {T : Type 0} {l : Line} {rest : Act} {t : Told} {m : RunState} {s : Session} {x : Moment}
     {r : Result T RunStop} {Left : T → Act → Type 0} → is_err r ≡ true → outcomes_in (l ∷ []) ≡ []
     → SaysFront x.told.said t.said (printed x.told.form l) → Rests m rest → IsUp s x.disk → IsLive m s x.disk

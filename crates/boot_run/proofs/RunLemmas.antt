@@ -11,8 +11,9 @@ use Rattle.hive_store.specs.Session.{Session}
 use Rattle.nt_edge.specs.Disk.{DiskState}
 use Rattle.nt_edge.specs.Crash.{EachCrash}
 use Rattle.nt_edge.specs.Bench.{turned_off}
-use Rattle.start_model.specs.Lines as lines
-use Rattle.start_model.specs.Lines.{Line}
+use Rattle.report_words.specs.declared.words.Verdict.{Verdict}
+use Rattle.report_words.specs.declared.line.Line.{Line}
+use Rattle.report_words.specs.declared.line.Line.TheVariants as lines
 use Rattle.start_model.specs.Machine.{Start, MachineState, ending_of}
 use Rattle.start_model.specs.Fits.{outcomes_in, MayLoad}
 use Rattle.start_model.specs.Events.{Event}
@@ -297,11 +298,11 @@ agrees_closed m r d (Some s) sound agrees =
 
 -- ---- the end
 
-pub verdict_on : (o : Option Start) (word : lines.Verdict) (rest : Act) → Some word ≡ option_map ending_of o
-    → acts.say (lines.VerdictLine word) rest ≡ verdict_first o rest
+pub verdict_on : (o : Option Start) (word : Verdict) (rest : Act) → Some word ≡ option_map ending_of o
+    → acts.say (lines.Verdict word) rest ≡ verdict_first o rest
 verdict_on None word rest is = absurd cc
 verdict_on (Some s) word rest is = let e : word ≡ ending_of s = cc in
-    ap (λ (w : lines.Verdict). acts.say (lines.VerdictLine w) rest) e
+    ap (λ (w : Verdict). acts.say (lines.Verdict w) rest) e
 
 pub verdict_off : (o : Option Start) (rest : Act) → is_there o ≡ false → rest ≡ verdict_first o rest
 verdict_off None rest gone = refl

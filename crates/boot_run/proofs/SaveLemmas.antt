@@ -9,15 +9,15 @@ use Rattle.hive_model.specs.Edit.{Refusal, edited}
 use Rattle.hive_model.specs.Tree.{Tree}
 use Rattle.nt_edge.specs.Disk.{DiskState}
 use Rattle.hive_store.specs.Session.{Session}
-use Rattle.start_model.specs.Lines.{Line, SaveCommit}
+use Rattle.report_words.specs.declared.words.CommitWord.TheVariants as commits
+use Rattle.report_words.specs.declared.line.Line.{Line}
 use Rattle.start_model.specs.Machine.{Start, MachineState}
 use Rattle.start_model.specs.Fits.{outcomes_in}
 use Rattle.start_model.specs.Sets.{SelectNumbers, SetPlan, SetChange, ChangeStop, NoPlan, Full, set_of, select_numbers_of, usable_numbers_of, stepped, changed_by, planned, save_of}
 use Rattle.start_model.specs.Act.{Act, RunState, say, next_state}
 use Rattle.start_model.specs.Commit.{commit, save_refused, saved_by, noted_saved}
 use Rattle.start_model.specs.EventActs.{reason_of}
-use Rattle.boot_report.specs.Report.{refused_of}
-use Rattle.boot_report.specs.declared.words.RefusedWord.{RefusedWord as Word}
+use Rattle.report_words.specs.declared.words.RefusedWord.{RefusedWord}
 use Rattle.reg_tree.specs.Makes.{IsRefused, refusal_of}
 use Rattle.reg_tree.specs.declared.stop.EditStop.{EditStop}
 use Rattle.start_laws.specs.Changes.{Saves}
@@ -185,13 +185,13 @@ module _ {m : RunState} {h : Session} {d : DiskState} (live : IsLive m h d) (clo
   -- the plan is made, and its tree committed
   pub save_made : {T : Type 0} {x y : Moment} {r : Result T RunStop} {Left : T → Act → Type 0} (s : Start)
       (next : RunState → Act) (u : Tree) → edited (version_of h.base.minor) h.tree plan.steps ≡ Ok u
-      → RunsTo (commit SaveCommit u m (noting plan.numbers s next)) x y r Left
+      → RunsTo (commit commits.Save u m (noting plan.numbers s next)) x y r Left
       → RunsTo (saved_by s clone m next (save_of m.version m.live clone)) x y r Left
   save_made {x = x} s next u made p =
       let there : save_of m.version m.live clone ≡ Ok (change_to plan u) =
       save_at ∙ planned_is (version_of h.base.minor) h.tree clone u plan is made in
       plays-as (ap (saved_by s clone m next) (sym there))
-      (plays-then (goes-saved clone (commit SaveCommit u m (noting plan.numbers s next)) x.told x.disk) p)
+      (plays-then (goes-saved clone (commit commits.Save u m (noting plan.numbers s next)) x.told x.disk) p)
 
   -- the plan's tree is too large
   pub save_full : {T : Type 0} {x y : Moment} {r : Result T RunStop} {Left : T → Act → Type 0} (s : Start)
@@ -212,13 +212,13 @@ saved_may s clone m next (Err (NoPlan stop)) stays c none h = stays (noted_saved
 saved_may s clone m next (Err Full) stays c none h = stays (noted_saved false s m) c none h
 
 -- a refusal of the tree, by its word
-pub refused_why : (stop : EditStop) (edit : Result Tree Refusal) (word : Option Word) (there : Word)
-    → option_map refused_of word ≡ option_map reason_of (refusal_of stop) → word ≡ Some there
+pub refused_why : (stop : EditStop) (edit : Result Tree Refusal) (word : Option RefusedWord) (there : RefusedWord)
+    → word ≡ option_map reason_of (refusal_of stop) → word ≡ Some there
     → IsRefused edit stop → (why : Refusal) × (edit ≡ Err why)
 refused_why stop edit word there said is h = by_refusal (refusal_of stop) said h
   where
-    by_refusal : (o : Option Refusal) → option_map refused_of word ≡ option_map reason_of o
+    by_refusal : (o : Option Refusal) → word ≡ option_map reason_of o
         → IfSome o (λ why. edit ≡ Err why) → (why : Refusal) × (edit ≡ Err why)
-    by_refusal None e r = let z : option_map refused_of (Some there) ≡ None = ap (option_map refused_of) (sym is) ∙ e in
+    by_refusal None e r = let z : Some there ≡ None = sym is ∙ e in
         absurd cc
     by_refusal (Some why) e r = (why, r)

@@ -10,13 +10,13 @@ use Rattle.hive_model.specs.Valid.{HoldsKeys}
 use Rattle.nt_edge.specs.Disk.{DiskState}
 use Rattle.nt_edge.specs.Crash.{EachCrash}
 use Rattle.nt_edge.specs.Bench.{turned_off}
-use Rattle.boot_report.specs.declared.words.Verdict.{Verdict as Word}
-use Rattle.boot_report.specs.Report.{verdict_of}
+use Rattle.report_words.specs.declared.words.Verdict.{Verdict}
 use Rattle.start_model.specs.Entries.{Entry, Phase, Boot, System, Automatic, Done}
 use Rattle.start_model.specs.Order.{plan_of}
 use Rattle.start_model.specs.Judge.{Judgement, Ignore, Log, FallBack, Stop}
-use Rattle.start_model.specs.Lines as lines
-use Rattle.start_model.specs.Lines.{Line, VerdictLine, UnmetLine, VitalLine, Verdict}
+use Rattle.report_words.specs.declared.words.Verdict.TheVariants as verdicts
+use Rattle.report_words.specs.declared.line.Line.{Line}
+use Rattle.report_words.specs.declared.line.Line.TheVariants.{Verdict as VerdictLine, Unmet as UnmetLine, Vital as VitalLine}
 use Rattle.start_model.specs.Machine.{Start, MachineState, Tried, next_in, attempt_at, attempt_in, attempt_of, after_phase, phase_after, unmet_in, missing_in, with_start, ended}
 use Rattle.start_model.specs.Fits.{outcomes_in, MayLoad}
 use Rattle.start_model.specs.Sets.{set_of}
@@ -60,26 +60,26 @@ record Ends (word : Verdict) (j : Judgement) (m : RunState) (next : RunState →
   act : end_with word (falls_back word) m ≡ judged j m next
   none : outcomes_in (VerdictLine word ∷ []) ≡ []
 
-judged_ends : (j : Judgement) (word : Word) (m : RunState) (next : RunState → Act) → EndsBy (Some word) j
-    → Ends (verdict_of word) j m next
+judged_ends : (j : Judgement) (word : Verdict) (m : RunState) (next : RunState → Act) → EndsBy (Some word) j
+    → Ends word j m next
 judged_ends Ignore word m next e = absurd cc
 judged_ends Log word m next e = absurd cc
 judged_ends FallBack word m next e =
-    let is : verdict_of word ≡ lines.FallBack = cc in
+    let is : word ≡ verdicts.FallBack = cc in
     let P : Verdict → Type 0 = λ w. Ends w FallBack m next in
     subst P (sym is) (record { act = refl; none = refl })
 judged_ends Stop word m next e =
-    let is : verdict_of word ≡ lines.Stopped = cc in
+    let is : word ≡ verdicts.Stopped = cc in
     let P : Verdict → Type 0 = λ w. Ends w Stop m next in
     subst P (sym is) (record { act = refl; none = refl })
 
-pub judged_plays : {result : Result (Unit {0}) RunStop} {m : RunState} {x y : Moment} {r : Runner} (word : Word)
+pub judged_plays : {result : Result (Unit {0}) RunStop} {m : RunState} {x y : Moment} {r : Runner} (word : Verdict)
     (j : Judgement) (next : RunState → Act) (r' : Runner) → EndsBy (Some word) j → Counts m r
-    → EachCrash x.disk (MayLoad m.disk) → r'.machine ≡ ended (falls_back (verdict_of word)) r.machine
-    → r'.starts ≡ r.starts → y.disk ≡ turned_off x.disk → TellsOr (VerdictLine (verdict_of word)) x.told y.told result
+    → EachCrash x.disk (MayLoad m.disk) → r'.machine ≡ ended (falls_back word) r.machine
+    → r'.starts ≡ r.starts → y.disk ≡ turned_off x.disk → TellsOr (VerdictLine word) x.told y.told result
     → RunsTo (judged j m next) x y result (λ u rest. TurnLeft r' y.disk None rest)
 judged_plays {m = m} {x = x} {y = y} word j next r' ends counts left machine starts off said =
-    let falls : Bool = falls_back (verdict_of word) in
+    let falls : Bool = falls_back word in
     let q = judged_ends j word m next ends in
     let kept : EachCrash y.disk (MayLoad m.disk) = left-off x.disk y.disk (MayLoad m.disk) off left in
     let over : Counts (start_over falls m) r' =
@@ -357,10 +357,10 @@ gone_act s m next is =
 -- some vital names are
 stop_act : (s : Start) (m : RunState) (next : RunState → Act) (missing : List (List ℕ))
     → missing_in m.machine.vital s ≡ missing → (missing ≡ [] → ⊥)
-    → say_all (stop_lines (unmet_in s) missing) (end_with lines.Stopped false m) ≡ phase_step s m next
+    → say_all (stop_lines (unmet_in s) missing) (end_with verdicts.Stopped false m) ≡ phase_step s m next
 stop_act s m next [] is some = absurd (some refl)
 stop_act s m next (name ∷ names) is some =
-    say_all-append (map UnmetLine (unmet_in s)) (map VitalLine (name ∷ names)) (end_with lines.Stopped false m)
+    say_all-append (map UnmetLine (unmet_in s)) (map VitalLine (name ∷ names)) (end_with verdicts.Stopped false m)
     ∙ ap (λ (ks : List (List ℕ)). say_all (map UnmetLine (unmet_in s)) (phase_passed s m next ks)) (sym is)
 
 -- the names that the runner's machine misses, and those that wait
@@ -390,11 +390,11 @@ pub stopped_act : (s : Start) (m : RunState) (next : RunState → Act) (r : Runn
     → Counts m r → m.machine.start ≡ Some s → unmet ≡ option_map_or unmet_in r.machine.start []
     → missing ≡ option_map_or (missing_in r.machine.vital) r.machine.start [] → (length missing == 0) ≡ false
     → us ≡ unmet → ms ≡ missing
-    → say_all (stop_lines us ms) (end_with lines.Stopped false m) ≡ phase_step s m next
+    → say_all (stop_lines us ms) (end_with verdicts.Stopped false m) ≡ phase_step s m next
 stopped_act s m next r unmet missing us ms counts at waits lacks some same same2 =
-    ap (λ (names : List (List ℕ)). say_all (stop_lines names ms) (end_with lines.Stopped false m))
+    ap (λ (names : List (List ℕ)). say_all (stop_lines names ms) (end_with verdicts.Stopped false m))
     (same ∙ waits ∙ sym (unmet_at m s r counts at))
-    ∙ ap (λ (names : List (List ℕ)). say_all (stop_lines (unmet_in s) names) (end_with lines.Stopped false m)) same2
+    ∙ ap (λ (names : List (List ℕ)). say_all (stop_lines (unmet_in s) names) (end_with verdicts.Stopped false m)) same2
     ∙ stop_act s m next missing (missing_at m s r counts at ∙ sym lacks) (some_missing missing some)
 
 names_quiet : (names : List (List ℕ)) → AreQuiet (map VitalLine names)
@@ -419,7 +419,7 @@ all_may s m next c due h =
     passed [] = due
     passed (name ∷ names) =
         let P : Possible → Type 0 = λ p. MayLoad p c in
-        subst P (sym (all_disk (map VitalLine (name ∷ names)) (end_with lines.Stopped false m))) h
+        subst P (sym (all_disk (map VitalLine (name ∷ names)) (end_with verdicts.Stopped false m))) h
 
 -- ---- answers
 

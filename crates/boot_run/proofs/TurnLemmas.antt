@@ -10,7 +10,9 @@ use Rattle.reg_tree.specs.Makes as made
 use Rattle.reg_tree.specs.declared.steps.TreeStep.{TreeStep}
 use Rattle.start_model.specs.Events as book
 use Rattle.start_model.specs.Events.{Event, Edit, BootNow, Go, Fail, Vital, Edits, Flush, Logon, Off, CutNow, Arm, is_protected}
-use Rattle.start_model.specs.Lines.{RefusedWord, RefusedLine, ProtectedReason}
+use Rattle.report_words.specs.declared.words.RefusedWord.{RefusedWord}
+use Rattle.report_words.specs.declared.words.RefusedWord.TheVariants as reasons
+use Rattle.report_words.specs.declared.line.Line.TheVariants.{Refused as RefusedLine}
 use Rattle.start_model.specs.Machine.{Start, MachineState, refusal_in, refusal_of}
 use Rattle.start_model.specs.Fits.{MayLoad}
 use Rattle.start_model.specs.Act.{Act, RunState, done, say}
@@ -230,7 +232,7 @@ edit_free None tree k h ok = absurd h
 edit_free (Some s) tree k h ok =
     let P : Event → Type 0 = λ v. refusal_in (Some s) v ≡ None in by_word (is_protected k.edit) (subst P k.is ok)
   where
-    by_word : (b : Bool) → cond b (Some ProtectedReason) None ≡ None → b ≡ false
+    by_word : (b : Bool) → cond b (Some reasons.Protected) None ≡ None → b ≡ false
     by_word true h = absurd cc
     by_word false h = refl
 

@@ -1,7 +1,7 @@
 -- Names that are printed in sequence, each in a line of its own.
 use Rattle.std.proofs.Common.{◌≡◌, ◌≤◌, ◌-◌, ℕ, List, [], ◌∷◌, ◌++◌, length, take, drop, map, get_or, sym, ap, subst, ◌∙◌, append_assoc}
 use Rattle.reg_tree.proofs.Outcomes.{uncons}
-use Rattle.start_model.specs.Lines.{Line}
+use Rattle.report_words.specs.declared.line.Line.{Line}
 use Rattle.printed_parts.specs.Parts.{Told, Tells}
 use Rattle.printed_parts.proofs.GoesLemmas.{tells-then}
 use Rattle.boot_run.specs.Views.{TellsBefore}

@@ -9,7 +9,8 @@ use Rattle.hive_model.specs.Valid.{HoldsKeys}
 use Rattle.nt_edge.specs.Disk.{DiskState}
 use Rattle.nt_edge.specs.Crash.{EachCrash}
 use Rattle.hive_store.specs.Session.{Session}
-use Rattle.start_model.specs.Lines.{Verdict, VerdictLine}
+use Rattle.report_words.specs.declared.words.Verdict.{Verdict}
+use Rattle.report_words.specs.declared.line.Line.TheVariants.{Verdict as VerdictLine}
 use Rattle.start_model.specs.Sets.{is_usable, select_numbers_of}
 use Rattle.start_model.specs.Machine.{Start}
 use Rattle.start_model.specs.Fits.{MayLoad, outcomes_in}

@@ -7,13 +7,12 @@ use Rattle.nt_edge.specs.Crash.{EachCrash}
 use Rattle.nt_edge.specs.Disk.{DiskState}
 use Rattle.nt_edge.specs.Host.{HostState}
 use Rattle.hive_store.specs.Session.{Session}
-use Rattle.boot_report.specs.declared.words.Verdict.{Verdict}
-use Rattle.boot_report.specs.Report.{verdict_of}
+use Rattle.report_words.specs.declared.words.Verdict.{Verdict}
 use Rattle.reg_tree.specs.declared.steps.TreeStep.{TreeStep}
 use Rattle.reg_tree.specs.Makes.{step_of}
 use Rattle.select_keys.specs.declared.stop.SelectStop.{SelectStop}
 use Rattle.select_keys.specs.declared.stop.SelectStop.TheVariants as stops
-use Rattle.start_model.specs.Lines as lines
+use Rattle.report_words.specs.declared.words.Verdict.TheVariants as verdicts
 use Rattle.start_model.specs.Sets.{SetPlan, SetStop, NoControlSet, NoLastKnownGood, NoFreeNumber, is_usable, select_numbers_of}
 use Rattle.start_model.specs.Events as book
 use Rattle.start_model.specs.Events.{Event, Fail, Vital, Edits, Arm}
@@ -46,12 +45,12 @@ Planned (Err stops.Memory) plan = Unit {0}
 abbrev pub begin_planned : Bool → RunState → SetPlan → Result Tree Refusal → Act
 begin_planned on_good m plan (Ok t) =
     begin_with on_good (record { chosen = plan.chosen; numbers = plan.numbers; has_steps = not (length plan.steps == 0); tree = t }) m
-begin_planned on_good m plan (Err why) = end_with lines.Full false m
+begin_planned on_good m plan (Err why) = end_with verdicts.Full false m
 
 -- a set was found with its plan, or the start ends with a verdict
 abbrev pub SetLeft : (RunState → SetPlan → Act) → RunState → Result SetPlan Verdict → Act → Type 0
 SetLeft next m (Ok plan) rest = rest ≡ next m plan
-SetLeft next m (Err word) rest = (rest ≡ end_with (verdict_of word) false m) × IsEnding (verdict_of word)
+SetLeft next m (Err word) rest = (rest ≡ end_with word false m) × IsEnding word
 
 -- the number names a set of the tree, and is the current one
 pub record IsTaken (tree : Tree) (number : ℕ) : Type 0 where

@@ -4,7 +4,8 @@ use Rattle.hive_model.specs.Edit.{Refusal}
 use Rattle.reg_tree.specs.Makes.{refusal_of}
 use Rattle.reg_tree.specs.declared.stop.EditStop.{EditStop}
 use Rattle.start_model.specs.Events.{Event}
-use Rattle.start_model.specs.Lines.{Line, EditOkLine, RefusedLine}
+use Rattle.report_words.specs.declared.line.Line.{Line}
+use Rattle.report_words.specs.declared.line.Line.TheVariants.{EditOk as EditOkLine, Refused as RefusedLine}
 use Rattle.start_model.specs.EventActs.{event_word_of, reason_of}
 use Rattle.printed_parts.specs.Parts.{Told, TellsOr}
 

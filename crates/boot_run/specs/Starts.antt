@@ -1,11 +1,11 @@
 -- What came of an attempt, and of the phases of a start? (this project's own)
-use Rattle.std.specs.Prelude.{◌≡◌, ℕ, Bool, false, not, List, [], ◌∷◌, ◌++◌, map, Option, Some, None, option_map}
+use Rattle.std.specs.Prelude.{◌≡◌, ℕ, Bool, false, not, List, [], ◌∷◌, ◌++◌, map, Option, Some, None}
 use Rattle.hive_model.specs.Tree.{Tree}
-use Rattle.boot_report.specs.declared.words.Verdict.{Verdict}
-use Rattle.boot_report.specs.Report.{verdict_of}
+use Rattle.report_words.specs.declared.words.Verdict.{Verdict}
 use Rattle.start_model.specs.Judge.{Judgement, Ignore, Log, FallBack, Stop}
-use Rattle.start_model.specs.Lines as lines
-use Rattle.start_model.specs.Lines.{Line, UnmetLine, VitalLine}
+use Rattle.report_words.specs.declared.words.Verdict.TheVariants as verdicts
+use Rattle.report_words.specs.declared.line.Line.{Line}
+use Rattle.report_words.specs.declared.line.Line.TheVariants.{Unmet as UnmetLine, Vital as VitalLine}
 use Rattle.start_model.specs.Machine.{Start, MachineState, Tried, attempt_of, phase_after, after_phase, unmet_in, is_done, with_start}
 use Rattle.start_model.specs.Sets.{set_of}
 use Rattle.start_model.specs.Act.{RunState, Act, say_all}
@@ -20,8 +20,8 @@ is_under_way (Some s) = not (is_done s.phase)
 abbrev pub EndsBy : Option Verdict → Judgement → Type 0
 EndsBy verdict Ignore = verdict ≡ None
 EndsBy verdict Log = verdict ≡ None
-EndsBy verdict FallBack = option_map verdict_of verdict ≡ Some lines.FallBack
-EndsBy verdict Stop = option_map verdict_of verdict ≡ Some lines.Stopped
+EndsBy verdict FallBack = verdict ≡ Some verdicts.FallBack
+EndsBy verdict Stop = verdict ≡ Some verdicts.Stopped
 
 -- the attempt of the book's machine was made, and the verdict is what follows from it
 pub record Attempts (old : MachineState) (usable : Bool) (new : MachineState) (verdict : Option Verdict) : Type 0 where

@@ -1,11 +1,10 @@
 -- The values of the code as those of the book.
-use Rattle.std.specs.Prelude.{◌≡◌, ℕ, List, ◌∷◌, ◌++◌, option_map, Result, Ok, Err}
+use Rattle.std.specs.Prelude.{◌≡◌, ℕ, List, ◌∷◌, ◌++◌, Result, Ok, Err}
 use Rattle.nt_edge.specs.Disk.{DiskState}
 use Rattle.nt_edge.specs.Host.{HostState, SaysFront}
 use Rattle.start_model.specs.Summary as book
-use Rattle.boot_report.specs.Report.{verdict_of}
 use Rattle.start_model.specs.Act.{Act}
-use Rattle.start_model.specs.Lines.{Line}
+use Rattle.report_words.specs.declared.line.Line.{Line}
 use Rattle.line_objects.specs.Objects.{printed}
 use Rattle.printed_parts.specs.Parts.{Told, Tells, PlaysOr}
 use Rattle.boot_run.specs.declared.summary.Summary.{Summary}
@@ -13,7 +12,7 @@ use Rattle.boot_run.specs.declared.runner.Runner.{Runner}
 use Rattle.boot_run.specs.declared.stop.RunStop.{RunStop}
 
 abbrev pub summary_in : Summary → book.Summary
-summary_in s = record { started = s.started; failed = s.failed; unmet = s.unmet; verdict = option_map verdict_of s.verdict; sequence = s.sequence }
+summary_in s = record { started = s.started; failed = s.failed; unmet = s.unmet; verdict = s.verdict; sequence = s.sequence }
 
 -- what a host was reported, in which form, counted so
 abbrev pub told_by : HostState → Summary → Told

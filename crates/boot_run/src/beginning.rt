@@ -9,7 +9,7 @@ ghost use Rattle.hive_store.specs.Session.{Session};
 ghost use Rattle.nt_edge.specs.Disk.{DiskState};
 ghost use Rattle.reg_tree.specs.Fitting.{Fits};
 ghost use Rattle.start_model.specs.Sets.{SetPlan as Plan, select_numbers_of, usable_numbers_of, set_of, begin_plan_of, stepped};
-ghost use Rattle.start_model.specs.Lines.{BeginCommit};
+ghost use Rattle.report_words.specs.declared.words.CommitWord.TheVariants as commits;
 ghost use Rattle.start_model.specs.Machine.{with_start, begun_with};
 ghost use Rattle.start_model.specs.Act.{RunState, Act};
 ghost use Rattle.start_model.specs.Starter.{no_set};
@@ -134,7 +134,7 @@ fn begin_committed<H: Host, B: Bench>(
     requires taken { IsTaken hive.tree number }
     ensures sound { IfOk result (IsSound runner.new (B.state bench.new)) }
     ensures plays { (m : RunState) → (H.state host.old).tells ≡ true → Counts m runner.old → IsStored m hive (B.state bench.old)
-        → RunsTo (commit_book.commit BeginCommit hive.tree m (boot_book.begin_start number on_good numbers))
+        → RunsTo (commit_book.commit commits.Begin hive.tree m (boot_book.begin_start number on_good numbers))
         (moment (H.state host.old) runner.old (B.state bench.old))
         (moment (H.state host.new) runner.new (B.state bench.new)) result (TurnLeft runner.new (B.state bench.new)) }
     ensures host { LeavesHost result (H.state host.old) (H.state host.new) }

@@ -2,7 +2,7 @@
 
 ghost use Rattle.std.specs.Prelude.{◌≡◌, ◌||◌, true, None, IsSome};
 ghost use Rattle.boot_ini.specs.Choice.{entry_at, path_at, IsThere};
-ghost use Rattle.start_model.specs.Lines.{EntryLine};
+ghost use Rattle.report_words.specs.declared.line.Line.TheVariants.{Entry as EntryLine};
 ghost use Rattle.start_model.specs.Boot.{boot_act};
 ghost use Rattle.start_model.specs.Act as acts;
 ghost use Rattle.start_model.specs.Boot as boot_book;

@@ -3,7 +3,6 @@
 ghost use Rattle.std.specs.Prelude.{◌≡◌, true, false, None, Some, OnOk};
 ghost use Rattle.std.specs.Option.{option_map_or};
 ghost use Rattle.hive_model.specs.Tree.{Tree};
-ghost use Rattle.boot_report.specs.Report.{verdict_of};
 ghost use Rattle.start_model.specs.Act.{RunState, Act, done};
 ghost use Rattle.start_model.specs.EventActs.{flush_act, off_act};
 ghost use Rattle.start_model.specs.Act as book;
@@ -52,8 +51,8 @@ fn end_behind<H: Host, B: Bench>(
 ) -> Result<(), RunStop>
     requires sound { IsSound runner.old (B.state bench.old) left }
     ensures sound { OnOk result (IsSound runner.new (B.state bench.new) None) }
-    ensures plays { (m : RunState) (tree : Tree) (rest : Act) → (H.state host.old).tells ≡ true → IsEnding (verdict_of word)
-        → CommitLeft m tree (book.end_with (verdict_of word) false) runner.old (B.state bench.old) left rest
+    ensures plays { (m : RunState) (tree : Tree) (rest : Act) → (H.state host.old).tells ≡ true → IsEnding word
+        → CommitLeft m tree (book.end_with word false) runner.old (B.state bench.old) left rest
         → RunsTo rest (moment (H.state host.old) runner.old (B.state bench.old)) (moment (H.state host.new) runner.new (B.state bench.new))
         result (OffLeft runner.new (B.state bench.new)) }
     ensures host { LeavesHost result (H.state host.old) (H.state host.new) }

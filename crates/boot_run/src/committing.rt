@@ -1,7 +1,6 @@
 //! A commit of the session, and the line that reports it.
 
 ghost use Rattle.std.specs.Prelude.{◌≡◌, true, IfOk};
-ghost use Rattle.boot_report.specs.Report.{commit_of};
 ghost use Rattle.start_model.specs.Act.{RunState, Act};
 ghost use Rattle.start_model.specs.Commit as book;
 ghost use Rattle.run_parts.specs.Parts.{Stays};
@@ -32,7 +31,7 @@ pub(crate) fn commit<H: Host, B: Bench>(
     ensures sound { IfOk result (LeavesUp hive runner.old runner.new (B.state bench.new)) }
     ensures plays { (m : RunState) (next : RunState → Act) → (H.state host.old).tells ≡ true → Counts m runner.old → IsStored m hive (B.state bench.old)
         → Stays next
-        → RunsTo (book.commit (commit_of what) hive.tree m next) (moment (H.state host.old) runner.old (B.state bench.old))
+        → RunsTo (book.commit what hive.tree m next) (moment (H.state host.old) runner.old (B.state bench.old))
         (moment (H.state host.new) runner.new (B.state bench.new)) result (CommitLeft m hive.tree next runner.new (B.state bench.new)) }
     ensures host { LeavesHost result (H.state host.old) (H.state host.new) }
 {
@@ -71,7 +70,7 @@ pub(crate) fn commit_live<H: Host, B: Bench>(
     ensures sound { IfOk result (LeavesUp live runner.old runner.new (B.state bench.new)) }
     ensures plays { (m : RunState) (next : RunState → Act) → (H.state host.old).tells ≡ true → Counts m runner.old → IsStored m live (B.state bench.old)
         → Stays next
-        → RunsTo (book.commit (commit_of what) live.tree m next) (moment (H.state host.old) runner.old (B.state bench.old))
+        → RunsTo (book.commit what live.tree m next) (moment (H.state host.old) runner.old (B.state bench.old))
         (moment (H.state host.new) runner.new (B.state bench.new)) result (CommitLeft m live.tree next runner.new (B.state bench.new)) }
     ensures host { LeavesHost result (H.state host.old) (H.state host.new) }
 {

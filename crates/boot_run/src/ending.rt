@@ -5,9 +5,8 @@ ghost use Rattle.nt_edge.specs.Crash.{EachCrash};
 ghost use Rattle.start_model.specs.Fits.{MayLoad};
 ghost use Rattle.start_model.specs.Act.{RunState};
 ghost use Rattle.start_model.specs.Act as book;
-ghost use Rattle.start_model.specs.Lines.{VerdictLine};
+ghost use Rattle.report_words.specs.declared.line.Line.TheVariants.{Verdict as VerdictLine};
 ghost use Rattle.start_model.specs.Machine.{ended};
-ghost use Rattle.boot_report.specs.Report.{verdict_of};
 ghost use Rattle.boot_machine.specs.Steps.{falls_back};
 ghost use Rattle.nt_edge.specs.Bench.{turned_off};
 ghost use Rattle.printed_parts.specs.Parts.{TellsOr};
@@ -32,8 +31,8 @@ pub(crate) fn end_with<H: Host, B: Bench>(
     bench: &mut B,
 ) -> Result<(), RunStop>
     ensures tells { (H.state host.old).tells ≡ true
-        → TellsOr (VerdictLine (verdict_of word)) (told_in (H.state host.old) runner.old) (told_in (H.state host.new) runner.new) result }
-    ensures machine { runner.new.machine ≡ ended (falls_back (verdict_of word)) runner.old.machine }
+        → TellsOr (VerdictLine word) (told_in (H.state host.old) runner.old) (told_in (H.state host.new) runner.new) result }
+    ensures machine { runner.new.machine ≡ ended (falls_back word) runner.old.machine }
     ensures starts { runner.new.starts ≡ runner.old.starts }
     ensures off { B.state bench.new ≡ turned_off (B.state bench.old) }
     ensures host { LeavesHost result (H.state host.old) (H.state host.new) }
@@ -54,8 +53,8 @@ pub(crate) fn end_start<H: Host, B: Bench>(
     requires left { EachCrash (B.state bench.old) LoadsAny }
     ensures sound { IfOk result (IsSound runner.new (B.state bench.new)) }
     ensures plays { (m : RunState) → (H.state host.old).tells ≡ true → Counts m runner.old → EachCrash (B.state bench.old) (MayLoad m.disk)
-        → IsEnding (verdict_of word)
-        → RunsTo (book.end_with (verdict_of word) false m) (moment (H.state host.old) runner.old (B.state bench.old))
+        → IsEnding word
+        → RunsTo (book.end_with word false m) (moment (H.state host.old) runner.old (B.state bench.old))
         (moment (H.state host.new) runner.new (B.state bench.new)) result (TurnLeft runner.new (B.state bench.new)) }
     ensures host { LeavesHost result (H.state host.old) (H.state host.new) }
 {

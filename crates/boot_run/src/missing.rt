@@ -4,8 +4,8 @@ ghost use Rattle.std.specs.Prelude.{◌≡◌, true, false, None, map};
 ghost use Rattle.nt_edge.specs.Crash.{EachCrash};
 ghost use Rattle.start_model.specs.Act.{say_all};
 ghost use Rattle.start_model.specs.Act as book;
-ghost use Rattle.start_model.specs.Lines as lines;
-ghost use Rattle.start_model.specs.Lines.{VitalLine};
+ghost use Rattle.report_words.specs.declared.words.Verdict.TheVariants as verdicts;
+ghost use Rattle.report_words.specs.declared.line.Line.TheVariants.{Vital as VitalLine};
 ghost use Rattle.boot_run.specs.Agrees.{LoadsAny};
 ghost use Rattle.boot_run.specs.Hosts.{LeavesHost};
 ghost use Rattle.boot_run.specs.Turns.{Ends, stage};
@@ -73,7 +73,7 @@ pub(crate) fn stop_without<H: Host, B: Bench>(
     bench: &mut B,
 ) -> Result<(), RunStop>
     requires left { EachCrash (B.state bench.old) LoadsAny }
-    ensures { Ends (λ m. say_all (stop_lines unmet.now missing.now) (book.end_with lines.Stopped false m)) None
+    ensures { Ends (λ m. say_all (stop_lines unmet.now missing.now) (book.end_with verdicts.Stopped false m)) None
         (stage (H.state host.old) runner.old (B.state bench.old)) (stage (H.state host.new) runner.new (B.state bench.new)) result }
 {
     say_both(alloc, unmet, missing, &mut runner.summary, host)?;

@@ -7,9 +7,8 @@ ghost use Rattle.hive_model.specs.Tree.{Tree};
 ghost use Rattle.hive_model.specs.Valid.{HoldsKeys};
 ghost use Rattle.reg_tree.specs.Fitting.{Fits};
 ghost use Rattle.nt_edge.specs.Disk.{DiskState};
-ghost use Rattle.boot_report.specs.Report.{line_of};
 ghost use Rattle.boot_machine.specs.Steps.{on_start};
-ghost use Rattle.start_model.specs.Lines.{SaveCommit};
+ghost use Rattle.report_words.specs.declared.words.CommitWord.TheVariants as commits;
 ghost use Rattle.start_model.specs.Machine.{Start};
 ghost use Rattle.start_model.specs.Sets.{planned, save_of, save_plan_of, select_numbers_of, usable_numbers_of};
 ghost use Rattle.start_model.specs.Act.{RunState, Act, done};
@@ -47,7 +46,7 @@ fn note<H: Host>(
     host: &mut H,
 ) -> Result<(), RunStop>
     ensures tells { (H.state host.old).tells ≡ true
-        → TellsOr (line_of line) (told_in (H.state host.old) runner.old) (told_in (H.state host.new) runner.new) result }
+        → TellsOr line (told_in (H.state host.old) runner.old) (told_in (H.state host.new) runner.new) result }
     ensures machine { OnOk result (runner.new.machine ≡ on_start (λ s. record s { saved = Some ok }) runner.old.machine) }
     ensures starts { runner.new.starts ≡ runner.old.starts }
     ensures host { LeavesHost result (H.state host.old) (H.state host.new) }
@@ -91,7 +90,7 @@ fn commit_save<H: Host, B: Bench>(
     ensures sound { IfOk result (IsSound runner.new (B.state bench.new)) }
     ensures plays { (m : RunState) (s : Start) (next : RunState → Act) → (H.state host.old).tells ≡ true → HandedOut m s → Counts m runner.old
         → IsStored m hive (B.state bench.old) → Stays next
-        → RunsTo (book.commit SaveCommit hive.tree m (noting numbers s next)) (moment (H.state host.old) runner.old (B.state bench.old))
+        → RunsTo (book.commit commits.Save hive.tree m (noting numbers s next)) (moment (H.state host.old) runner.old (B.state bench.old))
         (moment (H.state host.new) runner.new (B.state bench.new)) result (OnLeft next runner.new (B.state bench.new)) }
     ensures host { LeavesHost result (H.state host.old) (H.state host.new) }
 {

@@ -1,7 +1,6 @@
 //! A line said through the host.
 
 ghost use Rattle.std.specs.Prelude.{◌≡◌, true};
-ghost use Rattle.boot_report.specs.Report.{line_of};
 ghost use Rattle.printed_parts.specs.Parts.{TellsOr};
 ghost use Rattle.boot_run.specs.Hosts.{LeavesHost};
 ghost use Rattle.boot_run.specs.Views.{told_by};
@@ -21,7 +20,7 @@ pub(crate) fn say<H: Host>(
     line: Line,
 ) -> Result<(), RunStop>
     ensures tells { (H.state host.old).tells ≡ true
-        → TellsOr (line_of line) (told_by (H.state host.old) summary.old) (told_by (H.state host.new) summary.new) result }
+        → TellsOr line (told_by (H.state host.old) summary.old) (told_by (H.state host.new) summary.new) result }
     ensures host { LeavesHost result (H.state host.old) (H.state host.new) }
 {
     let Ok(bytes) = printed_bytes(alloc, summary.form, &line) else {

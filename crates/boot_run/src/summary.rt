@@ -1,7 +1,6 @@
 //! What the lines of a report amount to.
 
 ghost use Rattle.std.specs.Prelude.{◌≡◌};
-ghost use Rattle.boot_report.specs.Report.{line_of, try_of};
 ghost use Rattle.start_model.specs.Summary as book;
 ghost use Rattle.boot_run.specs.Views.{summary_in};
 
@@ -43,7 +42,7 @@ impl Summary {
 
     /// Counts one more line.
     pub(crate) fn count(&mut self, line: &Line)
-        ensures counted { summary_in self.new ≡ book.with_line (summary_in self.old) (line_of line.now) }
+        ensures counted { summary_in self.new ≡ book.with_line (summary_in self.old) line.now }
         ensures form { self.new.form ≡ self.old.form }
     {
         match line {
@@ -57,7 +56,7 @@ impl Summary {
     }
 
     fn count_try(&mut self, outcome: TryWord)
-        ensures counted { summary_in self.new ≡ book.with_try (try_of outcome) (summary_in self.old) }
+        ensures counted { summary_in self.new ≡ book.with_try outcome (summary_in self.old) }
         ensures form { self.new.form ≡ self.old.form }
     {
         match outcome {

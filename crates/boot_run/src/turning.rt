@@ -9,7 +9,7 @@ ghost use Rattle.boot_script.specs.Script.{HasCounts};
 ghost use Rattle.reg_tree.specs.Fitting.{Fits};
 ghost use Rattle.reg_tree.specs.Makes.{step_of};
 ghost use Rattle.start_model.specs.Fits.{MayLoad};
-ghost use Rattle.start_model.specs.Lines.{RefusedLine};
+ghost use Rattle.report_words.specs.declared.line.Line.TheVariants.{Refused as RefusedLine};
 ghost use Rattle.start_model.specs.Machine.{Start, failing, requiring, refusal_of};
 ghost use Rattle.start_model.specs.Act.{RunState, done};
 ghost use Rattle.start_model.specs.Boot.{Choice};

@@ -1,7 +1,7 @@
 //! The entries that are unmet at the end of a phase.
 
 ghost use Rattle.std.specs.Prelude.{◌≡◌, true, map};
-ghost use Rattle.start_model.specs.Lines.{UnmetLine};
+ghost use Rattle.report_words.specs.declared.line.Line.TheVariants.{Unmet as UnmetLine};
 ghost use Rattle.boot_run.specs.Hosts.{LeavesHost};
 ghost use Rattle.boot_run.specs.Views.{told_by, SaysAll};
 

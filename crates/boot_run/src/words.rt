@@ -2,12 +2,11 @@
 
 ghost use Rattle.std.specs.Prelude.{◌≡◌, option_map};
 ghost use Rattle.boot_machine.specs.Views.{event_in, word_of_refusal, tried_in};
-ghost use Rattle.boot_report.specs.Report.{event_of, refused_of, try_of, verdict_of, line_of};
 ghost use Rattle.reg_tree.specs.Makes.{refusal_of};
 ghost use Rattle.start_model.specs.Commit.{select_line};
 ghost use Rattle.start_model.specs.Starter.{try_line};
 ghost use Rattle.start_model.specs.EventActs.{event_word_of, reason_of};
-ghost use Rattle.start_model.specs.Lines.{TryLine};
+ghost use Rattle.report_words.specs.declared.line.Line.TheVariants.{Try as TryLine};
 ghost use Rattle.boot_run.specs.Ends.{EndsAs, missing};
 
 use boot_machine::{EventRefusal, Tried};
@@ -19,7 +18,7 @@ use select_keys::SelectNumbers;
 
 /// The first word of the event's line.
 pub(crate) fn event_word(event: &Event) -> EventWord
-    ensures { event_of result ≡ event_word_of (event_in event.now) }
+    ensures { result ≡ event_word_of (event_in event.now) }
 {
     match event {
         Event::Boot { .. } => EventWord::Boot,
@@ -39,7 +38,7 @@ pub(crate) fn event_word(event: &Event) -> EventWord
 }
 
 pub(crate) fn refused_word(refusal: EventRefusal) -> RefusedWord
-    ensures { refused_of result ≡ word_of_refusal refusal }
+    ensures { result ≡ word_of_refusal refusal }
 {
     match refusal {
         EventRefusal::Off => RefusedWord::Off,
@@ -53,7 +52,7 @@ pub(crate) fn refused_word(refusal: EventRefusal) -> RefusedWord
 
 /// The word of an edit's refusal; none for lack of memory.
 pub(crate) fn edit_word(stop: EditStop) -> Option<RefusedWord>
-    ensures { option_map refused_of result ≡ option_map reason_of (refusal_of stop) }
+    ensures { result ≡ option_map reason_of (refusal_of stop) }
 {
     match stop {
         EditStop::NoKey => Some(RefusedWord::NoKey),
@@ -69,7 +68,7 @@ pub(crate) fn edit_word(stop: EditStop) -> Option<RefusedWord>
 
 /// How an attempt went.
 pub(crate) fn try_word(tried: &Tried) -> TryWord
-    ensures { TryLine tried.now.name (try_of result) ≡ try_line (tried_in tried.now) }
+    ensures { TryLine tried.now.name result ≡ try_line (tried_in tried.now) }
 {
     if tried.ok {
         return TryWord::Ok;
@@ -95,7 +94,7 @@ pub(crate) fn verdict_after(tried: &Tried) -> Option<Verdict>
 
 /// The verdict where no set is there to be taken.
 pub(crate) fn missing(on_good: bool) -> Verdict
-    ensures { verdict_of result ≡ missing on_good }
+    ensures { result ≡ missing on_good }
 {
     if on_good {
         Verdict::NoLastKnownGood
@@ -106,7 +105,7 @@ pub(crate) fn missing(on_good: bool) -> Verdict
 
 /// The line of the four numbers.
 pub(crate) fn select_line(numbers: SelectNumbers) -> Line
-    ensures { line_of result ≡ select_line numbers }
+    ensures { result ≡ select_line numbers }
 {
     Line::Select {
         current: numbers.current,

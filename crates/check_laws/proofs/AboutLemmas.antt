@@ -13,7 +13,8 @@ use Rattle.dependencies.proofs.MeetLemmas.{folded_first}
 use Rattle.start_model.specs.Demand.{Need}
 use Rattle.start_model.specs.Entries as book
 use Rattle.start_model.specs.Entries.{Entry, need_of}
-use Rattle.start_model.specs.Lines.{Line, UnmetLine}
+use Rattle.report_words.specs.declared.line.Line.{Line}
+use Rattle.report_words.specs.declared.line.Line.TheVariants.{Unmet as UnmetLine}
 use Rattle.start_model.specs.Machine as machine
 use Rattle.start_model.specs.Order.{plan_of}
 use Rattle.start_model.specs.Ready.{Label}

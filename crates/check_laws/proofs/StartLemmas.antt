@@ -8,7 +8,8 @@ use Rattle.std.proofs.lemmas.List.Elements.{filter_map-append}
 use Rattle.nt_bytes.specs.Folding.{folded}
 use Rattle.hive_model.specs.Tree.{Tree}
 use Rattle.start_model.specs.Entries.{Entry, Phase, Boot, System, Automatic, Done, need_of}
-use Rattle.start_model.specs.Lines.{TryLine, TryOk, UnmetLine}
+use Rattle.report_words.specs.declared.words.TryWord.TheVariants as tries
+use Rattle.report_words.specs.declared.line.Line.TheVariants.{Try as TryLine, Unmet as UnmetLine}
 use Rattle.start_model.specs.Machine.{Start, label_of, next_in, unmet_in, phase_after}
 use Rattle.start_model.specs.Order.{plan_of}
 use Rattle.start_model.specs.Ready.{Label}
@@ -21,7 +22,7 @@ use Rattle.check_laws.proofs.TurnLemmas.{Ran, none_ran, with_new, run}
 
 -- a course after the attempts of a run
 record IsAfter (c d : Course) (r : Ran Entry) : Type 0 where
-  lines : d.lines ≡ c.lines ++ map (λ (e : Entry). TryLine e.name TryOk) r.new
+  lines : d.lines ≡ c.lines ++ map (λ (e : Entry). TryLine e.name tries.Ok) r.new
   waiting : d.start.waiting ≡ r.left
   tried : d.start.tried ≡ c.start.tried ++ map (λ (e : Entry). folded e.name) r.new
   started : d.start.started ≡ c.start.started ++ map label_of r.new
@@ -38,7 +39,7 @@ after_none c = record {
 
 after_one : (c d : Course) (k : ℕ) (e : Entry) (r : Ran Entry) → IsAfter (tried_at c k e) d r → IsAfter c d (with_new e r)
 after_one c d k e r h = record {
-  lines = h.lines ∙ append_assoc c.lines (TryLine e.name TryOk ∷ []) (map (λ (e : Entry). TryLine e.name TryOk) r.new);
+  lines = h.lines ∙ append_assoc c.lines (TryLine e.name tries.Ok ∷ []) (map (λ (e : Entry). TryLine e.name tries.Ok) r.new);
   waiting = h.waiting;
   tried = h.tried ∙ append_assoc c.start.tried (folded e.name ∷ []) (map (λ (e : Entry). folded e.name) r.new);
   started = h.started ∙ append_assoc c.start.started (label_of e ∷ []) (map label_of r.new);
@@ -74,7 +75,7 @@ after_all (suc n) c = after_next n (after_all n) c (next_in c.start)
 
 -- ---- the lines that tell of the unmet
 
-tries_tell : (es : List Entry) → filter_map unmet_name (map (λ (e : Entry). TryLine e.name TryOk) es) ≡ []
+tries_tell : (es : List Entry) → filter_map unmet_name (map (λ (e : Entry). TryLine e.name tries.Ok) es) ≡ []
 tries_tell [] = refl
 tries_tell (e ∷ es) = tries_tell es
 
@@ -108,7 +109,7 @@ ended set c d r h = record {
       ∙ (λ j. filter_map-append unmet_name d.lines (map UnmetLine (unmet_in d.start)) j ++ phase_tells (phase_after d.start.phase) j)
       ∙ append-nil (filter_map unmet_name d.lines ++ filter_map unmet_name (map UnmetLine (unmet_in d.start)))
       ∙ (λ j. filter_map unmet_name (h.lines j) ++ unmet_tell (unmet_in d.start) j)
-      ∙ (λ j. filter_map-append unmet_name c.lines (map (λ (e : Entry). TryLine e.name TryOk) r.new) j ++ map (λ (e : Entry). e.name) (h.waiting j))
+      ∙ (λ j. filter_map-append unmet_name c.lines (map (λ (e : Entry). TryLine e.name tries.Ok) r.new) j ++ map (λ (e : Entry). e.name) (h.waiting j))
       ∙ (λ j. (filter_map unmet_name c.lines ++ tries_tell r.new j) ++ map (λ (e : Entry). e.name) r.left)
       ∙ ap (λ (l : List (List ℕ)). l ++ map (λ (e : Entry). e.name) r.left) (append-nil (filter_map unmet_name c.lines));
   waiting = (λ j. plan_of set (phase_after (h.phase j)) (h.tried j));

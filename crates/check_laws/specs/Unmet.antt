@@ -3,7 +3,8 @@ use Rattle.std.specs.Prelude.{◌≡◌, ℕ, Bool, true, false, List, Option, S
 use Rattle.std.specs.List.{Contains}
 use Rattle.hive_model.specs.Tree.{Tree}
 use Rattle.hive_model.specs.Valid.{HoldsKeys}
-use Rattle.start_model.specs.Lines.{Line, UnmetLine}
+use Rattle.report_words.specs.declared.line.Line.{Line}
+use Rattle.report_words.specs.declared.line.Line.TheVariants.{Unmet as UnmetLine}
 use Rattle.check_lines.specs.declared.lines.Fault.{Fault}
 use Rattle.check_lines.specs.declared.lines.Fault.TheVariants as faults
 use Rattle.check_lines.specs.declared.lines.CheckLine.{CheckLine}

@@ -3,7 +3,9 @@ use Rattle.std.proofs.Common.{◌≡◌, ℕ, List, [], ◌∷◌, ◌++◌, Opt
 use Rattle.std.specs.Prelude.{codes}
 use Rattle.std.specs.Option.{option_map_or}
 use Rattle.hive_model.specs.Tree.{Tree}
-use Rattle.start_model.specs.Lines.{VerdictLine, NoControlSet, EndLine, line_text}
+use Rattle.report_words.specs.declared.words.Verdict.TheVariants.{NoControlSet}
+use Rattle.report_words.specs.declared.line.Line.TheVariants.{Verdict as VerdictLine, End as EndLine}
+use Rattle.start_model.specs.Lines.{line_text}
 use Rattle.line_text.specs.declared.form.ReportForm.{ReportForm}
 use Rattle.line_text.specs.declared.form.ReportForm.TheVariants as forms
 use Rattle.line_objects.specs.Objects as objects

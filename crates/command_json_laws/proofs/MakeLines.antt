@@ -7,7 +7,7 @@ use Rattle.ntboot_cli.specs.Made.{made_run, made_text, summary_line, last_word}
 use Rattle.command_json_laws.specs.Make.{summary_said, made_said, make_reader}
 use Rattle.command_json_laws.proofs.OneLine.{one_line}
 use Rattle.std.specs.Prelude.{codes}
-use Rattle.start_model.specs.Lines.{Verdict}
+use Rattle.report_words.specs.declared.words.Verdict.{Verdict}
 use Rattle.command_json_laws.specs.Texts.{is_line, AreLines}
 use Rattle.command_json_laws.proofs.TextParts.{has_no_end, part, number_inside, onto, ends}
 use Rattle.command_json_laws.proofs.StartTexts.{verdict_inside}

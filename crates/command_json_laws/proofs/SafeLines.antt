@@ -6,7 +6,9 @@ use Rattle.boot_ini.specs.declared.choosing.Chosen.{Chosen}
 use Rattle.boot_ini.specs.declared.choosing.Chosen.TheVariants as chosen
 use Rattle.boot_ini.specs.Choice.{path_at, choice_of}
 use Rattle.hive_model.specs.Tree.{Tree}
-use Rattle.start_model.specs.Lines.{Line, EntryLine, NoEntry, OtherLoader, NoSystem}
+use Rattle.report_words.specs.declared.words.Verdict.TheVariants.{NoEntry, OtherLoader, NoSystem}
+use Rattle.report_words.specs.declared.line.Line.{Line}
+use Rattle.report_words.specs.declared.line.Line.TheVariants.{Entry as EntryLine}
 use Rattle.line_objects.specs.Objects.{printed_lines}
 use Rattle.json_laws.specs.Reports.{IsRead, IsReport}
 use Rattle.json_laws.proofs.ReportLemmas.{both}

@@ -3,7 +3,9 @@ use Rattle.std.specs.Prelude.{ℕ, ◌||◌, if◌then◌else◌, List, [], ◌�
 use Rattle.std.specs.Str.{bytes_eq}
 use Rattle.std.specs.Option.{option_map_or}
 use Rattle.hive_model.specs.Tree.{Tree}
-use Rattle.start_model.specs.Lines.{VerdictLine, NoControlSet, EndLine, name_text}
+use Rattle.report_words.specs.declared.words.Verdict.TheVariants.{NoControlSet}
+use Rattle.report_words.specs.declared.line.Line.TheVariants.{Verdict as VerdictLine, End as EndLine}
+use Rattle.start_model.specs.Lines.{name_text}
 use Rattle.line_text.specs.Objects.{Text}
 use Rattle.json_laws.specs.Reports.{Fields, Reader, Said, said}
 use Rattle.report_json_laws.specs.Starts.{said_of, start_reader}

@@ -7,7 +7,7 @@ use Rattle.hive_model.specs.Recovery.{Recovered}
 use Rattle.hive_model.specs.Tree.{Tree}
 use Rattle.hive_commit.specs.Stages.{next_number}
 use Rattle.hive_alt.specs.Changes.{Change, nothing, no_select, too_large, changed, change_of}
-use Rattle.start_model.specs.Lines.{LoadLine, EndLine}
+use Rattle.report_words.specs.declared.line.Line.TheVariants.{Load as LoadLine, End as EndLine}
 use Rattle.line_text.specs.Objects.{Text}
 use Rattle.json_laws.specs.Reports.{Fields, Reader, Said, said}
 use Rattle.report_json_laws.specs.Starts.{said_of, start_reader}

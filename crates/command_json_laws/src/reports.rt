@@ -4,7 +4,7 @@ ghost use Rattle.std.specs.Prelude.{◌≡◌, ℕ, Bool, List, Option, map};
 ghost use Rattle.hive_model.specs.Tree.{Tree};
 ghost use Rattle.line_text.specs.declared.form.ReportForm.{ReportForm};
 ghost use Rattle.json_laws.specs.Reports.{HaveValues, IsReport};
-ghost use Rattle.start_model.specs.Lines.{Line};
+ghost use Rattle.report_words.specs.declared.line.Line.{Line};
 ghost use Rattle.report_json_laws.specs.Starts.{said_of, start_reader};
 ghost use Rattle.command_json_laws.specs.Texts.{AreLines};
 ghost use Rattle.control_command.specs.declared.command.ControlCommand.{ControlCommand};

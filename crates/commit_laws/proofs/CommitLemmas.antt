@@ -1,4 +1,4 @@
--- The numbers that the lines of a run say, and what they say of the disk behind them.
+-- The numbers that the lines of a run say, and what they say of the disk after them.
 use Rattle.std.proofs.Common.{◌≡◌, ◌⊎◌, inl, inr, ⊎_elim, ℕ, zero, suc, Bool, true, false, ◌||◌, cond, List, [], ◌∷◌, ◌++◌, map, Option, Some, None, Result, Ok, Err, refl, sym, ap, subst, ◌∙◌, append-nil, append_assoc}
 use Rattle.std.specs.Prelude.{IfSome}
 use Rattle.hive_model.specs.Image.{Image, Write, IsCrashImage}
@@ -6,8 +6,13 @@ use Rattle.hive_model.specs.Load.{Loads}
 use Rattle.hive_model.specs.State.{HiveState}
 use Rattle.hive_model.specs.Tree.{Tree}
 use Rattle.hive_model.specs.Edit.{Refusal, edited}
-use Rattle.start_model.specs.Lines as lines
-use Rattle.start_model.specs.Lines.{Line, Verdict, CommitWord, LoadLine, CommitLine, UnmetLine, VitalLine, VerdictLine}
+use Rattle.report_words.specs.declared.words.Verdict.{Verdict}
+use Rattle.report_words.specs.declared.words.Verdict.TheVariants as verdicts
+use Rattle.report_words.specs.declared.words.RefusedWord.{RefusedWord}
+use Rattle.report_words.specs.declared.words.CommitWord.{CommitWord}
+use Rattle.report_words.specs.declared.words.CommitWord.TheVariants as commits
+use Rattle.report_words.specs.declared.line.Line.{Line}
+use Rattle.report_words.specs.declared.line.Line.TheVariants as lines
 use Rattle.start_model.specs.Entries as entries
 use Rattle.start_model.specs.Entries.{Phase}
 use Rattle.start_model.specs.Judge.{Judgement, Ignore, Log, FallBack, Stop}
@@ -34,7 +39,7 @@ use Rattle.commit_laws.specs.Numbers.{number_of, AreUnnumbered, tell_stop, one_m
 
 -- ---- what the report told so far
 
--- the last number that was told, if one was, and whether a stop was told behind it
+-- the last number that was told, if one was, and whether a stop was told after it
 data Said : Type 0 where
   Untold : Said
   Settled : ℕ → Said
@@ -46,14 +51,14 @@ stop (Settled n) = Opened n
 stop (Opened n) = Opened n
 
 abbrev told_verdict : Verdict → Said → Said
-told_verdict lines.Cut t = stop t
-told_verdict lines.Device t = stop t
+told_verdict verdicts.Cut t = stop t
+told_verdict verdicts.Device t = stop t
 told_verdict other t = t
 
 abbrev told : Line → Said → Said
-told (CommitLine what number) t = Settled number
-told (LoadLine number recovered) t = Settled number
-told (VerdictLine word) t = told_verdict word t
+told (lines.Commit what number) t = Settled number
+told (lines.Load number recovered) t = Settled number
+told (lines.Verdict word) t = told_verdict word t
 told other t = t
 
 abbrev tolds : Said → List Line → Said
@@ -67,39 +72,39 @@ tolds-append t (l ∷ a) b = tolds-append (told l t) a b
 -- lines that report no operation tell Untold
 none_told : (n : ℕ) (ls : List Line) → outcomes_in ls ≡ [] → tolds (Settled n) ls ≡ Settled n
 none_told n [] e = refl
-none_told n (LoadLine number recovered ∷ ls) e = absurd cc
-none_told n (CommitLine what number ∷ ls) e = absurd cc
-none_told n (VerdictLine lines.Cut ∷ ls) e = absurd cc
-none_told n (VerdictLine lines.Device ∷ ls) e = absurd cc
-none_told n (VerdictLine other ∷ ls) e = none_told n ls e
+none_told n (lines.Load number recovered ∷ ls) e = absurd cc
+none_told n (lines.Commit what number ∷ ls) e = absurd cc
+none_told n (lines.Verdict verdicts.Cut ∷ ls) e = absurd cc
+none_told n (lines.Verdict verdicts.Device ∷ ls) e = absurd cc
+none_told n (lines.Verdict other ∷ ls) e = none_told n ls e
 none_told n (other ∷ ls) e = none_told n ls e
 
--- behind lines without a number the last one stays, and is that of a stop where one was told
+-- after lines without a number the last one stays, and is that of a stop where one was told
 abbrev unless_stopped : Bool → ℕ → Said
 unless_stopped true n = Opened n
 unless_stopped false n = Settled n
 
 still_stopped : (n : ℕ) (ls : List Line) → AreUnnumbered ls → tolds (Opened n) ls ≡ Opened n
 still_stopped n [] u = refl
-still_stopped n (LoadLine number recovered ∷ ls) u = let e = u.0 in absurd cc
-still_stopped n (CommitLine what number ∷ ls) u = let e = u.0 in absurd cc
-still_stopped n (VerdictLine lines.Cut ∷ ls) u = still_stopped n ls u.1
-still_stopped n (VerdictLine lines.Device ∷ ls) u = still_stopped n ls u.1
-still_stopped n (VerdictLine other ∷ ls) u = still_stopped n ls u.1
+still_stopped n (lines.Load number recovered ∷ ls) u = let e = u.0 in absurd cc
+still_stopped n (lines.Commit what number ∷ ls) u = let e = u.0 in absurd cc
+still_stopped n (lines.Verdict verdicts.Cut ∷ ls) u = still_stopped n ls u.1
+still_stopped n (lines.Verdict verdicts.Device ∷ ls) u = still_stopped n ls u.1
+still_stopped n (lines.Verdict other ∷ ls) u = still_stopped n ls u.1
 still_stopped n (other ∷ ls) u = still_stopped n ls u.1
 
 unnumbered_told : (n : ℕ) (ls : List Line) → AreUnnumbered ls → tolds (Settled n) ls ≡ unless_stopped (tell_stop ls) n
 unnumbered_told n [] u = refl
-unnumbered_told n (LoadLine number recovered ∷ ls) u = let e = u.0 in absurd cc
-unnumbered_told n (CommitLine what number ∷ ls) u = let e = u.0 in absurd cc
-unnumbered_told n (VerdictLine lines.Cut ∷ ls) u = still_stopped n ls u.1
-unnumbered_told n (VerdictLine lines.Device ∷ ls) u = still_stopped n ls u.1
-unnumbered_told n (VerdictLine other ∷ ls) u = unnumbered_told n ls u.1
+unnumbered_told n (lines.Load number recovered ∷ ls) u = let e = u.0 in absurd cc
+unnumbered_told n (lines.Commit what number ∷ ls) u = let e = u.0 in absurd cc
+unnumbered_told n (lines.Verdict verdicts.Cut ∷ ls) u = still_stopped n ls u.1
+unnumbered_told n (lines.Verdict verdicts.Device ∷ ls) u = still_stopped n ls u.1
+unnumbered_told n (lines.Verdict other ∷ ls) u = unnumbered_told n ls u.1
 unnumbered_told n (other ∷ ls) u = unnumbered_told n ls u.1
 
 number_told : (l : Line) (t : Said) (n : ℕ) → number_of l ≡ Some n → told l t ≡ Settled n
-number_told (LoadLine number recovered) t n e = let is : number ≡ n = cc in ap Settled is
-number_told (CommitLine what number) t n e = let is : number ≡ n = cc in ap Settled is
+number_told (lines.Load number recovered) t n e = let is : number ≡ n = cc in ap Settled is
+number_told (lines.Commit what number) t n e = let is : number ≡ n = cc in ap Settled is
 number_told other t n e = absurd cc
 
 -- ---- runs whose wakes are possible where Q holds
@@ -122,8 +127,8 @@ module _ (Q : Type 0) where
   Counted (Opened n) k = ⊥
 
   abbrev May : Said → Line → Type 0
-  May t (LoadLine number recovered) = Loaded t number
-  May t (CommitLine what number) = Counted t number
+  May t (lines.Load number recovered) = Loaded t number
+  May t (lines.Commit what number) = Counted t number
   May t other = Unit {0}
 
   abbrev Chain : Said → List Line → Type 0
@@ -187,8 +192,8 @@ module _ (Q : Type 0) where
   stop-down (Opened n) p h = h
 
   verdict-down : (word : Verdict) (t : Said) (p : Possible) → Down t p → Down (told_verdict word t) p
-  verdict-down lines.Cut t p h = stop-down t p h
-  verdict-down lines.Device t p h = stop-down t p h
+  verdict-down verdicts.Cut t p h = stop-down t p h
+  verdict-down verdicts.Device t p h = stop-down t p h
   verdict-down other t p h = h
 
   -- what the disk wakes up with is one of these
@@ -267,7 +272,7 @@ module _ (Q : Type 0) where
   saved_by-keeps s clone t m next (Ok change) h f =
       let then : RunState → Act =
       λ after. acts.say (commit_book.select_line change.numbers) (next (noted_saved true s after)) in
-      (tt, commit-keeps lines.SaveCommit change.tree then (λ u x v. (tt, f u (noted_saved true s x) v)) t m h)
+      (tt, commit-keeps commits.Save change.tree then (λ u x v. (tt, f u (noted_saved true s x) v)) t m h)
   saved_by-keeps s clone t m next (Err (NoPlan stop)) h f = (tt, f t (noted_saved false s m) h)
   saved_by-keeps s clone t m next (Err sets.Full) h f = (tt, f t (noted_saved false s m) h)
 
@@ -288,11 +293,11 @@ module _ (Q : Type 0) where
       → Keeps t (judged j m next)
   judged-keeps Ignore t m next h f = f t m h
   judged-keeps Log t m next h f = f t m h
-  judged-keeps FallBack t m next h f = ends-keeps lines.FallBack true t m h
-  judged-keeps Stop t m next h f = ends-keeps lines.Stopped false t m h
+  judged-keeps FallBack t m next h f = ends-keeps verdicts.FallBack true t m h
+  judged-keeps Stop t m next h f = ends-keeps verdicts.Stopped false t m h
 
   unmet-keeps : (t : Said) (names : List (List ℕ)) (act : Act) → Keeps t act
-      → Keeps t (say_all (map UnmetLine names) act)
+      → Keeps t (say_all (map lines.Unmet names) act)
   unmet-keeps t [] act k = k
   unmet-keeps t (n ∷ names) act k = (tt, unmet-keeps t names act k)
 
@@ -303,7 +308,7 @@ module _ (Q : Type 0) where
   phase-keeps t entries.Done act k = (tt, k)
 
   vital-keeps : (t : Said) (names : List (List ℕ)) (act : Act) → Keeps t act
-      → Keeps t (say_all (map VitalLine names) act)
+      → Keeps t (say_all (map lines.Vital names) act)
   vital-keeps t [] act k = k
   vital-keeps t (n ∷ names) act k = (tt, vital-keeps t names act k)
 
@@ -318,7 +323,7 @@ module _ (Q : Type 0) where
       → Up t m.disk m.sequence → Next next → Keeps t (phase_passed s m next missing)
   phase_passed-keeps s t m next [] h f = phase_begun-keeps s t m next h f
   phase_passed-keeps s t m next (name ∷ names) h f =
-      vital-keeps t (name ∷ names) (end_with lines.Stopped false m) (ends-keeps lines.Stopped false t m h)
+      vital-keeps t (name ∷ names) (end_with verdicts.Stopped false m) (ends-keeps verdicts.Stopped false t m h)
 
   phase_step-keeps : (s : Start) (t : Said) (m : RunState) (next : RunState → Act) → Up t m.disk m.sequence → Next next
       → Keeps t (phase_step s m next)
@@ -358,16 +363,16 @@ module _ (Q : Type 0) where
   begin_with-keeps on_good change t m h =
       let start : RunState → Act = begin_start change.chosen on_good change.numbers in
       let starts : Next start = begin_start-keeps change.chosen on_good change.numbers in
-      either t change.has_steps (commit lines.BeginCommit change.tree m start) (start m)
-      (commit-keeps lines.BeginCommit change.tree start starts t m h) (starts t m h)
+      either t change.has_steps (commit commits.Begin change.tree m start) (start m)
+      (commit-keeps commits.Begin change.tree start starts t m h) (starts t m h)
 
   begin_by-keeps : (on_good : Bool) (t : Said) (m : RunState) (r : Result SetChange ChangeStop)
       → Up t m.disk m.sequence → Keeps t (begin_by on_good m r)
   begin_by-keeps on_good t m (Ok change) h = (tt, begin_with-keeps on_good change t m h)
-  begin_by-keeps on_good t m (Err (NoPlan sets.NoControlSet)) h = ends-keeps lines.NoControlSet false t m h
-  begin_by-keeps on_good t m (Err (NoPlan sets.NoLastKnownGood)) h = ends-keeps lines.NoLastKnownGood false t m h
-  begin_by-keeps on_good t m (Err (NoPlan sets.NoFreeNumber)) h = (tt, ends-keeps lines.NoNumber false t m h)
-  begin_by-keeps on_good t m (Err sets.Full) h = (tt, ends-keeps lines.Full false t m h)
+  begin_by-keeps on_good t m (Err (NoPlan sets.NoControlSet)) h = ends-keeps verdicts.NoControlSet false t m h
+  begin_by-keeps on_good t m (Err (NoPlan sets.NoLastKnownGood)) h = ends-keeps verdicts.NoLastKnownGood false t m h
+  begin_by-keeps on_good t m (Err (NoPlan sets.NoFreeNumber)) h = (tt, ends-keeps verdicts.NoNumber false t m h)
+  begin_by-keeps on_good t m (Err sets.Full) h = (tt, ends-keeps verdicts.Full false t m h)
 
   woken-keeps : (on_good : Bool) (t : Said) (m : RunState) (w : Woken) → Loaded t w.state.sequence
       → Keeps t (woken on_good m w)
@@ -391,9 +396,9 @@ module _ (Q : Type 0) where
       λ w may. woken-keeps (on_good || entry_on_good) t m w (possible-loaded t m.disk w h may),
     ),
   )
-  chosen-keeps on_good t m boot_book.NoEntry h = stops-keeps lines.NoEntry false t m h
-  chosen-keeps on_good t m (boot_book.OtherLoader number path) h = (tt, stops-keeps lines.OtherLoader false t m h)
-  chosen-keeps on_good t m (boot_book.NoSystem number path) h = (tt, stops-keeps lines.NoSystem false t m h)
+  chosen-keeps on_good t m boot_book.NoEntry h = stops-keeps verdicts.NoEntry false t m h
+  chosen-keeps on_good t m (boot_book.OtherLoader number path) h = (tt, stops-keeps verdicts.OtherLoader false t m h)
+  chosen-keeps on_good t m (boot_book.NoSystem number path) h = (tt, stops-keeps verdicts.NoSystem false t m h)
 
   boot_act-keeps : (choice : Option ℕ → Choice) (entry : Option ℕ) (good : Bool) (t : Said) (m : RunState)
       → Down t m.disk → Keeps t (boot_act choice entry good m)
@@ -409,14 +414,14 @@ module _ (Q : Type 0) where
 
   flush_act-keeps : Next flush_act
   flush_act-keeps t m h =
-      either t m.changed (commit lines.FlushCommit m.live m acts.done) (acts.say lines.FlushNothingLine (acts.done m))
-      (commit-keeps lines.FlushCommit m.live acts.done done-keeps t m h) (tt, done-keeps t m h)
+      either t m.changed (commit commits.Flush m.live m acts.done) (acts.say lines.FlushNothing (acts.done m))
+      (commit-keeps commits.Flush m.live acts.done done-keeps t m h) (tt, done-keeps t m h)
 
   off_act-keeps : (s : Start) → Next (off_act s)
   off_act-keeps s t m h =
-      either t m.changed (commit lines.OffCommit m.live m (end_with (ending_of s) false))
+      either t m.changed (commit commits.Off m.live m (end_with (ending_of s) false))
       (end_with (ending_of s) false m)
-      (commit-keeps lines.OffCommit m.live (end_with (ending_of s) false) (ends-keeps (ending_of s) false) t m h)
+      (commit-keeps commits.Off m.live (end_with (ending_of s) false) (ends-keeps (ending_of s) false) t m h)
       (ends-keeps (ending_of s) false t m h)
 
   logon_act-keeps : (s : Start) → Next (logon_act s)
@@ -436,7 +441,7 @@ module _ (Q : Type 0) where
   running_act-keeps s events.Off t m h = off_act-keeps s t m h
   running_act-keeps s (events.CutNow keep) t m h =
       let down : Down t m.disk = up-down t m.disk m.sequence h in
-      (tt, (down-close t m.disk down, λ o. stops-keeps lines.Cut false t m down))
+      (tt, (down-close t m.disk down, λ o. stops-keeps verdicts.Cut false t m down))
   running_act-keeps s (events.Arm arming) t m h = (tt, done-keeps t m h)
 
   abbrev Here : Said → RunState → Type 0
@@ -465,7 +470,7 @@ module _ (Q : Type 0) where
   unfolding event_step_of
   event_step_of-keeps choice e t m h = by_refusal (refusal_of m.machine e)
     where
-      by_refusal : (o : Option lines.RefusedWord) → Keeps t (act_unless choice e m o)
+      by_refusal : (o : Option RefusedWord) → Keeps t (act_unless choice e m o)
       by_refusal (Some reason) = (tt, h)
       by_refusal None = accepted_act-keeps choice m.machine.start e t m h h
 
@@ -473,7 +478,7 @@ module _ (Q : Type 0) where
   ending_told : (s : Start) (t : Said) → told_verdict (ending_of s) t ≡ t
   ending_told s t = by_good (is_good s) s.saved
     where
-      by_good : (b : Bool) (o : Option Bool) → told_verdict (cond b (ending_with o) lines.Running) t ≡ t
+      by_good : (b : Bool) (o : Option Bool) → told_verdict (cond b (ending_with o) verdicts.Running) t ≡ t
       by_good true None = refl
       by_good true (Some true) = refl
       by_good true (Some false) = refl
@@ -482,7 +487,7 @@ module _ (Q : Type 0) where
   closing-keeps : (t : Said) (m : RunState) → Here t m → Keeps t (closing_act m)
   closing-keeps t m h = by_start m.machine.start
     where
-      by_start : (o : Option Start) → Keeps t (verdict_first o (acts.say lines.EndLine (acts.done m)))
+      by_start : (o : Option Start) → Keeps t (verdict_first o (acts.say lines.End (acts.done m)))
       by_start None = (tt, h)
       by_start (Some s) = let P : Said → Type 0 = λ u. Here u m in (tt, (tt, subst P (sym (ending_told s t)) h))
 
@@ -585,7 +590,7 @@ module _ (Q : Type 0) where
       run-says choice script Untold (first_state placed) tt wakes outcomes []
       (λ q. subst P (sym (append-nil (woke_in (run_of choice script placed wakes outcomes).notes))) (fits q))
 
-  -- behind a line with a number, and lines without one
+  -- after a line with a number, and lines without one
   told-here : (before between : List Line) (first : Line) (n : ℕ) → number_of first ≡ Some n → AreUnnumbered between
       → tolds Untold (before ++ first ∷ between) ≡ unless_stopped (tell_stop between) n
   told-here before between first n is none =
@@ -596,10 +601,10 @@ module _ (Q : Type 0) where
 -- ---- the laws
 
 may-next : (n : ℕ) (halted : Bool) (l : Line) → May (Unit {0}) (unless_stopped halted n) l → IsNext n halted l
-may-next n true (LoadLine number recovered) h = ⊎_elim inl (λ e. inr (refl, e)) (h tt)
-may-next n false (LoadLine number recovered) h = inl (h tt)
-may-next n true (CommitLine what number) h = absurd h
-may-next n false (CommitLine what number) h = (refl, h)
+may-next n true (lines.Load number recovered) h = ⊎_elim inl (λ e. inr (refl, e)) (h tt)
+may-next n false (lines.Load number recovered) h = inl (h tt)
+may-next n true (lines.Commit what number) h = absurd h
+may-next n false (lines.Commit what number) h = (refl, h)
 may-next n halted other h = tt
 
 pub next_number : (choice : Option ℕ → Choice) (script : List Event) (placed : Woken) (wakes : List Woken)
@@ -674,7 +679,7 @@ pub last_commit : (choice : Option ℕ → Choice) (script : List Event) (placed
     (outcomes : List Outcome) (last : RunState) (left : List Woken) (over : List Outcome) (before after : List Line)
     (what : CommitWord) (number : ℕ)
     → (run_of choice script placed wakes outcomes).rest ≡ Some (last, left, over)
-    → (run_of choice script placed wakes outcomes).lines ≡ before ++ CommitLine what number ∷ after
+    → (run_of choice script placed wakes outcomes).lines ≡ before ++ lines.Commit what number ∷ after
     → outcomes_in after ≡ []
     → (last.disk ≡ settled_at last.disk.settled) × (last.disk.settled.sequence ≡ number)
 last_commit choice script placed wakes outcomes last left over before after what number is splits none =
@@ -682,7 +687,7 @@ last_commit choice script placed wakes outcomes last left over before after what
     let p = run_of-says ⊥ choice script placed wakes outcomes (λ q. absurd q) in
     let at = p.rest last left over is in
     let down = at-down ⊥ last.machine.start (tolds Untold run.lines) last.disk last.sequence at.0 in
-    let so = ap (tolds Untold) splits ∙ tolds-append Untold before (CommitLine what number ∷ after)
+    let so = ap (tolds Untold) splits ∙ tolds-append Untold before (lines.Commit what number ∷ after)
     ∙ none_told number after none in
     let P : Said → Type 0 = λ u. Down ⊥ u last.disk in
     subst P so down
@@ -701,7 +706,7 @@ pub last_loads : (choice : Option ℕ → Choice) (script : List Event) (placed 
     (held : Image) (flight : List Write) (text : List ℕ)
     (r : Report (run_of choice script placed) images (IsCrashImage held flight) text) (before after : List Line)
     (what : CommitWord) (number : ℕ)
-    → (run_of choice script placed r.woken (outcomes_of text)).lines ≡ before ++ CommitLine what number ∷ after
+    → (run_of choice script placed r.woken (outcomes_of text)).lines ≡ before ++ lines.Commit what number ∷ after
     → outcomes_in after ≡ []
     → (c : Image) → IsCrashImage held flight c
     → Loads c r.last.disk.settled false × (r.last.disk.settled.sequence ≡ number)

@@ -4,7 +4,9 @@ ghost use Rattle.std.specs.Prelude.{◌≡◌, ℕ, List, [], ◌∷◌, ◌++�
 ghost use Rattle.hive_model.specs.Image.{Image, Write, IsCrashImage};
 ghost use Rattle.hive_model.specs.Load.{Loads};
 ghost use Rattle.start_model.specs.Events as events;
-ghost use Rattle.start_model.specs.Lines.{Line, CommitWord, CommitLine};
+ghost use Rattle.report_words.specs.declared.words.CommitWord.{CommitWord};
+ghost use Rattle.report_words.specs.declared.line.Line.{Line};
+ghost use Rattle.report_words.specs.declared.line.Line.TheVariants.{Commit as CommitLine};
 ghost use Rattle.start_model.specs.Possible.{Woken, Outcome, settled_at};
 ghost use Rattle.start_model.specs.Act.{RunState};
 ghost use Rattle.start_model.specs.Boot.{Choice};

@@ -1,10 +1,10 @@
-//! The numbers that a report says, one after the other.
+//! The numbers that a report prints, in their order.
 
 ghost use Rattle.std.specs.Prelude.{◌≡◌, true, ℕ, List, ◌∷◌, ◌++◌, Option, Some};
 ghost use Rattle.hive_model.specs.Image.{Image, Write, IsCrashImage};
 ghost use Rattle.hive_model.specs.Load.{Loads};
 ghost use Rattle.start_model.specs.Events as events;
-ghost use Rattle.start_model.specs.Lines.{Line};
+ghost use Rattle.report_words.specs.declared.line.Line.{Line};
 ghost use Rattle.start_model.specs.Possible.{Woken, Outcome};
 ghost use Rattle.start_model.specs.Boot.{Choice};
 ghost use Rattle.start_model.specs.Run.{run_of};
@@ -12,7 +12,7 @@ ghost use Rattle.start_model.specs.Report.{Report};
 ghost use Rattle.start_model.specs.Fits.{ArePossible, MayLoad, woke_in, outcomes_of};
 ghost use Rattle.commit_laws.specs.Numbers.{number_of, AreUnnumbered, tell_stop, MayBeUnder, IsNext};
 
-/// Behind a line that says a number, of a commit or a load, the next line with a number says what follows (`IsNext`): a load the
+/// After a line that says a number, of a commit or a load, the next line with a number says what follows (`IsNext`): a load the
 /// same number, or one more where a stop was told between them; a commit one more, and no stop was told. It holds of each run whose
 /// wakes may be (`run`), so of each report (`report`).
 pub fn each_number_in_a_report_follows_the_one_before()
@@ -28,7 +28,7 @@ pub fn each_number_in_a_report_follows_the_one_before()
         → number_of first ≡ Some number → AreUnnumbered between → IsNext number (tell_stop between) second }
 {}
 
-/// Behind the last line of a report that says a number, each image that the disk may be left as loads under that number, or one more
+/// After the last line of a report that says a number, each image that the disk may be left as loads under that number, or one more
 /// where a stop was told since (`report`). Of a run that gives out for want of a wake or an outcome, what the disk may load as
 /// there is under it or one more (`gives_out`): so each wake is, whether its load was done or not.
 pub fn the_disk_loads_under_the_last_number_or_the_next()

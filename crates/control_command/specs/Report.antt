@@ -7,7 +7,9 @@ use Rattle.std.specs.Prelude.{◌≡◌, ℕ, List, [], ◌∷◌, ◌++◌, Opt
 use Rattle.std.specs.Option.{option_map_or}
 use Rattle.std.specs.List.{flat_map}
 use Rattle.hive_model.specs.Tree.{Tree}
-use Rattle.start_model.specs.Lines.{name_text, VerdictLine, NoControlSet, EndLine}
+use Rattle.report_words.specs.declared.words.Verdict.TheVariants.{NoControlSet}
+use Rattle.report_words.specs.declared.line.Line.TheVariants.{Verdict as VerdictLine, End as EndLine}
+use Rattle.start_model.specs.Lines.{name_text}
 use Rattle.start_model.specs.Sets.{select_numbers_of}
 use Rattle.line_text.specs.Objects.{Value, Text, object_text}
 use Rattle.line_text.specs.declared.form.ReportForm.{ReportForm}

@@ -16,8 +16,14 @@ use Rattle.start_model.specs.Entries.{Entry, Phase, Boot, System, Automatic, Don
 use Rattle.start_model.specs.Events.{Event, BootNow, Go, Fail, Vital, Edits, Flush, Logon, Off, CutNow, Arm, step_of}
 use Rattle.start_model.specs.EventActs.{act_unless, accepted_act, edit_done, idle_act, running_act, event_step_of}
 use Rattle.start_model.specs.Judge.{Judgement, Ignore, Log, FallBack, Stop}
-use Rattle.start_model.specs.Lines as lines
-use Rattle.start_model.specs.Lines.{Line, RefusedWord, StartLine, UnmetLine, VitalLine, TryLine, VerdictLine}
+use Rattle.report_words.specs.declared.words.Verdict.{Verdict}
+use Rattle.report_words.specs.declared.words.Verdict.TheVariants as verdicts
+use Rattle.report_words.specs.declared.words.RefusedWord.{RefusedWord}
+use Rattle.report_words.specs.declared.words.TryWord.{TryWord}
+use Rattle.report_words.specs.declared.words.TryWord.TheVariants as tries
+use Rattle.report_words.specs.declared.words.CommitWord.TheVariants as commits
+use Rattle.report_words.specs.declared.line.Line.{Line}
+use Rattle.report_words.specs.declared.line.Line.TheVariants as lines
 use Rattle.start_model.specs.Machine.{Start, MachineState, Tried, attempt_of, attempt_in, attempt_at, after_attempt, after_phase, phase_after, begun_with, ending_of, failing, is_done, missing_in, next_in, requiring, save_due, unmet_in, with_start, refusal_in, refusal_of}
 use Rattle.start_model.specs.Order.{plan_of}
 use Rattle.start_model.specs.Ready.{Label, is_ready, next_of}
@@ -31,7 +37,6 @@ use Rattle.start_model.specs.Starter.{live_set, good_is_usable, phase_line, fail
 use Rattle.boot_machine.specs.Codes.{phase_number}
 use Rattle.quiet_run.specs.declared.last.BegunPhase.{BegunPhase}
 use Rattle.quiet_run.specs.declared.last.LastStart.{LastStart}
-use Rattle.quiet_run.specs.Words.{try_as}
 use Rattle.quiet_run.specs.Watch.{Watched, fresh_start, seen, watch, is_new, with_phase, phase_noted, noted, stepped, steps_of, gone, gone_unless, turned, watched_from, placed_as, quiet_run_of}
 use Rattle.why_state.specs.Views.{names_of}
 use Rattle.why_needs.specs.Met.{is_ok}
@@ -42,8 +47,8 @@ use Rattle.course_laws.proofs.MadeLemmas.{labels, Known, InPhase, Due, sight, Pa
 
 -- the names of the `unmet` lines of the last start so far
 abbrev pub unmet_seen : Line → List (List ℕ) → List (List ℕ)
-unmet_seen (StartLine number) us = []
-unmet_seen (UnmetLine name) us = us ++ name ∷ []
+unmet_seen (lines.Start number) us = []
+unmet_seen (lines.Unmet name) us = us ++ name ∷ []
 unmet_seen line us = us
 
 abbrev pub hear : List (List ℕ) → List Line → List (List ℕ)
@@ -206,9 +211,9 @@ module _ (m : RunState) (l : LastStart) (us : List (List ℕ)) (s : Start) (on :
   -- without a vital name the start is over
   vital_fits : (names : List (List ℕ)) (n : List ℕ) (k : LastStart)
       → Known (record { phases = k.phases; attempts = k.attempts; ended = true }) then_us
-      → NotedFits (quiet_play (say_all (map VitalLine (n ∷ names)) (end_with lines.Stopped false m))) k then_us
+      → NotedFits (quiet_play (say_all (map lines.Vital (n ∷ names)) (end_with verdicts.Stopped false m))) k then_us
   vital_fits [] n k is = is
-  vital_fits (n' ∷ names) n k is = vital_fits names n' (seen (VitalLine n) k) is
+  vital_fits (n' ∷ names) n k is = vital_fits names n' (seen (lines.Vital n) k) is
 
   passed_fits : (missing : List (List ℕ)) → NotedFits (quiet_play (phase_passed s m done missing)) l then_us
   passed_fits [] = begun_fits
@@ -216,7 +221,7 @@ module _ (m : RunState) (l : LastStart) (us : List (List ℕ)) (s : Start) (on :
 
 all_unmet : (names : List (List ℕ)) (a : Act) (l : LastStart) (us : List (List ℕ))
     → NotedFits (quiet_play a) l (us ++ names)
-    → NotedFits (quiet_play (say_all (map UnmetLine names) a)) l us
+    → NotedFits (quiet_play (say_all (map lines.Unmet names) a)) l us
 all_unmet [] a l us f = subst (λ (ns : List (List ℕ)). NotedFits (quiet_play a) l ns) (append-nil us) f
 all_unmet (n ∷ names) a l us f =
     all_unmet names a l (us ++ n ∷ []) (subst (λ (ns : List (List ℕ)). NotedFits (quiet_play a) l ns)
@@ -224,7 +229,7 @@ all_unmet (n ∷ names) a l us f =
 
 -- ---- a step of the starter
 
-word_ok : (ok : Bool) (j : Judgement) → is_ok (try_as (cond ok lines.TryOk (failed_word j))) ≡ ok
+word_ok : (ok : Bool) (j : Judgement) → is_ok (cond ok tries.Ok (failed_word j)) ≡ ok
 word_ok true j = refl
 word_ok false Ignore = refl
 word_ok false Log = refl
@@ -241,14 +246,14 @@ module _ (m : RunState) (l : LastStart) (us : List (List ℕ)) (s : Start) (is :
       (judged j (with_machine mm m) done))) l us
   tried_fits place e ok j mm next here start = by j one
     where
-      word : lines.TryWord
-      word = cond ok lines.TryOk (failed_word j)
+      word : TryWord
+      word = cond ok tries.Ok (failed_word j)
 
       then_l : LastStart
-      then_l = seen (TryLine e.name word) l
+      then_l = seen (lines.Try e.name word) l
 
       one : InPhase (after_attempt s place e ok) (sight then_l) us
-      one = attempted s (sight l) us place e ok (try_as word) (word_ok ok j) next here f
+      one = attempted s (sight l) us place e ok word (word_ok ok j) next here f
 
       goes_on : NotedFits (quiet_play (done (with_machine mm m))) then_l us
       goes_on =
@@ -333,16 +338,16 @@ module _ (next : RunState → Act) (off : (m : RunState) → m.machine.start ≡
   all_then f [] a b is = is
   all_then f (n ∷ names) a b is = ap (quiet_behind (f n ∷ [])) (all_then f names a b is)
 
-  end_then : (verdict : lines.Verdict) (falls_back : Bool) (m : RunState)
+  end_then : (verdict : Verdict) (falls_back : Bool) (m : RunState)
       → Then (end_with verdict falls_back m) (end_with verdict falls_back m)
-  end_then verdict falls_back m = ap (quiet_behind (VerdictLine verdict ∷ []))
+  end_then verdict falls_back m = ap (quiet_behind (lines.Verdict verdict ∷ []))
       (sym (off (start_over falls_back m) refl))
 
   judged_then : (j : Judgement) (m : RunState) → Then (judged j m done) (judged j m next)
   judged_then Ignore m = refl
   judged_then Log m = refl
-  judged_then FallBack m = end_then lines.FallBack true m
-  judged_then Stop m = end_then lines.Stopped false m
+  judged_then FallBack m = end_then verdicts.FallBack true m
+  judged_then Stop m = end_then verdicts.Stopped false m
 
   saved_then : (s : Start) (clone : Tree) (m : RunState) (r : Result SetChange ChangeStop)
       → Then (saved_by s clone m done r) (saved_by s clone m next r)
@@ -363,15 +368,15 @@ module _ (next : RunState → Act) (off : (m : RunState) → m.machine.start ≡
       ap (quiet_behind (phase_line t.phase ∷ [])) (due_then (save_due t) t t.clone
       (with_machine (with_start t m.machine) m))
   passed_then s m (n ∷ names) =
-      all_then VitalLine (n ∷ names) (end_with lines.Stopped false m) (end_with lines.Stopped false m)
-      (end_then lines.Stopped false m)
+      all_then lines.Vital (n ∷ names) (end_with verdicts.Stopped false m) (end_with verdicts.Stopped false m)
+      (end_then verdicts.Stopped false m)
 
   tried_then : (s : Start) (m : RunState) (o : Option (MachineState × Tried))
       → Then (starter_step s m done o) (starter_step s m next o)
   tried_then s m (Some one) = ap (quiet_behind (try_line one.1 ∷ []))
       (judged_then one.1.judgement (with_machine one.0 m))
   tried_then s m None =
-      all_then UnmetLine (unmet_in s) (phase_passed s m done (missing_in m.machine.vital s))
+      all_then lines.Unmet (unmet_in s) (phase_passed s m done (missing_in m.machine.vital s))
       (phase_passed s m next (missing_in m.machine.vital s))
       (passed_then s m (missing_in m.machine.vital s))
 
@@ -490,7 +495,7 @@ begin_by_fits on_good m l phases attempts (Ok change) = by change.has_steps
     then_l = seen (set_line on_good m) l
 
     by : (b : Bool)
-        → NotedFits (quiet_play (cond b (commit lines.BeginCommit change.tree m
+        → NotedFits (quiet_play (cond b (commit commits.Begin change.tree m
         (begin_start change.chosen on_good change.numbers))
         (begin_start change.chosen on_good change.numbers m))) then_l []
     by true = begin_fits change.chosen on_good change.numbers (committed_state m change.tree) then_l phases attempts
@@ -533,14 +538,14 @@ module _ (choice : Option ℕ → Choice) where
   edit_fits e m l us f (Err why) = noted_fits m l us f
 
   flush_fits : (b : Bool) (m : RunState) (l : LastStart) (us : List (List ℕ)) → Fits m (sight l) us
-      → NotedFits (quiet_play (cond b (commit lines.FlushCommit m.live m done)
-      (say lines.FlushNothingLine (done m)))) l us
+      → NotedFits (quiet_play (cond b (commit commits.Flush m.live m done)
+      (say lines.FlushNothing (done m)))) l us
   flush_fits true m l us f = noted_fits (committed_state m m.live) l us f
   flush_fits false m l us f = noted_fits m l us f
 
-  off_fits : (b : Bool) (verdict : lines.Verdict) (m : RunState) (l : LastStart) (us : List (List ℕ))
+  off_fits : (b : Bool) (verdict : Verdict) (m : RunState) (l : LastStart) (us : List (List ℕ))
       → Known (sight l) us
-      → NotedFits (quiet_play (cond b (commit lines.OffCommit m.live m (end_with verdict false))
+      → NotedFits (quiet_play (cond b (commit commits.Off m.live m (end_with verdict false))
       (end_with verdict false m))) l us
   off_fits true verdict m l us f = f
   off_fits false verdict m l us f = f
@@ -626,7 +631,7 @@ module _ (choice : Option ℕ → Choice) where
   turn_follows (Arm arming) m l us f = other_follows (Arm arming) tt m l us f
 
   close_known : (o : Option Start) (m : RunState) (l : LastStart) (us : List (List ℕ)) → Known (sight l) us
-      → let a : Act = verdict_first o (say lines.EndLine (done m)) in Known (sight (watch a l).last)
+      → let a : Act = verdict_first o (say lines.End (done m)) in Known (sight (watch a l).last)
       (hear us (quiet_play a).lines)
   close_known None m l us f = f
   close_known (Some s) m l us f = f

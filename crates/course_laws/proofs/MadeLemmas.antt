@@ -8,7 +8,7 @@ use Rattle.std.proofs.lemmas.Bool.Decides.{nat_tests}
 use Rattle.std.proofs.lemmas.List.{map-append, length-append, length-map}
 use Rattle.nt_bytes.specs.Folding.{folded}
 use Rattle.dependencies.proofs.MeetLemmas.{folded_first}
-use Rattle.boot_report.specs.declared.words.TryWord.{TryWord}
+use Rattle.report_words.specs.declared.words.TryWord.{TryWord}
 use Rattle.start_model.specs.Entries.{Entry, Phase, Boot, System, Automatic, Done, need_of, is_driver, is_service, places_of, was_tried, automatic_among, entries_of, taken_of}
 use Rattle.start_model.specs.Order.{Rank, rank_of, orders_of, ordered_of, tags_count_in, plan_of}
 use Rattle.start_model.specs.Ready.{Label, next_of}

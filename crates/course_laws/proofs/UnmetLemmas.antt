@@ -10,8 +10,8 @@ use Rattle.std.proofs.lemmas.List.Quantifiers.{position-Some}
 use Rattle.std.proofs.lemmas.Option.{same_Some, slice_get-map, slice_get-get_or, slice_get_within}
 use Rattle.nt_bytes.specs.Folding.{folds_same}
 use Rattle.name_places.proofs.FoldLemmas.{alike}
-use Rattle.boot_report.specs.declared.words.TryWord.{TryWord}
-use Rattle.boot_report.specs.declared.words.TryWord.TheVariants as tries
+use Rattle.report_words.specs.declared.words.TryWord.{TryWord}
+use Rattle.report_words.specs.declared.words.TryWord.TheVariants as tries
 use Rattle.boot_phases.specs.declared.phase.Phase.{Phase}
 use Rattle.boot_phases.specs.Phases.{phase_in}
 use Rattle.boot_machine.specs.Codes.{phase_number}
@@ -20,7 +20,8 @@ use Rattle.quiet_run.specs.declared.last.Attempt.{Attempt}
 use Rattle.quiet_run.specs.declared.last.QuietRun.{QuietRun}
 use Rattle.quiet_run.specs.Play.{AreHeld}
 use Rattle.quiet_run.specs.Watch.{quiet_run_of}
-use Rattle.start_model.specs.Lines.{Line, StartLine, UnmetLine}
+use Rattle.report_words.specs.declared.line.Line.{Line}
+use Rattle.report_words.specs.declared.line.Line.TheVariants.{Start as StartLine, Unmet as UnmetLine}
 use Rattle.start_model.specs.Quiet as book
 use Rattle.why_laws.specs.Reports.{started_by, last_start_in}
 use Rattle.service_control.proofs.LeanLemmas.{mapped_to}

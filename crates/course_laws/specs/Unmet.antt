@@ -4,7 +4,8 @@ use Rattle.std.specs.List.{filter_map}
 use Rattle.nt_bytes.specs.Folding.{folds_same}
 use Rattle.start_model.specs.Boot.{Choice}
 use Rattle.start_model.specs.Events.{Event}
-use Rattle.start_model.specs.Lines.{Line, UnmetLine}
+use Rattle.report_words.specs.declared.line.Line.{Line}
+use Rattle.report_words.specs.declared.line.Line.TheVariants.{Unmet as UnmetLine}
 use Rattle.start_model.specs.Possible.{Woken}
 use Rattle.start_model.specs.Quiet as book
 use Rattle.why_lines.specs.declared.lines.NameState.TheVariants as states

@@ -5,7 +5,8 @@ use Rattle.std.specs.Option.{option_map_or}
 use Rattle.hive_model.specs.Tree.{Tree}
 use Rattle.start_model.specs.Entries.{Entry, Phase, Boot}
 use Rattle.start_model.specs.Order.{plan_of}
-use Rattle.start_model.specs.Lines.{Line, UnmetLine}
+use Rattle.report_words.specs.declared.line.Line.{Line}
+use Rattle.report_words.specs.declared.line.Line.TheVariants.{Unmet as UnmetLine}
 use Rattle.start_model.specs.Machine.{unmet_in, phase_after}
 use Rattle.start_model.specs.Starter.{phase_line}
 use Rattle.boot_machine.specs.Steps.{without_clone}

@@ -7,9 +7,8 @@ use Rattle.std.proofs.lemmas.Grind.{flat_map-append}
 use Rattle.start_model.specs.Lines.{set_word, verdict_word}
 use Rattle.boot_phases.specs.declared.phase.Phase.{Phase}
 use Rattle.boot_phases.specs.declared.phase.Phase.TheVariants as phases
-use Rattle.boot_report.specs.declared.words.Verdict.{Verdict}
-use Rattle.boot_report.specs.declared.words.Verdict.TheVariants as verdicts
-use Rattle.boot_report.specs.Report.{verdict_of}
+use Rattle.report_words.specs.declared.words.Verdict.{Verdict}
+use Rattle.report_words.specs.declared.words.Verdict.TheVariants as verdicts
 use Rattle.line_text.specs.declared.form.ReportForm.TheVariants as forms
 use Rattle.line_text.specs.Objects.{Value, Number, Text, object_text}
 use Rattle.json_laws.specs.Objects.{Object, IsObject, IsNumber, AreUnits, json_of, told}
@@ -86,14 +85,14 @@ place_units (Some phases.Done) = word_units (place_word (Some phases.Done)) refl
 
 abbrev verdict_from : List ℕ → Option Verdict
 verdict_from word =
-    pick (λ (v : Verdict). verdict_word (verdict_of v))
+    pick (λ (v : Verdict). verdict_word v)
     (verdicts.Good ∷ verdicts.GoodUnsaved ∷ verdicts.Running ∷ verdicts.FallBack ∷ verdicts.Stopped ∷ verdicts.Cut
     ∷ verdicts.Device
     ∷ verdicts.Full ∷ verdicts.NoNumber ∷ verdicts.NoEntry ∷ verdicts.OtherLoader ∷ verdicts.NoSystem
     ∷ verdicts.NoControlSet
     ∷ verdicts.NoLastKnownGood ∷ []) word
 
-verdict_back : (x : Verdict) → verdict_from (verdict_word (verdict_of x)) ≡ Some x
+verdict_back : (x : Verdict) → verdict_from (verdict_word x) ≡ Some x
 verdict_back verdicts.Good = refl
 verdict_back verdicts.GoodUnsaved = refl
 verdict_back verdicts.Running = refl
@@ -148,7 +147,7 @@ sound_head (lines.Set number on_good) is = record {
 sound_head (lines.Verdict verdict) is = record {
   word = refl;
   fields =
-      ((refl, verdict_units (verdict_of verdict)), tt);
+      ((refl, verdict_units verdict), tt);
 }
 sound_head (lines.EndedBy name) is = record { word = refl; fields = ((refl, is), tt) }
 sound_head (lines.Vital name) is = record { word = refl; fields = ((refl, is), tt) }

@@ -9,9 +9,9 @@ use Rattle.std.proofs.lemmas.Bool.Decides.{nat_tests}
 use Rattle.std.proofs.lemmas.List.Elements.{All-head, All-tail}
 use Rattle.std.proofs.lemmas.List.Folds.{list_all-append}
 use Rattle.nt_bytes.specs.Text.{is_printable}
-use Rattle.start_model.specs.Lines.{unit_text, escaped, name_text, set_word, verdict_word, Verdict}
-use Rattle.start_model.specs.Lines.{Good, GoodUnsaved, Running, FallBack, Stopped, Cut, Device, Full, NoNumber, NoEntry, OtherLoader, NoSystem, NoControlSet, NoLastKnownGood}
-use Rattle.boot_report.specs.Report.{verdict_of}
+use Rattle.report_words.specs.declared.words.Verdict.{Verdict}
+use Rattle.report_words.specs.declared.words.Verdict.TheVariants as verdicts
+use Rattle.start_model.specs.Lines.{unit_text, escaped, name_text, set_word, verdict_word}
 use Rattle.boot_phases.specs.declared.phase.Phase.{Phase}
 use Rattle.boot_phases.specs.declared.phase.Phase.TheVariants as phases
 use Rattle.json_laws.specs.Objects.{AreUnits}
@@ -107,20 +107,20 @@ quoted_prints {text} p = word (in_quotes text) (are_printable text p.all)
 -- ---- the head
 
 verdict_prints : (verdict : Verdict) → Prints (verdict_word verdict)
-verdict_prints Good = word (verdict_word Good) refl
-verdict_prints GoodUnsaved = word (verdict_word GoodUnsaved) refl
-verdict_prints Running = word (verdict_word Running) refl
-verdict_prints FallBack = word (verdict_word FallBack) refl
-verdict_prints Stopped = word (verdict_word Stopped) refl
-verdict_prints Cut = word (verdict_word Cut) refl
-verdict_prints Device = word (verdict_word Device) refl
-verdict_prints Full = word (verdict_word Full) refl
-verdict_prints NoNumber = word (verdict_word NoNumber) refl
-verdict_prints NoEntry = word (verdict_word NoEntry) refl
-verdict_prints OtherLoader = word (verdict_word OtherLoader) refl
-verdict_prints NoSystem = word (verdict_word NoSystem) refl
-verdict_prints NoControlSet = word (verdict_word NoControlSet) refl
-verdict_prints NoLastKnownGood = word (verdict_word NoLastKnownGood) refl
+verdict_prints verdicts.Good = word (verdict_word verdicts.Good) refl
+verdict_prints verdicts.GoodUnsaved = word (verdict_word verdicts.GoodUnsaved) refl
+verdict_prints verdicts.Running = word (verdict_word verdicts.Running) refl
+verdict_prints verdicts.FallBack = word (verdict_word verdicts.FallBack) refl
+verdict_prints verdicts.Stopped = word (verdict_word verdicts.Stopped) refl
+verdict_prints verdicts.Cut = word (verdict_word verdicts.Cut) refl
+verdict_prints verdicts.Device = word (verdict_word verdicts.Device) refl
+verdict_prints verdicts.Full = word (verdict_word verdicts.Full) refl
+verdict_prints verdicts.NoNumber = word (verdict_word verdicts.NoNumber) refl
+verdict_prints verdicts.NoEntry = word (verdict_word verdicts.NoEntry) refl
+verdict_prints verdicts.OtherLoader = word (verdict_word verdicts.OtherLoader) refl
+verdict_prints verdicts.NoSystem = word (verdict_word verdicts.NoSystem) refl
+verdict_prints verdicts.NoControlSet = word (verdict_word verdicts.NoControlSet) refl
+verdict_prints verdicts.NoLastKnownGood = word (verdict_word verdicts.NoLastKnownGood) refl
 
 set_prints : (on_good : Bool) → Prints (set_word on_good)
 set_prints true = word (set_word true) refl
@@ -131,7 +131,7 @@ part_prints lines.NoBoot is = word (codes "no-boot") refl
 part_prints (lines.Start number) is = both (word (codes "start ") refl) (number_prints number)
 part_prints (lines.Set number on_good) is =
     both (word (codes "set ") refl) (both (number_prints number) (both (word (codes " ") refl) (set_prints on_good)))
-part_prints (lines.Verdict verdict) is = both (word (codes "verdict ") refl) (verdict_prints (verdict_of verdict))
+part_prints (lines.Verdict verdict) is = both (word (codes "verdict ") refl) (verdict_prints verdict)
 part_prints (lines.EndedBy name) is = both (word (codes "ended-by ") refl) (name_prints name is)
 part_prints (lines.Vital name) is = both (word (codes "vital ") refl)
     (both (name_prints name is) (word (codes " missing") refl))

@@ -266,7 +266,7 @@ lists_off name set place held only =
 abbrev pub lists_with : Lists → ℕ → ℕ → Lists
 lists_with l place start = record l { entries = with_start_at l.entries place start }
 
--- its own Start is put back
+-- its own Start is restored
 pub put_back_some : (l old new : Lists) (place start : ℕ)
     → Some start ≡ option_map (λ (e : Entry). e.start) (slice_get l.entries place)
     → old ≡ lists_with l place 4 → new ≡ lists_with old place start → new ≡ l

@@ -125,7 +125,7 @@ unfolding attempts_of
 none_tried zero usable c none = refl
 none_tried (suc n) usable c none = ap (λ x. option_map_or (attempts_of n usable) x c) none
 
--- any count that is not below the number of the waiting comes to the same end
+-- any count that is not below the number of the waiting has the same end
 pub enough : (usable : Bool) (n m : ℕ) (c : Course) → waiting_count c.machine ≤ n → waiting_count c.machine ≤ m
     → attempts_of n usable c ≡ attempts_of m usable c
 enough usable zero m c low high = by_next (next_course usable c) refl

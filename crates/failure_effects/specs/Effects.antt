@@ -4,7 +4,7 @@ use Rattle.nt_bytes.specs.Folding.{folds_same}
 use Rattle.nt_bytes.specs.declared.version.HiveVersion.{HiveVersion}
 use Rattle.hive_model.specs.Tree.{Tree}
 use Rattle.start_model.specs.Entries.{entries_of}
-use Rattle.boot_report.specs.declared.words.Verdict.TheVariants as verdicts
+use Rattle.report_words.specs.declared.words.Verdict.TheVariants as verdicts
 use Rattle.failure_effects.specs.declared.lines.EffectLine.{EffectLine}
 use Rattle.failure_effects.specs.declared.lines.EffectLine.TheVariants as lines
 use Rattle.failure_effects.specs.declared.opening.Opening.{Opening}
@@ -41,7 +41,7 @@ leaning_lines taken plain (Some name) = leans_lines plain name (entries_of taken
 abbrev pub told_lines : Taken → Option (List ℕ) → List Told → List EffectLine
 told_lines taken of plain = of_lines taken plain of ++ blocks_where (is_asked of) taken plain ++ leaning_lines taken plain of
 
--- by what the plain start comes to
+-- by what becomes of the plain start
 abbrev pub opened_lines : Opening → Option (List ℕ) → List EffectLine
 opened_lines (NoSet verdict) of = lines.Verdict verdict ∷ []
 opened_lines (NoPhase number on_good verdict) of = lines.Set number on_good ∷ lines.Verdict verdict ∷ []

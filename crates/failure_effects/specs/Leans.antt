@@ -43,7 +43,7 @@ need_word layer e = if names_one layer e then Service else Group
 abbrev pub leans_line : List Told → ℕ → Layer → Entry → EffectLine
 leans_line plain steps layer e = Leans steps (need_word layer e) (state_in plain e.name) e.name
 
--- the lines of those among the rest that come to the layer, the nearest first and each layer in the order of the registry; at most that many layers
+-- the lines of those among the rest that reach the layer, the nearest first and each layer in the order of the registry; at most that many layers
 abbrev pub leans_from : ℕ → ℕ → List Told → Layer → List Entry → List EffectLine
 leans_from zero steps plain layer rest = []
 leans_from (suc n) steps plain layer rest =
@@ -51,7 +51,7 @@ leans_from (suc n) steps plain layer rest =
     if length near == 0 then []
     else map (leans_line plain steps layer) near ++ leans_from n (steps + 1) plain (layer_of near) (filter (λ e. not (needs_one layer e)) rest)
 
--- the same from where a walk has come to, if it goes on
+-- the same from where a walk has got, if it goes on
 abbrev pub leans_on : ℕ → ℕ → List Told → Option Walk → List EffectLine
 leans_on n steps plain None = []
 leans_on n steps plain (Some walk) = leans_from n steps plain walk.layer walk.rest

@@ -1,4 +1,4 @@
--- What does the plain start come to before its phases? (this project's own)
+-- What becomes of the plain start before its phases? (this project's own)
 --
 -- Which set is taken, and what its beginning changes, is that of the book of startup.
 use Rattle.std.specs.Prelude.{ℕ, Bool, Result, Ok, Err}
@@ -13,7 +13,7 @@ use Rattle.start_model.specs.Starter.{no_set, good_is_usable}
 use Rattle.select_keys.specs.Sets.{usable_set}
 use Rattle.select_keys.specs.declared.stop.SelectStop.{SelectStop}
 use Rattle.select_keys.specs.declared.stop.SelectStop.TheVariants as stops
-use Rattle.boot_report.specs.declared.words.Verdict.TheVariants as verdicts
+use Rattle.report_words.specs.declared.words.Verdict.TheVariants as verdicts
 use Rattle.failure_effects.specs.declared.opening.Opening.{Opening}
 use Rattle.failure_effects.specs.declared.opening.Opening.TheVariants.{NoSet, NoPhase, Begun}
 use Rattle.failure_effects.specs.declared.opening.StartChoice.{StartChoice}
@@ -36,7 +36,7 @@ opened on_good tree (Err (NoPlan NoLastKnownGood)) = NoSet verdicts.NoLastKnownG
 opened on_good tree (Err (NoPlan NoFreeNumber)) = NoPhase (taken_number (select_numbers_of tree) on_good) on_good verdicts.NoNumber
 opened on_good tree (Err sets.Full) = NoPhase (taken_number (select_numbers_of tree) on_good) on_good verdicts.Full
 
--- what the plain start comes to on a tree that a hive of this version loads as
+-- what becomes of the plain start on a tree that a hive of this version loads as
 abbrev pub opening_of : HiveVersion → Tree → StartChoice → Opening
 opening_of version tree (OnSet on_good) = opened on_good tree (begin_of version tree on_good)
 opening_of version tree (Ends verdict) = NoSet verdict

@@ -58,7 +58,7 @@ pub enum EffectLine {
     Unmet(Units),
     /// This entry is lost: no phase takes it.
     Untaken(Units),
-    /// This entry comes to the name that is asked for by this many needs.
+    /// This entry reaches the name that is asked for by this many needs.
     Leans {
         steps: usize,
         by: NeedWord,

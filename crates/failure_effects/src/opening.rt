@@ -36,7 +36,7 @@ pub struct Taken {
     pub set: Key,
 }
 
-/// What the plain start comes to.
+/// What becomes of the plain start before its phases.
 #[derive(Drop)]
 pub enum Opening {
     /// It ends before a set is named.
@@ -47,11 +47,11 @@ pub enum Opening {
         on_good: bool,
         verdict: Verdict,
     },
-    /// It comes to its boot phase.
+    /// It reaches its boot phase.
     Begun(Taken),
 }
 
-/// What the plain start comes to on a tree that a hive of this version loads as.
+/// What becomes of the plain start on a tree that a hive of this version loads as.
 pub(crate) fn open(
     alloc: Global,
     root: Key,

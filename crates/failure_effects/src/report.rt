@@ -35,7 +35,7 @@ pub fn effects(
     lines_of(alloc, &opening, of)
 }
 
-/// All lines, by what the plain start comes to.
+/// All lines, by what becomes of the plain start.
 fn lines_of(alloc: Global, opening: &Opening, of: Option<&Units>) -> Result<EffectLines, AllocError>
     requires { HoldsTaken opening.now }
     ensures { IfOk result (λ lines. lines ≡ EffectLine.Start ∷ opened_lines opening.now (option_copied of.entry) ++ EffectLine.End ∷ []) }
@@ -47,7 +47,7 @@ fn lines_of(alloc: Global, opening: &Opening, of: Option<&Units>) -> Result<Effe
     Ok(lines)
 }
 
-/// By what the plain start comes to.
+/// By what becomes of the plain start.
 fn push_opened(
     alloc: Global,
     opening: &Opening,

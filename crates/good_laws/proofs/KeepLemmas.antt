@@ -9,8 +9,14 @@ use Rattle.hive_model.specs.Image.{Arming}
 use Rattle.hive_model.specs.Tree.{Tree}
 use Rattle.hive_model.specs.State.{HiveState}
 use Rattle.hive_model.specs.Edit.{Refusal, edited}
-use Rattle.start_model.specs.Lines as lines
-use Rattle.start_model.specs.Lines.{Line, Verdict, CommitWord, RefusedWord, UnmetLine, VitalLine}
+use Rattle.report_words.specs.declared.words.Verdict.{Verdict}
+use Rattle.report_words.specs.declared.words.Verdict.TheVariants as verdicts
+use Rattle.report_words.specs.declared.words.RefusedWord.{RefusedWord}
+use Rattle.report_words.specs.declared.words.CommitWord.{CommitWord}
+use Rattle.report_words.specs.declared.words.CommitWord.TheVariants as commits
+use Rattle.report_words.specs.declared.words.RefusedWord.TheVariants as reasons
+use Rattle.report_words.specs.declared.line.Line.{Line}
+use Rattle.report_words.specs.declared.line.Line.TheVariants as lines
 use Rattle.start_model.specs.Judge.{Judgement, Ignore, Log, FallBack, Stop}
 use Rattle.start_model.specs.Entries.{Entry}
 use Rattle.start_model.specs.Sets as sets
@@ -196,7 +202,7 @@ saved_by-keeps P s clone h m next (Ok change) is d r f =
     let behind : RunState → Act =
     λ after. acts.say (commit_book.select_line change.numbers) (next (noted_saved true s after)) in (
       tt,
-      commit-keeps P lines.SaveCommit k m change.tree behind saved.fine (disk_saved h clone m.disk d)
+      commit-keeps P commits.Save k m change.tree behind saved.fine (disk_saved h clone m.disk d)
           (f after (noted_saved true s (committed_state m change.tree))
           (noted_going P after true s (committed_state m change.tree)
           (disk_settled after (next_state m change.tree) settled.fine) settled)),
@@ -228,8 +234,8 @@ judged-keeps : (P : Tree → Type 0) (j : Judgement) (h : List Note) (m : RunSta
     → KeepsGoing P h m → Next P next → Keeps P h (judged j m next)
 judged-keeps P Ignore h m next g f = f h m g
 judged-keeps P Log h m next g f = f h m g
-judged-keeps P FallBack h m next g f = ended-keeps P h lines.FallBack true m g.disk
-judged-keeps P Stop h m next g f = ended-keeps P h lines.Stopped false m g.disk
+judged-keeps P FallBack h m next g f = ended-keeps P h verdicts.FallBack true m g.disk
+judged-keeps P Stop h m next g f = ended-keeps P h verdicts.Stopped false m g.disk
 
 -- the start that an attempt leaves took the same set, and has the same clone
 record SameStart (s : Start) (one : MachineState × Tried) : Type 0 where
@@ -279,14 +285,14 @@ phase_passed-keeps : (P : Tree → Type 0) (s : Start) (h : List Note) (m : RunS
     → Keeps P h (phase_passed s m next missing)
 phase_passed-keeps P s h m next [] d r f = phase_begun-keeps P s h m next d r f
 phase_passed-keeps P s h m next (name ∷ names) d r f =
-    say_all-keeps P h (map VitalLine (name ∷ names)) (end_with lines.Stopped false m)
-    (ended-keeps P h lines.Stopped false m d)
+    say_all-keeps P h (map lines.Vital (name ∷ names)) (end_with verdicts.Stopped false m)
+    (ended-keeps P h verdicts.Stopped false m d)
 
 phase_step-keeps : (P : Tree → Type 0) (s : Start) (h : List Note) (m : RunState) (next : RunState → Act)
     → DiskFine h m.disk → StartRuns P h m.live s → Next P next → Keeps P h (phase_step s m next)
 phase_step-keeps P s h m next d r f =
     let missing : List (List ℕ) = missing_in m.machine.vital s in
-    say_all-keeps P h (map UnmetLine (unmet_in s)) (phase_passed s m next missing)
+    say_all-keeps P h (map lines.Unmet (unmet_in s)) (phase_passed s m next missing)
     (phase_passed-keeps P s h m next missing d r f)
 
 starter_step-keeps : (P : Tree → Type 0) (s : Start) (h : List Note) (m : RunState) (next : RunState → Act)
@@ -371,10 +377,10 @@ begin_with-keeps P h on_good change m is p d held fine = by_case change.has_step
     settled = run_committed h change.tree change.chosen begun
 
     by_case : (b : Bool) → change.has_steps ≡ b
-        → Keeps P h (cond b (commit lines.BeginCommit change.tree m (begin_start change.chosen on_good change.numbers))
+        → Keeps P h (cond b (commit commits.Begin change.tree m (begin_start change.chosen on_good change.numbers))
         (begin_start change.chosen on_good change.numbers m))
     by_case true some =
-        commit-keeps P lines.BeginCommit h m change.tree (begin_start change.chosen on_good change.numbers) begun.fine d
+        commit-keeps P commits.Begin h m change.tree (begin_start change.chosen on_good change.numbers) begun.fine d
         (begin_start-keeps P (push (push h (Ended Finished)) (Held change.tree)) change.chosen on_good change.numbers
         (committed_state m change.tree)
         (disk_settled (push (push h (Ended Finished)) (Held change.tree)) (next_state m change.tree) settled.fine)
@@ -390,12 +396,12 @@ begin_by-keeps : (P : Tree → Type 0) (h : List Note) (on_good : Bool) (m : Run
     → DiskFine h m.disk → HasHeld h → IsFine h m.live → Keeps P h (begin_by on_good m r)
 begin_by-keeps P h on_good m (Ok change) is p d held fine = begin_with-keeps P h on_good change m is p d held fine
 begin_by-keeps P h on_good m (Err (NoPlan sets.NoControlSet)) is p d held fine =
-    ended-keeps P h lines.NoControlSet false m d
+    ended-keeps P h verdicts.NoControlSet false m d
 begin_by-keeps P h on_good m (Err (NoPlan sets.NoLastKnownGood)) is p d held fine =
-    ended-keeps P h lines.NoLastKnownGood false m d
+    ended-keeps P h verdicts.NoLastKnownGood false m d
 begin_by-keeps P h on_good m (Err (NoPlan sets.NoFreeNumber)) is p d held fine =
-    ended-keeps P h lines.NoNumber false m d
-begin_by-keeps P h on_good m (Err sets.Full) is p d held fine = ended-keeps P h lines.Full false m d
+    ended-keeps P h verdicts.NoNumber false m d
+begin_by-keeps P h on_good m (Err sets.Full) is p d held fine = ended-keeps P h verdicts.Full false m d
 
 possible_fine : (h : List Note) (disk : Possible) (w : Woken) → DiskFine h disk → IsPossible disk w
     → IsFine h w.state.tree
@@ -439,9 +445,9 @@ chosen-keeps P h on_good m (boot_book.EntryTaken number path entry_on_good) d = 
       (fine_note h (push h (Woke m.disk)) w.state.tree (same_held h (Woke m.disk) refl)
       (same_saved h (Woke m.disk) refl) (possible_fine h m.disk w d may)),
 )
-chosen-keeps P h on_good m boot_book.NoEntry d = ended-keeps P h lines.NoEntry false m d
-chosen-keeps P h on_good m (boot_book.OtherLoader number path) d = ended-keeps P h lines.OtherLoader false m d
-chosen-keeps P h on_good m (boot_book.NoSystem number path) d = ended-keeps P h lines.NoSystem false m d
+chosen-keeps P h on_good m boot_book.NoEntry d = ended-keeps P h verdicts.NoEntry false m d
+chosen-keeps P h on_good m (boot_book.OtherLoader number path) d = ended-keeps P h verdicts.OtherLoader false m d
+chosen-keeps P h on_good m (boot_book.NoSystem number path) d = ended-keeps P h verdicts.NoSystem false m d
 
 -- ---- the other events
 
@@ -473,15 +479,15 @@ live-keeps P what s h m next is g f =
 flush_act-keeps : (P : Tree → Type 0) (s : Start) (h : List Note) (m : RunState) → m.machine.start ≡ Some s
     → KeepsGoing P h m → Keeps P h (flush_act m)
 flush_act-keeps P s h m is g =
-    either P h m.changed (commit lines.FlushCommit m.live m acts.done) (acts.say lines.FlushNothingLine (acts.done m))
-    (live-keeps P lines.FlushCommit s h m acts.done is g (λ h x k. k)) g
+    either P h m.changed (commit commits.Flush m.live m acts.done) (acts.say lines.FlushNothing (acts.done m))
+    (live-keeps P commits.Flush s h m acts.done is g (λ h x k. k)) g
 
 off_act-keeps : (P : Tree → Type 0) (s : Start) (h : List Note) (m : RunState) → m.machine.start ≡ Some s
     → KeepsGoing P h m → Keeps P h (off_act s m)
 off_act-keeps P s h m is g =
-    either P h m.changed (commit lines.OffCommit m.live m (end_with (ending_of s) false))
+    either P h m.changed (commit commits.Off m.live m (end_with (ending_of s) false))
     (end_with (ending_of s) false m)
-    (live-keeps P lines.OffCommit s h m (end_with (ending_of s) false) is g
+    (live-keeps P commits.Off s h m (end_with (ending_of s) false) is g
     (λ h x k. ended-keeps P h (ending_of s) false x k.disk)) (ended-keeps P h (ending_of s) false m g.disk)
 
 logon_act-keeps : (P : Tree → Type 0) (s : Start) (h : List Note) (m : RunState) → m.machine.start ≡ Some s
@@ -498,7 +504,7 @@ cut-keeps P h m g =
       tt,
       (
         d,
-        λ o. ended-keeps P (push k (Ended o)) lines.Cut false m
+        λ o. ended-keeps P (push k (Ended o)) verdicts.Cut false m
             (disk_note k (push k (Ended o)) m.disk (same_held k (Ended o) refl) (same_saved k (Ended o) refl) d),
       ),
     )
@@ -531,7 +537,7 @@ running_act-keeps P s (events.Fail name count) h m is free g = fail_going P h na
 running_act-keeps P s (events.Vital name) h m is free g = vital_going P h name m g
 running_act-keeps P s (events.Edits edit) h m is free g =
     edit_done-keeps P (events.Edits edit) edit s h m (edited m.version m.live (step_of s.number edit ∷ [])) is
-    (not_refused (is_protected edit) lines.ProtectedReason free) refl g
+    (not_refused (is_protected edit) reasons.Protected free) refl g
 running_act-keeps P s events.Flush h m is free g = flush_act-keeps P s h m is g
 running_act-keeps P s events.Logon h m is free g = logon_act-keeps P s h m is g
 running_act-keeps P s events.Off h m is free g = off_act-keeps P s h m is g
@@ -573,6 +579,6 @@ event_step_of-keeps P choice e h m g = unless-keeps P choice e h m (refusal_of m
 pub closing-keeps : (P : Tree → Type 0) (h : List Note) (m : RunState) → KeepsGoing P h m → Keeps P h (closing_act m)
 closing-keeps P h m g = by_start m.machine.start
   where
-    by_start : (o : Option Start) → Keeps P h (verdict_first o (acts.say lines.EndLine (acts.done m)))
+    by_start : (o : Option Start) → Keeps P h (verdict_first o (acts.say lines.End (acts.done m)))
     by_start None = g
     by_start (Some s) = g

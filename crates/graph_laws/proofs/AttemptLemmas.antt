@@ -5,11 +5,11 @@ use Rattle.std.specs.Option.{option_to_list}
 use Rattle.std.specs.List.{list_any, range_with_len}
 use Rattle.std.proofs.lemmas.Bool.{false≢true}
 use Rattle.std.proofs.lemmas.List.Elements.{Contains-append_cases}
-use Rattle.boot_report.specs.declared.words.TryWord.{TryWord}
-use Rattle.boot_report.specs.declared.words.TryWord.TheVariants as tries
+use Rattle.report_words.specs.declared.words.TryWord.{TryWord}
+use Rattle.report_words.specs.declared.words.TryWord.TheVariants as tries
 use Rattle.error_control.specs.declared.outcome.Judgement.{Judgement}
 use Rattle.error_control.specs.declared.outcome.Judgement.TheVariants as judgements
-use Rattle.start_model.specs.Lines.{Line}
+use Rattle.report_words.specs.declared.line.Line.{Line}
 use Rattle.start_model.specs.Events.{Event}
 use Rattle.start_model.specs.Possible.{Woken}
 use Rattle.start_model.specs.Boot.{Choice}

@@ -6,7 +6,9 @@ use Rattle.std.specs.List.{range_with_len}
 use Rattle.std.proofs.lemmas.Bool.{and_parts}
 use Rattle.std.proofs.lemmas.Option.{same_Some}
 use Rattle.std.proofs.lemmas.List.Elements.{Contains-append_cases}
-use Rattle.start_model.specs.Lines.{Line, RefusedWord, StartLine}
+use Rattle.report_words.specs.declared.words.RefusedWord.{RefusedWord}
+use Rattle.report_words.specs.declared.line.Line.{Line}
+use Rattle.report_words.specs.declared.line.Line.TheVariants.{Start as StartLine}
 use Rattle.start_model.specs.Entries.{Phase, Boot, System, Automatic, Done}
 use Rattle.start_model.specs.Events.{Event, Go}
 use Rattle.start_model.specs.Possible.{Woken, Finished}

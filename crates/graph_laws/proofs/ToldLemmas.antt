@@ -7,8 +7,8 @@ use Rattle.std.proofs.lemmas.Bool.{ne_eqb}
 use Rattle.std.proofs.lemmas.Option.{same_Some, slice_get-map}
 use Rattle.boot_phases.specs.declared.phase.Phase.{Phase}
 use Rattle.boot_phases.specs.declared.phase.Phase.TheVariants as phases
-use Rattle.boot_report.specs.declared.words.TryWord.{TryWord}
-use Rattle.boot_report.specs.declared.words.TryWord.TheVariants as tries
+use Rattle.report_words.specs.declared.words.TryWord.{TryWord}
+use Rattle.report_words.specs.declared.words.TryWord.TheVariants as tries
 use Rattle.wait_cycles.proofs.MetLemmas.{first_in, later_in}
 use Rattle.why_lines.specs.declared.lines.NameState.{NameState}
 use Rattle.why_lines.specs.declared.lines.NameState.TheVariants as names

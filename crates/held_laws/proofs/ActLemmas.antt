@@ -16,8 +16,12 @@ use Rattle.start_model.specs.Entries.{Entry}
 use Rattle.start_model.specs.Events.{Event, BootNow, Go, Fail, Vital, Edits, Flush, Logon, Off, CutNow, Arm, step_of}
 use Rattle.start_model.specs.EventActs.{edit_done, act_unless, accepted_act, idle_act, running_act, event_step_of}
 use Rattle.start_model.specs.Judge.{Judgement, Ignore, Log, FallBack, Stop}
-use Rattle.start_model.specs.Lines as lines
-use Rattle.start_model.specs.Lines.{Line, CommitWord, RefusedWord, UnmetLine, VitalLine}
+use Rattle.report_words.specs.declared.words.Verdict.TheVariants as verdicts
+use Rattle.report_words.specs.declared.words.RefusedWord.{RefusedWord}
+use Rattle.report_words.specs.declared.words.CommitWord.{CommitWord}
+use Rattle.report_words.specs.declared.words.CommitWord.TheVariants as commits
+use Rattle.report_words.specs.declared.line.Line.{Line}
+use Rattle.report_words.specs.declared.line.Line.TheVariants as lines
 use Rattle.start_model.specs.Machine.{Start, MachineState, Tried, attempt_of, attempt_in, attempt_at, after_phase, ending_of, is_done, missing_in, next_in, save_due, unmet_in, with_start, refusal_of}
 use Rattle.start_model.specs.Quiet.{quiet_wake, quiet_play, quiet_from, quiet_run_of}
 use Rattle.start_model.specs.Run.{verdict_first, first_state}
@@ -88,7 +92,7 @@ commit_keeps what tree m next k v f = f (committed_state m tree) (v, v, k.2)
 saved_keeps : (s : Start) (clone : Tree) (m : RunState) (next : RunState → Act) → IsKept m → Follows next
     → (r : Result SetChange ChangeStop) → LeavesValid r → Keeps (saved_by s clone m next r)
 saved_keeps s clone m next k f (Ok change) v =
-    commit_keeps lines.SaveCommit change.tree m
+    commit_keeps commits.Save change.tree m
     (λ after. say (select_line change.numbers) (next (noted_saved true s after))) k v
     (λ n q. f (noted_saved true s n) (q.0, q.1, tt))
 saved_keeps s clone m next k f (Err (NoPlan stop)) v = f (noted_saved false s m) (k.0, k.1, tt)
@@ -144,12 +148,12 @@ passed_keeps s m next k f h [] =
     let after : Start = after_phase (live_set m s.number) s in
     due_keeps after (with_machine (with_start after m.machine) m) next (k.0, k.1, h) f h
 passed_keeps s m next k f h (name ∷ names) =
-    said (map VitalLine (name ∷ names)) (end_with lines.Stopped false m) (k.0, k.1, tt)
+    said (map lines.Vital (name ∷ names)) (end_with verdicts.Stopped false m) (k.0, k.1, tt)
 
 starter_keeps : (s : Start) (m : RunState) (next : RunState → Act) → IsKept m → Follows next → CloneIsHeld (Some s)
     → (o : Option (MachineState × Tried)) → IsHeldAfter o → Keeps (starter_step s m next o)
 starter_keeps s m next k f h None tried =
-    said (map UnmetLine (unmet_in s)) (phase_passed s m next (missing_in m.machine.vital s))
+    said (map lines.Unmet (unmet_in s)) (phase_passed s m next (missing_in m.machine.vital s))
     (passed_keeps s m next k f h (missing_in m.machine.vital s))
 starter_keeps s m next k f h (Some one) tried =
     judged_keeps one.1.judgement (with_machine one.0 m) next (k.0, k.1, tried) f
@@ -186,8 +190,8 @@ begun_keeps : (on_good : Bool) (m : RunState) → IsKept m → (r : Result SetCh
 begun_keeps on_good m k (Ok change) v =
     let begin : RunState → Act = begin_start change.chosen on_good change.numbers in
     let begins : Follows begin = begin_keeps change.chosen on_good change.numbers in
-    elim change.has_steps as (λ b. Keeps (cond b (commit lines.BeginCommit change.tree m begin) (begin m)))
-    [ true ↦ commit_keeps lines.BeginCommit change.tree m begin k v begins | false ↦ begins m k ]
+    elim change.has_steps as (λ b. Keeps (cond b (commit commits.Begin change.tree m begin) (begin m)))
+    [ true ↦ commit_keeps commits.Begin change.tree m begin k v begins | false ↦ begins m k ]
 begun_keeps on_good m k (Err (NoPlan NoControlSet)) v = (k.0, k.1, tt)
 begun_keeps on_good m k (Err (NoPlan NoLastKnownGood)) v = (k.0, k.1, tt)
 begun_keeps on_good m k (Err (NoPlan NoFreeNumber)) v = (k.0, k.1, tt)
@@ -219,20 +223,20 @@ running_keeps s (Edits edit) m k h =
     (edit_valid m.version m.live s.number edit k.0)
 running_keeps s Flush m k h =
     elim m.changed
-    as (λ b. Keeps (cond b (commit lines.FlushCommit m.live m done) (say lines.FlushNothingLine (done m))))
-    [ true ↦ commit_keeps lines.FlushCommit m.live m done k k.0 at_rest | false ↦ k ]
+    as (λ b. Keeps (cond b (commit commits.Flush m.live m done) (say lines.FlushNothing (done m))))
+    [ true ↦ commit_keeps commits.Flush m.live m done k k.0 at_rest | false ↦ k ]
 running_keeps s Logon m k h =
     let after : Start = record s { logged_on = true } in
     due_keeps after (with_machine (with_start after m.machine) m) done (k.0, k.1, h) at_rest h
 running_keeps s Off m k h =
     let end : RunState → Act = end_with (ending_of s) false in
-    elim m.changed as (λ b. Keeps (cond b (commit lines.OffCommit m.live m end) (end m)))
-    [ true ↦ commit_keeps lines.OffCommit m.live m end k k.0 (λ n q. (q.0, q.1, tt)) | false ↦ (k.0, k.1, tt) ]
+    elim m.changed as (λ b. Keeps (cond b (commit commits.Off m.live m end) (end m)))
+    [ true ↦ commit_keeps commits.Off m.live m end k k.0 (λ n q. (q.0, q.1, tt)) | false ↦ (k.0, k.1, tt) ]
 running_keeps s (CutNow keep) m k h = (k.0, k.1, tt)
 running_keeps s (Arm arming) m k h = k
 
 -- the end of a script
-pub closing_keeps : (o : Option Start) (m : RunState) → IsKept m → Keeps (verdict_first o (say lines.EndLine (done m)))
+pub closing_keeps : (o : Option Start) (m : RunState) → IsKept m → Keeps (verdict_first o (say lines.End (done m)))
 closing_keeps None m k = k
 closing_keeps (Some s) m k = k
 

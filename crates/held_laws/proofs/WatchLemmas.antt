@@ -9,7 +9,9 @@ use Rattle.start_model.specs.Act.{Act, done, say, ask, wake, mark}
 use Rattle.start_model.specs.Boot.{Choice}
 use Rattle.start_model.specs.Events.{Event, BootNow, Go, Fail, Vital, Edits, Flush, Logon, Off, CutNow, Arm}
 use Rattle.start_model.specs.EventActs.{act_unless}
-use Rattle.start_model.specs.Lines.{Line, RefusedWord, StartLine, EntryLine, LoadLine, SetLine, CommitLine, SelectLine, PhaseLine, TryLine, UnmetLine, VitalLine, LogonLine, SaveRefusedLine, EditOkLine, FlushNothingLine, RefusedLine, VerdictLine, EndLine}
+use Rattle.report_words.specs.declared.words.RefusedWord.{RefusedWord}
+use Rattle.report_words.specs.declared.line.Line.{Line}
+use Rattle.report_words.specs.declared.line.Line.TheVariants as lines
 use Rattle.start_model.specs.Machine.{Start, refusal_of}
 use Rattle.start_model.specs.Possible.{Finished}
 use Rattle.start_model.specs.Quiet.{quiet_wake}
@@ -31,23 +33,23 @@ IsHeldPhase p = HoldsKeys p.set
 
 -- a line tells of no set
 seen_held : (line : Line) (l : LastStart) → AreHeld l.phases → AreHeld (seen line l).phases
-seen_held (StartLine number) l h = All-nil IsHeldPhase
-seen_held (EntryLine number path) l h = h
-seen_held (LoadLine sequence recovered) l h = h
-seen_held (SetLine number on_good) l h = h
-seen_held (CommitLine what sequence) l h = h
-seen_held (SelectLine current default failed good) l h = h
-seen_held (PhaseLine word) l h = h
-seen_held (TryLine name word) l h = h
-seen_held (UnmetLine name) l h = h
-seen_held (VitalLine name) l h = h
-seen_held LogonLine l h = h
-seen_held (SaveRefusedLine full) l h = h
-seen_held EditOkLine l h = h
-seen_held FlushNothingLine l h = h
-seen_held (RefusedLine event why) l h = h
-seen_held (VerdictLine word) l h = h
-seen_held EndLine l h = h
+seen_held (lines.Start number) l h = All-nil IsHeldPhase
+seen_held (lines.Entry number path) l h = h
+seen_held (lines.Load sequence recovered) l h = h
+seen_held (lines.Set number on_good) l h = h
+seen_held (lines.Commit what sequence) l h = h
+seen_held (lines.Select current default failed good) l h = h
+seen_held (lines.Phase word) l h = h
+seen_held (lines.Try name word) l h = h
+seen_held (lines.Unmet name) l h = h
+seen_held (lines.Vital name) l h = h
+seen_held lines.Logon l h = h
+seen_held (lines.SaveRefused full) l h = h
+seen_held lines.EditOk l h = h
+seen_held lines.FlushNothing l h = h
+seen_held (lines.Refused event why) l h = h
+seen_held (lines.Verdict word) l h = h
+seen_held lines.End l h = h
 
 -- trees and sets
 abbrev AreKept : Watched → Type 0

@@ -39,7 +39,7 @@ fn two_and(alloc: Global, first: u32, second: u32, more: &[u32]) -> Result<Offse
     Ok(Offsets::from_vec(all))
 }
 
-/// What the cell of big data in a payload says.
+/// What the cell of big data in a payload says, which is known to be one.
 pub fn db_in(payload: &[u8]) -> Result<DbForm, AllocError>
     requires { IsOk (big_data_at payload.now) }
     ensures { IfOk result (λ db. big_data_at payload.now ≡ Ok (big_data_of db)) }
@@ -51,7 +51,7 @@ pub fn db_in(payload: &[u8]) -> Result<DbForm, AllocError>
     }
 }
 
-/// That many offsets of segments in a payload.
+/// That many offsets of segments, from the payload of the cell that lists them.
 pub fn segments_in(alloc: Global, list: &[u8], count: u16) -> Result<Offsets, AllocError>
     requires { IsOk (offsets_in count list.now) }
     ensures { IfOk result (λ v. offsets_in count list.now ≡ Ok v) }

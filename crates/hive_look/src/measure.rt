@@ -17,7 +17,7 @@ use hive_pack::is_big;
 use key_index::payload;
 use nt_bytes::{HiveVersion, u32_at};
 
-/// The cell of a payload of that many bytes.
+/// How many bytes the cell of a payload of that many bytes takes.
 pub fn cell_len(payload: u64) -> u64
     requires { payload ≤ 1099511627776 }
     ensures { result ≡ cell payload }
@@ -78,7 +78,7 @@ fn segments_len(n: u64) -> u64
     full * 16352 + cell_len(n - full * 16344)
 }
 
-/// The cells of data of that many bytes.
+/// How many bytes the packed cells for data of that many bytes take.
 pub fn data_len(version: HiveVersion, n: u32) -> u64
     ensures exact { result ≡ cells_sum (data_sizes version n) }
     ensures few { result ≤ 8589934592 }
@@ -91,7 +91,7 @@ pub fn data_len(version: HiveVersion, n: u32) -> u64
     if n > 4 { cell_len(size) } else { 0 }
 }
 
-/// The cells of the value at an offset.
+/// How many bytes the packed cells for the value at an offset, with its data, take.
 pub fn value_len(cells: &Source, at: u32) -> u64
     requires { IsItemHere (cells_of cells.now) at }
     ensures exact { (v : Item) → item_at (cells_of cells.now) at ≡ Ok v → result ≡ item_size cells.now.version v }

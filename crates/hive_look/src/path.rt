@@ -10,7 +10,7 @@ use hive_cells::Source;
 use key_index::{find_child, payload};
 use nt_bytes::{Names, Units, u32_at};
 
-/// The offset of the child that has a name, of the key at an offset.
+/// The offset of the child that has a name, of the key at an offset. `None` where there is none.
 pub fn child_at(cells: &Source, at: u32, name: &[u16]) -> Option<u32>
     requires { IsKeyAt (cells_of cells.now) at }
     ensures place { result ≡ find (is_node_named (cells_of cells.now) name.now) (child_places (cells_of cells.now) at) }
@@ -22,7 +22,7 @@ pub fn child_at(cells: &Source, at: u32, name: &[u16]) -> Option<u32>
     find_child(cells.heap, cells.version, list, count, name)
 }
 
-/// The offset of the key that a path from the one at an offset leads to.
+/// The offset of the key that a path from the one at an offset leads to. `None` where it leads to none.
 pub fn key_at(cells: &Source, root: u32, path: &Names) -> Option<u32>
     requires { IsKeyAt (cells_of cells.now) root }
     ensures place { result ≡ key_place (cells_of cells.now) path.now root }

@@ -124,7 +124,7 @@ fn find_value(cells: &Source, list: &[u8], count: u32, name: &[u16]) -> Option<u
     None
 }
 
-/// The offset of the first value that has a name, of the key at an offset.
+/// The offset of the first value that has a name, of the key at an offset. `None` where there is none.
 pub fn value_at(cells: &Source, at: u32, name: &[u16]) -> Option<u32>
     requires { IsKeyAt (cells_of cells.now) at }
     ensures place { result ≡ value_place (cells_of cells.now) name.now at }
@@ -165,7 +165,8 @@ fn number_at(cells: &Source, at: u32) -> Option<u32>
     Some(u32_at(data, 0))
 }
 
-/// The number under a name in the key at an offset.
+/// The number of the first value that has a name, of the key at an offset. `None` where there is no such value, and where it is
+/// no DWORD.
 pub fn dword_under(cells: &Source, at: u32, name: &[u16]) -> Option<u32>
     requires { IsKeyAt (cells_of cells.now) at }
     ensures { result ≡ option_and_then (dword_at (cells_of cells.now)) (value_place (cells_of cells.now) name.now at) }

@@ -1,182 +1,194 @@
 -- The keywords of a start, back from their texts.
 use Rattle.std.proofs.Common.{◌≡◌, ℕ, Bool, true, false, List, [], ◌∷◌, Option, Some, refl}
-use Rattle.start_model.specs.Lines.{CommitWord, PhaseWord, TryWord, EventWord, RefusedWord, Verdict, BeginCommit, SaveCommit, FlushCommit, OffCommit, BootPhase, SystemPhase, AutomaticPhase, DonePhase, TryOk, TryIgnored, TryLogged, TryFallBack, TryStop, BootEvent, GoEvent, FailEvent, VitalEvent, SetEvent, DeleteEvent, MakeEvent, RemoveEvent, FlushEvent, LogonEvent, OffEvent, CutEvent, FaultEvent, OffReason, RunningReason, EarlyReason, AgainReason, IdleReason, ProtectedReason, NoKeyReason, NoValueReason, BadNameReason, NameTooLongReason, TooDeepReason, DataTooLongReason, FullReason, Good, GoodUnsaved, Running, FallBack, Stopped, Cut, Device, Full, NoNumber, NoEntry, OtherLoader, NoSystem, NoControlSet, NoLastKnownGood, commit_word, phase_word, event_word, refused_word, verdict_word, load_word, set_word, save_word}
+use Rattle.report_words.specs.declared.words.PhaseWord.{PhaseWord}
+use Rattle.report_words.specs.declared.words.Verdict.{Verdict}
+use Rattle.report_words.specs.declared.words.Verdict.TheVariants as verdict_words
+use Rattle.report_words.specs.declared.words.PhaseWord.TheVariants as phase_words
+use Rattle.report_words.specs.declared.words.RefusedWord.{RefusedWord}
+use Rattle.report_words.specs.declared.words.EventWord.{EventWord}
+use Rattle.report_words.specs.declared.words.CommitWord.{CommitWord}
+use Rattle.report_words.specs.declared.words.TryWord.{TryWord}
+use Rattle.report_words.specs.declared.words.TryWord.TheVariants as tries
+use Rattle.report_words.specs.declared.words.CommitWord.TheVariants as commit_words
+use Rattle.report_words.specs.declared.words.EventWord.TheVariants as event_words
+use Rattle.report_words.specs.declared.words.RefusedWord.TheVariants as reason_words
+use Rattle.start_model.specs.Lines.{commit_word, phase_word, event_word, refused_word, verdict_word, load_word, set_word, save_word}
 use Rattle.line_objects.specs.Objects.{outcome_word}
 use Rattle.json_laws.specs.Objects.{AreUnits}
 use Rattle.json_laws.proofs.LineKinds.{pick}
 use Rattle.json_laws.proofs.Units.{word_units}
 
 abbrev pub commits : List CommitWord
-commits = BeginCommit ∷ SaveCommit ∷ FlushCommit ∷ OffCommit ∷ []
+commits = commit_words.Begin ∷ commit_words.Save ∷ commit_words.Flush ∷ commit_words.Off ∷ []
 
 abbrev pub commit_from : List ℕ → Option CommitWord
 commit_from word = pick commit_word commits word
 
 pub commit_back : (x : CommitWord) → commit_from (commit_word x) ≡ Some x
-commit_back BeginCommit = refl
-commit_back SaveCommit = refl
-commit_back FlushCommit = refl
-commit_back OffCommit = refl
+commit_back commit_words.Begin = refl
+commit_back commit_words.Save = refl
+commit_back commit_words.Flush = refl
+commit_back commit_words.Off = refl
 
 pub commit_units : (x : CommitWord) → AreUnits (commit_word x)
-commit_units BeginCommit = word_units (commit_word BeginCommit) refl
-commit_units SaveCommit = word_units (commit_word SaveCommit) refl
-commit_units FlushCommit = word_units (commit_word FlushCommit) refl
-commit_units OffCommit = word_units (commit_word OffCommit) refl
+commit_units commit_words.Begin = word_units (commit_word commit_words.Begin) refl
+commit_units commit_words.Save = word_units (commit_word commit_words.Save) refl
+commit_units commit_words.Flush = word_units (commit_word commit_words.Flush) refl
+commit_units commit_words.Off = word_units (commit_word commit_words.Off) refl
 
 abbrev pub phases : List PhaseWord
-phases = BootPhase ∷ SystemPhase ∷ AutomaticPhase ∷ DonePhase ∷ []
+phases = phase_words.Boot ∷ phase_words.System ∷ phase_words.Automatic ∷ phase_words.Done ∷ []
 
 abbrev pub phase_from : List ℕ → Option PhaseWord
 phase_from word = pick phase_word phases word
 
 pub phase_back : (x : PhaseWord) → phase_from (phase_word x) ≡ Some x
-phase_back BootPhase = refl
-phase_back SystemPhase = refl
-phase_back AutomaticPhase = refl
-phase_back DonePhase = refl
+phase_back phase_words.Boot = refl
+phase_back phase_words.System = refl
+phase_back phase_words.Automatic = refl
+phase_back phase_words.Done = refl
 
 pub phase_units : (x : PhaseWord) → AreUnits (phase_word x)
-phase_units BootPhase = word_units (phase_word BootPhase) refl
-phase_units SystemPhase = word_units (phase_word SystemPhase) refl
-phase_units AutomaticPhase = word_units (phase_word AutomaticPhase) refl
-phase_units DonePhase = word_units (phase_word DonePhase) refl
+phase_units phase_words.Boot = word_units (phase_word phase_words.Boot) refl
+phase_units phase_words.System = word_units (phase_word phase_words.System) refl
+phase_units phase_words.Automatic = word_units (phase_word phase_words.Automatic) refl
+phase_units phase_words.Done = word_units (phase_word phase_words.Done) refl
 
 abbrev pub outcomes : List TryWord
-outcomes = TryOk ∷ TryIgnored ∷ TryLogged ∷ TryFallBack ∷ TryStop ∷ []
+outcomes = tries.Ok ∷ tries.Ignored ∷ tries.Logged ∷ tries.FallBack ∷ tries.Stop ∷ []
 
 abbrev pub outcome_from : List ℕ → Option TryWord
 outcome_from word = pick outcome_word outcomes word
 
 pub outcome_back : (x : TryWord) → outcome_from (outcome_word x) ≡ Some x
-outcome_back TryOk = refl
-outcome_back TryIgnored = refl
-outcome_back TryLogged = refl
-outcome_back TryFallBack = refl
-outcome_back TryStop = refl
+outcome_back tries.Ok = refl
+outcome_back tries.Ignored = refl
+outcome_back tries.Logged = refl
+outcome_back tries.FallBack = refl
+outcome_back tries.Stop = refl
 
 pub outcome_units : (x : TryWord) → AreUnits (outcome_word x)
-outcome_units TryOk = word_units (outcome_word TryOk) refl
-outcome_units TryIgnored = word_units (outcome_word TryIgnored) refl
-outcome_units TryLogged = word_units (outcome_word TryLogged) refl
-outcome_units TryFallBack = word_units (outcome_word TryFallBack) refl
-outcome_units TryStop = word_units (outcome_word TryStop) refl
+outcome_units tries.Ok = word_units (outcome_word tries.Ok) refl
+outcome_units tries.Ignored = word_units (outcome_word tries.Ignored) refl
+outcome_units tries.Logged = word_units (outcome_word tries.Logged) refl
+outcome_units tries.FallBack = word_units (outcome_word tries.FallBack) refl
+outcome_units tries.Stop = word_units (outcome_word tries.Stop) refl
 
 abbrev pub events : List EventWord
 events =
-    BootEvent ∷ GoEvent ∷ FailEvent ∷ VitalEvent ∷ SetEvent ∷ DeleteEvent ∷ MakeEvent ∷ RemoveEvent
-    ∷ FlushEvent ∷ LogonEvent ∷ OffEvent ∷ CutEvent ∷ FaultEvent ∷ []
+    event_words.Boot ∷ event_words.Go ∷ event_words.Fail ∷ event_words.Vital ∷ event_words.Set ∷ event_words.Delete ∷ event_words.Make ∷ event_words.Remove
+    ∷ event_words.Flush ∷ event_words.Logon ∷ event_words.Off ∷ event_words.Cut ∷ event_words.Fault ∷ []
 
 abbrev pub event_from : List ℕ → Option EventWord
 event_from word = pick event_word events word
 
 pub event_back : (x : EventWord) → event_from (event_word x) ≡ Some x
-event_back BootEvent = refl
-event_back GoEvent = refl
-event_back FailEvent = refl
-event_back VitalEvent = refl
-event_back SetEvent = refl
-event_back DeleteEvent = refl
-event_back MakeEvent = refl
-event_back RemoveEvent = refl
-event_back FlushEvent = refl
-event_back LogonEvent = refl
-event_back OffEvent = refl
-event_back CutEvent = refl
-event_back FaultEvent = refl
+event_back event_words.Boot = refl
+event_back event_words.Go = refl
+event_back event_words.Fail = refl
+event_back event_words.Vital = refl
+event_back event_words.Set = refl
+event_back event_words.Delete = refl
+event_back event_words.Make = refl
+event_back event_words.Remove = refl
+event_back event_words.Flush = refl
+event_back event_words.Logon = refl
+event_back event_words.Off = refl
+event_back event_words.Cut = refl
+event_back event_words.Fault = refl
 
 pub event_units : (x : EventWord) → AreUnits (event_word x)
-event_units BootEvent = word_units (event_word BootEvent) refl
-event_units GoEvent = word_units (event_word GoEvent) refl
-event_units FailEvent = word_units (event_word FailEvent) refl
-event_units VitalEvent = word_units (event_word VitalEvent) refl
-event_units SetEvent = word_units (event_word SetEvent) refl
-event_units DeleteEvent = word_units (event_word DeleteEvent) refl
-event_units MakeEvent = word_units (event_word MakeEvent) refl
-event_units RemoveEvent = word_units (event_word RemoveEvent) refl
-event_units FlushEvent = word_units (event_word FlushEvent) refl
-event_units LogonEvent = word_units (event_word LogonEvent) refl
-event_units OffEvent = word_units (event_word OffEvent) refl
-event_units CutEvent = word_units (event_word CutEvent) refl
-event_units FaultEvent = word_units (event_word FaultEvent) refl
+event_units event_words.Boot = word_units (event_word event_words.Boot) refl
+event_units event_words.Go = word_units (event_word event_words.Go) refl
+event_units event_words.Fail = word_units (event_word event_words.Fail) refl
+event_units event_words.Vital = word_units (event_word event_words.Vital) refl
+event_units event_words.Set = word_units (event_word event_words.Set) refl
+event_units event_words.Delete = word_units (event_word event_words.Delete) refl
+event_units event_words.Make = word_units (event_word event_words.Make) refl
+event_units event_words.Remove = word_units (event_word event_words.Remove) refl
+event_units event_words.Flush = word_units (event_word event_words.Flush) refl
+event_units event_words.Logon = word_units (event_word event_words.Logon) refl
+event_units event_words.Off = word_units (event_word event_words.Off) refl
+event_units event_words.Cut = word_units (event_word event_words.Cut) refl
+event_units event_words.Fault = word_units (event_word event_words.Fault) refl
 
 abbrev pub reasons : List RefusedWord
 reasons =
-    OffReason ∷ RunningReason ∷ EarlyReason ∷ AgainReason ∷ IdleReason ∷ ProtectedReason ∷ NoKeyReason
-    ∷ NoValueReason ∷ BadNameReason ∷ NameTooLongReason ∷ TooDeepReason ∷ DataTooLongReason ∷ FullReason ∷ []
+    reason_words.Off ∷ reason_words.Running ∷ reason_words.Early ∷ reason_words.Again ∷ reason_words.Idle ∷ reason_words.Protected ∷ reason_words.NoKey
+    ∷ reason_words.NoValue ∷ reason_words.BadName ∷ reason_words.NameTooLong ∷ reason_words.TooDeep ∷ reason_words.DataTooLong ∷ reason_words.Full ∷ []
 
 abbrev pub why_from : List ℕ → Option RefusedWord
 why_from word = pick refused_word reasons word
 
 pub why_back : (x : RefusedWord) → why_from (refused_word x) ≡ Some x
-why_back OffReason = refl
-why_back RunningReason = refl
-why_back EarlyReason = refl
-why_back AgainReason = refl
-why_back IdleReason = refl
-why_back ProtectedReason = refl
-why_back NoKeyReason = refl
-why_back NoValueReason = refl
-why_back BadNameReason = refl
-why_back NameTooLongReason = refl
-why_back TooDeepReason = refl
-why_back DataTooLongReason = refl
-why_back FullReason = refl
+why_back reason_words.Off = refl
+why_back reason_words.Running = refl
+why_back reason_words.Early = refl
+why_back reason_words.Again = refl
+why_back reason_words.Idle = refl
+why_back reason_words.Protected = refl
+why_back reason_words.NoKey = refl
+why_back reason_words.NoValue = refl
+why_back reason_words.BadName = refl
+why_back reason_words.NameTooLong = refl
+why_back reason_words.TooDeep = refl
+why_back reason_words.DataTooLong = refl
+why_back reason_words.Full = refl
 
 pub why_units : (x : RefusedWord) → AreUnits (refused_word x)
-why_units OffReason = word_units (refused_word OffReason) refl
-why_units RunningReason = word_units (refused_word RunningReason) refl
-why_units EarlyReason = word_units (refused_word EarlyReason) refl
-why_units AgainReason = word_units (refused_word AgainReason) refl
-why_units IdleReason = word_units (refused_word IdleReason) refl
-why_units ProtectedReason = word_units (refused_word ProtectedReason) refl
-why_units NoKeyReason = word_units (refused_word NoKeyReason) refl
-why_units NoValueReason = word_units (refused_word NoValueReason) refl
-why_units BadNameReason = word_units (refused_word BadNameReason) refl
-why_units NameTooLongReason = word_units (refused_word NameTooLongReason) refl
-why_units TooDeepReason = word_units (refused_word TooDeepReason) refl
-why_units DataTooLongReason = word_units (refused_word DataTooLongReason) refl
-why_units FullReason = word_units (refused_word FullReason) refl
+why_units reason_words.Off = word_units (refused_word reason_words.Off) refl
+why_units reason_words.Running = word_units (refused_word reason_words.Running) refl
+why_units reason_words.Early = word_units (refused_word reason_words.Early) refl
+why_units reason_words.Again = word_units (refused_word reason_words.Again) refl
+why_units reason_words.Idle = word_units (refused_word reason_words.Idle) refl
+why_units reason_words.Protected = word_units (refused_word reason_words.Protected) refl
+why_units reason_words.NoKey = word_units (refused_word reason_words.NoKey) refl
+why_units reason_words.NoValue = word_units (refused_word reason_words.NoValue) refl
+why_units reason_words.BadName = word_units (refused_word reason_words.BadName) refl
+why_units reason_words.NameTooLong = word_units (refused_word reason_words.NameTooLong) refl
+why_units reason_words.TooDeep = word_units (refused_word reason_words.TooDeep) refl
+why_units reason_words.DataTooLong = word_units (refused_word reason_words.DataTooLong) refl
+why_units reason_words.Full = word_units (refused_word reason_words.Full) refl
 
 abbrev pub verdicts : List Verdict
 verdicts =
-    Good ∷ GoodUnsaved ∷ Running ∷ FallBack ∷ Stopped ∷ Cut ∷ Device ∷ Full ∷ NoNumber ∷ NoEntry ∷ OtherLoader
-    ∷ NoSystem ∷ NoControlSet ∷ NoLastKnownGood ∷ []
+    verdict_words.Good ∷ verdict_words.GoodUnsaved ∷ verdict_words.Running ∷ verdict_words.FallBack ∷ verdict_words.Stopped ∷ verdict_words.Cut ∷ verdict_words.Device ∷ verdict_words.Full ∷ verdict_words.NoNumber ∷ verdict_words.NoEntry ∷ verdict_words.OtherLoader
+    ∷ verdict_words.NoSystem ∷ verdict_words.NoControlSet ∷ verdict_words.NoLastKnownGood ∷ []
 
 abbrev pub verdict_from : List ℕ → Option Verdict
 verdict_from word = pick verdict_word verdicts word
 
 pub verdict_back : (x : Verdict) → verdict_from (verdict_word x) ≡ Some x
-verdict_back Good = refl
-verdict_back GoodUnsaved = refl
-verdict_back Running = refl
-verdict_back FallBack = refl
-verdict_back Stopped = refl
-verdict_back Cut = refl
-verdict_back Device = refl
-verdict_back Full = refl
-verdict_back NoNumber = refl
-verdict_back NoEntry = refl
-verdict_back OtherLoader = refl
-verdict_back NoSystem = refl
-verdict_back NoControlSet = refl
-verdict_back NoLastKnownGood = refl
+verdict_back verdict_words.Good = refl
+verdict_back verdict_words.GoodUnsaved = refl
+verdict_back verdict_words.Running = refl
+verdict_back verdict_words.FallBack = refl
+verdict_back verdict_words.Stopped = refl
+verdict_back verdict_words.Cut = refl
+verdict_back verdict_words.Device = refl
+verdict_back verdict_words.Full = refl
+verdict_back verdict_words.NoNumber = refl
+verdict_back verdict_words.NoEntry = refl
+verdict_back verdict_words.OtherLoader = refl
+verdict_back verdict_words.NoSystem = refl
+verdict_back verdict_words.NoControlSet = refl
+verdict_back verdict_words.NoLastKnownGood = refl
 
 pub verdict_units : (x : Verdict) → AreUnits (verdict_word x)
-verdict_units Good = word_units (verdict_word Good) refl
-verdict_units GoodUnsaved = word_units (verdict_word GoodUnsaved) refl
-verdict_units Running = word_units (verdict_word Running) refl
-verdict_units FallBack = word_units (verdict_word FallBack) refl
-verdict_units Stopped = word_units (verdict_word Stopped) refl
-verdict_units Cut = word_units (verdict_word Cut) refl
-verdict_units Device = word_units (verdict_word Device) refl
-verdict_units Full = word_units (verdict_word Full) refl
-verdict_units NoNumber = word_units (verdict_word NoNumber) refl
-verdict_units NoEntry = word_units (verdict_word NoEntry) refl
-verdict_units OtherLoader = word_units (verdict_word OtherLoader) refl
-verdict_units NoSystem = word_units (verdict_word NoSystem) refl
-verdict_units NoControlSet = word_units (verdict_word NoControlSet) refl
-verdict_units NoLastKnownGood = word_units (verdict_word NoLastKnownGood) refl
+verdict_units verdict_words.Good = word_units (verdict_word verdict_words.Good) refl
+verdict_units verdict_words.GoodUnsaved = word_units (verdict_word verdict_words.GoodUnsaved) refl
+verdict_units verdict_words.Running = word_units (verdict_word verdict_words.Running) refl
+verdict_units verdict_words.FallBack = word_units (verdict_word verdict_words.FallBack) refl
+verdict_units verdict_words.Stopped = word_units (verdict_word verdict_words.Stopped) refl
+verdict_units verdict_words.Cut = word_units (verdict_word verdict_words.Cut) refl
+verdict_units verdict_words.Device = word_units (verdict_word verdict_words.Device) refl
+verdict_units verdict_words.Full = word_units (verdict_word verdict_words.Full) refl
+verdict_units verdict_words.NoNumber = word_units (verdict_word verdict_words.NoNumber) refl
+verdict_units verdict_words.NoEntry = word_units (verdict_word verdict_words.NoEntry) refl
+verdict_units verdict_words.OtherLoader = word_units (verdict_word verdict_words.OtherLoader) refl
+verdict_units verdict_words.NoSystem = word_units (verdict_word verdict_words.NoSystem) refl
+verdict_units verdict_words.NoControlSet = word_units (verdict_word verdict_words.NoControlSet) refl
+verdict_units verdict_words.NoLastKnownGood = word_units (verdict_word verdict_words.NoLastKnownGood) refl
 
 -- two words for a flag
 abbrev pub flags : List Bool

@@ -1,7 +1,7 @@
 -- Where each operation of a run was done, its last one is that of the quiet run.
 use Rattle.std.proofs.Common.{◌≡◌, ◌⊎◌, inl, inr, ℕ, Bool, false, List, [], ◌∷◌, ◌++◌, Option, Some, None, refl, sym, ap, subst, ◌∙◌, append-nil}
 use Rattle.std.specs.Prelude.{IfSome, unwrap_or}
-use Rattle.start_model.specs.Lines.{EndLine}
+use Rattle.report_words.specs.declared.line.Line.TheVariants.{End as EndLine}
 use Rattle.start_model.specs.Machine.{Start}
 use Rattle.start_model.specs.Events.{Event}
 use Rattle.start_model.specs.Possible.{Possible, Woken, Outcome, Finished, PowerCut, DeviceFault}

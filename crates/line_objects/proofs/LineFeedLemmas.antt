@@ -8,7 +8,9 @@ use Rattle.std.proofs.lemmas.Bool.Decides.{nat_tests}
 use Rattle.std.proofs.lemmas.List.Folds.{list_all-append}
 use Rattle.nt_bytes.specs.Text.{is_printable}
 use Rattle.boot_report.proofs.TextLemmas.{is_no_lf, has_no_lf, body, text-body, no_lf-body}
-use Rattle.start_model.specs.Lines.{Line, StartLine, EntryLine, LoadLine, SetLine, CommitLine, SelectLine, PhaseLine, TryLine, UnmetLine, VitalLine, LogonLine, SaveRefusedLine, EditOkLine, FlushNothingLine, RefusedLine, VerdictLine, EndLine, commit_word, phase_word, event_word, refused_word, verdict_word, load_word, set_word, save_word, unit_text, escaped}
+use Rattle.report_words.specs.declared.line.Line.{Line}
+use Rattle.report_words.specs.declared.line.Line.TheVariants as lines
+use Rattle.start_model.specs.Lines.{commit_word, phase_word, event_word, refused_word, verdict_word, load_word, set_word, save_word, unit_text, escaped}
 use Rattle.line_text.specs.Objects.{Value, Number, Text, Numbers, Texts, Flag, Null, value_text, field_text, fields_text, opening_text, object_text}
 use Rattle.line_text.specs.Quoted.{quoted_unit, quoted}
 use Rattle.line_text.specs.declared.form.ReportForm.{ReportForm}
@@ -122,32 +124,32 @@ object_ended word fields e f =
     }
 
 json_ended : (l : Line) → IsEndedLine (line_json l)
-json_ended (StartLine number) = object_ended (codes "start") ((codes "number", Number number) ∷ []) refl refl
-json_ended (EntryLine number path) =
+json_ended (lines.Start number) = object_ended (codes "start") ((codes "number", Number number) ∷ []) refl refl
+json_ended (lines.Entry number path) =
     object_ended (codes "entry") ((codes "number", Number number) ∷ (codes "path", Text path) ∷ []) refl refl
-json_ended (LoadLine sequence recovered) =
+json_ended (lines.Load sequence recovered) =
     object_ended (codes "load") ((codes "sequence", Number sequence) ∷ (codes "state", Text (load_word recovered)) ∷ []) refl refl
-json_ended (SetLine number on_good) =
+json_ended (lines.Set number on_good) =
     object_ended (codes "set") ((codes "number", Number number) ∷ (codes "by", Text (set_word on_good)) ∷ []) refl refl
-json_ended (CommitLine what sequence) =
+json_ended (lines.Commit what sequence) =
     object_ended (codes "commit") ((codes "what", Text (commit_word what)) ∷ (codes "sequence", Number sequence) ∷ []) refl refl
-json_ended (SelectLine current default failed good) =
+json_ended (lines.Select current default failed good) =
     object_ended (codes "select") (select_fields current default failed good) refl refl
-json_ended (PhaseLine word) = object_ended (codes "phase") ((codes "name", Text (phase_word word)) ∷ []) refl refl
-json_ended (TryLine name outcome) =
+json_ended (lines.Phase word) = object_ended (codes "phase") ((codes "name", Text (phase_word word)) ∷ []) refl refl
+json_ended (lines.Try name outcome) =
     object_ended (codes "try") ((codes "name", Text name) ∷ (codes "outcome", Text (outcome_word outcome)) ∷ []) refl refl
-json_ended (UnmetLine name) = object_ended (codes "unmet") ((codes "name", Text name) ∷ []) refl refl
-json_ended (VitalLine name) = object_ended (codes "vital") ((codes "name", Text name) ∷ []) refl refl
-json_ended LogonLine = object_ended (codes "logon") [] refl refl
-json_ended (SaveRefusedLine full) =
+json_ended (lines.Unmet name) = object_ended (codes "unmet") ((codes "name", Text name) ∷ []) refl refl
+json_ended (lines.Vital name) = object_ended (codes "vital") ((codes "name", Text name) ∷ []) refl refl
+json_ended lines.Logon = object_ended (codes "logon") [] refl refl
+json_ended (lines.SaveRefused full) =
     object_ended (codes "save") ((codes "refused", Text (save_word full)) ∷ []) refl refl
-json_ended EditOkLine = object_ended (codes "edit") [] refl refl
-json_ended FlushNothingLine = object_ended (codes "flush") [] refl refl
-json_ended (RefusedLine event why) =
+json_ended lines.EditOk = object_ended (codes "edit") [] refl refl
+json_ended lines.FlushNothing = object_ended (codes "flush") [] refl refl
+json_ended (lines.Refused event why) =
     object_ended (codes "refused") ((codes "event", Text (event_word event)) ∷ (codes "word", Text (refused_word why)) ∷ []) refl refl
-json_ended (VerdictLine word) =
+json_ended (lines.Verdict word) =
     object_ended (codes "verdict") ((codes "word", Text (verdict_word word)) ∷ []) refl refl
-json_ended EndLine = object_ended (codes "end") [] refl refl
+json_ended lines.End = object_ended (codes "end") [] refl refl
 
 pub line_ended : (form : ReportForm) (l : Line) → IsEndedLine (printed form l)
 line_ended forms.Text l = record { front = body l; is = text-body l; no_lf = no_lf-body l }

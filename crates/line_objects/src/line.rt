@@ -2,16 +2,18 @@
 
 ghost use Rattle.std.specs.Prelude.{◌≡◌, [], ◌∷◌, ◌++◌, codes, IfOk, OnOk};
 ghost use Rattle.line_text.specs.Objects.{Number, Text, fields_text, object_text};
-ghost use Rattle.start_model.specs.Lines.{SetLine, CommitLine, SelectLine, TryLine, SaveRefusedLine, RefusedLine};
-ghost use Rattle.boot_report.specs.Report.{commit_of, event_of, line_of, refused_of, try_of};
+ghost use Rattle.report_words.specs.declared.line.Line.TheVariants as lines;
 ghost use Rattle.line_objects.specs.Objects.{line_json, printed, select_fields};
 
 use crate::objects::{
     push_end_object, push_entry_object, push_load_object, push_phase_object, push_unmet_object,
     push_verdict_object, push_word_object,
 };
-use crate::words::{commit_text, event_text, outcome_text, reason_text, save_text, set_text};
-use boot_report::{CommitWord, EventWord, Line, RefusedWord, TryWord, line_bytes};
+use crate::words::outcome_text;
+use boot_report::{
+    CommitWord, EventWord, Line, RefusedWord, TryWord, commit_text, event_text, line_bytes,
+    reason_text, save_text, set_text,
+};
 use line_text::{
     ReportForm, close_object, open_object, push_number_field, push_text_field, push_word_field,
 };
@@ -67,7 +69,7 @@ fn push_set(out: &mut Vec<u8>, number: u32, by: &[u8]) -> Result<(), AllocError>
 }
 
 fn push_any_set(out: &mut Vec<u8>, number: u32, last_known_good: bool) -> Result<(), AllocError>
-    ensures { OnOk result (out.new.items ≡ out.old.items ++ line_json (SetLine number last_known_good)) }
+    ensures { OnOk result (out.new.items ≡ out.old.items ++ line_json (lines.Set number last_known_good)) }
 {
     push_set(out, number, set_text(last_known_good).as_bytes())
 }
@@ -88,7 +90,7 @@ fn push_what(out: &mut Vec<u8>, what: &[u8], sequence: u32) -> Result<(), AllocE
 }
 
 fn push_commit(out: &mut Vec<u8>, what: CommitWord, sequence: u32) -> Result<(), AllocError>
-    ensures { OnOk result (out.new.items ≡ out.old.items ++ line_json (CommitLine (commit_of what) sequence)) }
+    ensures { OnOk result (out.new.items ≡ out.old.items ++ line_json (lines.Commit what sequence)) }
 {
     push_what(out, commit_text(what).as_bytes(), sequence)
 }
@@ -127,7 +129,7 @@ fn push_select(
     failed: u32,
     good: u32,
 ) -> Result<(), AllocError>
-    ensures { OnOk result (out.new.items ≡ out.old.items ++ line_json (SelectLine current default failed good)) }
+    ensures { OnOk result (out.new.items ≡ out.old.items ++ line_json (lines.Select current default failed good)) }
 {
     open_object(out, b"select")?;
     push_select_fields(out, current, default, failed, good)?;
@@ -150,13 +152,13 @@ fn push_outcome(out: &mut Vec<u8>, name: &[u16], outcome: &[u8]) -> Result<(), A
 }
 
 fn push_try(out: &mut Vec<u8>, name: &[u16], outcome: TryWord) -> Result<(), AllocError>
-    ensures { OnOk result (out.new.items ≡ out.old.items ++ line_json (TryLine name.now (try_of outcome))) }
+    ensures { OnOk result (out.new.items ≡ out.old.items ++ line_json (lines.Try name.now outcome)) }
 {
     push_outcome(out, name, outcome_text(outcome).as_bytes())
 }
 
 fn push_save_refused(out: &mut Vec<u8>, full: bool) -> Result<(), AllocError>
-    ensures { OnOk result (out.new.items ≡ out.old.items ++ line_json (SaveRefusedLine full)) }
+    ensures { OnOk result (out.new.items ≡ out.old.items ++ line_json (lines.SaveRefused full)) }
 {
     push_word_object(out, b"save", b"refused", save_text(full).as_bytes())
 }
@@ -177,7 +179,7 @@ fn push_event(out: &mut Vec<u8>, event: &[u8], why: &[u8]) -> Result<(), AllocEr
 }
 
 fn push_refused(out: &mut Vec<u8>, event: EventWord, why: RefusedWord) -> Result<(), AllocError>
-    ensures { OnOk result (out.new.items ≡ out.old.items ++ line_json (RefusedLine (event_of event) (refused_of why))) }
+    ensures { OnOk result (out.new.items ≡ out.old.items ++ line_json (lines.Refused event why)) }
 {
     push_event(
         out,
@@ -190,7 +192,7 @@ fn push_refused(out: &mut Vec<u8>, event: EventWord, why: RefusedWord) -> Result
 
 /// Appends the object of a line.
 pub fn push_line_object(out: &mut Vec<u8>, line: &Line) -> Result<(), AllocError>
-    ensures { OnOk result (out.new.items ≡ out.old.items ++ line_json (line_of line.now)) }
+    ensures { OnOk result (out.new.items ≡ out.old.items ++ line_json line.now) }
 {
     match line {
         Line::Start { number } => push_number_object(out, b"start", *number),
@@ -225,7 +227,7 @@ pub fn push_line_object(out: &mut Vec<u8>, line: &Line) -> Result<(), AllocError
 }
 
 fn object_bytes(alloc: Global, line: &Line) -> Result<Bytes, AllocError>
-    ensures { IfOk result (λ b. b ≡ line_json (line_of line.now)) }
+    ensures { IfOk result (λ b. b ≡ line_json line.now) }
 {
     let mut out = Vec::new(alloc);
     push_line_object(&mut out, line)?;
@@ -234,7 +236,7 @@ fn object_bytes(alloc: Global, line: &Line) -> Result<Bytes, AllocError>
 
 /// A line in one of the two forms, LF at its end.
 pub fn printed_bytes(alloc: Global, form: ReportForm, line: &Line) -> Result<Bytes, AllocError>
-    ensures exact { IfOk result (λ b. b ≡ printed form (line_of line.now)) }
+    ensures exact { IfOk result (λ b. b ≡ printed form line.now) }
 {
     match form {
         ReportForm::Text => line_bytes(alloc, line),

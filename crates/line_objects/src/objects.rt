@@ -2,12 +2,11 @@
 
 ghost use Rattle.std.specs.Prelude.{◌≡◌, [], ◌∷◌, ◌++◌, false, codes, OnOk};
 ghost use Rattle.line_text.specs.Objects.{Number, Text, fields_text, object_text};
-ghost use Rattle.start_model.specs.Lines.{TryOk, EntryLine, LoadLine, SetLine, PhaseLine, TryLine, UnmetLine, VerdictLine, EndLine};
-ghost use Rattle.boot_report.specs.Report.{phase_of, verdict_of};
+ghost use Rattle.report_words.specs.declared.words.TryWord.TheVariants as tries;
+ghost use Rattle.report_words.specs.declared.line.Line.TheVariants as lines;
 ghost use Rattle.line_objects.specs.Objects.{line_json};
 
-use crate::words::{load_text, phase_text};
-use boot_report::{PhaseWord, Verdict, verdict_text};
+use boot_report::{PhaseWord, Verdict, load_text, phase_text, verdict_text};
 use line_text::{close_object, open_object, push_number_field, push_text_field, push_word_field};
 use std::alloc::AllocError;
 
@@ -34,7 +33,7 @@ fn push_entry_fields(out: &mut Vec<u8>, number: u32, path: &[u8]) -> Result<(), 
 
 /// Appends the line of an entry of boot.ini.
 pub fn push_entry_object(out: &mut Vec<u8>, number: u32, path: &[u8]) -> Result<(), AllocError>
-    ensures { OnOk result (out.new.items ≡ out.old.items ++ line_json (EntryLine number path.now)) }
+    ensures { OnOk result (out.new.items ≡ out.old.items ++ line_json (lines.Entry number path.now)) }
 {
     open_object(out, b"entry")?;
     push_entry_fields(out, number, path)?;
@@ -58,7 +57,7 @@ fn push_state_object(out: &mut Vec<u8>, sequence: u32, state: &[u8]) -> Result<(
 
 /// Appends the line of a load, by the log where the hive had to be recovered.
 pub fn push_load_object(out: &mut Vec<u8>, sequence: u32, recovered: bool) -> Result<(), AllocError>
-    ensures { OnOk result (out.new.items ≡ out.old.items ++ line_json (LoadLine sequence recovered)) }
+    ensures { OnOk result (out.new.items ≡ out.old.items ++ line_json (lines.Load sequence recovered)) }
 {
     push_state_object(out, sequence, load_text(recovered).as_bytes())
 }
@@ -72,7 +71,7 @@ fn push_set_fields(out: &mut Vec<u8>, number: u32) -> Result<(), AllocError>
 
 /// Appends the line of a control set that Default names.
 pub fn push_set_object(out: &mut Vec<u8>, number: u32) -> Result<(), AllocError>
-    ensures { OnOk result (out.new.items ≡ out.old.items ++ line_json (SetLine number false)) }
+    ensures { OnOk result (out.new.items ≡ out.old.items ++ line_json (lines.Set number false)) }
 {
     open_object(out, b"set")?;
     push_set_fields(out, number)?;
@@ -81,7 +80,7 @@ pub fn push_set_object(out: &mut Vec<u8>, number: u32) -> Result<(), AllocError>
 
 /// Appends the line of a phase.
 pub fn push_phase_object(out: &mut Vec<u8>, phase: PhaseWord) -> Result<(), AllocError>
-    ensures { OnOk result (out.new.items ≡ out.old.items ++ line_json (PhaseLine (phase_of phase))) }
+    ensures { OnOk result (out.new.items ≡ out.old.items ++ line_json (lines.Phase phase)) }
 {
     push_word_object(out, b"phase", b"name", phase_text(phase).as_bytes())
 }
@@ -95,7 +94,7 @@ fn push_ok_fields(out: &mut Vec<u8>, name: &[u16]) -> Result<(), AllocError>
 
 /// Appends the line of an attempt that went well.
 pub fn push_ok_object(out: &mut Vec<u8>, name: &[u16]) -> Result<(), AllocError>
-    ensures { OnOk result (out.new.items ≡ out.old.items ++ line_json (TryLine name.now TryOk)) }
+    ensures { OnOk result (out.new.items ≡ out.old.items ++ line_json (lines.Try name.now tries.Ok)) }
 {
     open_object(out, b"try")?;
     push_ok_fields(out, name)?;
@@ -104,7 +103,7 @@ pub fn push_ok_object(out: &mut Vec<u8>, name: &[u16]) -> Result<(), AllocError>
 
 /// Appends the line of an entry that was never ready.
 pub fn push_unmet_object(out: &mut Vec<u8>, name: &[u16]) -> Result<(), AllocError>
-    ensures { OnOk result (out.new.items ≡ out.old.items ++ line_json (UnmetLine name.now)) }
+    ensures { OnOk result (out.new.items ≡ out.old.items ++ line_json (lines.Unmet name.now)) }
 {
     open_object(out, b"unmet")?;
     push_text_field(out, b"name", name)?;
@@ -113,14 +112,14 @@ pub fn push_unmet_object(out: &mut Vec<u8>, name: &[u16]) -> Result<(), AllocErr
 
 /// Appends the line of a verdict.
 pub fn push_verdict_object(out: &mut Vec<u8>, verdict: Verdict) -> Result<(), AllocError>
-    ensures { OnOk result (out.new.items ≡ out.old.items ++ line_json (VerdictLine (verdict_of verdict))) }
+    ensures { OnOk result (out.new.items ≡ out.old.items ++ line_json (lines.Verdict verdict)) }
 {
     push_word_object(out, b"verdict", b"word", verdict_text(verdict).as_bytes())
 }
 
 /// Appends the last line.
 pub fn push_end_object(out: &mut Vec<u8>) -> Result<(), AllocError>
-    ensures { OnOk result (out.new.items ≡ out.old.items ++ line_json EndLine) }
+    ensures { OnOk result (out.new.items ≡ out.old.items ++ line_json lines.End) }
 {
     open_object(out, b"end")?;
     close_object(out)

@@ -6,8 +6,13 @@ use Rattle.std.proofs.lemmas.Bool.{false≢true, and_parts}
 use Rattle.std.proofs.lemmas.List.Elements.{Contains-append_left, Contains-append_cases, Contains-push, Contains-push_cases}
 use Rattle.hive_model.specs.Tree.{Tree}
 use Rattle.hive_model.specs.Edit.{Refusal, edited}
-use Rattle.start_model.specs.Lines as lines
-use Rattle.start_model.specs.Lines.{Line, CommitWord, UnmetLine, VitalLine, PhaseLine, LogonLine}
+use Rattle.report_words.specs.declared.words.Verdict.TheVariants as verdicts
+use Rattle.report_words.specs.declared.words.PhaseWord.TheVariants as phases
+use Rattle.report_words.specs.declared.words.RefusedWord.{RefusedWord}
+use Rattle.report_words.specs.declared.words.CommitWord.{CommitWord}
+use Rattle.report_words.specs.declared.words.CommitWord.TheVariants as commits
+use Rattle.report_words.specs.declared.line.Line.{Line}
+use Rattle.report_words.specs.declared.line.Line.TheVariants as lines
 use Rattle.start_model.specs.Entries as entries
 use Rattle.start_model.specs.Entries.{Entry, Phase}
 use Rattle.start_model.specs.Judge.{Judgement, Ignore, Log, FallBack, Stop}
@@ -131,11 +136,11 @@ phase_done entries.Automatic e = absurd (false≢true e)
 phase_done entries.Done e = refl
 
 phase_told : (said : List Line) (p : Phase) → is_done p ≡ true
-    → Contains (said ++ phase_line p ∷ []) (PhaseLine lines.DonePhase)
+    → Contains (said ++ phase_line p ∷ []) (lines.Phase phases.Done)
 phase_told said entries.Boot e = absurd (false≢true e)
 phase_told said entries.System e = absurd (false≢true e)
 phase_told said entries.Automatic e = absurd (false≢true e)
-phase_told said entries.Done e = Contains-push said (PhaseLine lines.DonePhase)
+phase_told said entries.Done e = Contains-push said (lines.Phase phases.Done)
 
 -- ---- the acts of an event, by what is known of the start that runs in it
 
@@ -160,8 +165,8 @@ module _ (P : List Line → Tree → Type 0) where
       → Saves P said (begin_with on_good change m)
   begin_with-saves on_good change said m =
       let start : RunState → Act = begin_start change.chosen on_good change.numbers in
-      choose said change.has_steps (commit lines.BeginCommit change.tree m start) (start m)
-      (λ e. commit-saves lines.BeginCommit change.tree said m start (λ more. tt)) tt
+      choose said change.has_steps (commit commits.Begin change.tree m start) (start m)
+      (λ e. commit-saves commits.Begin change.tree said m start (λ more. tt)) tt
 
   begin_by-saves : (on_good : Bool) (said : List Line) (m : RunState) (r : Result SetChange ChangeStop)
       → Saves P said (begin_by on_good m r)
@@ -210,14 +215,14 @@ module _ (P : List Line → Tree → Type 0) where
 
   flush-saves : (said : List Line) (m : RunState) → Saves P said (flush_act m)
   flush-saves said m =
-      choose said m.changed (commit lines.FlushCommit m.live m acts.done) (acts.say lines.FlushNothingLine (acts.done m))
-      (λ e. commit-saves lines.FlushCommit m.live said m acts.done (λ more. tt)) tt
+      choose said m.changed (commit commits.Flush m.live m acts.done) (acts.say lines.FlushNothing (acts.done m))
+      (λ e. commit-saves commits.Flush m.live said m acts.done (λ more. tt)) tt
 
   off-saves : (s : Start) (said : List Line) (m : RunState) → Saves P said (off_act s m)
   off-saves s said m =
-      choose said m.changed (commit lines.OffCommit m.live m (end_with (ending_of s) false))
+      choose said m.changed (commit commits.Off m.live m (end_with (ending_of s) false))
       (end_with (ending_of s) false m)
-      (λ e. commit-saves lines.OffCommit m.live said m (end_with (ending_of s) false) (λ more. tt)) tt
+      (λ e. commit-saves commits.Off m.live said m (end_with (ending_of s) false) (λ more. tt)) tt
 
   -- ---- a save that is due
 
@@ -238,7 +243,7 @@ module _ (P : List Line → Tree → Type 0) where
     saved_by-saves t clone said m next (Ok change) here f =
         let then : RunState → Act =
         λ after. acts.say (commit_book.select_line change.numbers) (next (noted_saved true t after)) in
-        (here, commit-saves lines.SaveCommit change.tree said m then (λ more. f _ _ (λ e. absurd cc)))
+        (here, commit-saves commits.Save change.tree said m then (λ more. f _ _ (λ e. absurd cc)))
     saved_by-saves t clone said m next (Err (NoPlan stop)) here f = f _ _ (λ e. absurd cc)
     saved_by-saves t clone said m next (Err sets.Full) here f = f _ _ (λ e. absurd cc)
 
@@ -256,14 +261,14 @@ module _ (P : List Line → Tree → Type 0) where
     -- ---- the starter
 
     module _ (good : (said : List Line) (t : Start) (clone : Tree) → Kept t → save_due t ≡ true
-        → Contains said (PhaseLine lines.DonePhase) → t.clone ≡ Some clone → P said clone) where
+        → Contains said (lines.Phase phases.Done) → t.clone ≡ Some clone → P said clone) where
       unmet-saves : (names : List (List ℕ)) (said : List Line) (act : Act) → ((more : List Line) → Saves P more act)
-          → Saves P said (say_all (map UnmetLine names) act)
+          → Saves P said (say_all (map lines.Unmet names) act)
       unmet-saves [] said act f = f said
       unmet-saves (n ∷ names) said act f = unmet-saves names _ act f
 
       vital-saves : (names : List (List ℕ)) (said : List Line) (act : Act) → ((more : List Line) → Saves P more act)
-          → Saves P said (say_all (map VitalLine names) act)
+          → Saves P said (say_all (map lines.Vital names) act)
       vital-saves [] said act f = f said
       vital-saves (n ∷ names) said act f = vital-saves names _ act f
 
@@ -280,7 +285,7 @@ module _ (P : List Line → Tree → Type 0) where
           → Kept t → Next next → Saves P said (phase_passed t m next missing)
       passed-saves t said m next [] kept f = begun-saves t said m next kept f
       passed-saves t said m next (name ∷ names) kept f =
-          vital-saves (name ∷ names) said (end_with lines.Stopped false m) (λ more. tt)
+          vital-saves (name ∷ names) said (end_with verdicts.Stopped false m) (λ more. tt)
 
       phase-saves : (t : Start) (said : List Line) (m : RunState) (next : RunState → Act) → Kept t → Next next
           → Saves P said (phase_step t m next)
@@ -351,7 +356,7 @@ module _ (m : RunState) (s0 : Start) (runs : m.machine.start ≡ Some s0) where
       subst P (sym runs) (λ none. (refl, (refl, none)))
 
   go_good : (steps : Option ℕ) (said : List Line) (t : Start) (clone : Tree) → first_kept t → save_due t ≡ true
-      → Contains said (PhaseLine lines.DonePhase) → t.clone ≡ Some clone
+      → Contains said (lines.Phase phases.Done) → t.clone ≡ Some clone
       → IsSavedAfterLogon (events.Go steps) m said clone
   go_good steps said t clone kept due told its =
       let d = due_parts t due in
@@ -369,14 +374,14 @@ module _ (m : RunState) (s0 : Start) (runs : m.machine.start ≡ Some s0) where
       let after : Start = record s0 { logged_on = true } in
       let P : List Line → Tree → Type 0 = IsSavedAfterLogon events.Logon m in
       let there : RunState = with_machine (with_start after m.machine) m in
-      due-saves P after after (LogonLine ∷ []) there acts.done (λ none. (refl, (refl, none)))
+      due-saves P after after (lines.Logon ∷ []) there acts.done (λ none. (refl, (refl, none)))
       (λ due clone its. let d = due_parts after due in
       record {
         start = s0;
         runs = runs;
         unsaved = d.saved;
         its = its;
-        good = (phase_done s0.phase d.done, Contains-push [] LogonLine);
+        good = (phase_done s0.phase d.done, Contains-push [] lines.Logon);
       })
       (λ said x kept. tt)
 
@@ -404,18 +409,18 @@ step-of-saves choice e m = by_refusal (refusal_of m.machine e)
     by_start None is = idle-saves (IsSavedAfterLogon e m) choice e [] m
     by_start (Some s) is = running-saves m s is e
 
-    by_refusal : (o : Option lines.RefusedWord) → Saves (IsSavedAfterLogon e m) [] (act_unless choice e m o)
+    by_refusal : (o : Option RefusedWord) → Saves (IsSavedAfterLogon e m) [] (act_unless choice e m o)
     by_refusal (Some reason) = tt
     by_refusal None = by_start m.machine.start refl
 
 more_said : (e : Event) (s : Start) (a b : List Line) → BecomesGood e s a → BecomesGood e s (a ++ b)
 more_said (events.BootNow entry good) s a b h = h
-more_said (events.Go steps) s a b h = (h.0, Contains-append_left a b (PhaseLine lines.DonePhase) h.1)
+more_said (events.Go steps) s a b h = (h.0, Contains-append_left a b (lines.Phase phases.Done) h.1)
 more_said (events.Fail name count) s a b h = h
 more_said (events.Vital name) s a b h = h
 more_said (events.Edits edit) s a b h = h
 more_said events.Flush s a b h = h
-more_said events.Logon s a b h = (h.0, Contains-append_left a b LogonLine h.1)
+more_said events.Logon s a b h = (h.0, Contains-append_left a b lines.Logon h.1)
 more_said events.Off s a b h = h
 more_said (events.CutNow keep) s a b h = h
 more_said (events.Arm arming) s a b h = h

@@ -11,15 +11,15 @@ use Rattle.std.proofs.lemmas.Option.{same_Some, slice_get-map, slice_get_within,
 use Rattle.nt_bytes.specs.Folding.{folds_same}
 use Rattle.name_places.proofs.FoldLemmas.{alike}
 use Rattle.dependencies.proofs.MeetLemmas.{names_flip}
-use Rattle.boot_report.specs.declared.words.TryWord.{TryWord}
-use Rattle.boot_report.specs.declared.words.TryWord.TheVariants as tries
+use Rattle.report_words.specs.declared.words.TryWord.{TryWord}
+use Rattle.report_words.specs.declared.words.TryWord.TheVariants as tries
 use Rattle.error_control.specs.declared.outcome.Judgement.{Judgement}
 use Rattle.error_control.specs.declared.outcome.Judgement.TheVariants as judgements
 use Rattle.start_model.specs.Boot.{Choice}
 use Rattle.start_model.specs.Demand.{member}
 use Rattle.start_model.specs.Entries.{Entry, entries_of}
 use Rattle.start_model.specs.Events.{Event}
-use Rattle.start_model.specs.Lines.{Line}
+use Rattle.report_words.specs.declared.line.Line.{Line}
 use Rattle.start_model.specs.Order.{first_names}
 use Rattle.start_model.specs.Possible.{Woken}
 use Rattle.start_model.specs.Quiet as book

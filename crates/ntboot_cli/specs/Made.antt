@@ -10,7 +10,8 @@ use Rattle.nt_edge.specs.Disk.{DiskState}
 use Rattle.arc_path.specs.Reading.{arc_of}
 use Rattle.start_model.specs.Events.{Event, BootNow, Go, Logon, Off}
 use Rattle.start_model.specs.Fits.{MayLoad}
-use Rattle.start_model.specs.Lines.{Verdict, verdict_word}
+use Rattle.report_words.specs.declared.words.Verdict.{Verdict}
+use Rattle.start_model.specs.Lines.{verdict_word}
 use Rattle.start_model.specs.Report.{Going}
 use Rattle.start_model.specs.Possible.{Woken}
 use Rattle.start_model.specs.Run.{run_of}

@@ -1,13 +1,12 @@
 //! `make`: a generated hive, started once, and what that came to.
 
-ghost use Rattle.std.specs.Prelude.{◌≡◌, ◌≤◌, [], ◌∷◌, ◌++◌, codes, Ok, false, IfOk, OnErr, OnOk, option_map};
+ghost use Rattle.std.specs.Prelude.{◌≡◌, ◌≤◌, [], ◌∷◌, ◌++◌, codes, Ok, false, IfOk, OnErr, OnOk};
 ghost use Rattle.nt_edge.specs.Crash.{EachCrash};
 ghost use Rattle.nt_edge.specs.Disk.{new_state};
 ghost use Rattle.hive_model.specs.Image.{Image};
 ghost use Rattle.hive_model.specs.Load.{Loads};
 ghost use Rattle.boot_run.specs.Agrees.{IsDown};
 ghost use Rattle.boot_run.specs.Views.{summary_in};
-ghost use Rattle.boot_report.specs.Report.{verdict_of};
 ghost use Rattle.start_model.specs.Possible.{Woken};
 ghost use Rattle.start_model.specs.Summary.{summary_of};
 ghost use Rattle.line_text.specs.Objects.{Number, Text, fields_text, object_text};
@@ -106,7 +105,7 @@ fn generate<B: Bench>(
 
 /// The word of the last verdict.
 fn last_word(verdict: Option<Verdict>) -> &'static str
-    ensures { result.now ≡ last_word (option_map verdict_of verdict) }
+    ensures { result.now ≡ last_word verdict }
 {
     match verdict {
         Some(verdict) => verdict_text(verdict),
@@ -164,7 +163,7 @@ fn push_outcome(
     verdict: Option<Verdict>,
     sequence: u32,
 ) -> Result<(), AllocError>
-    ensures { OnOk result (out.new.items ≡ out.old.items ++ fields_text ((codes "verdict", Text (last_word (option_map verdict_of verdict)))
+    ensures { OnOk result (out.new.items ≡ out.old.items ++ fields_text ((codes "verdict", Text (last_word verdict))
         ∷ (codes "sequence", Number sequence) ∷ [])) }
 {
     push_end(out, last_word(verdict).as_bytes(), sequence)

@@ -6,8 +6,12 @@ use Rattle.hive_model.specs.Tree.{Tree}
 use Rattle.hive_model.specs.Edit.{Refusal, edited}
 use Rattle.nt_edge.specs.Bench.{KeepsOrders}
 use Rattle.nt_edge.specs.Disk.{DiskState, Wake}
-use Rattle.start_model.specs.Lines as lines
-use Rattle.start_model.specs.Lines.{Line, CommitWord, RefusedWord, UnmetLine, VitalLine}
+use Rattle.report_words.specs.declared.words.Verdict.TheVariants as verdicts
+use Rattle.report_words.specs.declared.words.RefusedWord.{RefusedWord}
+use Rattle.report_words.specs.declared.words.CommitWord.{CommitWord}
+use Rattle.report_words.specs.declared.words.CommitWord.TheVariants as commits
+use Rattle.report_words.specs.declared.line.Line.{Line}
+use Rattle.report_words.specs.declared.line.Line.TheVariants as lines
 use Rattle.start_model.specs.Judge.{Judgement, Ignore, Log, FallBack, Stop}
 use Rattle.start_model.specs.Sets as sets
 use Rattle.start_model.specs.Sets.{SetChange, ChangeStop, NoPlan, begin_of, save_of}
@@ -108,7 +112,7 @@ saved_by-unordered : (s : Start) (clone : Tree) (m : RunState) (next : RunState 
 saved_by-unordered s clone m next (Ok change) f =
     let behind : RunState → Act =
     λ after. acts.say (commit_book.select_line change.numbers) (next (noted_saved true s after)) in
-    (tt, commit-unordered lines.SaveCommit m change.tree behind (λ x. f (noted_saved true s x)))
+    (tt, commit-unordered commits.Save m change.tree behind (λ x. f (noted_saved true s x)))
 saved_by-unordered s clone m next (Err (NoPlan stop)) f = f (noted_saved false s m)
 saved_by-unordered s clone m next (Err sets.Full) f = f (noted_saved false s m)
 
@@ -141,13 +145,13 @@ phase_passed-unordered : (s : Start) (m : RunState) (next : RunState → Act) (m
     → OrdersNothing (phase_passed s m next missing)
 phase_passed-unordered s m next [] f = phase_begun-unordered s m next f
 phase_passed-unordered s m next (name ∷ names) f =
-    say_all-unordered (map VitalLine (name ∷ names)) (end_with lines.Stopped false m) tt
+    say_all-unordered (map lines.Vital (name ∷ names)) (end_with verdicts.Stopped false m) tt
 
 phase_step-unordered : (s : Start) (m : RunState) (next : RunState → Act) → Next next
     → OrdersNothing (phase_step s m next)
 phase_step-unordered s m next f =
     let missing : List (List ℕ) = missing_in m.machine.vital s in
-    say_all-unordered (map UnmetLine (unmet_in s)) (phase_passed s m next missing)
+    say_all-unordered (map lines.Unmet (unmet_in s)) (phase_passed s m next missing)
     (phase_passed-unordered s m next missing f)
 
 starter_step-unordered : (s : Start) (m : RunState) (next : RunState → Act) (o : Option (MachineState × Tried))
@@ -178,8 +182,8 @@ begin_with-unordered : (on_good : Bool) (change : SetChange) (m : RunState)
     → OrdersNothing (begin_with on_good change m)
 begin_with-unordered on_good change m =
     let start : RunState → Act = begin_start change.chosen on_good change.numbers in
-    either change.has_steps (commit lines.BeginCommit change.tree m start) (start m)
-    (commit-unordered lines.BeginCommit m change.tree start (λ x. tt)) tt
+    either change.has_steps (commit commits.Begin change.tree m start) (start m)
+    (commit-unordered commits.Begin m change.tree start (λ x. tt)) tt
 
 begin_by-unordered : (on_good : Bool) (m : RunState) (r : Result SetChange ChangeStop)
     → OrdersNothing (begin_by on_good m r)
@@ -217,15 +221,15 @@ edit_done-unordered e m (Err refusal) = tt
 
 flush_act-unordered : (m : RunState) → OrdersNothing (flush_act m)
 flush_act-unordered m =
-    let nothing : Act = acts.say lines.FlushNothingLine (acts.done m) in
-    either m.changed (commit lines.FlushCommit m.live m acts.done) nothing
-    (commit-unordered lines.FlushCommit m m.live acts.done (λ x. tt)) tt
+    let nothing : Act = acts.say lines.FlushNothing (acts.done m) in
+    either m.changed (commit commits.Flush m.live m acts.done) nothing
+    (commit-unordered commits.Flush m m.live acts.done (λ x. tt)) tt
 
 off_act-unordered : (s : Start) (m : RunState) → OrdersNothing (off_act s m)
 off_act-unordered s m =
     let over : RunState → Act = end_with (ending_of s) false in
-    either m.changed (commit lines.OffCommit m.live m over) (over m)
-    (commit-unordered lines.OffCommit m m.live over (λ x. tt)) tt
+    either m.changed (commit commits.Off m.live m over) (over m)
+    (commit-unordered commits.Off m m.live over (λ x. tt)) tt
 
 logon_act-unordered : (s : Start) (m : RunState) → OrdersNothing (logon_act s m)
 logon_act-unordered s m =
@@ -277,7 +281,7 @@ event_step_of-unordered choice e m none = act_unless-unordered choice e m (refus
 pub closing-unordered : (m : RunState) → OrdersNothing (closing_act m)
 closing-unordered m = by_start m.machine.start
   where
-    by_start : (o : Option Start) → OrdersNothing (verdict_first o (acts.say lines.EndLine (acts.done m)))
+    by_start : (o : Option Start) → OrdersNothing (verdict_first o (acts.say lines.End (acts.done m)))
     by_start None = tt
     by_start (Some s) = tt
 

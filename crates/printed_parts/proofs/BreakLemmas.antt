@@ -9,7 +9,7 @@ use Rattle.nt_bytes.specs.Front.{IsFront}
 use Rattle.nt_edge.specs.Disk.{DiskState}
 use Rattle.nt_edge.specs.Crash.{EachCrash}
 use Rattle.nt_edge.specs.Host.{SaysFront}
-use Rattle.start_model.specs.Lines.{Line}
+use Rattle.report_words.specs.declared.line.Line.{Line}
 use Rattle.line_text.specs.declared.form.ReportForm.{ReportForm}
 use Rattle.line_objects.specs.Objects.{printed, printed_lines}
 use Rattle.line_objects.proofs.LineFeedLemmas.{line_ended}

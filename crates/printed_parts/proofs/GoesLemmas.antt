@@ -5,8 +5,10 @@ use Rattle.std.proofs.lemmas.List.{map-append}
 use Rattle.hive_model.specs.Image.{Image}
 use Rattle.hive_model.specs.Tree.{Tree}
 use Rattle.nt_edge.specs.Disk.{DiskState, Wake}
-use Rattle.start_model.specs.Lines as book
-use Rattle.start_model.specs.Lines.{Line, StartLine, EntryLine, LoadLine, SetLine, CommitLine, SelectLine, PhaseLine, TryLine, UnmetLine, VitalLine, LogonLine, SaveRefusedLine, EditOkLine, FlushNothingLine, RefusedLine, VerdictLine, EndLine}
+use Rattle.report_words.specs.declared.words.Verdict.{Verdict}
+use Rattle.report_words.specs.declared.words.Verdict.TheVariants as verdicts
+use Rattle.report_words.specs.declared.line.Line.{Line}
+use Rattle.report_words.specs.declared.line.Line.TheVariants as lines
 use Rattle.start_model.specs.Fits.{outcomes_in, verdict_outcome, woke_in, Fits}
 use Rattle.start_model.specs.Causes.{Tally, HasCause}
 use Rattle.run_parts.specs.Counted.{CountedIn, AddsUp}
@@ -30,43 +32,43 @@ pub printed-append : (form : ReportForm) (a b : List Line)
     → printed_lines form (a ++ b) ≡ printed_lines form a ++ printed_lines form b
 printed-append form a b = flat_map-append (printed form) a b
 
-verdict_outcome-append : (w : book.Verdict) (a b : List Outcome) → verdict_outcome w (a ++ b) ≡ verdict_outcome w a ++ b
-verdict_outcome-append book.Good a b = refl
-verdict_outcome-append book.GoodUnsaved a b = refl
-verdict_outcome-append book.Running a b = refl
-verdict_outcome-append book.FallBack a b = refl
-verdict_outcome-append book.Stopped a b = refl
-verdict_outcome-append book.Cut a b = refl
-verdict_outcome-append book.Device a b = refl
-verdict_outcome-append book.Full a b = refl
-verdict_outcome-append book.NoNumber a b = refl
-verdict_outcome-append book.NoEntry a b = refl
-verdict_outcome-append book.OtherLoader a b = refl
-verdict_outcome-append book.NoSystem a b = refl
-verdict_outcome-append book.NoControlSet a b = refl
-verdict_outcome-append book.NoLastKnownGood a b = refl
+verdict_outcome-append : (w : Verdict) (a b : List Outcome) → verdict_outcome w (a ++ b) ≡ verdict_outcome w a ++ b
+verdict_outcome-append verdicts.Good a b = refl
+verdict_outcome-append verdicts.GoodUnsaved a b = refl
+verdict_outcome-append verdicts.Running a b = refl
+verdict_outcome-append verdicts.FallBack a b = refl
+verdict_outcome-append verdicts.Stopped a b = refl
+verdict_outcome-append verdicts.Cut a b = refl
+verdict_outcome-append verdicts.Device a b = refl
+verdict_outcome-append verdicts.Full a b = refl
+verdict_outcome-append verdicts.NoNumber a b = refl
+verdict_outcome-append verdicts.NoEntry a b = refl
+verdict_outcome-append verdicts.OtherLoader a b = refl
+verdict_outcome-append verdicts.NoSystem a b = refl
+verdict_outcome-append verdicts.NoControlSet a b = refl
+verdict_outcome-append verdicts.NoLastKnownGood a b = refl
 
 pub outcomes_in-append : (a b : List Line) → outcomes_in (a ++ b) ≡ outcomes_in a ++ outcomes_in b
 outcomes_in-append [] b = refl
-outcomes_in-append (StartLine number ∷ a) b = outcomes_in-append a b
-outcomes_in-append (EntryLine number path ∷ a) b = outcomes_in-append a b
-outcomes_in-append (LoadLine sequence recovered ∷ a) b =
+outcomes_in-append (lines.Start number ∷ a) b = outcomes_in-append a b
+outcomes_in-append (lines.Entry number path ∷ a) b = outcomes_in-append a b
+outcomes_in-append (lines.Load sequence recovered ∷ a) b =
     ap (λ (os : List Outcome). Finished ∷ os) (outcomes_in-append a b)
-outcomes_in-append (SetLine number on_good ∷ a) b = outcomes_in-append a b
-outcomes_in-append (CommitLine what sequence ∷ a) b = ap (λ (os : List Outcome). Finished ∷ os) (outcomes_in-append a b)
-outcomes_in-append (SelectLine current default failed good ∷ a) b = outcomes_in-append a b
-outcomes_in-append (PhaseLine word ∷ a) b = outcomes_in-append a b
-outcomes_in-append (TryLine name outcome ∷ a) b = outcomes_in-append a b
-outcomes_in-append (UnmetLine name ∷ a) b = outcomes_in-append a b
-outcomes_in-append (VitalLine name ∷ a) b = outcomes_in-append a b
-outcomes_in-append (LogonLine ∷ a) b = outcomes_in-append a b
-outcomes_in-append (SaveRefusedLine full ∷ a) b = outcomes_in-append a b
-outcomes_in-append (EditOkLine ∷ a) b = outcomes_in-append a b
-outcomes_in-append (FlushNothingLine ∷ a) b = outcomes_in-append a b
-outcomes_in-append (RefusedLine event why ∷ a) b = outcomes_in-append a b
-outcomes_in-append (VerdictLine word ∷ a) b =
+outcomes_in-append (lines.Set number on_good ∷ a) b = outcomes_in-append a b
+outcomes_in-append (lines.Commit what sequence ∷ a) b = ap (λ (os : List Outcome). Finished ∷ os) (outcomes_in-append a b)
+outcomes_in-append (lines.Select current default failed good ∷ a) b = outcomes_in-append a b
+outcomes_in-append (lines.Phase word ∷ a) b = outcomes_in-append a b
+outcomes_in-append (lines.Try name outcome ∷ a) b = outcomes_in-append a b
+outcomes_in-append (lines.Unmet name ∷ a) b = outcomes_in-append a b
+outcomes_in-append (lines.Vital name ∷ a) b = outcomes_in-append a b
+outcomes_in-append (lines.Logon ∷ a) b = outcomes_in-append a b
+outcomes_in-append (lines.SaveRefused full ∷ a) b = outcomes_in-append a b
+outcomes_in-append (lines.EditOk ∷ a) b = outcomes_in-append a b
+outcomes_in-append (lines.FlushNothing ∷ a) b = outcomes_in-append a b
+outcomes_in-append (lines.Refused event why ∷ a) b = outcomes_in-append a b
+outcomes_in-append (lines.Verdict word ∷ a) b =
     ap (verdict_outcome word) (outcomes_in-append a b) ∙ verdict_outcome-append word (outcomes_in a) (outcomes_in b)
-outcomes_in-append (EndLine ∷ a) b = outcomes_in-append a b
+outcomes_in-append (lines.End ∷ a) b = outcomes_in-append a b
 
 pub woke_in-append : (a b : List Note) → woke_in (a ++ b) ≡ woke_in a ++ woke_in b
 woke_in-append [] b = refl

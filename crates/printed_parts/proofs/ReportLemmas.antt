@@ -4,7 +4,8 @@ use Rattle.nt_bytes.specs.Front.{IsFront}
 use Rattle.nt_edge.specs.Disk.{DiskState}
 use Rattle.nt_edge.specs.Crash.{EachCrash}
 use Rattle.boot_report.proofs.TextLemmas.{outcomes_of-text}
-use Rattle.start_model.specs.Lines.{Line, text_of}
+use Rattle.report_words.specs.declared.line.Line.{Line}
+use Rattle.start_model.specs.Lines.{text_of}
 use Rattle.start_model.specs.Fits.{outcomes_in, outcomes_of, woke_in, Fits, MayLoad}
 use Rattle.start_model.specs.Possible.{Possible, Woken, Outcome}
 use Rattle.start_model.specs.Act.{Note, RunState}

@@ -10,7 +10,7 @@ use Rattle.hive_model.specs.Image.{Image}
 use Rattle.nt_edge.specs.Disk.{DiskState, Wake}
 use Rattle.nt_edge.specs.Crash.{EachCrash}
 use Rattle.nt_edge.specs.Host.{SaysFront}
-use Rattle.start_model.specs.Lines.{Line}
+use Rattle.report_words.specs.declared.line.Line.{Line}
 use Rattle.start_model.specs.Summary.{Summary, with_lines}
 use Rattle.start_model.specs.Fits.{outcomes_in, woke_in, Fits, MayLoad}
 use Rattle.start_model.specs.Possible.{Woken, Outcome}

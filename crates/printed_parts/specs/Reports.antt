@@ -6,7 +6,8 @@ use Rattle.std.specs.Prelude.{◌≡◌, ℕ, List, [], ◌∷◌, ◌++◌, map
 use Rattle.nt_bytes.specs.Front.{IsFront}
 use Rattle.nt_edge.specs.Disk.{DiskState, Wake}
 use Rattle.start_model.specs.Act.{Ended}
-use Rattle.start_model.specs.Lines.{Line, text_of}
+use Rattle.report_words.specs.declared.line.Line.{Line}
+use Rattle.start_model.specs.Lines.{text_of}
 use Rattle.start_model.specs.Fits.{outcomes_of}
 use Rattle.start_model.specs.Report.{Going, Report, ReportFront}
 use Rattle.start_model.specs.Summary.{with_lines}

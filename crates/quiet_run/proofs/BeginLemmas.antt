@@ -5,7 +5,7 @@ use Rattle.hive_model.specs.Tree.{Tree}
 use Rattle.hive_model.specs.Edit.{Step, Refusal}
 use Rattle.reg_tree.specs.declared.steps.TreeStep.{TreeStep}
 use Rattle.reg_tree.specs.Makes.{step_of}
-use Rattle.start_model.specs.Lines.{BeginCommit}
+use Rattle.report_words.specs.declared.words.CommitWord.TheVariants as commits
 use Rattle.start_model.specs.Sets.{SelectNumbers, SetPlan, select_numbers_of, taken_number, stepped, changed_by}
 use Rattle.start_model.specs.Act.{RunState}
 use Rattle.start_model.specs.Commit.{commit}
@@ -19,7 +19,7 @@ same_ok t u e = cc
 -- what remains after the steps: a commit where there were some, and the beginning
 made : Bool → ℕ → Bool → SelectNumbers → RunState → Tree → LastStart → Watched
 made changed number on_good numbers m tree l =
-    watch (cond changed (commit BeginCommit tree (record m { live = tree }) (begin_start number on_good numbers))
+    watch (cond changed (commit commits.Begin tree (record m { live = tree }) (begin_start number on_good numbers))
     (begin_start number on_good numbers (record m { live = tree }))) l
 
 some : (n : ℕ) → not (suc n == 0) ≡ true
@@ -40,7 +40,7 @@ by_steps on_good m chosen numbers [] tree l is =
 by_steps on_good m chosen numbers (s ∷ ss) tree l is =
     let L : LastStart = record l { set = Some (taken_number (select_numbers_of m.live) on_good, on_good) } in
     ap (λ (b : Bool). made b chosen on_good numbers m tree L) (some (length ss))
-    ∙ sym (ap (λ (b : Bool). watch (cond b (commit BeginCommit tree m (begin_start chosen on_good numbers)) (begin_start chosen on_good numbers m)) L)
+    ∙ sym (ap (λ (b : Bool). watch (cond b (commit commits.Begin tree m (begin_start chosen on_good numbers)) (begin_start chosen on_good numbers m)) L)
     (some (length (map step_of ss))))
     ∙ ap (λ (r : Result Tree Refusal). watch (begin_by on_good m (changed_by (plan_with chosen numbers (s ∷ ss)) r)) l) (sym is)
 
@@ -49,7 +49,7 @@ pub begun_by : (on_good : Bool) (m : RunState) (plan : SetPlan) (code : List Tre
     (number taken : ℕ) (new : Watched) → number ≡ plan.chosen → map step_of code ≡ plan.steps → changed ≡ not (length code == 0)
     → taken ≡ taken_number (select_numbers_of m.live) on_good → stepped m.version m.live (map step_of code) ≡ Ok tree
     → ((numbers : SelectNumbers)
-    → new ≡ watch (cond changed (commit BeginCommit tree (record m { live = tree }) (begin_start number on_good numbers))
+    → new ≡ watch (cond changed (commit commits.Begin tree (record m { live = tree }) (begin_start number on_good numbers))
     (begin_start number on_good numbers (record m { live = tree }))) (record l { set = Some (taken, on_good) }))
     → new ≡ watch (begin_by on_good m (changed_by plan (stepped m.version m.live plan.steps))) l
 unfolding made plan_with

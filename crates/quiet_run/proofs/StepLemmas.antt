@@ -1,7 +1,8 @@
 -- A step of the starter, as it is watched.
 use Rattle.std.proofs.Common.{◌≡◌, ◌≤◌, ℕ, true, false, List, [], ◌∷◌, ◌++◌, length, map, Option, Some, refl, sym, ap, ◌∙◌, arith, append_assoc, append-nil}
 use Rattle.std.specs.Option.{option_map_or}
-use Rattle.start_model.specs.Lines.{Stopped, UnmetLine, VitalLine}
+use Rattle.report_words.specs.declared.words.Verdict.TheVariants.{Stopped}
+use Rattle.report_words.specs.declared.line.Line.TheVariants.{Unmet as UnmetLine, Vital as VitalLine}
 use Rattle.start_model.specs.Entries.{Phase, Boot, System, Automatic, Done}
 use Rattle.start_model.specs.Machine.{Start, MachineState, missing_in, unmet_in, after_phase, with_start}
 use Rattle.start_model.specs.Act.{RunState, Act, done, say_all, end_with, with_machine}

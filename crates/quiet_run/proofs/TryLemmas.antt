@@ -4,20 +4,19 @@ use Rattle.std.specs.Prelude.{slice_get, option_map, option_and_then, IfSome, if
 use Rattle.std.specs.Option.{option_map_or}
 use Rattle.std.proofs.lemmas.Option.{same_Some}
 use Rattle.std.proofs.lemmas.List.{length-map}
-use Rattle.start_model.specs.Lines.{TryOk}
+use Rattle.report_words.specs.declared.words.TryWord.TheVariants as tries
 use Rattle.start_model.specs.Entries.{Entry, Phase, Boot, System, Automatic, Done, services_of}
 use Rattle.start_model.specs.Machine as machine
 use Rattle.start_model.specs.Machine.{Start, MachineState, next_in, attempt_at, attempt_in, attempt_of, unmet_in, is_done}
 use Rattle.start_model.specs.Act.{RunState, done, with_machine}
 use Rattle.start_model.specs.Starter.{good_is_usable, failed_word, judged, phase_step, starter_step, stepping, enough_steps}
 use Rattle.error_control.specs.Judgement.{judgement_in}
-use Rattle.boot_report.specs.declared.words.TryWord.{TryWord}
+use Rattle.report_words.specs.declared.words.TryWord.{TryWord}
 use Rattle.boot_machine.specs.declared.tried.Tried.{Tried}
 use Rattle.boot_machine.specs.Views.{tried_in}
 use Rattle.boot_machine.specs.Steps.{is_there, is_at_end}
 use Rattle.quiet_run.specs.declared.last.Attempt.{Attempt}
 use Rattle.quiet_run.specs.declared.last.LastStart.{LastStart}
-use Rattle.quiet_run.specs.Words.{try_as}
 use Rattle.quiet_run.specs.Watch.{Watched, watch, noted, stepped, steps_of, phase_noted}
 use Rattle.quiet_run.specs.Play.{IsSoundStart, set_in, is_under_way}
 use Rattle.quiet_run.proofs.CaseLemmas.{numbered}
@@ -26,7 +25,7 @@ use Rattle.quiet_run.proofs.CaseLemmas.{numbered}
 
 pub tried_so : (m : RunState) (s : Start) (l : LastStart) (new : Watched) (usable : Bool) (next : MachineState) (t : Tried) (outcome : TryWord)
     (attempts : List Attempt) → usable ≡ good_is_usable m.live → attempt_of m.machine usable ≡ Some (next, tried_in t)
-    → outcome ≡ try_as (if t.ok then TryOk else failed_word (tried_in t).judgement)
+    → outcome ≡ (if t.ok then tries.Ok else failed_word (tried_in t).judgement)
     → attempts ≡ l.attempts ++ (record { name = t.name; outcome = outcome }) ∷ []
     → new ≡ watch (judged (judgement_in t.judgement) (with_machine next m) done) (record l { attempts = attempts })
     → new ≡ watch (starter_step s m done (attempt_of m.machine (good_is_usable m.live))) l

@@ -6,7 +6,9 @@ use Rattle.std.specs.Prelude.{ℕ, zero, suc, Bool, true, false, not, ◌&&◌, 
 use Rattle.std.specs.Option.{unwrap_or, option_map_or}
 use Rattle.nt_bytes.specs.declared.version.HiveVersion.{HiveVersion}
 use Rattle.hive_model.specs.Tree.{Tree}
-use Rattle.start_model.specs.Lines.{Line, RefusedWord, StartLine, SetLine, TryLine, PhaseLine, VitalLine, VerdictLine}
+use Rattle.report_words.specs.declared.words.RefusedWord.{RefusedWord}
+use Rattle.report_words.specs.declared.line.Line.{Line}
+use Rattle.report_words.specs.declared.line.Line.TheVariants as lines
 use Rattle.start_model.specs.Entries.{Phase}
 use Rattle.start_model.specs.Events.{Event, Go}
 use Rattle.start_model.specs.Possible.{Woken, Finished}
@@ -21,7 +23,7 @@ use Rattle.boot_machine.specs.Codes.{phase_number}
 use Rattle.select_keys.specs.Sets.{usable_set}
 use Rattle.quiet_run.specs.declared.last.LastStart.{LastStart}
 use Rattle.quiet_run.specs.declared.last.QuietRun.{QuietRun}
-use Rattle.quiet_run.specs.Words.{try_as, phase_as, verdict_as}
+use Rattle.quiet_run.specs.Words.{phase_as}
 
 -- the state of the run, and what is known of its last start
 pub record Watched : Type 0 where
@@ -34,12 +36,12 @@ fresh_start number = record { number = number; set = None; phases = []; attempts
 
 -- with one more line of the run
 abbrev pub seen : Line → LastStart → LastStart
-seen (StartLine number) l = fresh_start number
-seen (SetLine number on_good) l = record l { set = Some (number, on_good) }
-seen (TryLine name word) l = record l { attempts = l.attempts ++ (record { name = name; outcome = try_as word }) ∷ [] }
-seen (PhaseLine word) l = record l { ended = true }
-seen (VitalLine name) l = record l { ended = true; missing = l.missing ++ name ∷ [] }
-seen (VerdictLine word) l = record l { verdict = Some (verdict_as word) }
+seen (lines.Start number) l = fresh_start number
+seen (lines.Set number on_good) l = record l { set = Some (number, on_good) }
+seen (lines.Try name word) l = record l { attempts = l.attempts ++ (record { name = name; outcome = word }) ∷ [] }
+seen (lines.Phase word) l = record l { ended = true }
+seen (lines.Vital name) l = record l { ended = true; missing = l.missing ++ name ∷ [] }
+seen (lines.Verdict word) l = record l { verdict = Some word }
 seen line l = l
 
 -- an act where each wake is the settled state and each operation is done

@@ -4,7 +4,7 @@ ghost use Rattle.std.specs.Prelude.{◌≡◌, Result, None, OnOk, if◌then◌e
 ghost use Rattle.std.specs.List.{All};
 ghost use Rattle.reg_tree.specs.Fitting.{Fits};
 ghost use Rattle.select_keys.specs.Plans.{IsStopped};
-ghost use Rattle.start_model.specs.Lines.{BeginCommit};
+ghost use Rattle.report_words.specs.declared.words.CommitWord.TheVariants as commits;
 ghost use Rattle.start_model.specs.Sets.{SetPlan as Plan, SelectNumbers, SetStop, select_numbers_of, taken_number, stepped, changed_by, planned};
 ghost use Rattle.start_model.specs.Commit.{commit};
 ghost use Rattle.start_model.specs.Boot.{begin_start, begin_by, take_set};
@@ -46,7 +46,7 @@ fn begin_committed(
     requires sound { IsSound play.old }
     requires number { IsSetNumber number }
     ensures watched { OnOk result ((numbers : SelectNumbers) → watched_in play.new
-        ≡ watch (commit BeginCommit play.old.live (state_in play.old) (begin_start number on_good numbers)) play.old.last) }
+        ≡ watch (commit commits.Begin play.old.live (state_in play.old) (begin_start number on_good numbers)) play.old.last) }
     ensures sound { OnOk result (IsSound play.new) }
 {
     commit(alloc, play)?;
@@ -65,7 +65,7 @@ fn begin_made(
     requires sound { IsSound play.old }
     requires number { IsSetNumber number }
     ensures watched { OnOk result ((numbers : SelectNumbers) → watched_in play.new
-        ≡ watch (if changed then commit BeginCommit play.old.live (state_in play.old) (begin_start number on_good numbers)
+        ≡ watch (if changed then commit commits.Begin play.old.live (state_in play.old) (begin_start number on_good numbers)
         else begin_start number on_good numbers (state_in play.old)) play.old.last) }
     ensures sound { OnOk result (IsSound play.new) }
 {

@@ -9,7 +9,7 @@ ghost use Rattle.reg_tree.specs.Fitting.{Fits};
 ghost use Rattle.reg_tree.specs.Makes.{step_of};
 ghost use Rattle.start_model.specs.Events.{Event};
 ghost use Rattle.start_model.specs.Machine.{Start, ending_of};
-ghost use Rattle.start_model.specs.Lines.{OffCommit};
+ghost use Rattle.report_words.specs.declared.words.CommitWord.TheVariants as commits;
 ghost use Rattle.start_model.specs.Act.{end_with};
 ghost use Rattle.start_model.specs.Commit.{commit};
 ghost use Rattle.start_model.specs.EventActs.{edit_done, flush_act, off_act};
@@ -92,7 +92,7 @@ fn commit_off(alloc: Global, play: &mut Play) -> Result<(), AllocError>
     requires sound { IsSound play.old }
     requires on { is_there play.old.machine.start ≡ true }
     ensures watched { OnOk result ((s : Start) → play.old.machine.start ≡ Some s → watched_in play.new
-        ≡ watch (commit OffCommit play.old.live (state_in play.old) (end_with (ending_of s) false)) play.old.last) }
+        ≡ watch (commit commits.Off play.old.live (state_in play.old) (end_with (ending_of s) false)) play.old.last) }
     ensures sound { OnOk result (IsSound play.new) }
 {
     commit(alloc, play)?;

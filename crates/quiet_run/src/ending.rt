@@ -2,7 +2,6 @@
 
 ghost use Rattle.std.specs.Prelude.{◌≡◌, true, false, Some};
 ghost use Rattle.boot_machine.specs.Steps.{falls_back, is_there};
-ghost use Rattle.boot_report.specs.Report.{verdict_of};
 ghost use Rattle.error_control.specs.Judgement.{judgement_in};
 ghost use Rattle.start_model.specs.Act.{done, end_with};
 ghost use Rattle.start_model.specs.Starter.{judged};
@@ -15,9 +14,8 @@ use boot_machine::Verdict;
 use error_control::Judgement;
 
 /// A start ends with this verdict. Edits that were not committed are lost.
-#[tactic(auto, using(crate::proofs::WordLemmas::verdict_again))]
 pub(crate) fn end(verdict: Verdict, play: &mut Play)
-    ensures watched { watched_in play.new ≡ watch (end_with (verdict_of verdict) (falls_back (verdict_of verdict)) (state_in play.old)) play.old.last }
+    ensures watched { watched_in play.new ≡ watch (end_with verdict (falls_back verdict) (state_in play.old)) play.old.last }
     ensures sound { IsSound play.old → IsSound play.new }
 {
     play.machine.end(verdict);

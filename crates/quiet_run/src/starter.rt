@@ -4,7 +4,8 @@ ghost use Rattle.std.specs.Prelude.{◌≡◌, ◌≤◌, ◌+◌, ◌++◌, tru
 ghost use Rattle.hive_model.specs.Valid.{IsValid};
 ghost use Rattle.boot_machine.specs.Steps.{is_at_end, on_start};
 ghost use Rattle.boot_machine.specs.Views.{event_in};
-ghost use Rattle.start_model.specs.Lines.{Stopped, VitalLine};
+ghost use Rattle.report_words.specs.declared.words.Verdict.TheVariants.{Stopped};
+ghost use Rattle.report_words.specs.declared.line.Line.TheVariants.{Vital as VitalLine};
 ghost use Rattle.start_model.specs.Entries.{services_of};
 ghost use Rattle.start_model.specs.Machine.{Start, after_phase, attempt_of, refusal_of};
 ghost use Rattle.start_model.specs.Events as book;

@@ -65,7 +65,6 @@ fn events(
 }
 
 /// A start that still runs gets its verdict.
-#[tactic(auto, using(crate::proofs::WordLemmas::verdict_again))]
 fn close(play: &mut Play)
     ensures state { state_in play.new ≡ (watch (closing_act (state_in play.old)) play.old.last).state }
     ensures last { play.new.last ≡ (watch (closing_act (state_in play.old)) play.old.last).last }

@@ -4,10 +4,9 @@ ghost use Rattle.std.specs.Prelude.{◌≡◌};
 ghost use Rattle.boot_machine.specs.Views.{tried_in};
 ghost use Rattle.boot_machine.specs.Codes.{phase_number};
 ghost use Rattle.boot_phases.specs.Phases.{phase_in};
-ghost use Rattle.start_model.specs.Lines.{TryOk};
+ghost use Rattle.report_words.specs.declared.words.TryWord.TheVariants as tries;
 ghost use Rattle.start_model.specs.Starter.{failed_word};
 ghost use Rattle.std.specs.Prelude.{if◌then◌else◌};
-ghost use Rattle.quiet_run.specs.Words.{try_as};
 
 use boot_machine::Tried;
 use boot_phases::Phase;
@@ -16,7 +15,7 @@ use error_control::Judgement;
 
 /// How an attempt went.
 pub(crate) fn try_word(tried: &Tried) -> TryWord
-    ensures { result ≡ try_as (if tried.now.ok then TryOk else failed_word (tried_in tried.now).judgement) }
+    ensures { result ≡ (if tried.now.ok then tries.Ok else failed_word (tried_in tried.now).judgement) }
 {
     if tried.ok {
         return TryWord::Ok;

@@ -16,7 +16,7 @@ pub struct Notes {
     pub room: usize,
     /// The first bytes that were said.
     pub front: Bytes,
-    /// Whether nothing failed to be said, or to be noted for want of memory.
+    /// Whether nothing failed to be said, and nothing was left out of the notes because memory ran out.
     pub whole: bool,
     /// The file that could not be read.
     pub unread: Option<usize>,

@@ -2,7 +2,8 @@
 use Rattle.std.proofs.Common.{◌≡◌, ℕ, ◌+◌, Bool, true, false, cond, List, [], ◌∷◌, ◌++◌, length, refl, ◌∙◌}
 use Rattle.std.specs.Prelude.{codes}
 use Rattle.std.specs.List.{flat_map}
-use Rattle.start_model.specs.Lines.{Line, StartLine, EntryLine, LoadLine, SetLine, CommitLine, SelectLine, PhaseLine, TryLine, UnmetLine, VitalLine, LogonLine, SaveRefusedLine, EditOkLine, FlushNothingLine, RefusedLine, VerdictLine, EndLine}
+use Rattle.report_words.specs.declared.line.Line.{Line}
+use Rattle.report_words.specs.declared.line.Line.TheVariants as lines
 use Rattle.line_text.specs.declared.form.ReportForm.{ReportForm}
 use Rattle.line_text.specs.declared.form.ReportForm.TheVariants as forms
 use Rattle.line_objects.specs.Objects as objects
@@ -21,23 +22,23 @@ use Rattle.report_json_laws.proofs.StartLines.{whole, read}
 
 -- no line of a start has one of the words that a sweep reads in its own way
 start_word : (line : Line) (fields : Fields) → sweep_reader (word_of line) fields ≡ start_reader (word_of line) fields
-start_word (StartLine number) fields = refl
-start_word (EntryLine number path) fields = refl
-start_word (LoadLine sequence recovered) fields = refl
-start_word (SetLine number on_good) fields = refl
-start_word (CommitLine what sequence) fields = refl
-start_word (SelectLine current default failed good) fields = refl
-start_word (PhaseLine word) fields = refl
-start_word (TryLine name outcome) fields = refl
-start_word (UnmetLine name) fields = refl
-start_word (VitalLine name) fields = refl
-start_word LogonLine fields = refl
-start_word (SaveRefusedLine full) fields = refl
-start_word EditOkLine fields = refl
-start_word FlushNothingLine fields = refl
-start_word (RefusedLine event why) fields = refl
-start_word (VerdictLine word) fields = refl
-start_word EndLine fields = refl
+start_word (lines.Start number) fields = refl
+start_word (lines.Entry number path) fields = refl
+start_word (lines.Load sequence recovered) fields = refl
+start_word (lines.Set number on_good) fields = refl
+start_word (lines.Commit what sequence) fields = refl
+start_word (lines.Select current default failed good) fields = refl
+start_word (lines.Phase word) fields = refl
+start_word (lines.Try name outcome) fields = refl
+start_word (lines.Unmet name) fields = refl
+start_word (lines.Vital name) fields = refl
+start_word lines.Logon fields = refl
+start_word (lines.SaveRefused full) fields = refl
+start_word lines.EditOk fields = refl
+start_word lines.FlushNothing fields = refl
+start_word (lines.Refused event why) fields = refl
+start_word (lines.Verdict word) fields = refl
+start_word lines.End fields = refl
 
 line_read : (line : Line) → IsRead sweep_reader (said_of line)
 line_read line =

@@ -2,7 +2,9 @@
 use Rattle.std.specs.Prelude.{ℕ, if◌then◌else◌, List, [], ◌∷◌, ◌++◌, codes}
 use Rattle.std.specs.Str.{bytes_eq}
 use Rattle.std.specs.Fmt.{decimal}
-use Rattle.start_model.specs.Lines.{Line, StartLine, EntryLine, LoadLine, SetLine, CommitLine, SelectLine, PhaseLine, TryLine, UnmetLine, VitalLine, LogonLine, SaveRefusedLine, EditOkLine, FlushNothingLine, RefusedLine, VerdictLine, EndLine, commit_word, phase_word, event_word, refused_word, verdict_word, load_word, set_word, save_word, name_text, path_text, line_text}
+use Rattle.report_words.specs.declared.line.Line.{Line}
+use Rattle.report_words.specs.declared.line.Line.TheVariants as lines
+use Rattle.start_model.specs.Lines.{commit_word, phase_word, event_word, refused_word, verdict_word, load_word, set_word, save_word, name_text, path_text, line_text}
 use Rattle.line_text.specs.Objects.{Number, Text}
 use Rattle.line_objects.specs.Objects.{outcome_word, select_fields}
 use Rattle.json_laws.specs.Reports.{Fields, Reader, Said, said}
@@ -10,42 +12,42 @@ use Rattle.json_laws.specs.Reports.{Fields, Reader, Said, said}
 -- ---- the object of a line
 
 abbrev pub word_of : Line → List ℕ
-word_of (StartLine number) = codes "start"
-word_of (EntryLine number path) = codes "entry"
-word_of (LoadLine sequence recovered) = codes "load"
-word_of (SetLine number on_good) = codes "set"
-word_of (CommitLine what sequence) = codes "commit"
-word_of (SelectLine current default failed good) = codes "select"
-word_of (PhaseLine word) = codes "phase"
-word_of (TryLine name outcome) = codes "try"
-word_of (UnmetLine name) = codes "unmet"
-word_of (VitalLine name) = codes "vital"
-word_of LogonLine = codes "logon"
-word_of (SaveRefusedLine full) = codes "save"
-word_of EditOkLine = codes "edit"
-word_of FlushNothingLine = codes "flush"
-word_of (RefusedLine event why) = codes "refused"
-word_of (VerdictLine word) = codes "verdict"
-word_of EndLine = codes "end"
+word_of (lines.Start number) = codes "start"
+word_of (lines.Entry number path) = codes "entry"
+word_of (lines.Load sequence recovered) = codes "load"
+word_of (lines.Set number on_good) = codes "set"
+word_of (lines.Commit what sequence) = codes "commit"
+word_of (lines.Select current default failed good) = codes "select"
+word_of (lines.Phase word) = codes "phase"
+word_of (lines.Try name outcome) = codes "try"
+word_of (lines.Unmet name) = codes "unmet"
+word_of (lines.Vital name) = codes "vital"
+word_of lines.Logon = codes "logon"
+word_of (lines.SaveRefused full) = codes "save"
+word_of lines.EditOk = codes "edit"
+word_of lines.FlushNothing = codes "flush"
+word_of (lines.Refused event why) = codes "refused"
+word_of (lines.Verdict word) = codes "verdict"
+word_of lines.End = codes "end"
 
 abbrev pub fields_of : Line → Fields
-fields_of (StartLine number) = (codes "number", Number number) ∷ []
-fields_of (EntryLine number path) = (codes "number", Number number) ∷ (codes "path", Text path) ∷ []
-fields_of (LoadLine sequence recovered) = (codes "sequence", Number sequence) ∷ (codes "state", Text (load_word recovered)) ∷ []
-fields_of (SetLine number on_good) = (codes "number", Number number) ∷ (codes "by", Text (set_word on_good)) ∷ []
-fields_of (CommitLine what sequence) = (codes "what", Text (commit_word what)) ∷ (codes "sequence", Number sequence) ∷ []
-fields_of (SelectLine current default failed good) = select_fields current default failed good
-fields_of (PhaseLine word) = (codes "name", Text (phase_word word)) ∷ []
-fields_of (TryLine name outcome) = (codes "name", Text name) ∷ (codes "outcome", Text (outcome_word outcome)) ∷ []
-fields_of (UnmetLine name) = (codes "name", Text name) ∷ []
-fields_of (VitalLine name) = (codes "name", Text name) ∷ []
-fields_of LogonLine = []
-fields_of (SaveRefusedLine full) = (codes "refused", Text (save_word full)) ∷ []
-fields_of EditOkLine = []
-fields_of FlushNothingLine = []
-fields_of (RefusedLine event why) = (codes "event", Text (event_word event)) ∷ (codes "word", Text (refused_word why)) ∷ []
-fields_of (VerdictLine word) = (codes "word", Text (verdict_word word)) ∷ []
-fields_of EndLine = []
+fields_of (lines.Start number) = (codes "number", Number number) ∷ []
+fields_of (lines.Entry number path) = (codes "number", Number number) ∷ (codes "path", Text path) ∷ []
+fields_of (lines.Load sequence recovered) = (codes "sequence", Number sequence) ∷ (codes "state", Text (load_word recovered)) ∷ []
+fields_of (lines.Set number on_good) = (codes "number", Number number) ∷ (codes "by", Text (set_word on_good)) ∷ []
+fields_of (lines.Commit what sequence) = (codes "what", Text (commit_word what)) ∷ (codes "sequence", Number sequence) ∷ []
+fields_of (lines.Select current default failed good) = select_fields current default failed good
+fields_of (lines.Phase word) = (codes "name", Text (phase_word word)) ∷ []
+fields_of (lines.Try name outcome) = (codes "name", Text name) ∷ (codes "outcome", Text (outcome_word outcome)) ∷ []
+fields_of (lines.Unmet name) = (codes "name", Text name) ∷ []
+fields_of (lines.Vital name) = (codes "name", Text name) ∷ []
+fields_of lines.Logon = []
+fields_of (lines.SaveRefused full) = (codes "refused", Text (save_word full)) ∷ []
+fields_of lines.EditOk = []
+fields_of lines.FlushNothing = []
+fields_of (lines.Refused event why) = (codes "event", Text (event_word event)) ∷ (codes "word", Text (refused_word why)) ∷ []
+fields_of (lines.Verdict word) = (codes "word", Text (verdict_word word)) ∷ []
+fields_of lines.End = []
 
 abbrev pub said_of : Line → Said
 said_of line = said (line_text line) (word_of line) (fields_of line)

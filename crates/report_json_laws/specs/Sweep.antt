@@ -3,7 +3,7 @@ use Rattle.std.specs.Prelude.{ℕ, ◌+◌, Bool, if◌then◌else◌, List, [],
 use Rattle.std.specs.Str.{bytes_eq}
 use Rattle.std.specs.List.{flat_map}
 use Rattle.std.specs.Fmt.{decimal}
-use Rattle.start_model.specs.Lines.{Line}
+use Rattle.report_words.specs.declared.line.Line.{Line}
 use Rattle.line_text.specs.declared.form.ReportForm.TheVariants as forms
 use Rattle.line_text.specs.Objects.{Number, Text}
 use Rattle.json_laws.specs.Reports.{Fields, Reader, Said, said}

@@ -35,7 +35,7 @@ ghost use Rattle.report_json_laws.specs.Salvage as salvage;
 ghost use Rattle.log_replay.specs.declared.line.ReplayLine.{ReplayLine};
 ghost use Rattle.replay_text.specs.Lines as replay_text;
 ghost use Rattle.report_json_laws.specs.Replay as replay;
-ghost use Rattle.start_model.specs.Lines.{Line};
+ghost use Rattle.report_words.specs.declared.line.Line.{Line};
 ghost use Rattle.line_objects.specs.Objects as run_text;
 ghost use Rattle.report_json_laws.specs.Starts as run;
 

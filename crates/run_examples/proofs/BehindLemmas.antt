@@ -1,4 +1,4 @@
--- What is printed of a start behind a cut: no stop came but that cut, so each wake and each outcome is known.
+-- What is printed of a start after a cut: no stop came but that cut, so each wake and each outcome is known.
 use Rattle.std.proofs.Common.{◌≡◌, ◌≤◌, ◌⊎◌, inl, inr, ℕ, false, List, [], ◌∷◌, ◌++◌, map, Option, Some, None, refl, sym, ap, subst, ◌∙◌, arith}
 use Rattle.std.specs.Prelude.{Ok, codes}
 use Rattle.std.proofs.lemmas.List.{append-nil}
@@ -102,7 +102,7 @@ abbrev pub state_in : Option (RunState × List Woken × List Outcome) → RunSta
 state_in None = first_state made
 state_in (Some (m, ws, os)) = m
 
--- the state behind the cut
+-- the state after the cut
 abbrev behind_cut : RunState
 behind_cut = state_in first_part.rest
 

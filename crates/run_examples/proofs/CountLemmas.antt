@@ -1,4 +1,4 @@
--- A script that orders no stop has no stop but its own cuts: the disk counts no more than them.
+-- A script that orders no stop has no stop but its own cuts: the disk counts these alone.
 use Rattle.std.proofs.Common.{◌≡◌, ◌≤◌, ◌<◌, ◌+◌, inl, inr, ℕ, List, [], ◌∷◌, ◌++◌, Option, Some, None, refl, sym, ap, ◌∙◌, arith}
 use Rattle.nt_bytes.specs.Counts.{Rises}
 use Rattle.hive_model.specs.Image.{Keep}
@@ -9,7 +9,7 @@ use Rattle.start_model.specs.Causes.{Tally}
 use Rattle.start_model.specs.EventActs.{accepted_act, act_unless, cut_act, event_step_of}
 use Rattle.start_model.specs.Events as events
 use Rattle.start_model.specs.Events.{Event}
-use Rattle.start_model.specs.Lines.{RefusedWord}
+use Rattle.report_words.specs.declared.words.RefusedWord.{RefusedWord}
 use Rattle.start_model.specs.Machine.{Start, refusal_of}
 use Rattle.start_model.specs.Orders.{ordered_in}
 use Rattle.start_model.specs.Possible.{Woken, Outcome, Finished, PowerCut, DeviceFault}
@@ -65,7 +65,7 @@ calls_most (Ended o ∷ ns) n = calls_most ns n
 
 -- ---- what the disk counts
 
--- a count that rose, and did not come to its end
+-- a count that rose, and did not reach its end
 pub rise_less : (a b k n : ℕ) → Rises a b → b + k ≤ n → n < 18446744073709551615 → a + k < n
 rise_less a b k n (inl less) le few = omega (arith, less, le)
 rise_less a b k n (inr full) le few = absurd (omega (arith, full, le, few))

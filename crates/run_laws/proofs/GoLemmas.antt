@@ -4,8 +4,10 @@ use Rattle.std.specs.Prelude.{slice_get, option_map, option_and_then}
 use Rattle.std.proofs.lemmas.List.Edits.{length-remove}
 use Rattle.std.proofs.lemmas.Bool.{false≢true}
 use Rattle.hive_model.specs.Tree.{Tree}
-use Rattle.start_model.specs.Lines as lines
-use Rattle.start_model.specs.Lines.{Line, UnmetLine, CommitWord}
+use Rattle.report_words.specs.declared.words.CommitWord.{CommitWord}
+use Rattle.report_words.specs.declared.words.CommitWord.TheVariants as commits
+use Rattle.report_words.specs.declared.line.Line.{Line}
+use Rattle.report_words.specs.declared.line.Line.TheVariants as lines
 use Rattle.start_model.specs.Judge.{Judgement, Ignore, Log, FallBack, Stop}
 use Rattle.start_model.specs.Sets as sets
 use Rattle.start_model.specs.Sets.{SetChange, ChangeStop, NoPlan, save_of}
@@ -116,7 +118,7 @@ commit-same : (what : CommitWord) (tree : Tree) (m : RunState) (next other : Run
 commit-same what tree m next other f = λ i. ask (open_between m.disk.settled (next_state m tree)) (λ o. at_end o i)
   where
     at_end : (o : Outcome) → committed what tree m next o ≡ committed what tree m other o
-    at_end Finished = ap (λ (act : Act). say (lines.CommitLine what (next_state m tree).sequence)
+    at_end Finished = ap (λ (act : Act). say (lines.Commit what (next_state m tree).sequence)
         (mark (Held tree) act)) (f (committed_state m tree) refl)
     at_end PowerCut = refl
     at_end DeviceFault = refl
@@ -126,12 +128,12 @@ saved_by-same : (s : Start) (clone : Tree) (m : RunState) (next other : RunState
     → ((ok : Bool) (x : RunState) → next (noted_saved ok s x) ≡ other (noted_saved ok s x))
     → saved_by s clone m next r ≡ saved_by s clone m other r
 saved_by-same s clone m next other (Ok change) f =
-    ap (mark (Saved clone)) (commit-same lines.SaveCommit change.tree m
+    ap (mark (Saved clone)) (commit-same commits.Save change.tree m
     (λ after. say (select_line change.numbers) (next (noted_saved true s after)))
     (λ after. say (select_line change.numbers) (other (noted_saved true s after)))
     (λ x is. ap (say (select_line change.numbers)) (f true x)))
-saved_by-same s clone m next other (Err (NoPlan stop)) f = ap (say (lines.SaveRefusedLine false)) (f false m)
-saved_by-same s clone m next other (Err sets.Full) f = ap (say (lines.SaveRefusedLine true)) (f false m)
+saved_by-same s clone m next other (Err (NoPlan stop)) f = ap (say (lines.SaveRefused false)) (f false m)
+saved_by-same s clone m next other (Err sets.Full) f = ap (say (lines.SaveRefused true)) (f false m)
 
 save-same : (s : Start) (clone : Option Tree) (m : RunState) (next other : RunState → Act)
     → ((ok : Bool) (x : RunState) → next (noted_saved ok s x) ≡ other (noted_saved ok s x)) → next m ≡ other m
@@ -183,7 +185,7 @@ phase_step-same : (s : Start) (m : RunState) (next other : RunState → Act) →
     → is_done s.phase ≡ false
     → ((x : RunState) → steps_left x < steps_left m → next x ≡ other x) → phase_step s m next ≡ phase_step s m other
 phase_step-same s m next other is more f =
-    say_all-same (map UnmetLine (unmet_in s)) _ _
+    say_all-same (map lines.Unmet (unmet_in s)) _ _
     (phase_passed-same s m next other (missing_in m.machine.vital s) (phase_begun-same s m next other is more f))
 
 judged-same : (j : Judgement) (m : RunState) (next other : RunState → Act) → next m ≡ other m

@@ -4,8 +4,13 @@ use Rattle.std.proofs.Common.{◌≡◌, ℕ, zero, suc, ◌+◌, Bool, true, fa
 use Rattle.hive_model.specs.Image.{Arming}
 use Rattle.hive_model.specs.Tree.{Tree}
 use Rattle.hive_model.specs.Edit.{Refusal, edited}
-use Rattle.start_model.specs.Lines as lines
-use Rattle.start_model.specs.Lines.{Line, Verdict, CommitWord, RefusedWord, UnmetLine, VitalLine}
+use Rattle.report_words.specs.declared.words.Verdict.{Verdict}
+use Rattle.report_words.specs.declared.words.Verdict.TheVariants as verdicts
+use Rattle.report_words.specs.declared.words.RefusedWord.{RefusedWord}
+use Rattle.report_words.specs.declared.words.CommitWord.{CommitWord}
+use Rattle.report_words.specs.declared.words.CommitWord.TheVariants as commit_words
+use Rattle.report_words.specs.declared.line.Line.{Line}
+use Rattle.report_words.specs.declared.line.Line.TheVariants as lines
 use Rattle.start_model.specs.Judge.{Judgement, Ignore, Log, FallBack, Stop}
 use Rattle.start_model.specs.Sets as sets
 use Rattle.start_model.specs.Sets.{SelectNumbers, SetChange, ChangeStop, NoPlan, begin_of, save_of}
@@ -134,9 +139,9 @@ commit-keeps law what h m tree next u f = (law.committing h m tree u, λ o. by_c
       f (push (push h (Ended Finished)) (Held tree)) (committed_state m tree)
           (law.commits h m tree u),
     )
-    by_case PowerCut = over-keeps law (push h (Ended PowerCut)) lines.Cut false (opened_state m tree)
+    by_case PowerCut = over-keeps law (push h (Ended PowerCut)) verdicts.Cut false (opened_state m tree)
         (law.opens h m tree PowerCut tt u)
-    by_case DeviceFault = over-keeps law (push h (Ended DeviceFault)) lines.Device false (opened_state m tree)
+    by_case DeviceFault = over-keeps law (push h (Ended DeviceFault)) verdicts.Device false (opened_state m tree)
         (law.opens h m tree DeviceFault tt u)
 
 -- ---- the save
@@ -155,7 +160,7 @@ saved_by-keeps law s clone h m next (Ok change) u f =
     let behind : RunState → Act =
     λ after. acts.say (commit_book.select_line change.numbers) (next (noted_saved true s after)) in (
       tt,
-      commit-keeps law lines.SaveCommit (push h (Saved clone)) m change.tree behind (law.saved h m clone u)
+      commit-keeps law commit_words.Save (push h (Saved clone)) m change.tree behind (law.saved h m clone u)
           (λ h x v. noted-keeps law true s h x next v f),
     )
 saved_by-keeps law s clone h m next (Err (NoPlan stop)) u f = noted-keeps law false s h m next u f
@@ -178,8 +183,8 @@ pub judged-keeps : (law : Law) (j : Judgement) (h : List Note) (m : RunState) (n
     → Next law next → Keeps law h (judged j m next)
 judged-keeps law Ignore h m next u f = f h m u
 judged-keeps law Log h m next u f = f h m u
-judged-keeps law FallBack h m next u f = ends-keeps law lines.FallBack true h m u
-judged-keeps law Stop h m next u f = ends-keeps law lines.Stopped false h m u
+judged-keeps law FallBack h m next u f = ends-keeps law verdicts.FallBack true h m u
+judged-keeps law Stop h m next u f = ends-keeps law verdicts.Stopped false h m u
 
 pub phase_begun-keeps : (law : Law) (s : Start) (h : List Note) (m : RunState) (next : RunState → Act) → law.Up h m
     → Next law next → Keeps law h (phase_begun s m next)
@@ -192,14 +197,14 @@ pub phase_passed-keeps : (law : Law) (s : Start) (h : List Note) (m : RunState) 
     (missing : List (List ℕ)) → law.Up h m → Next law next → Keeps law h (phase_passed s m next missing)
 phase_passed-keeps law s h m next [] u f = phase_begun-keeps law s h m next u f
 phase_passed-keeps law s h m next (name ∷ names) u f =
-    say_all-keeps law h (map VitalLine (name ∷ names)) (end_with lines.Stopped false m)
-    (ends-keeps law lines.Stopped false h m u)
+    say_all-keeps law h (map lines.Vital (name ∷ names)) (end_with verdicts.Stopped false m)
+    (ends-keeps law verdicts.Stopped false h m u)
 
 pub phase_step-keeps : (law : Law) (s : Start) (h : List Note) (m : RunState) (next : RunState → Act) → law.Up h m
     → Next law next → Keeps law h (phase_step s m next)
 phase_step-keeps law s h m next u f =
     let missing : List (List ℕ) = missing_in m.machine.vital s in
-    say_all-keeps law h (map UnmetLine (unmet_in s)) (phase_passed s m next missing)
+    say_all-keeps law h (map lines.Unmet (unmet_in s)) (phase_passed s m next missing)
     (phase_passed-keeps law s h m next missing u f)
 
 pub starter_step-keeps : (law : Law) (s : Start) (h : List Note) (m : RunState) (next : RunState → Act)
@@ -242,18 +247,18 @@ pub begin_with-keeps : (law : Law) (on_good : Bool) (change : SetChange) (h : Li
     → Keeps law h (begin_with on_good change m)
 begin_with-keeps law on_good change h m u =
     let start : RunState → Act = begin_start change.chosen on_good change.numbers in
-    either law h change.has_steps (commit lines.BeginCommit change.tree m start) (start m)
-    (commit-keeps law lines.BeginCommit h m change.tree start u
+    either law h change.has_steps (commit commit_words.Begin change.tree m start) (start m)
+    (commit-keeps law commit_words.Begin h m change.tree start u
     (begin_start-keeps law change.chosen on_good change.numbers))
     (begin_start-keeps law change.chosen on_good change.numbers h m u)
 
 pub begin_by-keeps : (law : Law) (on_good : Bool) (h : List Note) (m : RunState) (r : Result SetChange ChangeStop)
     → law.Up h m → Keeps law h (begin_by on_good m r)
 begin_by-keeps law on_good h m (Ok change) u = begin_with-keeps law on_good change h m u
-begin_by-keeps law on_good h m (Err (NoPlan sets.NoControlSet)) u = ends-keeps law lines.NoControlSet false h m u
-begin_by-keeps law on_good h m (Err (NoPlan sets.NoLastKnownGood)) u = ends-keeps law lines.NoLastKnownGood false h m u
-begin_by-keeps law on_good h m (Err (NoPlan sets.NoFreeNumber)) u = ends-keeps law lines.NoNumber false h m u
-begin_by-keeps law on_good h m (Err sets.Full) u = ends-keeps law lines.Full false h m u
+begin_by-keeps law on_good h m (Err (NoPlan sets.NoControlSet)) u = ends-keeps law verdicts.NoControlSet false h m u
+begin_by-keeps law on_good h m (Err (NoPlan sets.NoLastKnownGood)) u = ends-keeps law verdicts.NoLastKnownGood false h m u
+begin_by-keeps law on_good h m (Err (NoPlan sets.NoFreeNumber)) u = ends-keeps law verdicts.NoNumber false h m u
+begin_by-keeps law on_good h m (Err sets.Full) u = ends-keeps law verdicts.Full false h m u
 
 pub woken-keeps : (law : Law) (on_good : Bool) (h : List Note) (m : RunState) (w : Woken) → law.Down h m
     → Keeps law (push h (Woke m.disk)) (woken on_good m w)
@@ -263,18 +268,18 @@ woken-keeps law on_good h m w d = (tt, (law.loading h m w d, λ o. by_case o))
     by_case Finished =
         begin_by-keeps law on_good (push (with_wake h m.disk w) (Ended Finished)) (loaded_state m w)
         (begin_of w.state.version w.state.tree on_good) (law.loads h m w d)
-    by_case PowerCut = over-keeps law (push (with_wake h m.disk w) (Ended PowerCut)) lines.Cut false (woken_state m w)
+    by_case PowerCut = over-keeps law (push (with_wake h m.disk w) (Ended PowerCut)) verdicts.Cut false (woken_state m w)
         (law.stops h m w PowerCut tt d)
-    by_case DeviceFault = over-keeps law (push (with_wake h m.disk w) (Ended DeviceFault)) lines.Device false
+    by_case DeviceFault = over-keeps law (push (with_wake h m.disk w) (Ended DeviceFault)) verdicts.Device false
         (woken_state m w) (law.stops h m w DeviceFault tt d)
 
 pub chosen-keeps : (law : Law) (on_good : Bool) (h : List Note) (m : RunState) (choice : Choice) → law.Down h m
     → Keeps law h (chosen on_good m choice)
 chosen-keeps law on_good h m (boot_book.EntryTaken number path entry_on_good) d =
     (law.waking h m d, λ w. woken-keeps law (on_good || entry_on_good) h m w d)
-chosen-keeps law on_good h m boot_book.NoEntry d = over-keeps law h lines.NoEntry false m d
-chosen-keeps law on_good h m (boot_book.OtherLoader number path) d = over-keeps law h lines.OtherLoader false m d
-chosen-keeps law on_good h m (boot_book.NoSystem number path) d = over-keeps law h lines.NoSystem false m d
+chosen-keeps law on_good h m boot_book.NoEntry d = over-keeps law h verdicts.NoEntry false m d
+chosen-keeps law on_good h m (boot_book.OtherLoader number path) d = over-keeps law h verdicts.OtherLoader false m d
+chosen-keeps law on_good h m (boot_book.NoSystem number path) d = over-keeps law h verdicts.NoSystem false m d
 
 pub boot_act-keeps : (law : Law) (choice : Option ℕ → Choice) (entry : Option ℕ) (good : Bool) (h : List Note)
     (m : RunState) → law.Down h m → Keeps law h (boot_act choice entry good m)
@@ -291,14 +296,14 @@ edit_done-keeps law e h m (Err refusal) u = done-keeps law h m u
 
 pub flush_act-keeps : (law : Law) (h : List Note) (m : RunState) → law.Up h m → Keeps law h (flush_act m)
 flush_act-keeps law h m u =
-    either law h m.changed (commit lines.FlushCommit m.live m acts.done) (acts.say lines.FlushNothingLine (acts.done m))
-    (commit-keeps law lines.FlushCommit h m m.live acts.done u (done-keeps law)) (done-keeps law h m u)
+    either law h m.changed (commit commit_words.Flush m.live m acts.done) (acts.say lines.FlushNothing (acts.done m))
+    (commit-keeps law commit_words.Flush h m m.live acts.done u (done-keeps law)) (done-keeps law h m u)
 
 pub off_act-keeps : (law : Law) (s : Start) (h : List Note) (m : RunState) → law.Up h m → Keeps law h (off_act s m)
 off_act-keeps law s h m u =
-    either law h m.changed (commit lines.OffCommit m.live m (end_with (ending_of s) false))
+    either law h m.changed (commit commit_words.Off m.live m (end_with (ending_of s) false))
     (end_with (ending_of s) false m)
-    (commit-keeps law lines.OffCommit h m m.live (end_with (ending_of s) false) u (ends-keeps law (ending_of s) false))
+    (commit-keeps law commit_words.Off h m m.live (end_with (ending_of s) false) u (ends-keeps law (ending_of s) false))
     (ends-keeps law (ending_of s) false h m u)
 
 pub logon_act-keeps : (law : Law) (s : Start) (h : List Note) (m : RunState) → law.Up h m → Keeps law h (logon_act s m)
@@ -319,7 +324,7 @@ running_act-keeps law s events.Flush h m u = flush_act-keeps law h m u
 running_act-keeps law s events.Logon h m u = logon_act-keeps law s h m u
 running_act-keeps law s events.Off h m u = off_act-keeps law s h m u
 running_act-keeps law s (events.CutNow keep) h m u =
-    (tt, (law.cutting h m u, λ o. over-keeps law (push (push h Cuts) (Ended o)) lines.Cut false m (law.cut h m o u)))
+    (tt, (law.cutting h m u, λ o. over-keeps law (push (push h Cuts) (Ended o)) verdicts.Cut false m (law.cut h m o u)))
 running_act-keeps law s (events.Arm arming) h m u =
     (tt, done-keeps law (push h (Ordered arming)) m (law.ordered_up h m arming u))
 
@@ -357,7 +362,7 @@ pub closing-keeps : (law : Law) (h : List Note) (m : RunState) → AtRest law h 
     → Keeps law h (closing_act m)
 closing-keeps law h m r = by_start m.machine.start
   where
-    by_start : (o : Option Start) → Keeps law h (verdict_first o (acts.say lines.EndLine (acts.done m)))
+    by_start : (o : Option Start) → Keeps law h (verdict_first o (acts.say lines.End (acts.done m)))
     by_start None = r
     by_start (Some s) = r
 

@@ -1,7 +1,7 @@
 -- A run in two parts: its first events, and those after them with what remains of wakes and outcomes.
 use Rattle.std.proofs.Common.{◌≡◌, ℕ, List, [], ◌∷◌, ◌++◌, Option, Some, None, refl, sym, ap, subst, ◌∙◌, append_assoc}
 use Rattle.std.proofs.lemmas.List.{append-nil}
-use Rattle.start_model.specs.Lines.{Line}
+use Rattle.report_words.specs.declared.line.Line.{Line}
 use Rattle.start_model.specs.Events.{Event}
 use Rattle.start_model.specs.Act as acts
 use Rattle.start_model.specs.Possible.{Woken, Outcome}

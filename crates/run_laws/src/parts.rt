@@ -1,7 +1,7 @@
 //! A run event by event, as a loop over the script goes.
 
 ghost use Rattle.std.specs.Prelude.{◌≡◌, ℕ, List, [], ◌∷◌, ◌++◌, Option};
-ghost use Rattle.start_model.specs.Lines.{Line};
+ghost use Rattle.report_words.specs.declared.line.Line.{Line};
 ghost use Rattle.start_model.specs.Events as events;
 ghost use Rattle.start_model.specs.Possible.{Woken, Outcome};
 ghost use Rattle.start_model.specs.Act.{RunState};

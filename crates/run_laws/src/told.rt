@@ -2,7 +2,8 @@
 
 ghost use Rattle.std.specs.Prelude.{◌≡◌, ◌⊎◌, ℕ, true, false, List, [], ◌∷◌, ◌++◌, Option, None};
 ghost use Rattle.hive_model.specs.Tree.{Tree};
-ghost use Rattle.start_model.specs.Lines.{CommitWord, CommitLine};
+ghost use Rattle.report_words.specs.declared.words.CommitWord.{CommitWord};
+ghost use Rattle.report_words.specs.declared.line.Line.TheVariants.{Commit as CommitLine};
 ghost use Rattle.start_model.specs.Events as events;
 ghost use Rattle.start_model.specs.Possible.{Possible, Woken, Outcome, Finished, settled_at};
 ghost use Rattle.start_model.specs.Act.{RunState, Act, Note, Woke, Held, Ended, next_state};

@@ -12,7 +12,9 @@ use Rattle.reg_tree.proofs.Unlike.{Each, each_all}
 use Rattle.start_model.specs.Demand.{Need, starts_at, IsClosed, is_taken, automatic_of}
 use Rattle.start_model.specs.Entries.{Entry, Phase, Boot, System, Automatic, Done, entry_of, entries_of, services_of, is_driver, was_tried, is_driver_of, is_open, places_of, need_of, needs_at, taken_of}
 use Rattle.start_model.specs.Order.{GroupOrder, Rank, is_before, placed, ordered_of, orders_of, rank_of, tags_count_in, plan_of}
-use Rattle.start_model.specs.Lines.{Line, TryLine, TryOk, UnmetLine}
+use Rattle.report_words.specs.declared.words.TryWord.TheVariants as tries
+use Rattle.report_words.specs.declared.line.Line.{Line}
+use Rattle.report_words.specs.declared.line.Line.TheVariants.{Try as TryLine, Unmet as UnmetLine}
 use Rattle.start_model.specs.Machine.{phase_after, after_phase}
 use Rattle.start_model.specs.Starter.{phase_line}
 use Rattle.dependencies.proofs.PulledLemmas.{is_taken-least_of_all}
@@ -270,7 +272,7 @@ extends_then L c d e a b = record {
   each = each_append L a.more b.more a.each b.each;
 }
 
-attempts_extend : (L : Line → Type 0) (Q : Entry → Type 0) → ((e : Entry) → Q e → L (TryLine e.name TryOk))
+attempts_extend : (L : Line → Type 0) (Q : Entry → Type 0) → ((e : Entry) → Q e → L (TryLine e.name tries.Ok))
     → (n : ℕ) (c : Course) → Each Q c.start.waiting → Extends L c (attempts_of n c)
 unfolding attempts_of
 attempts_extend L Q says zero c h = extends_none L c
@@ -283,7 +285,7 @@ attempts_extend L Q says (suc n) c h = by_next (next_entry c.start) refl (λ d k
     by_next (Some next) is rest =
         let q = each_at Q c.start.waiting next.0 next.1 h (there c.start next.0 next.1 is) in
         extends_then L c (tried_at c next.0 next.1) (attempts_of n (tried_at c next.0 next.1))
-        (record { more = TryLine next.1.name TryOk ∷ []; lines = refl; each = (says next.1 q, tt) })
+        (record { more = TryLine next.1.name tries.Ok ∷ []; lines = refl; each = (says next.1 q, tt) })
         (rest (tried_at c next.0 next.1) (each_left Q c.start.waiting next.0 h))
 
 attempts_phase : (n : ℕ) (c : Course) → (attempts_of n c).start.phase ≡ c.start.phase

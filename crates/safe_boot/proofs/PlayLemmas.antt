@@ -6,7 +6,9 @@ use Rattle.std.proofs.lemmas.Option.{slice_get_within, same_Some}
 use Rattle.std.proofs.lemmas.List.{map-append}
 use Rattle.hive_model.specs.Tree.{Tree}
 use Rattle.start_model.specs.Entries.{Entry, Done}
-use Rattle.start_model.specs.Lines.{Line, TryLine, TryOk, UnmetLine}
+use Rattle.report_words.specs.declared.words.TryWord.TheVariants as tries
+use Rattle.report_words.specs.declared.line.Line.{Line}
+use Rattle.report_words.specs.declared.line.Line.TheVariants.{Try as TryLine, Unmet as UnmetLine}
 use Rattle.start_model.specs.Machine as machine
 use Rattle.start_model.specs.Machine.{Start, MachineState, off_machine, next_in, after_attempt, attempt_at, attempt_in, attempt_of, unmet_in, after_phase, begun_with, with_start}
 use Rattle.start_model.specs.Starter.{phase_line}
@@ -82,8 +84,8 @@ goes_on c m m' said said' t h more at =
       at = record {
         start = one.machine;
         lines = ap (map line_of) more
-            ∙ said_more said c.lines (code.Started t.name) (TryLine one.entry.name TryOk) at.lines
-            (ap (λ n. TryLine n TryOk) one.name);
+            ∙ said_more said c.lines (code.Started t.name) (TryLine one.entry.name tries.Ok) at.lines
+            (ap (λ n. TryLine n tries.Ok) one.name);
       };
     }
 

@@ -4,7 +4,8 @@ use Rattle.std.specs.List.{Contains}
 use Rattle.hive_model.specs.Tree.{Tree}
 use Rattle.hive_model.specs.Edit.{of_children, at_key}
 use Rattle.start_model.specs.Entries.{Entry, entry_of, services_of}
-use Rattle.start_model.specs.Lines as book
+use Rattle.report_words.specs.declared.line.Line.{Line}
+use Rattle.report_words.specs.declared.line.Line.TheVariants as lines
 use Rattle.safe_boot.specs.declared.mode.SafeMode.{SafeMode}
 use Rattle.safe_boot.specs.Listed.{listed_names, has_entry, stays, reduced_of}
 use Rattle.safe_boot.specs.Played.{phase_played, course_begun, safe_lines_by}
@@ -41,39 +42,39 @@ pub record HasListed (set : Tree) (mode : SafeMode) (images : Bool) (name : List
   pub listed : is_key_listed set mode images service entry ≡ true
 
 -- what a line says to be started is listed
-abbrev pub StartsListed : Tree → SafeMode → Bool → book.Line → Type 0
-StartsListed set mode images (book.TryLine name outcome) = HasListed set mode images name
-StartsListed set mode images (book.StartLine number) = Unit {0}
-StartsListed set mode images (book.EntryLine number path) = Unit {0}
-StartsListed set mode images (book.LoadLine sequence recovered) = Unit {0}
-StartsListed set mode images (book.SetLine number on_good) = Unit {0}
-StartsListed set mode images (book.CommitLine what sequence) = Unit {0}
-StartsListed set mode images (book.SelectLine current default failed good) = Unit {0}
-StartsListed set mode images (book.PhaseLine word) = Unit {0}
-StartsListed set mode images (book.UnmetLine name) = Unit {0}
-StartsListed set mode images (book.VitalLine name) = Unit {0}
-StartsListed set mode images book.LogonLine = Unit {0}
-StartsListed set mode images (book.SaveRefusedLine full) = Unit {0}
-StartsListed set mode images book.EditOkLine = Unit {0}
-StartsListed set mode images book.FlushNothingLine = Unit {0}
-StartsListed set mode images (book.RefusedLine event why) = Unit {0}
-StartsListed set mode images (book.VerdictLine word) = Unit {0}
-StartsListed set mode images book.EndLine = Unit {0}
+abbrev pub StartsListed : Tree → SafeMode → Bool → Line → Type 0
+StartsListed set mode images (lines.Try name outcome) = HasListed set mode images name
+StartsListed set mode images (lines.Start number) = Unit {0}
+StartsListed set mode images (lines.Entry number path) = Unit {0}
+StartsListed set mode images (lines.Load sequence recovered) = Unit {0}
+StartsListed set mode images (lines.Set number on_good) = Unit {0}
+StartsListed set mode images (lines.Commit what sequence) = Unit {0}
+StartsListed set mode images (lines.Select current default failed good) = Unit {0}
+StartsListed set mode images (lines.Phase word) = Unit {0}
+StartsListed set mode images (lines.Unmet name) = Unit {0}
+StartsListed set mode images (lines.Vital name) = Unit {0}
+StartsListed set mode images lines.Logon = Unit {0}
+StartsListed set mode images (lines.SaveRefused full) = Unit {0}
+StartsListed set mode images lines.EditOk = Unit {0}
+StartsListed set mode images lines.FlushNothing = Unit {0}
+StartsListed set mode images (lines.Refused event why) = Unit {0}
+StartsListed set mode images (lines.Verdict word) = Unit {0}
+StartsListed set mode images lines.End = Unit {0}
 
 -- the lines of the first phase, up to the one that the second begins with
-abbrev pub first_phase_of : Tree → List book.Line
+abbrev pub first_phase_of : Tree → List Line
 first_phase_of set = (phase_played set (course_begun set)).lines
 
 -- they are in front of what a start in a safe mode says
 abbrev pub FirstIsInFront : Type 0
 FirstIsInFront =
     (set : Tree) (mode : SafeMode) (images : Bool)
-    → (later : List book.Line) × (safe_lines_by set (Some mode) images ≡ first_phase_of (reduced_of set mode images) ++ later)
+    → (later : List Line) × (safe_lines_by set (Some mode) images ≡ first_phase_of (reduced_of set mode images) ++ later)
 
 -- each name that is started after the first phase is listed
 abbrev pub LateIsListed : Type 0
 LateIsListed =
-    (set : Tree) (mode : SafeMode) (images : Bool) (later : List book.Line)
+    (set : Tree) (mode : SafeMode) (images : Bool) (later : List Line)
     → safe_lines_by set (Some mode) images ≡ first_phase_of (reduced_of set mode images) ++ later → All (StartsListed set mode images) later
 
 -- a service that stays where images don't count stays where they count

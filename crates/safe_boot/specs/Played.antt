@@ -5,7 +5,9 @@ use Rattle.std.specs.Prelude.{◌≡◌, ℕ, zero, suc, Bool, false, true, List
 use Rattle.std.specs.Option.{option_map_or}
 use Rattle.hive_model.specs.Tree.{Tree}
 use Rattle.start_model.specs.Entries.{Entry, Boot}
-use Rattle.start_model.specs.Lines.{Line, TryLine, TryOk, UnmetLine}
+use Rattle.report_words.specs.declared.words.TryWord.TheVariants as tries
+use Rattle.report_words.specs.declared.line.Line.{Line}
+use Rattle.report_words.specs.declared.line.Line.TheVariants.{Try as TryLine, Unmet as UnmetLine}
 use Rattle.start_model.specs.Machine.{Start, MachineState, off_machine, next_in, after_attempt, unmet_in, after_phase, begun_with, with_start}
 use Rattle.start_model.specs.Starter.{phase_line}
 use Rattle.boot_machine.specs.Steps.{without_clone}
@@ -33,7 +35,7 @@ next_entry s = option_and_then (waiting_at s) (next_in s)
 
 -- the entry at a place is attempted, and is started
 abbrev pub tried_at : Course → ℕ → Entry → Course
-tried_at c place e = record { lines = c.lines ++ TryLine e.name TryOk ∷ []; start = after_attempt c.start place e true }
+tried_at c place e = record { lines = c.lines ++ TryLine e.name tries.Ok ∷ []; start = after_attempt c.start place e true }
 
 -- at most that many attempts
 unfoldable pub attempts_of : ℕ → Course → Course

@@ -5,7 +5,7 @@ ghost use Rattle.hive_model.specs.Tree.{Tree};
 ghost use Rattle.hive_model.specs.Valid.{HoldsKeys};
 ghost use Rattle.boot_phases.specs.Lists.{lists_of};
 ghost use Rattle.boot_machine.specs.Steps.{is_at_end};
-ghost use Rattle.start_model.specs.Lines.{UnmetLine};
+ghost use Rattle.report_words.specs.declared.line.Line.TheVariants.{Unmet as UnmetLine};
 ghost use Rattle.start_model.specs.Machine.{off_machine};
 ghost use Rattle.safe_boot.specs.Lines.{line_of};
 ghost use Rattle.safe_boot.specs.Played.{Course, attempts_of, phase_ended, phase_played, start_lines_of, safe_lines_by, safe_lines_of, IsAt, AttemptsNext, waiting_count};

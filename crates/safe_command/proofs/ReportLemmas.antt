@@ -7,7 +7,7 @@ use Rattle.safe_command.specs.declared.inputs.SafeInputs.{SafeInputs}
 use Rattle.boot_ini.specs.declared.choosing.Chosen.{Chosen}
 use Rattle.boot_ini.specs.Choice.{choice_of}
 use Rattle.line_text.specs.declared.form.ReportForm.{ReportForm}
-use Rattle.start_model.specs.Lines.{NoControlSet}
+use Rattle.report_words.specs.declared.words.Verdict.TheVariants.{NoControlSet}
 use Rattle.start_model.specs.Sets.{select_numbers_of}
 use Rattle.select_keys.specs.Sets.{usable_set}
 use Rattle.line_objects.specs.Objects.{printed_lines}

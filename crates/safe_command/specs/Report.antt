@@ -8,7 +8,10 @@ use Rattle.boot_ini.specs.declared.choosing.Chosen.{Chosen}
 use Rattle.boot_ini.specs.declared.choosing.Chosen.TheVariants as chosen
 use Rattle.boot_ini.specs.Choice.{entry_at, path_at, choice_of}
 use Rattle.hive_model.specs.Tree.{Tree}
-use Rattle.start_model.specs.Lines.{Line, Verdict, EntryLine, SetLine, VerdictLine, EndLine, NoEntry, OtherLoader, NoSystem, NoControlSet}
+use Rattle.report_words.specs.declared.words.Verdict.{Verdict}
+use Rattle.report_words.specs.declared.words.Verdict.TheVariants.{NoEntry, OtherLoader, NoSystem, NoControlSet}
+use Rattle.report_words.specs.declared.line.Line.{Line}
+use Rattle.report_words.specs.declared.line.Line.TheVariants.{Entry as EntryLine, Set as SetLine, Verdict as VerdictLine, End as EndLine}
 use Rattle.start_model.specs.Sets.{select_numbers_of}
 use Rattle.line_objects.specs.Objects.{printed_lines}
 use Rattle.line_text.specs.Objects.{Text, object_text}

@@ -3,10 +3,10 @@
 ghost use Rattle.std.specs.Prelude.{◌≡◌, ◌++◌, [], false, map, None, IfOk, OnOk};
 ghost use Rattle.hive_model.specs.Valid.{HoldsKeys};
 ghost use Rattle.boot_ini.specs.Choice.{path_at};
-ghost use Rattle.boot_report.specs.Report.{line_of, verdict_of};
 ghost use Rattle.line_objects.specs.Objects.{line_json, printed, printed_lines};
 ghost use Rattle.safe_boot.specs.Lines as safe;
-ghost use Rattle.start_model.specs.Lines.{EntryLine, SetLine, VerdictLine, EndLine, line_text};
+ghost use Rattle.report_words.specs.declared.line.Line.TheVariants.{Entry as EntryLine, Set as SetLine, Verdict as VerdictLine, End as EndLine};
+ghost use Rattle.start_model.specs.Lines.{line_text};
 ghost use Rattle.safe_command.specs.Report.{mode_at, mode_word, mode_text, verdict_lines, set_lines, default_lines, system_text, other_text, report_of};
 
 use crate::inputs::SafeInputs;
@@ -76,7 +76,7 @@ fn other_text(
     number: u32,
     verdict: Verdict,
 ) -> Result<Bytes, AllocError>
-    ensures { IfOk result (λ text. text ≡ other_text form ini.now number (verdict_of verdict)) }
+    ensures { IfOk result (λ text. text ≡ other_text form ini.now number verdict) }
 {
     let mut text = Vec::new(alloc);
     put_entry(alloc, &mut text, form, ini, number)?;
@@ -86,7 +86,7 @@ fn other_text(
 
 /// The verdict alone.
 fn verdict_text(alloc: Global, form: ReportForm, verdict: Verdict) -> Result<Bytes, AllocError>
-    ensures { IfOk result (λ text. text ≡ printed_lines form (verdict_lines (verdict_of verdict))) }
+    ensures { IfOk result (λ text. text ≡ printed_lines form (verdict_lines verdict)) }
 {
     let mut text = Vec::new(alloc);
     put_verdict(alloc, &mut text, form, verdict)?;
@@ -139,7 +139,7 @@ fn mode_word(mode: Option<SafeMode>) -> &'static [u8]
 
 /// Puts a line as a text.
 fn put_line(alloc: Global, text: &mut Vec<u8>, line: Line) -> Result<(), AllocError>
-    ensures { OnOk result (text.new.items ≡ text.old.items ++ line_text (line_of line)) }
+    ensures { OnOk result (text.new.items ≡ text.old.items ++ line_text line) }
 {
     let bytes = line_bytes(alloc, &line)?;
     text.extend_from_slice(bytes.as_slice())
@@ -212,7 +212,7 @@ fn put_verdict_line(
     form: ReportForm,
     verdict: Verdict,
 ) -> Result<(), AllocError>
-    ensures { OnOk result (text.new.items ≡ text.old.items ++ printed form (VerdictLine (verdict_of verdict))) }
+    ensures { OnOk result (text.new.items ≡ text.old.items ++ printed form (VerdictLine verdict)) }
 {
     match form {
         ReportForm::Text => put_line(alloc, text, Line::Verdict { word: verdict }),
@@ -235,7 +235,7 @@ fn put_verdict(
     form: ReportForm,
     verdict: Verdict,
 ) -> Result<(), AllocError>
-    ensures { OnOk result (text.new.items ≡ text.old.items ++ printed_lines form (verdict_lines (verdict_of verdict))) }
+    ensures { OnOk result (text.new.items ≡ text.old.items ++ printed_lines form (verdict_lines verdict)) }
 {
     put_verdict_line(alloc, text, form, verdict)?;
     put_end(alloc, text, form)
@@ -325,7 +325,7 @@ fn put_safe_object(text: &mut Vec<u8>, line: &SafeLine) -> Result<(), AllocError
 
 /// The line of the report that a line of a start is.
 fn reported(alloc: Global, line: &SafeLine) -> Result<Line, AllocError>
-    ensures { IfOk result (λ l. line_of l ≡ safe.line_of line.now) }
+    ensures { IfOk result (λ l. l ≡ safe.line_of line.now) }
 {
     match line {
         SafeLine::Phase(phase) => Ok(Line::Phase {

@@ -9,7 +9,9 @@ use Rattle.std.proofs.lemmas.Option.{same_Some}
 use Rattle.nt_bytes.specs.Folding.{folded}
 use Rattle.hive_model.specs.Tree.{Tree}
 use Rattle.start_model.specs.Entries.{Entry, Phase, Boot, System, Automatic, Done, need_of}
-use Rattle.start_model.specs.Lines.{Line, TryLine, TryOk, UnmetLine}
+use Rattle.report_words.specs.declared.words.TryWord.TheVariants as tries
+use Rattle.report_words.specs.declared.line.Line.{Line}
+use Rattle.report_words.specs.declared.line.Line.TheVariants.{Try as TryLine, Unmet as UnmetLine}
 use Rattle.start_model.specs.Machine.{label_of, next_in, unmet_in, phase_after}
 use Rattle.start_model.specs.Order.{plan_of}
 use Rattle.start_model.specs.Ready.{Label}
@@ -20,11 +22,11 @@ use Rattle.check_laws.proofs.StartLemmas.{phase_run, played, IsTold}
 
 -- the name of an entry that a line says to be started
 abbrev pub started_name : Line → Option (List ℕ)
-started_name (TryLine name TryOk) = Some name
+started_name (TryLine name tries.Ok) = Some name
 started_name line = None
 
 abbrev try_line : Entry → Line
-try_line e = TryLine e.name TryOk
+try_line e = TryLine e.name tries.Ok
 
 abbrev pub name_of : Entry → List ℕ
 name_of e = e.name
@@ -140,6 +142,6 @@ names_told set a b d told =
     ∙ (λ j. (map name_of (first j).new ++ map name_of (second j).new) ++ map name_of (third j).new)
     ∙ map_three name_of a b d
 
-pub started_line : (l : Line) (name : List ℕ) → started_name l ≡ Some name → l ≡ TryLine name TryOk
-started_line (TryLine other TryOk) name h = ap (λ (n : List ℕ). TryLine n TryOk) (same_Some other name h)
+pub started_line : (l : Line) (name : List ℕ) → started_name l ≡ Some name → l ≡ TryLine name tries.Ok
+started_line (TryLine other tries.Ok) name h = ap (λ (n : List ℕ). TryLine n tries.Ok) (same_Some other name h)
 started_line l name h = absurd cc

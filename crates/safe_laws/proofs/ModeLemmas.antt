@@ -8,7 +8,8 @@ use Rattle.boot_ini.specs.declared.ini.OsEntry.{OsEntry}
 use Rattle.boot_ini.specs.declared.ini.BootIni.{BootIni}
 use Rattle.boot_ini.specs.declared.choosing.Chosen.TheVariants as chosen
 use Rattle.boot_ini.specs.Choice.{entry_at, path_at, is_drive, is_system, choice_at}
-use Rattle.start_model.specs.Lines.{EntryLine, OtherLoader, NoSystem}
+use Rattle.report_words.specs.declared.words.Verdict.TheVariants.{OtherLoader, NoSystem}
+use Rattle.report_words.specs.declared.line.Line.TheVariants.{Entry as EntryLine}
 use Rattle.line_objects.specs.Objects.{printed_lines}
 use Rattle.line_text.specs.declared.form.ReportForm.{ReportForm}
 use Rattle.safe_boot.specs.declared.mode.SafeMode.{SafeMode}

@@ -8,7 +8,8 @@ use Rattle.hive_model.specs.Valid.{HoldsKeys}
 use Rattle.start_model.specs.Demand.{Need}
 use Rattle.start_model.specs.Entries as book
 use Rattle.start_model.specs.Entries.{Entry, need_of}
-use Rattle.start_model.specs.Lines.{TryLine, TryOk}
+use Rattle.report_words.specs.declared.words.TryWord.TheVariants as tries
+use Rattle.report_words.specs.declared.line.Line.TheVariants.{Try as TryLine}
 use Rattle.start_model.specs.Ready.{is_ready}
 use Rattle.service_control.specs.State.{labels_of}
 use Rattle.service_control.proofs.LeanLemmas.{mapped_from, mapped_to}
@@ -90,7 +91,7 @@ says_from : (set : Tree) (a b d : Ran Entry) → IsTold set a b d → (name : Li
 says_from set a b d told name c =
     let m = mapped_from name_of (all_new a b d) name
     (subst (λ (l : List (List ℕ)). Contains l name) (names_told set a b d told)
-    (mapped_on started_name (start_lines_of set) (TryLine name TryOk) name c refl)) in
+    (mapped_on started_name (start_lines_of set) (TryLine name tries.Ok) name c refl)) in
     (need_of m.item, mapped_to need_of (all_new a b d) m.item m.there, m.is)
 
 says_in : (set : Tree) (a b d : Ran Entry) → IsTold set a b d → (n : Need) → Contains (map need_of (all_new a b d)) n

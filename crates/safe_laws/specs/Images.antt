@@ -4,13 +4,15 @@ use Rattle.std.specs.List.{Contains}
 use Rattle.hive_model.specs.Tree.{Tree}
 use Rattle.hive_model.specs.Valid.{HoldsKeys}
 use Rattle.start_model.specs.Entries.{Entry, entries_of}
-use Rattle.start_model.specs.Lines.{Line, TryLine, TryOk}
+use Rattle.report_words.specs.declared.words.TryWord.TheVariants as tries
+use Rattle.report_words.specs.declared.line.Line.{Line}
+use Rattle.report_words.specs.declared.line.Line.TheVariants.{Try as TryLine}
 use Rattle.safe_boot.specs.declared.mode.SafeMode.{SafeMode}
 use Rattle.safe_boot.specs.Played.{start_lines_of, safe_lines_by}
 
 -- the lines say that a name is started
 abbrev pub SaysStarted : List Line → List ℕ → Type 0
-SaysStarted lines name = Contains lines (TryLine name TryOk)
+SaysStarted lines name = Contains lines (TryLine name tries.Ok)
 
 -- each entry of the first set is one of the second
 abbrev pub HasEntriesOf : Tree → Tree → Type 0

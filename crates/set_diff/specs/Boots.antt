@@ -4,7 +4,10 @@ use Rattle.std.specs.List.{flat_map}
 use Rattle.std.specs.Option.{option_map_or}
 use Rattle.nt_bytes.specs.Folding.{folds_same}
 use Rattle.hive_model.specs.Tree.{Tree}
-use Rattle.start_model.specs.Lines.{Line, PhaseWord, PhaseLine, TryLine, UnmetLine, BootPhase, SystemPhase, AutomaticPhase, DonePhase}
+use Rattle.report_words.specs.declared.words.PhaseWord.{PhaseWord}
+use Rattle.report_words.specs.declared.words.PhaseWord.TheVariants as phases
+use Rattle.report_words.specs.declared.line.Line.{Line}
+use Rattle.report_words.specs.declared.line.Line.TheVariants.{Phase as PhaseLine, Try as TryLine, Unmet as UnmetLine}
 use Rattle.boot_phases.specs.declared.phase.Phase.{Phase}
 use Rattle.boot_phases.specs.declared.phase.Phase.TheVariants.{Boot, System, Automatic, Done}
 use Rattle.safe_boot.specs.Played.{safe_lines_of}
@@ -20,10 +23,10 @@ use Rattle.set_diff.specs.Shown.{line_when}
 -- ---- a boot
 
 abbrev pub phase_named : PhaseWord → Phase
-phase_named BootPhase = Boot
-phase_named SystemPhase = System
-phase_named AutomaticPhase = Automatic
-phase_named DonePhase = Done
+phase_named phases.Boot = Boot
+phase_named phases.System = System
+phase_named phases.Automatic = Automatic
+phase_named phases.Done = Done
 
 -- a name that is attempted in a phase
 abbrev pub attempt_in : Phase → List ℕ → Attempt

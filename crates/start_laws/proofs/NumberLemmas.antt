@@ -3,8 +3,8 @@ use Rattle.std.proofs.Common.{◌≡◌, ℕ, zero, suc, ◌+◌, ◌<◌, ◌�
 use Rattle.std.specs.List.{range_with_len}
 use Rattle.std.proofs.lemmas.Bool.{false≢true}
 use Rattle.hive_model.specs.Tree.{Tree}
-use Rattle.start_model.specs.Lines as lines
-use Rattle.start_model.specs.Lines.{SetLine, SaveRefusedLine}
+use Rattle.report_words.specs.declared.words.Verdict.TheVariants as verdicts
+use Rattle.report_words.specs.declared.line.Line.TheVariants.{Set as SetLine, SaveRefused as SaveRefusedLine}
 use Rattle.start_model.specs.Machine.{Start}
 use Rattle.start_model.specs.Sets.{SelectNumbers, NoFreeNumber, has_number, select_numbers_of, usable_numbers_of, free_number_of, taken_number, begin_plan_of, saved_plan, save_plan_of, planned}
 use Rattle.start_model.specs.Act as acts
@@ -114,7 +114,7 @@ pub begins_not : (m : RunState) (on_good : Bool) → AllTaken (usable_numbers_of
     → has_number (usable_numbers_of m.live) (taken_number (select_numbers_of m.live) on_good) ≡ true
     → (select_numbers_of m.live).good ≡ taken_number (select_numbers_of m.live) on_good
     → take_set on_good m ≡ acts.say (SetLine (taken_number (select_numbers_of m.live) on_good) on_good)
-    (end_with lines.NoNumber false m)
+    (end_with verdicts.NoNumber false m)
 begins_not m on_good all here same =
     ap (λ r. begin_by on_good m (planned m.version m.live r))
     (not_guarded (select_numbers_of m.live) (usable_numbers_of m.live) on_good all here same)

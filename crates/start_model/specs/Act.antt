@@ -6,7 +6,9 @@ use Rattle.nt_bytes.specs.declared.version.HiveVersion.{HiveVersion}
 use Rattle.hive_model.specs.Image.{Arming}
 use Rattle.hive_model.specs.Tree.{Tree}
 use Rattle.hive_model.specs.State.{HiveState}
-use Rattle.start_model.specs.Lines.{Line, Verdict, VerdictLine}
+use Rattle.report_words.specs.declared.words.Verdict.{Verdict}
+use Rattle.report_words.specs.declared.line.Line.{Line}
+use Rattle.report_words.specs.declared.line.Line.TheVariants.{Verdict as VerdictLine}
 use Rattle.start_model.specs.Machine.{MachineState, ended}
 use Rattle.start_model.specs.Possible.{Possible, Woken, Outcome}
 

@@ -2,8 +2,11 @@
 --
 -- The order of a start is that of Windows Internals, 4th edition, startup; the lines and the stops are this project's own.
 use Rattle.std.specs.Prelude.{ℕ, ◌+◌, Bool, false, ◌||◌, if◌then◌else◌, List, Option, Result, Ok, Err}
-use Rattle.start_model.specs.Lines as lines
-use Rattle.start_model.specs.Lines.{Line, StartLine, EntryLine, LoadLine, SetLine, PhaseLine}
+use Rattle.report_words.specs.declared.words.Verdict.TheVariants as verdicts
+use Rattle.report_words.specs.declared.words.PhaseWord.TheVariants as phases
+use Rattle.report_words.specs.declared.words.CommitWord.TheVariants as commits
+use Rattle.report_words.specs.declared.line.Line.{Line}
+use Rattle.report_words.specs.declared.line.Line.TheVariants.{Start as StartLine, Entry as EntryLine, Load as LoadLine, Set as SetLine, Phase as PhaseLine}
 use Rattle.start_model.specs.Sets as sets
 use Rattle.start_model.specs.Sets.{SelectNumbers, NoControlSet, NoLastKnownGood, NoFreeNumber, SetChange, ChangeStop, NoPlan, select_numbers_of, taken_number, begin_of}
 use Rattle.start_model.specs.Machine.{begun_with, with_start}
@@ -26,12 +29,12 @@ begun_state number on_good m = with_machine (with_start (begun_with (live_set m 
 
 -- the start begins: its first line is that of the boot phase
 abbrev pub begin_start : ℕ → Bool → SelectNumbers → RunState → Act
-begin_start number on_good numbers m = say (select_line numbers) (say (PhaseLine lines.BootPhase) (done (begun_state number on_good m)))
+begin_start number on_good numbers m = say (select_line numbers) (say (PhaseLine phases.Boot) (done (begun_state number on_good m)))
 
 -- where something changed, the tree is committed before the start begins
 abbrev pub begin_with : Bool → SetChange → RunState → Act
 begin_with on_good change m =
-    if change.has_steps then commit lines.BeginCommit change.tree m (begin_start change.chosen on_good change.numbers)
+    if change.has_steps then commit commits.Begin change.tree m (begin_start change.chosen on_good change.numbers)
     else begin_start change.chosen on_good change.numbers m
 
 -- the `set` line of the number that is taken
@@ -41,10 +44,10 @@ set_line on_good m = SetLine (taken_number (select_numbers_of m.live) on_good) o
 -- the `set` line and the beginning; or the verdict where there is none, after that line where the number names a set
 abbrev pub begin_by : Bool → RunState → Result SetChange ChangeStop → Act
 begin_by on_good m (Ok change) = say (set_line on_good m) (begin_with on_good change m)
-begin_by on_good m (Err (NoPlan NoControlSet)) = end_with lines.NoControlSet false m
-begin_by on_good m (Err (NoPlan NoLastKnownGood)) = end_with lines.NoLastKnownGood false m
-begin_by on_good m (Err (NoPlan NoFreeNumber)) = say (set_line on_good m) (end_with lines.NoNumber false m)
-begin_by on_good m (Err sets.Full) = say (set_line on_good m) (end_with lines.Full false m)
+begin_by on_good m (Err (NoPlan NoControlSet)) = end_with verdicts.NoControlSet false m
+begin_by on_good m (Err (NoPlan NoLastKnownGood)) = end_with verdicts.NoLastKnownGood false m
+begin_by on_good m (Err (NoPlan NoFreeNumber)) = say (set_line on_good m) (end_with verdicts.NoNumber false m)
+begin_by on_good m (Err sets.Full) = say (set_line on_good m) (end_with verdicts.Full false m)
 
 -- LastKnownGood or Default is taken, guard and retirement are done, and the start begins
 abbrev pub take_set : Bool → RunState → Act
@@ -62,8 +65,8 @@ woken_state m w = record m { disk = woken_at w }
 -- the hive was loaded, its line is printed and a set is taken; or the load was stopped, and the start ends
 abbrev pub loaded : Bool → RunState → Woken → Outcome → Act
 loaded on_good m w Finished = say (LoadLine w.state.sequence w.dirty) (take_set on_good (loaded_state m w))
-loaded on_good m w PowerCut = end_with lines.Cut false (woken_state m w)
-loaded on_good m w DeviceFault = end_with lines.Device false (woken_state m w)
+loaded on_good m w PowerCut = end_with verdicts.Cut false (woken_state m w)
+loaded on_good m w DeviceFault = end_with verdicts.Device false (woken_state m w)
 
 -- the disk is turned on, and what it loads as is settled
 abbrev pub woken : Bool → RunState → Woken → Act
@@ -72,9 +75,9 @@ woken on_good m w = mark (Held w.state.tree) (ask (woken_at w) (loaded on_good m
 -- the entry is printed and the disk turned on; or the start ends before that
 abbrev pub chosen : Bool → RunState → Choice → Act
 chosen on_good m (EntryTaken number path entry_on_good) = say (EntryLine number path) (wake m.disk (woken (on_good || entry_on_good) m))
-chosen on_good m NoEntry = end_with lines.NoEntry false m
-chosen on_good m (OtherLoader number path) = say (EntryLine number path) (end_with lines.OtherLoader false m)
-chosen on_good m (NoSystem number path) = say (EntryLine number path) (end_with lines.NoSystem false m)
+chosen on_good m NoEntry = end_with verdicts.NoEntry false m
+chosen on_good m (OtherLoader number path) = say (EntryLine number path) (end_with verdicts.OtherLoader false m)
+chosen on_good m (NoSystem number path) = say (EntryLine number path) (end_with verdicts.NoSystem false m)
 
 -- one more start was asked for, and a fallback that was due is taken
 abbrev pub accepted_state : RunState → RunState

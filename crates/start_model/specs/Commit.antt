@@ -3,8 +3,11 @@
 -- The clone that is saved, and when, is that of Windows Internals, 4th edition, startup; the lines and the stops are this project's own.
 use Rattle.std.specs.Prelude.{Bool, true, false, if◌then◌else◌, Option, None, Some, Result, Ok, Err}
 use Rattle.hive_model.specs.Tree.{Tree}
-use Rattle.start_model.specs.Lines as lines
-use Rattle.start_model.specs.Lines.{Line, CommitWord, CommitLine, SelectLine, SaveRefusedLine}
+use Rattle.report_words.specs.declared.words.Verdict.TheVariants as verdicts
+use Rattle.report_words.specs.declared.words.CommitWord.{CommitWord}
+use Rattle.report_words.specs.declared.words.CommitWord.TheVariants as commits
+use Rattle.report_words.specs.declared.line.Line.{Line}
+use Rattle.report_words.specs.declared.line.Line.TheVariants.{Commit as CommitLine, Select as SelectLine, SaveRefused as SaveRefusedLine}
 use Rattle.start_model.specs.Sets as sets
 use Rattle.start_model.specs.Sets.{SelectNumbers, SetChange, ChangeStop, NoPlan, save_of}
 use Rattle.start_model.specs.Machine.{Start, save_due, with_start}
@@ -22,8 +25,8 @@ opened_state m tree = record m { disk = open_between m.disk.settled (next_state 
 -- the tree is committed, the line says so, and the run goes on; or the commit was stopped, and the start ends
 abbrev pub committed : CommitWord → Tree → RunState → (RunState → Act) → Outcome → Act
 committed what tree m next Finished = say (CommitLine what (next_state m tree).sequence) (mark (Held tree) (next (committed_state m tree)))
-committed what tree m next PowerCut = end_with lines.Cut false (opened_state m tree)
-committed what tree m next DeviceFault = end_with lines.Device false (opened_state m tree)
+committed what tree m next PowerCut = end_with verdicts.Cut false (opened_state m tree)
+committed what tree m next DeviceFault = end_with verdicts.Device false (opened_state m tree)
 
 -- a commit of the tree: its outcome decides how it goes on, and until then the disk may load as before or as after
 abbrev pub commit : CommitWord → Tree → RunState → (RunState → Act) → Act
@@ -48,7 +51,7 @@ save_refused too_full s m next = say (SaveRefusedLine too_full) (next (noted_sav
 abbrev pub saved_by : Start → Tree → RunState → (RunState → Act) → Result SetChange ChangeStop → Act
 saved_by s clone m next (Ok change) =
     mark (Saved clone)
-    (commit lines.SaveCommit change.tree m (λ after. say (select_line change.numbers) (next (noted_saved true s after))))
+    (commit commits.Save change.tree m (λ after. say (select_line change.numbers) (next (noted_saved true s after))))
 saved_by s clone m next (Err (NoPlan stop)) = save_refused false s m next
 saved_by s clone m next (Err sets.Full) = save_refused true s m next
 

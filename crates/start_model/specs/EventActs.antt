@@ -5,8 +5,13 @@ use Rattle.std.specs.Prelude.{ℕ, true, false, ◌||◌, not, if◌then◌else�
 use Rattle.hive_model.specs.Image.{Arming, ArmedCut, ArmedFault}
 use Rattle.hive_model.specs.Tree.{Tree, same_tree}
 use Rattle.hive_model.specs.Edit.{Refusal, no_key, no_value, bad_name, exists, name_too_long, too_deep, data_too_long, full, edited}
-use Rattle.start_model.specs.Lines as lines
-use Rattle.start_model.specs.Lines.{RefusedWord, EventWord, LogonLine, EditOkLine, FlushNothingLine, RefusedLine}
+use Rattle.report_words.specs.declared.words.Verdict.TheVariants as verdicts
+use Rattle.report_words.specs.declared.words.RefusedWord.{RefusedWord}
+use Rattle.report_words.specs.declared.words.EventWord.{EventWord}
+use Rattle.report_words.specs.declared.words.CommitWord.TheVariants as commits
+use Rattle.report_words.specs.declared.words.EventWord.TheVariants as events
+use Rattle.report_words.specs.declared.words.RefusedWord.TheVariants as reasons
+use Rattle.report_words.specs.declared.line.Line.TheVariants.{Logon as LogonLine, EditOk as EditOkLine, FlushNothing as FlushNothingLine, Refused as RefusedLine}
 use Rattle.start_model.specs.Events.{Set, Delete, Make, Remove, Event, BootNow, Go, Fail, Vital, Edits, Flush, Logon, Off, CutNow, Arm, step_of}
 use Rattle.start_model.specs.Machine.{Start, failing, requiring, ending_of, with_start, refusal_of}
 use Rattle.start_model.specs.Act.{RunState, Ordered, Cuts, Act, done, say, ask, mark, with_machine, end_with}
@@ -16,31 +21,31 @@ use Rattle.start_model.specs.Boot.{Choice, boot_act}
 
 -- the first word of an event's line; of an ordered stop it is that of its kind
 abbrev pub event_word_of : Event → EventWord
-event_word_of (BootNow entry good) = lines.BootEvent
-event_word_of (Go steps) = lines.GoEvent
-event_word_of (Fail name count) = lines.FailEvent
-event_word_of (Vital name) = lines.VitalEvent
-event_word_of (Edits (Set path name kind bytes)) = lines.SetEvent
-event_word_of (Edits (Delete path name)) = lines.DeleteEvent
-event_word_of (Edits (Make path)) = lines.MakeEvent
-event_word_of (Edits (Remove path)) = lines.RemoveEvent
-event_word_of Flush = lines.FlushEvent
-event_word_of Logon = lines.LogonEvent
-event_word_of Off = lines.OffEvent
-event_word_of (CutNow keep) = lines.CutEvent
-event_word_of (Arm (ArmedCut call n keep)) = lines.CutEvent
-event_word_of (Arm (ArmedFault call n)) = lines.FaultEvent
+event_word_of (BootNow entry good) = events.Boot
+event_word_of (Go steps) = events.Go
+event_word_of (Fail name count) = events.Fail
+event_word_of (Vital name) = events.Vital
+event_word_of (Edits (Set path name kind bytes)) = events.Set
+event_word_of (Edits (Delete path name)) = events.Delete
+event_word_of (Edits (Make path)) = events.Make
+event_word_of (Edits (Remove path)) = events.Remove
+event_word_of Flush = events.Flush
+event_word_of Logon = events.Logon
+event_word_of Off = events.Off
+event_word_of (CutNow keep) = events.Cut
+event_word_of (Arm (ArmedCut call n keep)) = events.Cut
+event_word_of (Arm (ArmedFault call n)) = events.Fault
 
 -- the word of an edit's refusal; that a key is there already is none that an edit of a script meets
 abbrev pub reason_of : Refusal → RefusedWord
-reason_of no_key = lines.NoKeyReason
-reason_of no_value = lines.NoValueReason
-reason_of bad_name = lines.BadNameReason
-reason_of exists = lines.BadNameReason
-reason_of name_too_long = lines.NameTooLongReason
-reason_of too_deep = lines.TooDeepReason
-reason_of data_too_long = lines.DataTooLongReason
-reason_of full = lines.FullReason
+reason_of no_key = reasons.NoKey
+reason_of no_value = reasons.NoValue
+reason_of bad_name = reasons.BadName
+reason_of exists = reasons.BadName
+reason_of name_too_long = reasons.NameTooLong
+reason_of too_deep = reasons.TooDeep
+reason_of data_too_long = reasons.DataTooLong
+reason_of full = reasons.Full
 
 -- the edited tree is the live one, and is changed where it is unlike the one before; or the refusal is printed
 abbrev pub edit_done : Event → RunState → Result Tree Refusal → Act
@@ -49,12 +54,12 @@ edit_done e m (Err refusal) = say (RefusedLine (event_word_of e) (reason_of refu
 
 -- a changed tree is committed; else a line says that there was nothing
 abbrev pub flush_act : RunState → Act
-flush_act m = if m.changed then commit lines.FlushCommit m.live m done else say FlushNothingLine (done m)
+flush_act m = if m.changed then commit commits.Flush m.live m done else say FlushNothingLine (done m)
 
 -- a changed tree is committed, and the start ends with its verdict
 abbrev pub off_act : Start → RunState → Act
 off_act s m =
-    if m.changed then commit lines.OffCommit m.live m (end_with (ending_of s) false)
+    if m.changed then commit commits.Off m.live m (end_with (ending_of s) false)
     else end_with (ending_of s) false m
 
 -- the logon is printed and noted, and a start that became good by it is saved
@@ -65,7 +70,7 @@ logon_act s m =
 
 -- the power is cut: one outcome is taken, no matter what it is called, and the state stays the settled one
 abbrev pub cut_act : RunState → Act
-cut_act m = mark Cuts (ask m.disk (λ outcome. end_with lines.Cut false m))
+cut_act m = mark Cuts (ask m.disk (λ outcome. end_with verdicts.Cut false m))
 
 -- a stop of the disk is ordered, and nothing is printed
 abbrev pub arm_act : Arming → RunState → Act

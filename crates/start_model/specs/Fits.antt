@@ -5,8 +5,10 @@ use Rattle.hive_model.specs.Image.{Image}
 use Rattle.hive_model.specs.Tree.{Tree}
 use Rattle.hive_model.specs.Edit.{renamed}
 use Rattle.hive_model.specs.Load.{Loads}
-use Rattle.start_model.specs.Lines as lines
-use Rattle.start_model.specs.Lines.{Line, LoadLine, CommitLine, VerdictLine}
+use Rattle.report_words.specs.declared.words.Verdict.{Verdict}
+use Rattle.report_words.specs.declared.words.Verdict.TheVariants as verdicts
+use Rattle.report_words.specs.declared.line.Line.{Line}
+use Rattle.report_words.specs.declared.line.Line.TheVariants.{Load as LoadLine, Commit as CommitLine, Verdict as VerdictLine}
 use Rattle.start_model.specs.Sets.{set_of, select_numbers_of}
 use Rattle.start_model.specs.Possible.{Possible, Woken, Outcome, Finished, PowerCut, DeviceFault}
 use Rattle.start_model.specs.Act.{Note, Woke, Held, Saved}
@@ -15,9 +17,9 @@ use Rattle.start_model.specs.Starter.{good_is_usable}
 -- ---- the outcomes that a report says
 
 -- a verdict of a cut or a device fault is an outcome, before those of later lines; no other is
-abbrev pub verdict_outcome : lines.Verdict → List Outcome → List Outcome
-verdict_outcome lines.Cut more = PowerCut ∷ more
-verdict_outcome lines.Device more = DeviceFault ∷ more
+abbrev pub verdict_outcome : Verdict → List Outcome → List Outcome
+verdict_outcome verdicts.Cut more = PowerCut ∷ more
+verdict_outcome verdicts.Device more = DeviceFault ∷ more
 verdict_outcome other more = more
 
 -- how the disk operations ended, by the lines

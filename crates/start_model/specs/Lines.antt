@@ -5,177 +5,91 @@ use Rattle.std.specs.Prelude.{ℕ, ◌/◌, ◌%◌, Bool, false, List, [], ◌�
 use Rattle.std.specs.List.{flat_map}
 use Rattle.std.specs.Fmt.{decimal, digit_glyph}
 use Rattle.nt_bytes.specs.Text.{is_printable}
-
--- what a commit wrote: the change of the begin, of the save, of a flush, or of switching off
-pub data CommitWord : Type 0 where
-  BeginCommit : CommitWord
-  SaveCommit : CommitWord
-  FlushCommit : CommitWord
-  OffCommit : CommitWord
-
--- the phase that begins
-pub data PhaseWord : Type 0 where
-  BootPhase : PhaseWord
-  SystemPhase : PhaseWord
-  AutomaticPhase : PhaseWord
-  DonePhase : PhaseWord
-
--- how an attempt went; of one that failed, what error control made of it
-pub data TryWord : Type 0 where
-  TryOk : TryWord
-  TryIgnored : TryWord
-  TryLogged : TryWord
-  TryFallBack : TryWord
-  TryStop : TryWord
-
--- the first word of a script's line
-pub data EventWord : Type 0 where
-  BootEvent : EventWord
-  GoEvent : EventWord
-  FailEvent : EventWord
-  VitalEvent : EventWord
-  SetEvent : EventWord
-  DeleteEvent : EventWord
-  MakeEvent : EventWord
-  RemoveEvent : EventWord
-  FlushEvent : EventWord
-  LogonEvent : EventWord
-  OffEvent : EventWord
-  CutEvent : EventWord
-  FaultEvent : EventWord
-
--- why an event was refused: first by the state of the machine, then by the edit
-pub data RefusedWord : Type 0 where
-  OffReason : RefusedWord
-  RunningReason : RefusedWord
-  EarlyReason : RefusedWord
-  AgainReason : RefusedWord
-  IdleReason : RefusedWord
-  ProtectedReason : RefusedWord
-  NoKeyReason : RefusedWord
-  NoValueReason : RefusedWord
-  BadNameReason : RefusedWord
-  NameTooLongReason : RefusedWord
-  TooDeepReason : RefusedWord
-  DataTooLongReason : RefusedWord
-  FullReason : RefusedWord
-
--- how a start ended
-pub data Verdict : Type 0 where
-  Good : Verdict
-  GoodUnsaved : Verdict
-  Running : Verdict
-  FallBack : Verdict
-  Stopped : Verdict
-  Cut : Verdict
-  Device : Verdict
-  Full : Verdict
-  NoNumber : Verdict
-  NoEntry : Verdict
-  OtherLoader : Verdict
-  NoSystem : Verdict
-  NoControlSet : Verdict
-  NoLastKnownGood : Verdict
-
--- a line of the report; names are lists of UTF-16 units, a path is bytes of boot.ini
-pub data Line : Type 0 where
-  -- a start was accepted, counted from 1
-  StartLine : ℕ → Line
-  -- the entry of boot.ini, counted from 1, and its path
-  EntryLine : ℕ → List ℕ → Line
-  -- the hive was loaded: its sequence number, and whether the log had to be taken
-  LoadLine : ℕ → Bool → Line
-  -- the control set that this start takes, and whether it is on LastKnownGood
-  SetLine : ℕ → Bool → Line
-  -- a change is on the disk, with this sequence number
-  CommitLine : CommitWord → ℕ → Line
-  -- Current, Default, Failed, LastKnownGood
-  SelectLine : ℕ → ℕ → ℕ → ℕ → Line
-  PhaseLine : PhaseWord → Line
-  TryLine : List ℕ → TryWord → Line
-  UnmetLine : List ℕ → Line
-  -- the boot phase ended without this vital name, as the script has it
-  VitalLine : List ℕ → Line
-  LogonLine : Line
-  -- the save was refused: by the limit on the hive, or else for want of a free number
-  SaveRefusedLine : Bool → Line
-  EditOkLine : Line
-  FlushNothingLine : Line
-  RefusedLine : EventWord → RefusedWord → Line
-  VerdictLine : Verdict → Line
-  -- the script was read to its end
-  EndLine : Line
+use Rattle.report_words.specs.declared.words.CommitWord.{CommitWord}
+use Rattle.report_words.specs.declared.words.CommitWord.TheVariants as commits
+use Rattle.report_words.specs.declared.words.PhaseWord.{PhaseWord}
+use Rattle.report_words.specs.declared.words.PhaseWord.TheVariants as phases
+use Rattle.report_words.specs.declared.words.TryWord.{TryWord}
+use Rattle.report_words.specs.declared.words.TryWord.TheVariants as tries
+use Rattle.report_words.specs.declared.words.EventWord.{EventWord}
+use Rattle.report_words.specs.declared.words.EventWord.TheVariants as events
+use Rattle.report_words.specs.declared.words.RefusedWord.{RefusedWord}
+use Rattle.report_words.specs.declared.words.RefusedWord.TheVariants as reasons
+use Rattle.report_words.specs.declared.words.Verdict.{Verdict}
+use Rattle.report_words.specs.declared.words.Verdict.TheVariants as verdicts
+use Rattle.report_words.specs.declared.line.Line.{Line}
+use Rattle.report_words.specs.declared.line.Line.TheVariants as lines
 
 -- the word for what a commit wrote
 abbrev pub commit_word : CommitWord → List ℕ
-commit_word BeginCommit = codes "begin"
-commit_word SaveCommit = codes "save"
-commit_word FlushCommit = codes "flush"
-commit_word OffCommit = codes "off"
+commit_word commits.Begin = codes "begin"
+commit_word commits.Save = codes "save"
+commit_word commits.Flush = codes "flush"
+commit_word commits.Off = codes "off"
 
 -- the word of a phase
 abbrev pub phase_word : PhaseWord → List ℕ
-phase_word BootPhase = codes "boot"
-phase_word SystemPhase = codes "system"
-phase_word AutomaticPhase = codes "automatic"
-phase_word DonePhase = codes "done"
+phase_word phases.Boot = codes "boot"
+phase_word phases.System = codes "system"
+phase_word phases.Automatic = codes "automatic"
+phase_word phases.Done = codes "done"
 
 -- the words for how an attempt went
 abbrev pub try_word : TryWord → List ℕ
-try_word TryOk = codes "ok"
-try_word TryIgnored = codes "failed ignored"
-try_word TryLogged = codes "failed logged"
-try_word TryFallBack = codes "failed fall-back"
-try_word TryStop = codes "failed stop"
+try_word tries.Ok = codes "ok"
+try_word tries.Ignored = codes "failed ignored"
+try_word tries.Logged = codes "failed logged"
+try_word tries.FallBack = codes "failed fall-back"
+try_word tries.Stop = codes "failed stop"
 
 -- the first word of a script's line, as text
 abbrev pub event_word : EventWord → List ℕ
-event_word BootEvent = codes "boot"
-event_word GoEvent = codes "go"
-event_word FailEvent = codes "fail"
-event_word VitalEvent = codes "vital"
-event_word SetEvent = codes "set"
-event_word DeleteEvent = codes "delete"
-event_word MakeEvent = codes "make"
-event_word RemoveEvent = codes "remove"
-event_word FlushEvent = codes "flush"
-event_word LogonEvent = codes "logon"
-event_word OffEvent = codes "off"
-event_word CutEvent = codes "cut"
-event_word FaultEvent = codes "fault"
+event_word events.Boot = codes "boot"
+event_word events.Go = codes "go"
+event_word events.Fail = codes "fail"
+event_word events.Vital = codes "vital"
+event_word events.Set = codes "set"
+event_word events.Delete = codes "delete"
+event_word events.Make = codes "make"
+event_word events.Remove = codes "remove"
+event_word events.Flush = codes "flush"
+event_word events.Logon = codes "logon"
+event_word events.Off = codes "off"
+event_word events.Cut = codes "cut"
+event_word events.Fault = codes "fault"
 
 -- the word for why an event was refused
 abbrev pub refused_word : RefusedWord → List ℕ
-refused_word OffReason = codes "off"
-refused_word RunningReason = codes "running"
-refused_word EarlyReason = codes "early"
-refused_word AgainReason = codes "again"
-refused_word IdleReason = codes "idle"
-refused_word ProtectedReason = codes "protected"
-refused_word NoKeyReason = codes "no-key"
-refused_word NoValueReason = codes "no-value"
-refused_word BadNameReason = codes "bad-name"
-refused_word NameTooLongReason = codes "name-too-long"
-refused_word TooDeepReason = codes "too-deep"
-refused_word DataTooLongReason = codes "data-too-long"
-refused_word FullReason = codes "full"
+refused_word reasons.Off = codes "off"
+refused_word reasons.Running = codes "running"
+refused_word reasons.Early = codes "early"
+refused_word reasons.Again = codes "again"
+refused_word reasons.Idle = codes "idle"
+refused_word reasons.Protected = codes "protected"
+refused_word reasons.NoKey = codes "no-key"
+refused_word reasons.NoValue = codes "no-value"
+refused_word reasons.BadName = codes "bad-name"
+refused_word reasons.NameTooLong = codes "name-too-long"
+refused_word reasons.TooDeep = codes "too-deep"
+refused_word reasons.DataTooLong = codes "data-too-long"
+refused_word reasons.Full = codes "full"
 
 -- the word for how a start ended
 abbrev pub verdict_word : Verdict → List ℕ
-verdict_word Good = codes "good"
-verdict_word GoodUnsaved = codes "good-unsaved"
-verdict_word Running = codes "running"
-verdict_word FallBack = codes "fall-back"
-verdict_word Stopped = codes "stopped"
-verdict_word Cut = codes "cut"
-verdict_word Device = codes "device"
-verdict_word Full = codes "full"
-verdict_word NoNumber = codes "no-number"
-verdict_word NoEntry = codes "no-entry"
-verdict_word OtherLoader = codes "other-loader"
-verdict_word NoSystem = codes "no-system"
-verdict_word NoControlSet = codes "no-control-set"
-verdict_word NoLastKnownGood = codes "no-last-known-good"
+verdict_word verdicts.Good = codes "good"
+verdict_word verdicts.GoodUnsaved = codes "good-unsaved"
+verdict_word verdicts.Running = codes "running"
+verdict_word verdicts.FallBack = codes "fall-back"
+verdict_word verdicts.Stopped = codes "stopped"
+verdict_word verdicts.Cut = codes "cut"
+verdict_word verdicts.Device = codes "device"
+verdict_word verdicts.Full = codes "full"
+verdict_word verdicts.NoNumber = codes "no-number"
+verdict_word verdicts.NoEntry = codes "no-entry"
+verdict_word verdicts.OtherLoader = codes "other-loader"
+verdict_word verdicts.NoSystem = codes "no-system"
+verdict_word verdicts.NoControlSet = codes "no-control-set"
+verdict_word verdicts.NoLastKnownGood = codes "no-last-known-good"
 
 -- `\u` and four lower-case hexadecimal digits
 abbrev pub escaped : ℕ → List ℕ
@@ -211,24 +125,24 @@ save_word full = if full then codes "full" else codes "no-number"
 
 -- the text of a line, LF at its end
 unfoldable pub line_text : Line → List ℕ
-line_text (StartLine number) = codes "start " ++ decimal number ++ codes "\n"
-line_text (EntryLine number path) = codes "entry " ++ decimal number ++ codes " " ++ path_text path ++ codes "\n"
-line_text (LoadLine sequence recovered) = codes "load " ++ decimal sequence ++ codes " " ++ load_word recovered ++ codes "\n"
-line_text (SetLine number on_good) = codes "set " ++ decimal number ++ codes " " ++ set_word on_good ++ codes "\n"
-line_text (CommitLine what sequence) = codes "commit " ++ commit_word what ++ codes " " ++ decimal sequence ++ codes "\n"
-line_text (SelectLine current default failed good) =
+line_text (lines.Start number) = codes "start " ++ decimal number ++ codes "\n"
+line_text (lines.Entry number path) = codes "entry " ++ decimal number ++ codes " " ++ path_text path ++ codes "\n"
+line_text (lines.Load sequence recovered) = codes "load " ++ decimal sequence ++ codes " " ++ load_word recovered ++ codes "\n"
+line_text (lines.Set number on_good) = codes "set " ++ decimal number ++ codes " " ++ set_word on_good ++ codes "\n"
+line_text (lines.Commit what sequence) = codes "commit " ++ commit_word what ++ codes " " ++ decimal sequence ++ codes "\n"
+line_text (lines.Select current default failed good) =
     codes "select " ++ decimal current ++ codes " " ++ decimal default ++ codes " " ++ decimal failed ++ codes " " ++ decimal good ++ codes "\n"
-line_text (PhaseLine word) = codes "phase " ++ phase_word word ++ codes "\n"
-line_text (TryLine name outcome) = codes "try " ++ name_text name ++ codes " " ++ try_word outcome ++ codes "\n"
-line_text (UnmetLine name) = codes "unmet " ++ name_text name ++ codes "\n"
-line_text (VitalLine name) = codes "vital " ++ name_text name ++ codes " missing\n"
-line_text LogonLine = codes "logon\n"
-line_text (SaveRefusedLine full) = codes "save refused " ++ save_word full ++ codes "\n"
-line_text EditOkLine = codes "edit ok\n"
-line_text FlushNothingLine = codes "flush nothing\n"
-line_text (RefusedLine event why) = codes "refused " ++ event_word event ++ codes " " ++ refused_word why ++ codes "\n"
-line_text (VerdictLine word) = codes "verdict " ++ verdict_word word ++ codes "\n"
-line_text EndLine = codes "end\n"
+line_text (lines.Phase word) = codes "phase " ++ phase_word word ++ codes "\n"
+line_text (lines.Try name outcome) = codes "try " ++ name_text name ++ codes " " ++ try_word outcome ++ codes "\n"
+line_text (lines.Unmet name) = codes "unmet " ++ name_text name ++ codes "\n"
+line_text (lines.Vital name) = codes "vital " ++ name_text name ++ codes " missing\n"
+line_text lines.Logon = codes "logon\n"
+line_text (lines.SaveRefused full) = codes "save refused " ++ save_word full ++ codes "\n"
+line_text lines.EditOk = codes "edit ok\n"
+line_text lines.FlushNothing = codes "flush nothing\n"
+line_text (lines.Refused event why) = codes "refused " ++ event_word event ++ codes " " ++ refused_word why ++ codes "\n"
+line_text (lines.Verdict word) = codes "verdict " ++ verdict_word word ++ codes "\n"
+line_text lines.End = codes "end\n"
 
 -- the text of a report
 abbrev pub text_of : List Line → List ℕ

@@ -11,7 +11,10 @@ use Rattle.start_model.specs.Judge.{Judgement, Ignore, judgement_of}
 use Rattle.start_model.specs.Entries.{Entry, Phase, Boot, System, Automatic, Done, need_of}
 use Rattle.start_model.specs.Order.{plan_of}
 use Rattle.start_model.specs.Events.{Event, BootNow, Go, Fail, Vital, Edits, Flush, Logon, Off, CutNow, Arm, is_protected}
-use Rattle.start_model.specs.Lines.{Verdict, Good, GoodUnsaved, Running, RefusedWord, OffReason, RunningReason, EarlyReason, AgainReason, IdleReason, ProtectedReason}
+use Rattle.report_words.specs.declared.words.Verdict.{Verdict}
+use Rattle.report_words.specs.declared.words.Verdict.TheVariants.{Good, GoodUnsaved, Running}
+use Rattle.report_words.specs.declared.words.RefusedWord.{RefusedWord}
+use Rattle.report_words.specs.declared.words.RefusedWord.TheVariants as reasons
 
 -- a start that runs
 pub record Start : Type 0 where
@@ -210,25 +213,25 @@ with_start s m = record m { start = Some s }
 -- why an event is refused while no start runs, if it is
 abbrev pub refused_off : Event → Option RefusedWord
 refused_off (BootNow entry good) = None
-refused_off (Go steps) = Some OffReason
+refused_off (Go steps) = Some reasons.Off
 refused_off (Fail name count) = None
 refused_off (Vital name) = None
-refused_off (Edits edit) = Some OffReason
-refused_off Flush = Some OffReason
-refused_off Logon = Some OffReason
-refused_off Off = Some OffReason
-refused_off (CutNow keep) = Some OffReason
+refused_off (Edits edit) = Some reasons.Off
+refused_off Flush = Some reasons.Off
+refused_off Logon = Some reasons.Off
+refused_off Off = Some reasons.Off
+refused_off (CutNow keep) = Some reasons.Off
 refused_off (Arm arming) = None
 
 -- why an event is refused while this start runs, if it is
 abbrev pub refused_running : Start → Event → Option RefusedWord
-refused_running s (BootNow entry good) = Some RunningReason
-refused_running s (Go steps) = if is_done s.phase then Some IdleReason else None
+refused_running s (BootNow entry good) = Some reasons.Running
+refused_running s (Go steps) = if is_done s.phase then Some reasons.Idle else None
 refused_running s (Fail name count) = None
 refused_running s (Vital name) = None
-refused_running s (Edits edit) = if is_protected edit then Some ProtectedReason else None
+refused_running s (Edits edit) = if is_protected edit then Some reasons.Protected else None
 refused_running s Flush = None
-refused_running s Logon = if not (takes_logons s.phase) then Some EarlyReason else (if s.logged_on then Some AgainReason else None)
+refused_running s Logon = if not (takes_logons s.phase) then Some reasons.Early else (if s.logged_on then Some reasons.Again else None)
 refused_running s Off = None
 refused_running s (CutNow keep) = None
 refused_running s (Arm arming) = None

@@ -3,7 +3,7 @@
 -- In the quiet run each wake is the settled state, and each operation is done. It is this project's own.
 use Rattle.std.specs.Prelude.{ℕ, false, List, [], ◌∷◌, ◌++◌, Option}
 use Rattle.std.specs.Option.{unwrap_or}
-use Rattle.start_model.specs.Lines.{Line}
+use Rattle.report_words.specs.declared.line.Line.{Line}
 use Rattle.start_model.specs.Events.{Event}
 use Rattle.start_model.specs.Possible.{Possible, Woken, Finished}
 use Rattle.start_model.specs.Act.{RunState, Act, done, say, ask, wake, mark}

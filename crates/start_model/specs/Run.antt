@@ -2,7 +2,8 @@
 --
 -- A run is the events in order. The script and the report are this project's own.
 use Rattle.std.specs.Prelude.{ℕ, false, List, [], ◌∷◌, ◌++◌, Option, None, Some}
-use Rattle.start_model.specs.Lines.{Line, VerdictLine, EndLine}
+use Rattle.report_words.specs.declared.line.Line.{Line}
+use Rattle.report_words.specs.declared.line.Line.TheVariants.{Verdict as VerdictLine, End as EndLine}
 use Rattle.start_model.specs.Events.{Event}
 use Rattle.start_model.specs.Machine.{Start, off_machine, ending_of}
 use Rattle.start_model.specs.Possible.{Possible, Woken, loads_as, Outcome}

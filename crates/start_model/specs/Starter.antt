@@ -4,8 +4,12 @@
 use Rattle.std.specs.Prelude.{ℕ, zero, suc, ◌+◌, Bool, true, false, if◌then◌else◌, List, [], ◌∷◌, map, length, Option, None, Some, codes}
 use Rattle.std.specs.Option.{unwrap_or, option_map_or}
 use Rattle.hive_model.specs.Tree.{Tree, key, none, children, find_key}
-use Rattle.start_model.specs.Lines as lines
-use Rattle.start_model.specs.Lines.{Line, TryWord, PhaseLine, TryLine, UnmetLine, VitalLine}
+use Rattle.report_words.specs.declared.words.Verdict.TheVariants as verdicts
+use Rattle.report_words.specs.declared.words.PhaseWord.TheVariants as phases
+use Rattle.report_words.specs.declared.words.TryWord.{TryWord}
+use Rattle.report_words.specs.declared.words.TryWord.TheVariants as tries
+use Rattle.report_words.specs.declared.line.Line.{Line}
+use Rattle.report_words.specs.declared.line.Line.TheVariants.{Phase as PhaseLine, Try as TryLine, Unmet as UnmetLine, Vital as VitalLine}
 use Rattle.start_model.specs.Judge.{Judgement, Ignore, Log, FallBack, Stop}
 use Rattle.start_model.specs.Sets.{select_numbers_of, is_usable, set_of}
 use Rattle.start_model.specs.Entries.{Phase, Boot, System, Automatic, Done}
@@ -27,28 +31,28 @@ good_is_usable live = is_usable live (select_numbers_of live).good
 
 -- the line of a phase that begins
 abbrev pub phase_line : Phase → Line
-phase_line Boot = PhaseLine lines.BootPhase
-phase_line System = PhaseLine lines.SystemPhase
-phase_line Automatic = PhaseLine lines.AutomaticPhase
-phase_line Done = PhaseLine lines.DonePhase
+phase_line Boot = PhaseLine phases.Boot
+phase_line System = PhaseLine phases.System
+phase_line Automatic = PhaseLine phases.Automatic
+phase_line Done = PhaseLine phases.Done
 
 -- the words of a failed attempt, by its judgement
 abbrev pub failed_word : Judgement → TryWord
-failed_word Ignore = lines.TryIgnored
-failed_word Log = lines.TryLogged
-failed_word FallBack = lines.TryFallBack
-failed_word Stop = lines.TryStop
+failed_word Ignore = tries.Ignored
+failed_word Log = tries.Logged
+failed_word FallBack = tries.FallBack
+failed_word Stop = tries.Stop
 
 -- the line of an attempt
 abbrev pub try_line : Tried → Line
-try_line t = TryLine t.name (if t.ok then lines.TryOk else failed_word t.judgement)
+try_line t = TryLine t.name (if t.ok then tries.Ok else failed_word t.judgement)
 
 -- after an attempt the run goes on, or the start ends
 abbrev pub judged : Judgement → RunState → (RunState → Act) → Act
 judged Ignore m next = next m
 judged Log m next = next m
-judged FallBack m next = end_with lines.FallBack true m
-judged Stop m next = end_with lines.Stopped false m
+judged FallBack m next = end_with verdicts.FallBack true m
+judged Stop m next = end_with verdicts.Stopped false m
 
 -- the next phase begins, and a start that became good by that is saved
 abbrev pub phase_begun : Start → RunState → (RunState → Act) → Act
@@ -59,7 +63,7 @@ phase_begun s m next =
 -- the next phase begins where no vital name is missing; else each that is has its line, and the start stops
 abbrev pub phase_passed : Start → RunState → (RunState → Act) → List (List ℕ) → Act
 phase_passed s m next [] = phase_begun s m next
-phase_passed s m next (name ∷ names) = say_all (map VitalLine (name ∷ names)) (end_with lines.Stopped false m)
+phase_passed s m next (name ∷ names) = say_all (map VitalLine (name ∷ names)) (end_with verdicts.Stopped false m)
 
 -- the phase is at its end: what still waits is unmet, and the next one begins unless a vital name is missing
 abbrev pub phase_step : Start → RunState → (RunState → Act) → Act

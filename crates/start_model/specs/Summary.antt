@@ -1,7 +1,10 @@
 -- What do the lines of a report amount to, counted together? (this project's own)
 use Rattle.std.specs.Prelude.{ℕ, ◌+◌, min, List, [], ◌∷◌, Option, None, Some}
-use Rattle.start_model.specs.Lines as lines
-use Rattle.start_model.specs.Lines.{Line, Verdict, TryWord, LoadLine, CommitLine, TryLine, UnmetLine, VerdictLine}
+use Rattle.report_words.specs.declared.words.Verdict.{Verdict}
+use Rattle.report_words.specs.declared.words.TryWord.{TryWord}
+use Rattle.report_words.specs.declared.words.TryWord.TheVariants as tries
+use Rattle.report_words.specs.declared.line.Line.{Line}
+use Rattle.report_words.specs.declared.line.Line.TheVariants.{Load as LoadLine, Commit as CommitLine, Try as TryLine, Unmet as UnmetLine, Verdict as VerdictLine}
 
 -- how many attempts went well, how many failed, and how many entries were unmet, each up to 4,294,967,295, where it
 -- stays; the last verdict, where there is one; and the sequence number of the last load or commit, 0 before the first
@@ -18,7 +21,7 @@ counted n = min (n + 1) 4294967295
 
 -- an attempt that went well, or one that failed
 abbrev pub with_try : TryWord → Summary → Summary
-with_try lines.TryOk s = record s { started = counted s.started }
+with_try tries.Ok s = record s { started = counted s.started }
 with_try failed s = record s { failed = counted s.failed }
 
 -- with one more line

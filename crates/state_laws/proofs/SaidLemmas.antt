@@ -11,7 +11,7 @@ use Rattle.hive_model.specs.Valid.{HoldsKeys}
 use Rattle.boot_machine.specs.Codes.{phase_number}
 use Rattle.boot_phases.specs.Phases.{phase_in}
 use Rattle.start_model.specs.Entries.{Entry, Phase, Boot, System, Automatic, Done, entries_of}
-use Rattle.start_model.specs.Lines.{Line}
+use Rattle.report_words.specs.declared.line.Line.{Line}
 use Rattle.start_model.specs.Order.{plan_of}
 use Rattle.start_model.specs.Quiet as book
 use Rattle.quiet_run.specs.declared.last.QuietRun.{QuietRun}

@@ -12,8 +12,11 @@ use Rattle.start_model.specs.Entries.{Entry, Phase, Boot, System, Automatic, Don
 use Rattle.start_model.specs.Events.{Event, BootNow, Go, Fail, Vital, Edits, Flush, Logon, Off, CutNow, Arm}
 use Rattle.start_model.specs.EventActs.{act_unless, accepted_act, idle_act, running_act}
 use Rattle.start_model.specs.Judge.{Judgement, Ignore, Log, FallBack, Stop}
-use Rattle.start_model.specs.Lines as lines
-use Rattle.start_model.specs.Lines.{RefusedWord, UnmetLine, VitalLine}
+use Rattle.report_words.specs.declared.words.Verdict.{Verdict}
+use Rattle.report_words.specs.declared.words.Verdict.TheVariants as verdicts
+use Rattle.report_words.specs.declared.words.RefusedWord.{RefusedWord}
+use Rattle.report_words.specs.declared.words.CommitWord.TheVariants as commits
+use Rattle.report_words.specs.declared.line.Line.TheVariants as lines
 use Rattle.start_model.specs.Machine.{Start, MachineState, attempt_of, attempt_in, attempt_at, after_attempt, after_phase, ending_of, failing, is_done, missing_in, next_in, requiring, save_due, unmet_in, with_start, refusal_of}
 use Rattle.start_model.specs.Quiet.{quiet_wake}
 use Rattle.start_model.specs.Run.{verdict_first}
@@ -162,15 +165,15 @@ module _ (m : RunState) (l : LastStart) (s : Start) (is : m.machine.start ≡ So
       (end_from (is_done next_start.phase) next_start m.live l.phases f) (due_done next_start))
 
   vital_reads : (names : List (List ℕ)) (k : LastStart) → ReadOneSet k.phases
-      → NotedReads (say_all (map VitalLine names) (end_with lines.Stopped false m)) k
+      → NotedReads (say_all (map lines.Vital names) (end_with verdicts.Stopped false m)) k
   vital_reads [] k one = one
-  vital_reads (n ∷ names) k one = vital_reads names (seen (VitalLine n) k) one
+  vital_reads (n ∷ names) k one = vital_reads names (seen (lines.Vital n) k) one
 
   passed_reads : (missing : List (List ℕ)) → NotedReads (phase_passed s m done missing) l
   passed_reads [] = begun_reads
   passed_reads (n ∷ names) = vital_reads (n ∷ names) l one_set
 
-  unmet_reads : (names : List (List ℕ)) (a : Act) → NotedReads a l → NotedReads (say_all (map UnmetLine names) a) l
+  unmet_reads : (names : List (List ℕ)) (a : Act) → NotedReads a l → NotedReads (say_all (map lines.Unmet names) a) l
   unmet_reads [] a g = g
   unmet_reads (n ∷ names) a g = unmet_reads names a g
 
@@ -264,7 +267,7 @@ begin_by_reads on_good m l phases (Ok change) = by change.has_steps
     then_l : LastStart
     then_l = seen (set_line on_good m) l
 
-    by : (b : Bool) → NotedReads (cond b (commit lines.BeginCommit change.tree m (begin_start change.chosen on_good change.numbers))
+    by : (b : Bool) → NotedReads (cond b (commit commits.Begin change.tree m (begin_start change.chosen on_good change.numbers))
         (begin_start change.chosen on_good change.numbers m)) then_l
     by true = begin_reads change.chosen on_good change.numbers (committed_state m change.tree) then_l phases
     by false = begin_reads change.chosen on_good change.numbers m then_l phases
@@ -303,12 +306,12 @@ module _ (choice : Option ℕ → Choice) where
   idle_reads (Arm arming) m l f = noted_reads m l f
 
   flush_reads : (b : Bool) (m : RunState) (l : LastStart) → ByStart m.machine.start m.live l.phases
-      → NotedReads (cond b (commit lines.FlushCommit m.live m done) (say lines.FlushNothingLine (done m))) l
+      → NotedReads (cond b (commit commits.Flush m.live m done) (say lines.FlushNothing (done m))) l
   flush_reads true m l f = noted_reads (committed_state m m.live) l f
   flush_reads false m l f = noted_reads m l f
 
-  off_reads : (b : Bool) (verdict : lines.Verdict) (m : RunState) (l : LastStart) → ReadOneSet l.phases
-      → NotedReads (cond b (commit lines.OffCommit m.live m (end_with verdict false)) (end_with verdict false m)) l
+  off_reads : (b : Bool) (verdict : Verdict) (m : RunState) (l : LastStart) → ReadOneSet l.phases
+      → NotedReads (cond b (commit commits.Off m.live m (end_with verdict false)) (end_with verdict false m)) l
   off_reads true verdict m l one = one
   off_reads false verdict m l one = one
 
@@ -364,7 +367,7 @@ module _ (choice : Option ℕ → Choice) where
   turn_reads (Arm arming) plain w f = other_reads (Arm arming) tt w f
 
   close_reads : (o : Option Start) (m : RunState) (l : LastStart) → ReadOneSet l.phases
-      → ReadOneSet (watch (verdict_first o (say lines.EndLine (done m))) l).last.phases
+      → ReadOneSet (watch (verdict_first o (say lines.End (done m))) l).last.phases
   close_reads None m l one = one
   close_reads (Some s) m l one = one
 

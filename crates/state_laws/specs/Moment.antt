@@ -41,7 +41,7 @@ TellsOf r from moment line = ⊥
 
 -- the entry at a place of the plan, attempted as the one at a place of all
 pub record IsExplained (r : ViewedRun) (from : ℕ) (v : PhaseView) (p : ℕ) (e : Entry) (k : ℕ) : Type 0 where
-  -- the `ready` line tells of this moment, up to which the entry was not ready; and from then on it was
+  -- the `ready` line tells of this moment, up to which the entry was not ready; and afterwards it was
   pub moment : ℕ
   pub line : TellsOf r from moment (ready_line r from (ready_at r (starts_of r) e))
   pub before : (n : ℕ) → from ≤ n → n < moment → is_ready_by r n e ≡ false

@@ -3,7 +3,7 @@ use Rattle.std.specs.Prelude.{◌≡◌, ℕ, ◌+◌, true, false, List, AllPai
 use Rattle.nt_bytes.specs.Folding.{folds_same}
 use Rattle.start_model.specs.Boot.{Choice}
 use Rattle.start_model.specs.Events.{Event}
-use Rattle.start_model.specs.Lines.{Line}
+use Rattle.report_words.specs.declared.line.Line.{Line}
 use Rattle.start_model.specs.Possible.{Woken}
 use Rattle.start_model.specs.Quiet as book
 use Rattle.quiet_run.specs.declared.last.Attempt.{Attempt}

@@ -8,7 +8,8 @@ use Rattle.boot_run.specs.Choices.{choices}
 use Rattle.line_text.specs.declared.form.ReportForm.{ReportForm}
 use Rattle.start_model.specs.Boot.{Choice}
 use Rattle.start_model.specs.Events.{Event as Happening}
-use Rattle.start_model.specs.Lines.{Line, text_of}
+use Rattle.report_words.specs.declared.line.Line.{Line}
+use Rattle.start_model.specs.Lines.{text_of}
 use Rattle.start_model.specs.Possible.{Possible, Woken, open_between}
 use Rattle.start_model.specs.Quiet.{Quiet, quiet_run_of}
 use Rattle.sweep_inputs.specs.declared.inputs.SweepInputs.{SweepInputs}

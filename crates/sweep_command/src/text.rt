@@ -5,7 +5,7 @@ ghost use Rattle.std.specs.List.{All};
 ghost use Rattle.boot_script.specs.Script.{HasCounts};
 ghost use Rattle.boot_run.specs.Agrees.{LoadsAny};
 ghost use Rattle.command_parts.specs.Placed.{image_in};
-ghost use Rattle.start_model.specs.Lines.{Line};
+ghost use Rattle.report_words.specs.declared.line.Line.{Line};
 ghost use Rattle.sweep_lines.specs.Pieces.{lines_between, pieces_of};
 ghost use Rattle.sweep_script.specs.Sweep.{events_of, IsUnordered};
 ghost use Rattle.sweep_text.specs.Logged.{logged_of};

@@ -5,7 +5,10 @@ use Rattle.std.specs.Prelude.{codes, nat_eq, min, Result, Ok, Err, IfOk}
 use Rattle.std.proofs.lemmas.Bool.{false≢true, and_parts, le-ltb}
 use Rattle.std.proofs.lemmas.List.{length-append, length-map, length-drop, drop-map, take-map}
 use Rattle.boot_report.proofs.TextLemmas.{is_no_lf, has_no_lf, body, text-body, no_lf-body}
-use Rattle.start_model.specs.Lines.{Line, RefusedLine, VerdictLine, EndLine, MakeEvent, line_text, text_of}
+use Rattle.report_words.specs.declared.words.EventWord.TheVariants as events
+use Rattle.report_words.specs.declared.line.Line.{Line}
+use Rattle.report_words.specs.declared.line.Line.TheVariants.{Refused as RefusedLine, Verdict as VerdictLine, End as EndLine}
+use Rattle.start_model.specs.Lines.{line_text, text_of}
 use Rattle.start_model.specs.Machine.{Start, ending_of}
 use Rattle.sweep_lines.specs.Probe.{probe_reason, tail_of}
 use Rattle.sweep_lines.specs.Pieces.{pieces_of, is_verdict, front_count, lines_between}
@@ -98,9 +101,9 @@ shape ls o =
     ∙ append_assoc (map body ls) (map body (tail_of o)) last
 
 tail_count : (ls : List Line) (o : Option Start) → front_count (map body ls ++ (map body (tail_of o) ++ last)) ≡ length (map body ls)
-tail_count ls None = off_count (map body ls) (body (RefusedLine MakeEvent (probe_reason None))) (body EndLine) refl
+tail_count ls None = off_count (map body ls) (body (RefusedLine events.Make (probe_reason None))) (body EndLine) refl
 tail_count ls (Some s) =
-    on_count (map body ls) (body (RefusedLine MakeEvent (probe_reason (Some s)))) (body (VerdictLine (ending_of s))) (body EndLine) refl
+    on_count (map body ls) (body (RefusedLine events.Make (probe_reason (Some s)))) (body (VerdictLine (ending_of s))) (body EndLine) refl
 
 -- ---- the lines between
 

@@ -1,6 +1,8 @@
 -- The quiet run of events with the probe after them.
 use Rattle.std.proofs.Common.{◌≡◌, ℕ, List, [], ◌∷◌, ◌++◌, Option, None, Some, refl, sym, ap, ◌∙◌, append_assoc}
-use Rattle.start_model.specs.Lines.{Line, MakeEvent, RefusedLine, EndLine}
+use Rattle.report_words.specs.declared.words.EventWord.TheVariants as events
+use Rattle.report_words.specs.declared.line.Line.{Line}
+use Rattle.report_words.specs.declared.line.Line.TheVariants.{Refused as RefusedLine, End as EndLine}
 use Rattle.start_model.specs.Events.{Event}
 use Rattle.start_model.specs.Machine.{Start, refusal_in}
 use Rattle.start_model.specs.Act.{RunState, say, done}
@@ -17,11 +19,11 @@ quiet lines m = record { lines = lines; state = m }
 
 module _ (choice : Option ℕ → Choice) where
   refused : (m : RunState) (o : Option Start)
-      → quiet_play (act_unless choice probe m (refusal_in o probe)) ≡ quiet (RefusedLine MakeEvent (probe_reason o) ∷ []) m
+      → quiet_play (act_unless choice probe m (refusal_in o probe)) ≡ quiet (RefusedLine events.Make (probe_reason o) ∷ []) m
   refused m None = refl
   refused m (Some s) = refl
 
-  probe_turn : (m : RunState) → turn_of choice probe m ≡ quiet (RefusedLine MakeEvent (probe_reason m.machine.start) ∷ []) m
+  probe_turn : (m : RunState) → turn_of choice probe m ≡ quiet (RefusedLine events.Make (probe_reason m.machine.start) ∷ []) m
   unfolding event_step_of
   probe_turn m = refused m m.machine.start
 
@@ -32,7 +34,7 @@ module _ (choice : Option ℕ → Choice) where
   tail_run : (m : RunState) → quiet_from choice (probe ∷ []) m ≡ quiet (tail_of m.machine.start) m
   tail_run m =
       ap (λ (q : Quiet). quiet_behind q.lines (quiet_from choice [] q.state)) (probe_turn m)
-      ∙ ap (quiet_behind (RefusedLine MakeEvent (probe_reason m.machine.start) ∷ [])) (closed m m.machine.start)
+      ∙ ap (quiet_behind (RefusedLine events.Make (probe_reason m.machine.start) ∷ [])) (closed m m.machine.start)
 
   run_append : (es rest : List Event) (m : RunState)
       → quiet_from choice (es ++ rest) m ≡ quiet_behind (lines_after choice es m) (quiet_from choice rest (state_after choice es m))

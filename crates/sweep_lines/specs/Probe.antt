@@ -4,7 +4,11 @@
 -- which is refused whether a start runs or not, and changes nothing: an edit of what no script may edit. The line of its refusal parts the
 -- lines of the events from those of the end.
 use Rattle.std.specs.Prelude.{List, [], ◌∷◌, Option, None, Some, codes}
-use Rattle.start_model.specs.Lines.{Line, RefusedWord, OffReason, ProtectedReason, MakeEvent, RefusedLine, VerdictLine, EndLine}
+use Rattle.report_words.specs.declared.words.RefusedWord.{RefusedWord}
+use Rattle.report_words.specs.declared.words.EventWord.TheVariants as events
+use Rattle.report_words.specs.declared.words.RefusedWord.TheVariants as reasons
+use Rattle.report_words.specs.declared.line.Line.{Line}
+use Rattle.report_words.specs.declared.line.Line.TheVariants.{Refused as RefusedLine, Verdict as VerdictLine, End as EndLine}
 use Rattle.start_model.specs.Events.{Event, Edits, Make}
 use Rattle.start_model.specs.Machine.{Start, ending_of}
 
@@ -13,8 +17,8 @@ abbrev pub probe : Event
 probe = Edits (Make (codes "Select" ∷ []))
 
 abbrev pub probe_reason : Option Start → RefusedWord
-probe_reason None = OffReason
-probe_reason (Some s) = ProtectedReason
+probe_reason None = reasons.Off
+probe_reason (Some s) = reasons.Protected
 
 -- the end of a report, by the start that runs then
 abbrev pub closing_lines : Option Start → List Line
@@ -23,4 +27,4 @@ closing_lines (Some s) = VerdictLine (ending_of s) ∷ EndLine ∷ []
 
 -- the probe's line, and the end
 abbrev pub tail_of : Option Start → List Line
-tail_of start = RefusedLine MakeEvent (probe_reason start) ∷ closing_lines start
+tail_of start = RefusedLine events.Make (probe_reason start) ∷ closing_lines start

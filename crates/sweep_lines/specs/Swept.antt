@@ -2,7 +2,7 @@
 --
 -- As in the quiet run of the book of startup: each wake is the settled state, and each operation is done.
 use Rattle.std.specs.Prelude.{ℕ, List, [], ◌∷◌, ◌++◌, Option}
-use Rattle.start_model.specs.Lines.{Line}
+use Rattle.report_words.specs.declared.line.Line.{Line}
 use Rattle.start_model.specs.Events.{Event}
 use Rattle.start_model.specs.Act.{RunState}
 use Rattle.start_model.specs.Boot.{Choice}

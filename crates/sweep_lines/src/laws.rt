@@ -3,7 +3,8 @@
 ghost use Rattle.std.specs.Prelude.{◌≡◌, ℕ, List, [], ◌∷◌, ◌++◌, map, Option};
 ghost use Rattle.start_model.specs.Boot.{Choice};
 ghost use Rattle.start_model.specs.Events.{Event};
-ghost use Rattle.start_model.specs.Lines.{Line, line_text, text_of};
+ghost use Rattle.report_words.specs.declared.line.Line.{Line};
+ghost use Rattle.start_model.specs.Lines.{line_text, text_of};
 ghost use Rattle.start_model.specs.Machine.{Start};
 ghost use Rattle.start_model.specs.Possible.{Woken};
 ghost use Rattle.start_model.specs.Quiet.{quiet_run_of};

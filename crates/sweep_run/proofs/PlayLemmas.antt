@@ -11,7 +11,8 @@ use Rattle.boot_script.specs.declared.event.Event.{Event}
 use Rattle.boot_machine.specs.Views.{event_in}
 use Rattle.start_model.specs.Boot.{Choice}
 use Rattle.start_model.specs.Fits.{outcomes_of, woke_in}
-use Rattle.start_model.specs.Lines.{Line, line_text, text_of}
+use Rattle.report_words.specs.declared.line.Line.{Line}
+use Rattle.start_model.specs.Lines.{line_text, text_of}
 use Rattle.start_model.specs.Possible.{Woken}
 use Rattle.start_model.specs.Run.{run_of}
 use Rattle.printed_parts.specs.Reports.{Reports, ReportsOr}

@@ -1,4 +1,4 @@
-//! An event played behind others, on a disk of its own: what it says, and the log that the disk then holds.
+//! An event played after others, on a disk of its own: what it says, and the log that the disk then holds.
 #![tactic(auto)]
 
 mod playing;

@@ -8,8 +8,14 @@ use Rattle.std.proofs.lemmas.Bool.{and_parts, and_from}
 use Rattle.std.proofs.lemmas.Bool.Decides.{nat_tests}
 use Rattle.std.proofs.lemmas.List.{append_cancel_right}
 use Rattle.boot_report.proofs.TextLemmas.{body, text-body}
-use Rattle.start_model.specs.Lines as book
-use Rattle.start_model.specs.Lines.{Line, StartLine, EntryLine, LoadLine, SetLine, CommitLine, SelectLine, PhaseLine, TryLine, UnmetLine, VitalLine, LogonLine, SaveRefusedLine, EditOkLine, FlushNothingLine, RefusedLine, VerdictLine, EndLine, line_text, load_word, commit_word}
+use Rattle.report_words.specs.declared.words.RefusedWord.{RefusedWord}
+use Rattle.report_words.specs.declared.words.EventWord.{EventWord}
+use Rattle.report_words.specs.declared.words.CommitWord.{CommitWord}
+use Rattle.report_words.specs.declared.words.CommitWord.TheVariants as commits
+use Rattle.report_words.specs.declared.words.EventWord.TheVariants as events
+use Rattle.report_words.specs.declared.line.Line.{Line}
+use Rattle.report_words.specs.declared.line.Line.TheVariants as lines
+use Rattle.start_model.specs.Lines.{line_text, load_word, commit_word}
 use Rattle.line_text.specs.declared.form.ReportForm.{ReportForm}
 use Rattle.line_text.specs.declared.form.ReportForm.TheVariants as forms
 use Rattle.line_text.specs.Objects.{Number, Text, field_text, opening_text}
@@ -84,7 +90,7 @@ abbrev load_made : List ℕ → List ℕ → List ℕ
 load_made digits state =
     opening_text (codes "load") ++ (digits_field (codes "sequence") digits ++ field_text (codes "state") (Text state)) ++ codes "}\n"
 
-load_told : (n : ℕ) (r : Bool) → load_object (load_words n r) ≡ line_json (LoadLine n r)
+load_told : (n : ℕ) (r : Bool) → load_object (load_words n r) ≡ line_json (lines.Load n r)
 load_told n r =
     let state : List ℕ = field_text (codes "state") (Text (load_word r)) in
     let ends : state ≡ state ++ [] = sym (append-nil state) in
@@ -98,123 +104,123 @@ recovered_is false = refl
 
 -- ---- a commit
 
-abbrev commit_words : book.CommitWord → ℕ → List ℕ
+abbrev commit_words : CommitWord → ℕ → List ℕ
 commit_words what sequence = commit_word what ++ codes " " ++ decimal sequence
 
 abbrev commit_made : List ℕ → ℕ → List ℕ
 commit_made word n =
     opening_text (codes "commit") ++ (field_text (codes "what") (Text word) ++ digits_field (codes "sequence") (decimal n)) ++ codes "}\n"
 
-commit_ends : (what : book.CommitWord) (n : ℕ) → commit_made (commit_word what) n ≡ line_json (CommitLine what n)
+commit_ends : (what : CommitWord) (n : ℕ) → commit_made (commit_word what) n ≡ line_json (lines.Commit what n)
 commit_ends what n =
     let number : List ℕ = field_text (codes "sequence") (Number n) in
     let ends : number ≡ number ++ [] = sym (append-nil number) in
     ap (λ (z : List ℕ). opening_text (codes "commit") ++ (field_text (codes "what") (Text (commit_word what)) ++ z) ++ codes "}\n") ends
 
-commit_told : (what : book.CommitWord) (n : ℕ) → commit_object (commit_words what n) ≡ line_json (CommitLine what n)
-commit_told book.BeginCommit n = commit_ends book.BeginCommit n
-commit_told book.SaveCommit n = commit_ends book.SaveCommit n
-commit_told book.FlushCommit n = commit_ends book.FlushCommit n
-commit_told book.OffCommit n = commit_ends book.OffCommit n
+commit_told : (what : CommitWord) (n : ℕ) → commit_object (commit_words what n) ≡ line_json (lines.Commit what n)
+commit_told commits.Begin n = commit_ends commits.Begin n
+commit_told commits.Save n = commit_ends commits.Save n
+commit_told commits.Flush n = commit_ends commits.Flush n
+commit_told commits.Off n = commit_ends commits.Off n
 
 -- ---- a refusal
 
-refused_told : (event : book.EventWord) (why : book.RefusedWord)
-    → told_text forms.Json (body (RefusedLine event why)) ≡ line_json (RefusedLine event why)
-refused_told book.BootEvent why = refl
-refused_told book.GoEvent why = refl
-refused_told book.FailEvent why = refl
-refused_told book.VitalEvent why = refl
-refused_told book.SetEvent why = refl
-refused_told book.DeleteEvent why = refl
-refused_told book.MakeEvent why = refl
-refused_told book.RemoveEvent why = refl
-refused_told book.FlushEvent why = refl
-refused_told book.LogonEvent why = refl
-refused_told book.OffEvent why = refl
-refused_told book.CutEvent why = refl
-refused_told book.FaultEvent why = refl
+refused_told : (event : EventWord) (why : RefusedWord)
+    → told_text forms.Json (body (lines.Refused event why)) ≡ line_json (lines.Refused event why)
+refused_told events.Boot why = refl
+refused_told events.Go why = refl
+refused_told events.Fail why = refl
+refused_told events.Vital why = refl
+refused_told events.Set why = refl
+refused_told events.Delete why = refl
+refused_told events.Make why = refl
+refused_told events.Remove why = refl
+refused_told events.Flush why = refl
+refused_told events.Logon why = refl
+refused_told events.Off why = refl
+refused_told events.Cut why = refl
+refused_told events.Fault why = refl
 
-save_told : (full : Bool) → told_text forms.Json (body (SaveRefusedLine full)) ≡ line_json (SaveRefusedLine full)
+save_told : (full : Bool) → told_text forms.Json (body (lines.SaveRefused full)) ≡ line_json (lines.SaveRefused full)
 save_told true = refl
 save_told false = refl
 
 -- ---- each line
 
 line_told : (form : ReportForm) (l : Line) → told_text form (body l) ≡ told form l
-line_told forms.Text (StartLine number) = refl
-line_told forms.Text (EntryLine number path) = refl
-line_told forms.Text (LoadLine sequence recovered) = sym (text-body (LoadLine sequence recovered))
-line_told forms.Text (SetLine number on_good) = refl
-line_told forms.Text (CommitLine what sequence) = sym (text-body (CommitLine what sequence))
-line_told forms.Text (SelectLine current default failed good) = refl
-line_told forms.Text (PhaseLine word) = refl
-line_told forms.Text (TryLine name outcome) = refl
-line_told forms.Text (UnmetLine name) = refl
-line_told forms.Text (VitalLine name) = refl
-line_told forms.Text LogonLine = refl
-line_told forms.Text (SaveRefusedLine full) = sym (text-body (SaveRefusedLine full))
-line_told forms.Text EditOkLine = refl
-line_told forms.Text FlushNothingLine = sym (text-body FlushNothingLine)
-line_told forms.Text (RefusedLine event why) = sym (text-body (RefusedLine event why))
-line_told forms.Text (VerdictLine word) = sym (text-body (VerdictLine word))
-line_told forms.Text EndLine = refl
-line_told forms.Json (StartLine number) = refl
-line_told forms.Json (EntryLine number path) = refl
-line_told forms.Json (LoadLine sequence recovered) = load_told sequence recovered
-line_told forms.Json (SetLine number on_good) = refl
-line_told forms.Json (CommitLine what sequence) = commit_told what sequence
-line_told forms.Json (SelectLine current default failed good) = refl
-line_told forms.Json (PhaseLine word) = refl
-line_told forms.Json (TryLine name outcome) = refl
-line_told forms.Json (UnmetLine name) = refl
-line_told forms.Json (VitalLine name) = refl
-line_told forms.Json LogonLine = refl
-line_told forms.Json (SaveRefusedLine full) = save_told full
-line_told forms.Json EditOkLine = refl
-line_told forms.Json FlushNothingLine = refl
-line_told forms.Json (RefusedLine event why) = refused_told event why
-line_told forms.Json (VerdictLine word) = refl
-line_told forms.Json EndLine = refl
+line_told forms.Text (lines.Start number) = refl
+line_told forms.Text (lines.Entry number path) = refl
+line_told forms.Text (lines.Load sequence recovered) = sym (text-body (lines.Load sequence recovered))
+line_told forms.Text (lines.Set number on_good) = refl
+line_told forms.Text (lines.Commit what sequence) = sym (text-body (lines.Commit what sequence))
+line_told forms.Text (lines.Select current default failed good) = refl
+line_told forms.Text (lines.Phase word) = refl
+line_told forms.Text (lines.Try name outcome) = refl
+line_told forms.Text (lines.Unmet name) = refl
+line_told forms.Text (lines.Vital name) = refl
+line_told forms.Text lines.Logon = refl
+line_told forms.Text (lines.SaveRefused full) = sym (text-body (lines.SaveRefused full))
+line_told forms.Text lines.EditOk = refl
+line_told forms.Text lines.FlushNothing = sym (text-body lines.FlushNothing)
+line_told forms.Text (lines.Refused event why) = sym (text-body (lines.Refused event why))
+line_told forms.Text (lines.Verdict word) = sym (text-body (lines.Verdict word))
+line_told forms.Text lines.End = refl
+line_told forms.Json (lines.Start number) = refl
+line_told forms.Json (lines.Entry number path) = refl
+line_told forms.Json (lines.Load sequence recovered) = load_told sequence recovered
+line_told forms.Json (lines.Set number on_good) = refl
+line_told forms.Json (lines.Commit what sequence) = commit_told what sequence
+line_told forms.Json (lines.Select current default failed good) = refl
+line_told forms.Json (lines.Phase word) = refl
+line_told forms.Json (lines.Try name outcome) = refl
+line_told forms.Json (lines.Unmet name) = refl
+line_told forms.Json (lines.Vital name) = refl
+line_told forms.Json lines.Logon = refl
+line_told forms.Json (lines.SaveRefused full) = save_told full
+line_told forms.Json lines.EditOk = refl
+line_told forms.Json lines.FlushNothing = refl
+line_told forms.Json (lines.Refused event why) = refused_told event why
+line_told forms.Json (lines.Verdict word) = refl
+line_told forms.Json lines.End = refl
 
 line_recovers : (l : Line) → recovers_text (body l) ≡ is_recovery l
-line_recovers (StartLine number) = refl
-line_recovers (EntryLine number path) = refl
-line_recovers (LoadLine sequence recovered) =
+line_recovers (lines.Start number) = refl
+line_recovers (lines.Entry number path) = refl
+line_recovers (lines.Load sequence recovered) =
     ap (λ (w : List ℕ). bytes_eq w (codes "recovered")) (load_second sequence recovered) ∙ recovered_is recovered
-line_recovers (SetLine number on_good) = refl
-line_recovers (CommitLine what sequence) = refl
-line_recovers (SelectLine current default failed good) = refl
-line_recovers (PhaseLine word) = refl
-line_recovers (TryLine name outcome) = refl
-line_recovers (UnmetLine name) = refl
-line_recovers (VitalLine name) = refl
-line_recovers LogonLine = refl
-line_recovers (SaveRefusedLine full) = refl
-line_recovers EditOkLine = refl
-line_recovers FlushNothingLine = refl
-line_recovers (RefusedLine event why) = refl
-line_recovers (VerdictLine word) = refl
-line_recovers EndLine = refl
+line_recovers (lines.Set number on_good) = refl
+line_recovers (lines.Commit what sequence) = refl
+line_recovers (lines.Select current default failed good) = refl
+line_recovers (lines.Phase word) = refl
+line_recovers (lines.Try name outcome) = refl
+line_recovers (lines.Unmet name) = refl
+line_recovers (lines.Vital name) = refl
+line_recovers lines.Logon = refl
+line_recovers (lines.SaveRefused full) = refl
+line_recovers lines.EditOk = refl
+line_recovers lines.FlushNothing = refl
+line_recovers (lines.Refused event why) = refl
+line_recovers (lines.Verdict word) = refl
+line_recovers lines.End = refl
 
 line_commits : (l : Line) → commits_text (body l) ≡ is_commit l
-line_commits (StartLine number) = refl
-line_commits (EntryLine number path) = refl
-line_commits (LoadLine sequence recovered) = refl
-line_commits (SetLine number on_good) = refl
-line_commits (CommitLine what sequence) = refl
-line_commits (SelectLine current default failed good) = refl
-line_commits (PhaseLine word) = refl
-line_commits (TryLine name outcome) = refl
-line_commits (UnmetLine name) = refl
-line_commits (VitalLine name) = refl
-line_commits LogonLine = refl
-line_commits (SaveRefusedLine full) = refl
-line_commits EditOkLine = refl
-line_commits FlushNothingLine = refl
-line_commits (RefusedLine event why) = refl
-line_commits (VerdictLine word) = refl
-line_commits EndLine = refl
+line_commits (lines.Start number) = refl
+line_commits (lines.Entry number path) = refl
+line_commits (lines.Load sequence recovered) = refl
+line_commits (lines.Set number on_good) = refl
+line_commits (lines.Commit what sequence) = refl
+line_commits (lines.Select current default failed good) = refl
+line_commits (lines.Phase word) = refl
+line_commits (lines.Try name outcome) = refl
+line_commits (lines.Unmet name) = refl
+line_commits (lines.Vital name) = refl
+line_commits lines.Logon = refl
+line_commits (lines.SaveRefused full) = refl
+line_commits lines.EditOk = refl
+line_commits lines.FlushNothing = refl
+line_commits (lines.Refused event why) = refl
+line_commits (lines.Verdict word) = refl
+line_commits lines.End = refl
 
 -- ---- all of them
 

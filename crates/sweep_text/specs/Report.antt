@@ -3,7 +3,8 @@
 -- Two parts: what the event said, and the calls that it made. A load that took the log makes the calls of a recovery, by the log that was placed;
 -- a commit makes its own, by the log that it wrote.
 use Rattle.std.specs.Prelude.{◌≡◌, ℕ, Bool, if◌then◌else◌, List, [], ◌∷◌, ◌++◌, map}
-use Rattle.start_model.specs.Lines.{Line, line_text}
+use Rattle.report_words.specs.declared.line.Line.{Line}
+use Rattle.start_model.specs.Lines.{line_text}
 use Rattle.line_text.specs.declared.form.ReportForm.{ReportForm}
 use Rattle.sweep_text.specs.declared.logged.Logged.{Logged}
 use Rattle.sweep_text.specs.Stages.{Stage, recovery_stages, commit_stages}

@@ -2,7 +2,7 @@
 
 ghost use Rattle.std.specs.Prelude.{◌≡◌, ◌≤◌, ◌*◌, ◌+◌, List, ◌++◌, length, map, true, false, OnOk, IfOk};
 ghost use Rattle.std.specs.List.{flat_map, list_any};
-ghost use Rattle.start_model.specs.Lines.{Line};
+ghost use Rattle.report_words.specs.declared.line.Line.{Line};
 ghost use Rattle.sweep_text.specs.Logged.{AreFew};
 ghost use Rattle.sweep_text.specs.Stages.{recovery_stages, commit_stages, calls_in, afters_in};
 ghost use Rattle.sweep_text.specs.Calls.{counts_line, end_line, calls_text, ending_text};

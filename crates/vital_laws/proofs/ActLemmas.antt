@@ -4,8 +4,12 @@ use Rattle.std.specs.Prelude.{slice_get, option_map, option_and_then}
 use Rattle.std.specs.List.{AllByRecursion}
 use Rattle.hive_model.specs.Tree.{Tree}
 use Rattle.hive_model.specs.Edit.{Refusal, edited}
-use Rattle.start_model.specs.Lines as lines
-use Rattle.start_model.specs.Lines.{Verdict, CommitWord, RefusedWord, UnmetLine, VitalLine}
+use Rattle.report_words.specs.declared.words.Verdict.{Verdict}
+use Rattle.report_words.specs.declared.words.Verdict.TheVariants as verdicts
+use Rattle.report_words.specs.declared.words.RefusedWord.{RefusedWord}
+use Rattle.report_words.specs.declared.words.CommitWord.{CommitWord}
+use Rattle.report_words.specs.declared.words.CommitWord.TheVariants as commits
+use Rattle.report_words.specs.declared.line.Line.TheVariants as lines
 use Rattle.start_model.specs.Judge.{Judgement, Ignore, Log, FallBack, Stop, judgement_of}
 use Rattle.start_model.specs.Sets as sets
 use Rattle.start_model.specs.Sets.{SelectNumbers, SetChange, ChangeStop, NoPlan, begin_of, save_of}
@@ -62,14 +66,14 @@ commit-told vital what f m tree next e n = λ o. by_case o
   where
     by_case : (o : Outcome) → Tells vital f (committed what tree m next o)
     by_case Finished = (tt, n (committed_state m tree) refl)
-    by_case PowerCut = ends-told vital lines.Cut false f (opened_state m tree) e
-    by_case DeviceFault = ends-told vital lines.Device false f (opened_state m tree) e
+    by_case PowerCut = ends-told vital verdicts.Cut false f (opened_state m tree) e
+    by_case DeviceFault = ends-told vital verdicts.Device false f (opened_state m tree) e
 
 saved_by-told : (vital : List (List ℕ)) (s : Start) (clone : Tree) (f : Who) (m : RunState) (next : RunState → Act)
     (r : Result SetChange ChangeStop) → IsTold f (Some s) → m.machine.vital ≡ vital → Next vital next
     → Tells vital f (saved_by s clone m next r)
 saved_by-told vital s clone f m next (Ok change) told e n =
-    commit-told vital lines.SaveCommit f m change.tree
+    commit-told vital commits.Save f m change.tree
     (λ after. acts.say (commit_book.select_line change.numbers) (next (noted_saved true s after))) e
     (λ x is. (tt, n f (noted_saved true s x) (told, ap (λ (k : MachineState). k.vital) is ∙ e)))
 saved_by-told vital s clone f m next (Err (NoPlan stop)) told e n = (tt, n f (noted_saved false s m) (told, e))
@@ -134,16 +138,16 @@ judged-told : (vital : List (List ℕ)) (j : Judgement) (f : Who) (m : RunState)
     → IsAt vital f m → Next vital next → Tells vital f (judged j m next)
 judged-told vital Ignore f m next at n = n f m at
 judged-told vital Log f m next at n = n f m at
-judged-told vital FallBack f m next at n = ends-told vital lines.FallBack true f m at.1
-judged-told vital Stop f m next at n = ends-told vital lines.Stopped false f m at.1
+judged-told vital FallBack f m next at n = ends-told vital verdicts.FallBack true f m at.1
+judged-told vital Stop f m next at n = ends-told vital verdicts.Stopped false f m at.1
 
 unmet-told : (vital : List (List ℕ)) (names : List (List ℕ)) (f : Who) (act : Act) → Tells vital f act
-    → Tells vital f (say_all (map UnmetLine names) act)
+    → Tells vital f (say_all (map lines.Unmet names) act)
 unmet-told vital [] f act k = k
 unmet-told vital (name ∷ names) f act k = (tt, unmet-told vital names f act k)
 
 missing-told : (vital : List (List ℕ)) (names : List (List ℕ)) (f : Who) (act : Act)
-    → AllByRecursion (IsMissing vital f) names → Tells vital f act → Tells vital f (say_all (map VitalLine names) act)
+    → AllByRecursion (IsMissing vital f) names → Tells vital f act → Tells vital f (say_all (map lines.Vital names) act)
 missing-told vital [] f act each k = k
 missing-told vital (name ∷ names) f act each k = (each.0, missing-told vital names f act each.1 k)
 
@@ -172,9 +176,9 @@ passed-told vital s f m next [] is told e n =
     (λ next. passed_started s vital f told (ap (λ (v : List (List ℕ)). missing_in v s) (sym e) ∙ is) next) n
 passed-told vital s f m next (name ∷ names) is told e n =
     let P : List (List ℕ) → Type 0 = λ ns. AllByRecursion (IsMissing vital f) ns in
-    missing-told vital (name ∷ names) f (end_with lines.Stopped false m)
+    missing-told vital (name ∷ names) f (end_with verdicts.Stopped false m)
     (subst P (ap (λ (v : List (List ℕ)). missing_in v s) (sym e) ∙ is) (missing_fair s vital f told))
-    (ends-told vital lines.Stopped false f m e)
+    (ends-told vital verdicts.Stopped false f m e)
 
 step-told : (vital : List (List ℕ)) (s : Start) (f : Who) (m : RunState) (next : RunState → Act)
     (o : Option (MachineState × Tried)) → m.machine.start ≡ Some s
@@ -220,8 +224,8 @@ begin_with-told : (vital : List (List ℕ)) (on_good : Bool) (change : SetChange
     → Tells vital nobody (begin_with on_good change m)
 begin_with-told vital on_good change m e =
     let start : RunState → Act = begin_start change.chosen on_good change.numbers in
-    either vital nobody change.has_steps (commit lines.BeginCommit change.tree m start) (start m)
-    (commit-told vital lines.BeginCommit nobody m change.tree start e
+    either vital nobody change.has_steps (commit commits.Begin change.tree m start) (start m)
+    (commit-told vital commits.Begin nobody m change.tree start e
     (λ x is. begin_start-told vital change.chosen on_good change.numbers x
     (ap (λ (k : MachineState). k.vital) is ∙ e)))
     (begin_start-told vital change.chosen on_good change.numbers m e)
@@ -229,11 +233,11 @@ begin_with-told vital on_good change m e =
 begin_by-told : (vital : List (List ℕ)) (on_good : Bool) (m : RunState) (r : Result SetChange ChangeStop)
     → m.machine.vital ≡ vital → Tells vital nobody (begin_by on_good m r)
 begin_by-told vital on_good m (Ok change) e = (tt, begin_with-told vital on_good change m e)
-begin_by-told vital on_good m (Err (NoPlan sets.NoControlSet)) e = ends-told vital lines.NoControlSet false nobody m e
+begin_by-told vital on_good m (Err (NoPlan sets.NoControlSet)) e = ends-told vital verdicts.NoControlSet false nobody m e
 begin_by-told vital on_good m (Err (NoPlan sets.NoLastKnownGood)) e =
-    ends-told vital lines.NoLastKnownGood false nobody m e
-begin_by-told vital on_good m (Err (NoPlan sets.NoFreeNumber)) e = (tt, ends-told vital lines.NoNumber false nobody m e)
-begin_by-told vital on_good m (Err sets.Full) e = (tt, ends-told vital lines.Full false nobody m e)
+    ends-told vital verdicts.NoLastKnownGood false nobody m e
+begin_by-told vital on_good m (Err (NoPlan sets.NoFreeNumber)) e = (tt, ends-told vital verdicts.NoNumber false nobody m e)
+begin_by-told vital on_good m (Err sets.Full) e = (tt, ends-told vital verdicts.Full false nobody m e)
 
 woken-told : (vital : List (List ℕ)) (on_good : Bool) (m : RunState) (w : Woken) → m.machine.vital ≡ vital
     → Tells vital nobody (woken on_good m w)
@@ -242,17 +246,17 @@ woken-told vital on_good m w e = λ o. by_case o
     by_case : (o : Outcome) → Tells vital nobody (loaded on_good m w o)
     by_case Finished =
         (tt, begin_by-told vital on_good (loaded_state m w) (begin_of w.state.version w.state.tree on_good) e)
-    by_case PowerCut = ends-told vital lines.Cut false nobody (woken_state m w) e
-    by_case DeviceFault = ends-told vital lines.Device false nobody (woken_state m w) e
+    by_case PowerCut = ends-told vital verdicts.Cut false nobody (woken_state m w) e
+    by_case DeviceFault = ends-told vital verdicts.Device false nobody (woken_state m w) e
 
 chosen-told : (vital : List (List ℕ)) (on_good : Bool) (m : RunState) (choice : Choice) → m.machine.vital ≡ vital
     → Tells vital nobody (chosen on_good m choice)
 chosen-told vital on_good m (boot_book.EntryTaken number path entry_on_good) e =
     (tt, λ w. woken-told vital (on_good || entry_on_good) m w e)
-chosen-told vital on_good m boot_book.NoEntry e = ends-told vital lines.NoEntry false nobody m e
+chosen-told vital on_good m boot_book.NoEntry e = ends-told vital verdicts.NoEntry false nobody m e
 chosen-told vital on_good m (boot_book.OtherLoader number path) e =
-    (tt, ends-told vital lines.OtherLoader false nobody m e)
-chosen-told vital on_good m (boot_book.NoSystem number path) e = (tt, ends-told vital lines.NoSystem false nobody m e)
+    (tt, ends-told vital verdicts.OtherLoader false nobody m e)
+chosen-told vital on_good m (boot_book.NoSystem number path) e = (tt, ends-told vital verdicts.NoSystem false nobody m e)
 
 boot_act-told : (vital : List (List ℕ)) (choice : Option ℕ → Choice) (entry : Option ℕ) (good : Bool) (f : Who)
     (m : RunState) → m.machine.vital ≡ vital → Tells vital f (boot_act choice entry good m)
@@ -268,17 +272,17 @@ edit_done-told vital ev f m (Err refusal) at = (tt, at)
 
 flush_act-told : (vital : List (List ℕ)) (f : Who) (m : RunState) → IsAt vital f m → Tells vital f (flush_act m)
 flush_act-told vital f m at =
-    let nothing : Act = acts.say lines.FlushNothingLine (acts.done m) in
+    let nothing : Act = acts.say lines.FlushNothing (acts.done m) in
     let P : MachineState → Type 0 = λ k. IsTold f k.start × (k.vital ≡ vital) in
-    either vital f m.changed (commit lines.FlushCommit m.live m acts.done) nothing
-    (commit-told vital lines.FlushCommit f m m.live acts.done at.1 (λ x is. subst P (sym is) at)) (tt, at)
+    either vital f m.changed (commit commits.Flush m.live m acts.done) nothing
+    (commit-told vital commits.Flush f m m.live acts.done at.1 (λ x is. subst P (sym is) at)) (tt, at)
 
 off_act-told : (vital : List (List ℕ)) (s : Start) (f : Who) (m : RunState) → m.machine.vital ≡ vital
     → Tells vital f (off_act s m)
 off_act-told vital s f m e =
     let over : RunState → Act = end_with (ending_of s) false in
-    either vital f m.changed (commit lines.OffCommit m.live m over) (over m)
-    (commit-told vital lines.OffCommit f m m.live over e
+    either vital f m.changed (commit commits.Off m.live m over) (over m)
+    (commit-told vital commits.Off f m m.live over e
     (λ x is. ends-told vital (ending_of s) false f x (ap (λ (k : MachineState). k.vital) is ∙ e)))
     (ends-told vital (ending_of s) false f m e)
 
@@ -288,8 +292,8 @@ logon_act-told vital s f m told e = let after : Start = record s { logged_on = t
     (tt, due-told vital after f m acts.done told e (λ f x at. at))
 
 cut_act-told : (vital : List (List ℕ)) (f : Who) (m : RunState) → m.machine.vital ≡ vital
-    → (o : Outcome) → Tells vital f (end_with lines.Cut false m)
-cut_act-told vital f m e o = ends-told vital lines.Cut false f m e
+    → (o : Outcome) → Tells vital f (end_with verdicts.Cut false m)
+cut_act-told vital f m e o = ends-told vital verdicts.Cut false f m e
 
 running-told : (vital : List (List ℕ)) (s : Start) (ev : Event) (f : Who) (m : RunState) → m.machine.start ≡ Some s
     → IsAt vital f m → Tells (vital_behind vital (ev ∷ [])) f (running_act s ev m)

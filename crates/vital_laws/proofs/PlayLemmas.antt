@@ -3,7 +3,7 @@ use Rattle.std.proofs.Common.{◌≡◌, ℕ, true, false, List, [], ◌∷◌, 
 use Rattle.std.specs.List.{AllByRecursion, All}
 use Rattle.std.proofs.lemmas.List.Elements.{All-from_recursion}
 use Rattle.std.proofs.lemmas.Option.{same_Some}
-use Rattle.start_model.specs.Lines.{Line}
+use Rattle.report_words.specs.declared.line.Line.{Line}
 use Rattle.start_model.specs.Events as events
 use Rattle.start_model.specs.Events.{Event}
 use Rattle.start_model.specs.Ready.{has_name}

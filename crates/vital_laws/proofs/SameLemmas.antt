@@ -3,8 +3,12 @@ use Rattle.std.proofs.Common.{◌≡◌, ℕ, zero, suc, Bool, true, false, ◌|
 use Rattle.std.specs.Prelude.{filter, not, slice_get, option_map, option_and_then}
 use Rattle.hive_model.specs.Tree.{Tree}
 use Rattle.hive_model.specs.Edit.{Refusal, edited}
-use Rattle.start_model.specs.Lines as lines
-use Rattle.start_model.specs.Lines.{Verdict, CommitWord, RefusedWord, UnmetLine}
+use Rattle.report_words.specs.declared.words.Verdict.{Verdict}
+use Rattle.report_words.specs.declared.words.Verdict.TheVariants as verdicts
+use Rattle.report_words.specs.declared.words.RefusedWord.{RefusedWord}
+use Rattle.report_words.specs.declared.words.CommitWord.{CommitWord}
+use Rattle.report_words.specs.declared.words.CommitWord.TheVariants as commits
+use Rattle.report_words.specs.declared.line.Line.TheVariants as lines
 use Rattle.start_model.specs.Judge.{Judgement, Ignore, Log, FallBack, Stop}
 use Rattle.start_model.specs.Sets as sets
 use Rattle.start_model.specs.Sets.{SelectNumbers, SetChange, ChangeStop, NoPlan, begin_of, save_of}
@@ -62,8 +66,8 @@ commit-same what m tree next other n = (committed what tree (bare m) other, (ref
   where
     by_case : (o : Outcome) → Same (committed what tree m next o) (committed what tree (bare m) other o)
     by_case Finished = (_, (refl, (_, (refl, n (committed_state m tree)))))
-    by_case PowerCut = ends-same lines.Cut false (opened_state m tree)
-    by_case DeviceFault = ends-same lines.Device false (opened_state m tree)
+    by_case PowerCut = ends-same verdicts.Cut false (opened_state m tree)
+    by_case DeviceFault = ends-same verdicts.Device false (opened_state m tree)
 
 saved_by-same : (s : Start) (clone : Tree) (m : RunState) (next other : RunState → Act)
     (r : Result SetChange ChangeStop) → SameNext next other
@@ -72,7 +76,7 @@ saved_by-same s clone m next other (Ok change) n = (
   _,
   (
     refl,
-    commit-same lines.SaveCommit m change.tree
+    commit-same commits.Save m change.tree
         (λ after. acts.say (commit_book.select_line change.numbers) (next (noted_saved true s after)))
         (λ after. acts.say (commit_book.select_line change.numbers) (other (noted_saved true s after)))
         (λ x. (_, (refl, n (noted_saved true s x)))),
@@ -129,11 +133,11 @@ judged-same : (j : Judgement) (m : RunState) (next other : RunState → Act) →
     → Same (judged j m next) (judged j (bare m) other)
 judged-same Ignore m next other n = n m
 judged-same Log m next other n = n m
-judged-same FallBack m next other n = ends-same lines.FallBack true m
-judged-same Stop m next other n = ends-same lines.Stopped false m
+judged-same FallBack m next other n = ends-same verdicts.FallBack true m
+judged-same Stop m next other n = ends-same verdicts.Stopped false m
 
 unmet-same : (names : List (List ℕ)) (a b : Act) → Same a b
-    → Same (say_all (map UnmetLine names) a) (say_all (map UnmetLine names) b)
+    → Same (say_all (map lines.Unmet names) a) (say_all (map lines.Unmet names) b)
 unmet-same [] a b s = s
 unmet-same (name ∷ names) a b s = (_, (refl, unmet-same names a b s))
 
@@ -168,7 +172,7 @@ phase_step-same : (s : Start) (m : RunState) (next other : RunState → Act) →
     → Same (phase_step s m next) (phase_step s (bare m) other)
 phase_step-same s m next other n =
     let P : List (List ℕ) → Type 0 =
-    λ names. Same (phase_step s m next) (say_all (map UnmetLine (unmet_in s)) (phase_passed s (bare m) other names)) in
+    λ names. Same (phase_step s m next) (say_all (map lines.Unmet (unmet_in s)) (phase_passed s (bare m) other names)) in
     subst P (sym (none_in s))
     (unmet-same (unmet_in s) (phase_passed s m next (missing_in m.machine.vital s)) (phase_begun s (bare m) other)
     (passed-same s m next other (missing_in m.machine.vital s) n))
@@ -217,17 +221,17 @@ begin_with-same : (on_good : Bool) (change : SetChange)
 begin_with-same on_good change m =
     let start : RunState → Act = begin_start change.chosen on_good change.numbers in
     let n : SameNext start start = begin_start-same change.chosen on_good change.numbers in
-    either change.has_steps (commit lines.BeginCommit change.tree m start) (start m)
-    (commit lines.BeginCommit change.tree (bare m) start) (start (bare m))
-    (commit-same lines.BeginCommit m change.tree start start n) (n m)
+    either change.has_steps (commit commits.Begin change.tree m start) (start m)
+    (commit commits.Begin change.tree (bare m) start) (start (bare m))
+    (commit-same commits.Begin m change.tree start start n) (n m)
 
 begin_by-same : (on_good : Bool) (m : RunState) (r : Result SetChange ChangeStop)
     → Same (begin_by on_good m r) (begin_by on_good (bare m) r)
 begin_by-same on_good m (Ok change) = (_, (refl, begin_with-same on_good change m))
-begin_by-same on_good m (Err (NoPlan sets.NoControlSet)) = ends-same lines.NoControlSet false m
-begin_by-same on_good m (Err (NoPlan sets.NoLastKnownGood)) = ends-same lines.NoLastKnownGood false m
-begin_by-same on_good m (Err (NoPlan sets.NoFreeNumber)) = (_, (refl, ends-same lines.NoNumber false m))
-begin_by-same on_good m (Err sets.Full) = (_, (refl, ends-same lines.Full false m))
+begin_by-same on_good m (Err (NoPlan sets.NoControlSet)) = ends-same verdicts.NoControlSet false m
+begin_by-same on_good m (Err (NoPlan sets.NoLastKnownGood)) = ends-same verdicts.NoLastKnownGood false m
+begin_by-same on_good m (Err (NoPlan sets.NoFreeNumber)) = (_, (refl, ends-same verdicts.NoNumber false m))
+begin_by-same on_good m (Err sets.Full) = (_, (refl, ends-same verdicts.Full false m))
 
 woken-same : (on_good : Bool) (m : RunState) (w : Woken) → Same (woken on_good m w) (woken on_good (bare m) w)
 woken-same on_good m w = (_, (refl, (loaded on_good (bare m) w, (refl, λ o. by_case o))))
@@ -235,16 +239,16 @@ woken-same on_good m w = (_, (refl, (loaded on_good (bare m) w, (refl, λ o. by_
     by_case : (o : Outcome) → Same (loaded on_good m w o) (loaded on_good (bare m) w o)
     by_case Finished =
         (_, (refl, begin_by-same on_good (loaded_state m w) (begin_of w.state.version w.state.tree on_good)))
-    by_case PowerCut = ends-same lines.Cut false (woken_state m w)
-    by_case DeviceFault = ends-same lines.Device false (woken_state m w)
+    by_case PowerCut = ends-same verdicts.Cut false (woken_state m w)
+    by_case DeviceFault = ends-same verdicts.Device false (woken_state m w)
 
 chosen-same : (on_good : Bool) (m : RunState) (choice : Choice)
     → Same (chosen on_good m choice) (chosen on_good (bare m) choice)
 chosen-same on_good m (boot_book.EntryTaken number path entry_on_good) =
     (_, (refl, (woken (on_good || entry_on_good) (bare m), (refl, woken-same (on_good || entry_on_good) m))))
-chosen-same on_good m boot_book.NoEntry = ends-same lines.NoEntry false m
-chosen-same on_good m (boot_book.OtherLoader number path) = (_, (refl, ends-same lines.OtherLoader false m))
-chosen-same on_good m (boot_book.NoSystem number path) = (_, (refl, ends-same lines.NoSystem false m))
+chosen-same on_good m boot_book.NoEntry = ends-same verdicts.NoEntry false m
+chosen-same on_good m (boot_book.OtherLoader number path) = (_, (refl, ends-same verdicts.OtherLoader false m))
+chosen-same on_good m (boot_book.NoSystem number path) = (_, (refl, ends-same verdicts.NoSystem false m))
 
 boot_act-same : (choice : Option ℕ → Choice) (entry : Option ℕ) (good : Bool)
     → SameNext (boot_act choice entry good) (boot_act choice entry good)
@@ -260,15 +264,15 @@ edit_done-same ev m (Err refusal) = (_, (refl, refl))
 
 flush_act-same : SameNext flush_act flush_act
 flush_act-same m =
-    either m.changed (commit lines.FlushCommit m.live m acts.done) (acts.say lines.FlushNothingLine (acts.done m))
-    (commit lines.FlushCommit m.live (bare m) acts.done) (acts.say lines.FlushNothingLine (acts.done (bare m)))
-    (commit-same lines.FlushCommit m m.live acts.done acts.done done-same) (_, (refl, refl))
+    either m.changed (commit commits.Flush m.live m acts.done) (acts.say lines.FlushNothing (acts.done m))
+    (commit commits.Flush m.live (bare m) acts.done) (acts.say lines.FlushNothing (acts.done (bare m)))
+    (commit-same commits.Flush m m.live acts.done acts.done done-same) (_, (refl, refl))
 
 off_act-same : (s : Start) → SameNext (off_act s) (off_act s)
 off_act-same s m =
     let over : RunState → Act = end_with (ending_of s) false in
-    either m.changed (commit lines.OffCommit m.live m over) (over m) (commit lines.OffCommit m.live (bare m) over)
-    (over (bare m)) (commit-same lines.OffCommit m m.live over over (ends-same (ending_of s) false))
+    either m.changed (commit commits.Off m.live m over) (over m) (commit commits.Off m.live (bare m) over)
+    (over (bare m)) (commit-same commits.Off m m.live over over (ends-same (ending_of s) false))
     (ends-same (ending_of s) false m)
 
 logon_act-same : (s : Start) → SameNext (logon_act s) (logon_act s)
@@ -277,7 +281,7 @@ logon_act-same s m =
     (_, (refl, due-same (Some after) (with_machine (with_start after m.machine) m) acts.done acts.done done-same))
 
 cut_act-same : SameNext cut_act cut_act
-cut_act-same m = (_, (refl, (_, (refl, λ o. ends-same lines.Cut false m))))
+cut_act-same m = (_, (refl, (_, (refl, λ o. ends-same verdicts.Cut false m))))
 
 -- the event asks for no vital name
 abbrev pub IsOther : Event → Type 0
@@ -329,7 +333,7 @@ event-same choice ev m other = unless-same choice ev m (refusal_of m.machine ev)
 pub closing-same : (m : RunState) → Same (closing_act m) (closing_act (bare m))
 closing-same m = by_start m.machine.start
   where
-    by_start : (o : Option Start) → Same (verdict_first o (acts.say lines.EndLine (acts.done m)))
-        (verdict_first o (acts.say lines.EndLine (acts.done (bare m))))
+    by_start : (o : Option Start) → Same (verdict_first o (acts.say lines.End (acts.done m)))
+        (verdict_first o (acts.say lines.End (acts.done (bare m))))
     by_start None = (_, (refl, refl))
     by_start (Some s) = (_, (refl, (_, (refl, refl))))

@@ -4,8 +4,8 @@ use Rattle.std.specs.Prelude.{filter}
 use Rattle.std.specs.List.{All, Contains, AllByRecursion}
 use Rattle.std.proofs.lemmas.Bool.{false≢true}
 use Rattle.std.proofs.lemmas.List.Elements.{All-contains, All-from_recursion, recursion_from_All}
-use Rattle.start_model.specs.Lines as lines
-use Rattle.start_model.specs.Lines.{UnmetLine, VitalLine}
+use Rattle.report_words.specs.declared.words.Verdict.TheVariants as verdicts
+use Rattle.report_words.specs.declared.line.Line.TheVariants.{Unmet as UnmetLine, Vital as VitalLine}
 use Rattle.start_model.specs.Entries.{Phase, Boot}
 use Rattle.start_model.specs.Ready.{Label, has_name}
 use Rattle.start_model.specs.Machine.{Start, is_boot, missing_in, unmet_in}
@@ -68,7 +68,7 @@ some_left started names name none there is =
     (All-from_recursion (λ n. has_name started n ≡ true) names (all_started started names none)) there)
 
 stops_with : (s : Start) (m : RunState) (next : RunState → Act) (names : List (List ℕ)) → (names ≡ [] → ⊥)
-    → phase_passed s m next names ≡ say_all (map VitalLine names) (end_with lines.Stopped false m)
+    → phase_passed s m next names ≡ say_all (map VitalLine names) (end_with verdicts.Stopped false m)
 stops_with s m next [] some = absurd (some refl)
 stops_with s m next (name ∷ names) some = refl
 
@@ -76,7 +76,7 @@ pub stops : (s : Start) (m : RunState) (next : RunState → Act) (name : List �
     → Contains m.machine.vital name → has_name s.started name ≡ false
     → phase_step s m next ≡ say_all (map UnmetLine (unmet_in s))
     (say_all (map VitalLine (filter (λ name. not (has_name s.started name)) m.machine.vital))
-    (end_with lines.Stopped false m))
+    (end_with verdicts.Stopped false m))
 stops s m next name boot there is =
     let names : List (List ℕ) = left s.started m.machine.vital in
     passes s m next names (ap (λ (p : Phase). cond (is_boot p) names []) boot)

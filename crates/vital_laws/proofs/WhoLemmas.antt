@@ -7,8 +7,11 @@ use Rattle.std.proofs.lemmas.List.Folds.{list_any-append}
 use Rattle.std.proofs.lemmas.List.Elements.{recursion_from_All, All-contains_itself}
 use Rattle.nt_bytes.specs.Folding.{folded, folds_same}
 use Rattle.dependencies.proofs.MeetLemmas.{names_flip, folded_first}
-use Rattle.start_model.specs.Lines as lines
-use Rattle.start_model.specs.Lines.{Line, PhaseWord, PhaseLine, VitalLine}
+use Rattle.report_words.specs.declared.words.PhaseWord.{PhaseWord}
+use Rattle.report_words.specs.declared.words.PhaseWord.TheVariants as phases
+use Rattle.report_words.specs.declared.words.TryWord.TheVariants as tries
+use Rattle.report_words.specs.declared.line.Line.{Line}
+use Rattle.report_words.specs.declared.line.Line.TheVariants.{Phase as PhaseLine, Vital as VitalLine}
 use Rattle.start_model.specs.Judge.{Judgement, Ignore, Log, FallBack, Stop}
 use Rattle.start_model.specs.Ready.{Label, has_name}
 use Rattle.start_model.specs.Entries.{Entry, Phase, Boot, System, Automatic, Done}
@@ -46,10 +49,10 @@ IsMissing vital f name = Contains vital name × (f name ≡ false)
 
 -- the system phase begins where each vital name was started
 abbrev pub IsFairPhase : List (List ℕ) → Who → PhaseWord → Type 0
-IsFairPhase vital f lines.BootPhase = Unit {0}
-IsFairPhase vital f lines.SystemPhase = AreStarted vital f
-IsFairPhase vital f lines.AutomaticPhase = Unit {0}
-IsFairPhase vital f lines.DonePhase = Unit {0}
+IsFairPhase vital f phases.Boot = Unit {0}
+IsFairPhase vital f phases.System = AreStarted vital f
+IsFairPhase vital f phases.Automatic = Unit {0}
+IsFairPhase vital f phases.Done = Unit {0}
 
 -- what the line says of vital names is so
 abbrev pub IsFair : List (List ℕ) → Who → Line → Type 0
@@ -77,7 +80,7 @@ folded_last a b = names_flip a (folded b) ∙ folded_first b a ∙ names_flip b 
 pub attempt_told : (ok : Bool) (j : Judgement) (started : List Label) (e : Entry) (before : Bool) (name : List ℕ)
     → has_name started name ≡ before
     → has_name (cond ok (started ++ label_of e ∷ []) started) name
-    ≡ (before || (is_ok (cond ok lines.TryOk (failed_word j)) && folds_same name e.name))
+    ≡ (before || (is_ok (cond ok tries.Ok (failed_word j)) && folds_same name e.name))
 attempt_told true j started e before name told =
     list_any-append (λ (s : Label). folds_same name s.0) started (label_of e ∷ [])
     ∙ ap (λ (b : Bool). b || (folds_same name (folded e.name) || false)) told

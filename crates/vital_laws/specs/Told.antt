@@ -1,11 +1,14 @@
 -- Who had a good attempt in the last start, by the lines of a report? (this project's own)
 use Rattle.std.specs.Prelude.{ℕ, Bool, true, false, ◌||◌, ◌&&◌, List, [], ◌∷◌}
 use Rattle.nt_bytes.specs.Folding.{folds_same}
-use Rattle.start_model.specs.Lines.{Line, TryWord, TryOk, StartLine, TryLine}
+use Rattle.report_words.specs.declared.words.TryWord.{TryWord}
+use Rattle.report_words.specs.declared.words.TryWord.TheVariants as tries
+use Rattle.report_words.specs.declared.line.Line.{Line}
+use Rattle.report_words.specs.declared.line.Line.TheVariants.{Start as StartLine, Try as TryLine}
 
 -- the attempt went well
 abbrev pub is_ok : TryWord → Bool
-is_ok TryOk = true
+is_ok tries.Ok = true
 is_ok failed = false
 
 -- with one more line: a start begins with nobody started, and a good attempt starts its entry, which has this name by fold

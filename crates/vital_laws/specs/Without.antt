@@ -1,6 +1,7 @@
 -- What is a script without its `vital` lines, and which lines tell of a missing name? (this project's own)
 use Rattle.std.specs.Prelude.{Bool, true, false, List, [], ◌∷◌}
-use Rattle.start_model.specs.Lines.{Line, VitalLine}
+use Rattle.report_words.specs.declared.line.Line.{Line}
+use Rattle.report_words.specs.declared.line.Line.TheVariants.{Vital as VitalLine}
 use Rattle.start_model.specs.Events.{Event, Vital}
 
 -- the other events, in their order

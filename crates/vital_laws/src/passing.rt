@@ -2,8 +2,10 @@
 
 ghost use Rattle.std.specs.Prelude.{◌≡◌, ℕ, true, false, map, filter, not, List, [], ◌∷◌, ◌++◌, Option, Some};
 ghost use Rattle.std.specs.List.{All, Contains};
-ghost use Rattle.start_model.specs.Lines as lines;
-ghost use Rattle.start_model.specs.Lines.{Line, PhaseLine, UnmetLine, VitalLine};
+ghost use Rattle.report_words.specs.declared.words.Verdict.TheVariants as verdicts;
+ghost use Rattle.report_words.specs.declared.words.PhaseWord.TheVariants as phases;
+ghost use Rattle.report_words.specs.declared.line.Line.{Line};
+ghost use Rattle.report_words.specs.declared.line.Line.TheVariants.{Phase as PhaseLine, Unmet as UnmetLine, Vital as VitalLine};
 ghost use Rattle.start_model.specs.Entries.{Boot};
 ghost use Rattle.start_model.specs.Events as events;
 ghost use Rattle.start_model.specs.Ready.{has_name};
@@ -25,7 +27,7 @@ pub fn no_start_passes_its_boot_phase_without_a_vital_name()
     ensures passed { (choice : Option ℕ → Choice) (script : List events.Event) (e : events.Event) (placed : Woken) (wakes : List Woken)
         (outcomes : List Outcome) (m : RunState) (w : List Woken) (o : List Outcome) (before : List Line) (after : List Line)
         → (part_of choice script (first_state placed) wakes outcomes).rest ≡ Some (m, w, o)
-        → (play (event_step_of choice e m) w o).lines ≡ before ++ PhaseLine lines.SystemPhase ∷ after
+        → (play (event_step_of choice e m) w o).lines ≡ before ++ PhaseLine phases.System ∷ after
         → All (λ name. started_by name false ((part_of choice script (first_state placed) wakes outcomes).lines ++ before) ≡ true)
         (vital_behind [] (script ++ e ∷ [])) }
     ensures missing { (choice : Option ℕ → Choice) (script : List events.Event) (e : events.Event) (placed : Woken) (wakes : List Woken)
@@ -45,5 +47,5 @@ pub fn a_phase_goes_on_where_nothing_vital_is_missing()
         → phase_step s m next ≡ say_all (map UnmetLine (unmet_in s)) (phase_begun s m next) }
     ensures stops { (s : Start) (m : RunState) (next : RunState → Act) (name : List ℕ) → s.phase ≡ Boot → Contains m.machine.vital name
         → has_name s.started name ≡ false → phase_step s m next ≡ say_all (map UnmetLine (unmet_in s))
-        (say_all (map VitalLine (filter (λ name. not (has_name s.started name)) m.machine.vital)) (end_with lines.Stopped false m)) }
+        (say_all (map VitalLine (filter (λ name. not (has_name s.started name)) m.machine.vital)) (end_with verdicts.Stopped false m)) }
 {}

@@ -3,7 +3,7 @@
 ghost use Rattle.std.specs.Prelude.{◌≡◌, ℕ, true, false, List, ◌∷◌, ◌++◌, Option};
 ghost use Rattle.std.specs.List.{list_any};
 ghost use Rattle.nt_bytes.specs.Front.{IsFront};
-ghost use Rattle.start_model.specs.Lines.{Line};
+ghost use Rattle.report_words.specs.declared.line.Line.{Line};
 ghost use Rattle.start_model.specs.Events as events;
 ghost use Rattle.start_model.specs.Possible.{Woken, Outcome};
 ghost use Rattle.start_model.specs.Boot.{Choice};

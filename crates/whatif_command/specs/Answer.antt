@@ -6,7 +6,7 @@ use Rattle.boot_ini.specs.declared.ini.BootIni.{BootIni}
 use Rattle.boot_ini.specs.declared.choosing.Chosen.{Chosen}
 use Rattle.boot_ini.specs.declared.choosing.Chosen.TheVariants as chosen
 use Rattle.boot_ini.specs.Choice.{entry_at, choice_of, asks_for_last_known_good}
-use Rattle.boot_report.specs.declared.words.Verdict.TheVariants as verdicts
+use Rattle.report_words.specs.declared.words.Verdict.TheVariants as verdicts
 use Rattle.start_model.specs.Possible.{Woken}
 use Rattle.command_words.specs.Words.{WhatifAsked}
 use Rattle.command_parts.specs.declared.refusal.Refusal.{Refusal}

@@ -4,8 +4,9 @@ use Rattle.std.specs.Prelude.{filter, slice_get, option_map}
 use Rattle.std.specs.Option.{option_or}
 use Rattle.std.specs.List.{list_any, filter_map, cons_option}
 use Rattle.nt_bytes.specs.Folding.{folds_same}
-use Rattle.start_model.specs.Lines as lines
-use Rattle.start_model.specs.Lines.{Line, TryWord}
+use Rattle.report_words.specs.declared.words.TryWord.{TryWord}
+use Rattle.report_words.specs.declared.line.Line.{Line}
+use Rattle.report_words.specs.declared.line.Line.TheVariants as lines
 use Rattle.error_control.specs.declared.outcome.Judgement.{Judgement}
 use Rattle.error_control.specs.declared.outcome.Judgement.TheVariants as judgements
 use Rattle.failure_effects.specs.declared.told.Fate.{Fate}
@@ -23,19 +24,19 @@ use Rattle.whatif_laws.proofs.ReportLemmas.{tells_as_run, tells_off_as_run}
 
 ok_kept : (ls : List Line) → filter_map ok_name (filter is_entry_line ls) ≡ filter_map ok_name ls
 ok_kept [] = refl
-ok_kept (lines.TryLine name outcome ∷ ls) = ap (cons_option (ok_name (lines.TryLine name outcome))) (ok_kept ls)
-ok_kept (lines.UnmetLine name ∷ ls) = ok_kept ls
+ok_kept (lines.Try name outcome ∷ ls) = ap (cons_option (ok_name (lines.Try name outcome))) (ok_kept ls)
+ok_kept (lines.Unmet name ∷ ls) = ok_kept ls
 ok_kept (l ∷ ls) = ok_kept ls
 
 bad_kept : (ls : List Line) → filter_map bad_word (filter is_entry_line ls) ≡ filter_map bad_word ls
 bad_kept [] = refl
-bad_kept (lines.TryLine name outcome ∷ ls) = ap (cons_option (bad_word (lines.TryLine name outcome))) (bad_kept ls)
-bad_kept (lines.UnmetLine name ∷ ls) = bad_kept ls
+bad_kept (lines.Try name outcome ∷ ls) = ap (cons_option (bad_word (lines.Try name outcome))) (bad_kept ls)
+bad_kept (lines.Unmet name ∷ ls) = bad_kept ls
 bad_kept (l ∷ ls) = bad_kept ls
 
 -- ---- what is reported, as lines
 
-word_bad : (name : List ℕ) (j : Judgement) (ls : List (List ℕ)) → cons_option (ok_name (lines.TryLine name (word_of j))) ls ≡ ls
+word_bad : (name : List ℕ) (j : Judgement) (ls : List (List ℕ)) → cons_option (ok_name (lines.Try name (word_of j))) ls ≡ ls
 word_bad name judgements.Ignore ls = refl
 word_bad name judgements.Log ls = refl
 word_bad name judgements.FallBack ls = refl
@@ -52,7 +53,7 @@ told_ok (t ∷ told) = by t.fate (told_ok told)
     by (fates.Failed j) more = word_bad t.name j (filter_map ok_name (map told_line told)) ∙ more
     by fates.Unmet more = more
 
-word_is : (name : List ℕ) (j : Judgement) → bad_word (lines.TryLine name (word_of j)) ≡ Some (word_of j)
+word_is : (name : List ℕ) (j : Judgement) → bad_word (lines.Try name (word_of j)) ≡ Some (word_of j)
 word_is name judgements.Ignore = refl
 word_is name judgements.Log = refl
 word_is name judgements.FallBack = refl

@@ -11,7 +11,10 @@ use Rattle.start_model.specs.Commit.{save, save_where_due}
 use Rattle.start_model.specs.Entries.{Entry, Phase, Boot, System, Automatic, Done, need_of}
 use Rattle.start_model.specs.Judge as book
 use Rattle.start_model.specs.Judge.{judgement_of}
-use Rattle.start_model.specs.Lines.{Line, UnmetLine, TryLine, TryOk, TryWord}
+use Rattle.report_words.specs.declared.words.TryWord.{TryWord}
+use Rattle.report_words.specs.declared.words.TryWord.TheVariants as tries
+use Rattle.report_words.specs.declared.line.Line.{Line}
+use Rattle.report_words.specs.declared.line.Line.TheVariants.{Unmet as UnmetLine, Try as TryLine}
 use Rattle.start_model.specs.Machine as machine
 use Rattle.start_model.specs.Machine.{Start, failures_of, one_failure_less, next_in, after_attempt, attempt_at, attempt_of, after_phase, phase_after, is_done, is_good, save_due, missing_in}
 use Rattle.start_model.specs.Order.{plan_of}
@@ -203,7 +206,7 @@ module _ (m : RunState) where
   abbrev attempt_act : ℕ → List (List ℕ × ℕ) → Start → ℕ → Entry → Bool → Act
   attempt_act n fs s k e ok =
       let j : book.Judgement = cond ok book.Ignore (judgement_of e.control s.on_good (good_is_usable m.live)) in
-      say (TryLine e.name (cond ok TryOk (failed_word j)))
+      say (TryLine e.name (cond ok tries.Ok (failed_word j)))
       (judged j (run_at (one_failure_less fs e.name) (after_attempt s k e ok)) (go_steps n))
 
   attempt_says : (n : ℕ) → Says n → (phase : Phase) (fs : List (List ℕ × ℕ)) (s : Start) (told : List Told) (k : ℕ) (e : Entry)

@@ -15,7 +15,9 @@ use Rattle.start_model.specs.Commit.{commit, committed_state}
 use Rattle.start_model.specs.Entries.{Boot}
 use Rattle.start_model.specs.EventActs.{event_step_of}
 use Rattle.start_model.specs.Events.{BootNow, Go}
-use Rattle.start_model.specs.Lines.{Line, StartLine, LoadLine, BeginCommit, EndLine}
+use Rattle.report_words.specs.declared.words.CommitWord.TheVariants as commits
+use Rattle.report_words.specs.declared.line.Line.{Line}
+use Rattle.report_words.specs.declared.line.Line.TheVariants.{Start as StartLine, Load as LoadLine, End as EndLine}
 use Rattle.start_model.specs.Machine.{Start, MachineState, begun_with}
 use Rattle.start_model.specs.Possible.{Woken, loads_as}
 use Rattle.start_model.specs.Quiet.{Quiet, quiet_play, quiet_from, quiet_wake, quiet_run_of}
@@ -136,7 +138,7 @@ record Booted (taken : Taken) (fs : List (List ℕ × ℕ)) (act : Act) : Type 0
 booted_on : (fs : List (List ℕ × ℕ)) (on_good : Bool) (m : RunState) (t : Tree) (change : SetChange) → m.live ≡ t → Begins t change
     → (steps : Bool) → change.has_steps ≡ steps
     → Booted (taken_of on_good change.chosen change.tree) fs
-    (cond steps (commit BeginCommit change.tree (with_machine (off_with fs) m) (begin_start change.chosen on_good change.numbers))
+    (cond steps (commit commits.Begin change.tree (with_machine (off_with fs) m) (begin_start change.chosen on_good change.numbers))
     (begin_start change.chosen on_good change.numbers (with_machine (off_with fs) m)))
 booted_on fs on_good m t change live b true is = record {
   state = committed_state (with_machine (off_with fs) m) change.tree;

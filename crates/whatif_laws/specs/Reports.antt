@@ -11,7 +11,10 @@ use Rattle.hive_model.specs.Edit.{value_set}
 use Rattle.start_model.specs.Sets.{set_name}
 use Rattle.start_model.specs.Boot.{Choice, EntryTaken}
 use Rattle.start_model.specs.Events.{Event, BootNow, Go, Fail}
-use Rattle.start_model.specs.Lines.{Line, TryWord, TryLine, TryOk, TryIgnored, TryLogged, TryFallBack, TryStop, UnmetLine}
+use Rattle.report_words.specs.declared.words.TryWord.{TryWord}
+use Rattle.report_words.specs.declared.words.TryWord.TheVariants as tries
+use Rattle.report_words.specs.declared.line.Line.{Line}
+use Rattle.report_words.specs.declared.line.Line.TheVariants.{Try as TryLine, Unmet as UnmetLine}
 use Rattle.start_model.specs.Possible.{Woken}
 use Rattle.start_model.specs.Quiet.{quiet_run_of}
 use Rattle.error_control.specs.declared.outcome.Judgement.{Judgement}
@@ -35,14 +38,14 @@ is_entry_line line = false
 
 -- the word of a failed attempt
 abbrev pub word_of : Judgement → TryWord
-word_of judgements.Ignore = TryIgnored
-word_of judgements.Log = TryLogged
-word_of judgements.FallBack = TryFallBack
-word_of judgements.Stop = TryStop
+word_of judgements.Ignore = tries.Ignored
+word_of judgements.Log = tries.Logged
+word_of judgements.FallBack = tries.FallBack
+word_of judgements.Stop = tries.Stop
 
 -- the line of what became of an entry
 abbrev pub line_of : List ℕ → Fate → Line
-line_of name fates.Started = TryLine name TryOk
+line_of name fates.Started = TryLine name tries.Ok
 line_of name (fates.Failed judgement) = TryLine name (word_of judgement)
 line_of name fates.Unmet = UnmetLine name
 
@@ -121,12 +124,12 @@ TellsEditedAsRun =
 
 -- the name of a `try` line with `ok`
 abbrev pub ok_name : Line → Option (List ℕ)
-ok_name (TryLine name TryOk) = Some name
+ok_name (TryLine name tries.Ok) = Some name
 ok_name line = None
 
 -- the word of a `try` line without `ok`
 abbrev pub bad_word : Line → Option TryWord
-bad_word (TryLine name TryOk) = None
+bad_word (TryLine name tries.Ok) = None
 bad_word (TryLine name word) = Some word
 bad_word line = None
 

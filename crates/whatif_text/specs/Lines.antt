@@ -3,8 +3,7 @@ use Rattle.std.specs.Prelude.{ℕ, Bool, List, [], ◌∷◌, ◌++◌, codes}
 use Rattle.std.specs.List.{flat_map}
 use Rattle.std.specs.Fmt.{decimal}
 use Rattle.start_model.specs.Lines.{name_text, set_word, verdict_word}
-use Rattle.boot_report.specs.declared.words.Verdict.{Verdict}
-use Rattle.boot_report.specs.Report.{verdict_of}
+use Rattle.report_words.specs.declared.words.Verdict.{Verdict}
 use Rattle.error_control.specs.declared.outcome.Judgement.{Judgement}
 use Rattle.error_control.specs.declared.outcome.Judgement.TheVariants as judgements
 use Rattle.line_text.specs.declared.form.ReportForm.{ReportForm}
@@ -46,7 +45,7 @@ abbrev pub set_text : ℕ → Bool → List ℕ
 set_text number on_good = codes "set " ++ decimal number ++ codes " " ++ set_word on_good ++ codes "\n"
 
 abbrev pub verdict_text : Verdict → List ℕ
-verdict_text verdict = codes "verdict " ++ verdict_word (verdict_of verdict) ++ codes "\n"
+verdict_text verdict = codes "verdict " ++ verdict_word verdict ++ codes "\n"
 
 abbrev pub of_text : EntryState → List ℕ → List ℕ
 of_text state name = named_text (codes "of " ++ state_word state ++ codes " ") name
@@ -86,7 +85,7 @@ abbrev pub set_fields : ℕ → Bool → Fields
 set_fields number on_good = (codes "number", Number number) ∷ (codes "by", Text (set_word on_good)) ∷ []
 
 abbrev pub verdict_fields : Verdict → Fields
-verdict_fields verdict = (codes "word", Text (verdict_word (verdict_of verdict))) ∷ []
+verdict_fields verdict = (codes "word", Text (verdict_word verdict)) ∷ []
 
 abbrev pub name_fields : List ℕ → Fields
 name_fields name = (codes "name", Text name) ∷ []

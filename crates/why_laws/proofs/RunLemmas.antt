@@ -11,8 +11,14 @@ use Rattle.start_model.specs.Commit.{commit, noted_saved, save, saved_by, select
 use Rattle.start_model.specs.Events.{Event, BootNow, Go, Fail, Vital, Edits, Flush, Logon, Off, CutNow, Arm, step_of}
 use Rattle.start_model.specs.EventActs.{act_unless, accepted_act, edit_done, idle_act, running_act, event_step_of}
 use Rattle.start_model.specs.Judge.{Judgement, Ignore, Log, FallBack, Stop}
-use Rattle.start_model.specs.Lines as lines
-use Rattle.start_model.specs.Lines.{Line, CommitWord, RefusedWord, UnmetLine, VitalLine}
+use Rattle.report_words.specs.declared.words.Verdict.{Verdict}
+use Rattle.report_words.specs.declared.words.Verdict.TheVariants as verdicts
+use Rattle.report_words.specs.declared.words.PhaseWord.TheVariants as phases
+use Rattle.report_words.specs.declared.words.RefusedWord.{RefusedWord}
+use Rattle.report_words.specs.declared.words.CommitWord.{CommitWord}
+use Rattle.report_words.specs.declared.words.CommitWord.TheVariants as commits
+use Rattle.report_words.specs.declared.line.Line.{Line}
+use Rattle.report_words.specs.declared.line.Line.TheVariants as lines
 use Rattle.start_model.specs.Machine.{Start, MachineState, Tried, attempt_of, after_phase, begun_with, ended, ending_of, failing, is_done, missing_in, requiring, save_due, unmet_in, with_start, refusal_in, refusal_of}
 use Rattle.start_model.specs.Possible.{Woken}
 use Rattle.start_model.specs.Quiet as book
@@ -118,7 +124,7 @@ module _ (F : Watched → Watched) where
   saved_goes : (s : Start) (clone : Tree) (f g : RunState → Act) → Goes f g → (r : Result SetChange ChangeStop)
       → Goes (λ m. saved_by s clone m f r) (λ m. saved_by s clone m g r)
   saved_goes s clone f g goes (Ok change) =
-      commit_goes lines.SaveCommit change.tree (λ m. say (select_line change.numbers) (f (noted_saved true s m)))
+      commit_goes commits.Save change.tree (λ m. say (select_line change.numbers) (f (noted_saved true s m)))
       (λ m. say (select_line change.numbers) (g (noted_saved true s m))) (noted_goes true s f g goes)
   saved_goes s clone f g goes (Err (NoPlan stop)) = noted_goes false s f g goes
   saved_goes s clone f g goes (Err sets.Full) = noted_goes false s f g goes
@@ -132,10 +138,10 @@ module _ (F : Watched → Watched) where
   due_goes true s f g goes = save_goes s f g goes s.clone
   due_goes false s f g goes = goes
 
-  end_goes : ((c : Core) → c.machine.start ≡ None → Rests c) → (verdict : lines.Verdict) (falls_back : Bool)
+  end_goes : ((c : Core) → c.machine.start ≡ None → Rests c) → (verdict : Verdict) (falls_back : Bool)
       → Goes (end_with verdict falls_back) (end_with verdict falls_back)
   end_goes off verdict falls_back c x y l =
-      off (record c { machine = ended falls_back c.machine; changed = false }) refl x y (seen (lines.VerdictLine verdict) l)
+      off (record c { machine = ended falls_back c.machine; changed = false }) refl x y (seen (lines.Verdict verdict) l)
 
   -- ---- a step of the starter, and what follows it
 
@@ -144,22 +150,22 @@ module _ (F : Watched → Watched) where
     judged_goes : (j : Judgement) → Goes (λ m. judged j m done) (λ m. judged j m next)
     judged_goes Ignore = goes
     judged_goes Log = goes
-    judged_goes FallBack = end_goes off lines.FallBack true
-    judged_goes Stop = end_goes off lines.Stopped false
+    judged_goes FallBack = end_goes off verdicts.FallBack true
+    judged_goes Stop = end_goes off verdicts.Stopped false
 
     passed_goes : (s : Start) (missing : List (List ℕ)) → Goes (λ m. phase_passed s m done missing) (λ m. phase_passed s m next missing)
     passed_goes s [] c x y l =
         let after : Start = after_phase (live_set (state_by c x) s.number) s in
         due_goes (save_due after) after done next goes (with_mach (with_start after c.machine) c) x y (seen (phase_line after.phase) l)
     passed_goes s (n ∷ names) c x y l =
-        all_said VitalLine (n ∷ names) (end_with lines.Stopped false (state_by c x)) (end_with lines.Stopped false (state_by c y))
-        (end_goes off lines.Stopped false c x y) l
+        all_said lines.Vital (n ∷ names) (end_with verdicts.Stopped false (state_by c x)) (end_with verdicts.Stopped false (state_by c y))
+        (end_goes off verdicts.Stopped false c x y) l
 
     tried_goes : (s : Start) (o : Option (MachineState × Tried)) → Goes (λ m. starter_step s m done o) (λ m. starter_step s m next o)
     tried_goes s (Some one) c x y l = judged_goes one.1.judgement (with_mach one.0 c) x y (seen (try_line one.1) l)
     tried_goes s None c x y l =
         let missing : List (List ℕ) = missing_in c.machine.vital s in
-        all_said UnmetLine (unmet_in s) (phase_passed s (state_by c x) done missing) (phase_passed s (state_by c y) next missing)
+        all_said lines.Unmet (unmet_in s) (phase_passed s (state_by c x) done missing) (phase_passed s (state_by c y) next missing)
         (passed_goes s missing c x y) l
 
     step_goes : (o : Option Start) (c : Core) → c.machine.start ≡ o → (x y : Rest) → Acts (stepping o (state_by c x) done) (stepping o (state_by c y) next)
@@ -177,26 +183,26 @@ module _ (F : Watched → Watched) where
   -- ---- events but the steps of the starter
 
   module _ (goes : Goes done done) where
-    ends : (verdict : lines.Verdict) (falls_back : Bool) → Goes (end_with verdict falls_back) (end_with verdict falls_back)
+    ends : (verdict : Verdict) (falls_back : Bool) → Goes (end_with verdict falls_back) (end_with verdict falls_back)
     ends = end_goes (λ c is. goes c)
 
     begun_goes : (number : ℕ) (on_good : Bool) (numbers : SelectNumbers) → Goes (begin_start number on_good numbers) (begin_start number on_good numbers)
     begun_goes number on_good numbers c x y l =
-        goes (with_mach (with_start (begun_with (live_set (state_by c x) number) number on_good) c.machine) c) x y (seen (lines.PhaseLine lines.BootPhase) l)
+        goes (with_mach (with_start (begun_with (live_set (state_by c x) number) number on_good) c.machine) c) x y (seen (lines.Phase phases.Boot) l)
 
     made_goes : (b : Bool) (change : SetChange) (on_good : Bool) → let f : RunState → Act = begin_start change.chosen on_good change.numbers in
-        Goes (λ m. cond b (commit lines.BeginCommit change.tree m f) (f m)) (λ m. cond b (commit lines.BeginCommit change.tree m f) (f m))
+        Goes (λ m. cond b (commit commits.Begin change.tree m f) (f m)) (λ m. cond b (commit commits.Begin change.tree m f) (f m))
     made_goes true change on_good =
         let f : RunState → Act = begin_start change.chosen on_good change.numbers in
-        commit_goes lines.BeginCommit change.tree f f (begun_goes change.chosen on_good change.numbers)
+        commit_goes commits.Begin change.tree f f (begun_goes change.chosen on_good change.numbers)
     made_goes false change on_good = begun_goes change.chosen on_good change.numbers
 
     begin_goes : (on_good : Bool) (r : Result SetChange ChangeStop) → Goes (λ m. begin_by on_good m r) (λ m. begin_by on_good m r)
     begin_goes on_good (Ok change) c x y l = made_goes change.has_steps change on_good c x y (seen (set_line on_good (state_by c x)) l)
-    begin_goes on_good (Err (NoPlan NoControlSet)) c x y l = ends lines.NoControlSet false c x y l
-    begin_goes on_good (Err (NoPlan NoLastKnownGood)) c x y l = ends lines.NoLastKnownGood false c x y l
-    begin_goes on_good (Err (NoPlan NoFreeNumber)) c x y l = ends lines.NoNumber false c x y (seen (set_line on_good (state_by c x)) l)
-    begin_goes on_good (Err sets.Full) c x y l = ends lines.Full false c x y (seen (set_line on_good (state_by c x)) l)
+    begin_goes on_good (Err (NoPlan NoControlSet)) c x y l = ends verdicts.NoControlSet false c x y l
+    begin_goes on_good (Err (NoPlan NoLastKnownGood)) c x y l = ends verdicts.NoLastKnownGood false c x y l
+    begin_goes on_good (Err (NoPlan NoFreeNumber)) c x y l = ends verdicts.NoNumber false c x y (seen (set_line on_good (state_by c x)) l)
+    begin_goes on_good (Err sets.Full) c x y l = ends verdicts.Full false c x y (seen (set_line on_good (state_by c x)) l)
 
     abbrev loaded_rest : Rest → Rest
     loaded_rest x = record { sequence = x.settled; settled = x.settled; other = None; dirty = Some false }
@@ -206,9 +212,9 @@ module _ (F : Watched → Watched) where
         let good : Bool = on_good || entry_on_good in
         begin_goes good (begin_of c.settled_version c.tree good) (record c { live = c.tree; version = c.settled_version; changed = false })
         (loaded_rest x) (loaded_rest y)
-    chosen_goes on_good NoEntry c x y = ends lines.NoEntry false c x y
-    chosen_goes on_good (OtherLoader number path) c x y = ends lines.OtherLoader false c x y
-    chosen_goes on_good (NoSystem number path) c x y = ends lines.NoSystem false c x y
+    chosen_goes on_good NoEntry c x y = ends verdicts.NoEntry false c x y
+    chosen_goes on_good (OtherLoader number path) c x y = ends verdicts.OtherLoader false c x y
+    chosen_goes on_good (NoSystem number path) c x y = ends verdicts.NoSystem false c x y
 
     boot_goes : (choice : Option ℕ → Choice) (entry : Option ℕ) (good : Bool) → Goes (boot_act choice entry good) (boot_act choice entry good)
     boot_goes choice entry good c x y l =
@@ -219,14 +225,14 @@ module _ (F : Watched → Watched) where
     edited_goes e (Ok tree) c = goes (record c { live = tree; changed = c.changed || not (same_tree c.live tree) })
     edited_goes e (Err why) c = goes c
 
-    flush_goes : (b : Bool) (c : Core) (x y : Rest) → let f : RunState → Act = λ m. cond b (commit lines.FlushCommit c.live m done)
-        (say lines.FlushNothingLine (done m)) in Acts (f (state_by c x)) (f (state_by c y))
-    flush_goes true c = commit_goes lines.FlushCommit c.live done done goes c
+    flush_goes : (b : Bool) (c : Core) (x y : Rest) → let f : RunState → Act = λ m. cond b (commit commits.Flush c.live m done)
+        (say lines.FlushNothing (done m)) in Acts (f (state_by c x)) (f (state_by c y))
+    flush_goes true c = commit_goes commits.Flush c.live done done goes c
     flush_goes false c = goes c
 
-    off_goes : (b : Bool) (verdict : lines.Verdict) (c : Core) (x y : Rest) → let f : RunState → Act = λ m. cond b (commit lines.OffCommit c.live m
+    off_goes : (b : Bool) (verdict : Verdict) (c : Core) (x y : Rest) → let f : RunState → Act = λ m. cond b (commit commits.Off c.live m
         (end_with verdict false)) (end_with verdict false m) in Acts (f (state_by c x)) (f (state_by c y))
-    off_goes true verdict c = commit_goes lines.OffCommit c.live (end_with verdict false) (end_with verdict false) (ends verdict false) c
+    off_goes true verdict c = commit_goes commits.Off c.live (end_with verdict false) (end_with verdict false) (ends verdict false) c
     off_goes false verdict c = ends verdict false c
 
     abbrev NotGo : Event → Type 0
@@ -244,7 +250,7 @@ module _ (F : Watched → Watched) where
         let after : Start = record s { logged_on = true } in
         due_goes (save_due after) after done done goes (with_mach (with_start after c.machine) c)
     running_goes s Off on c = off_goes c.changed (ending_of s) c
-    running_goes s (CutNow keep) on c = ends lines.Cut false c
+    running_goes s (CutNow keep) on c = ends verdicts.Cut false c
     running_goes s (Arm arming) on c = goes c
 
     idle_goes : (choice : Option ℕ → Choice) (e : Event) → Goes (idle_act choice e) (idle_act choice e)
@@ -368,9 +374,9 @@ module _ (choice : Option ℕ → Choice) where
 
   -- ---- a script
 
-  close_tells : (o : Option Start) → let f : RunState → Act = λ m. verdict_first o (say lines.EndLine (done m)) in Goes (λ w. w) f f
+  close_tells : (o : Option Start) → let f : RunState → Act = λ m. verdict_first o (say lines.End (done m)) in Goes (λ w. w) f f
   close_tells None c x y l = plain_goes c x y l
-  close_tells (Some s) c x y l = plain_goes c x y (seen (lines.VerdictLine (ending_of s)) l)
+  close_tells (Some s) c x y l = plain_goes c x y (seen (lines.Verdict (ending_of s)) l)
 
   script_tells : (es : List Event) (c : Core) (x y : Rest) (l : LastStart) → Tells l (watched_from choice es (at c x l)) (quiet_from choice es (state_by c y))
   script_tells [] c x y l = close_tells c.machine.start c x y l

@@ -2,7 +2,8 @@
 use Rattle.std.proofs.Common.{◌≡◌, ℕ, false, List, [], ◌∷◌, ◌++◌, Option, Some, None, refl, sym, ap, subst, ◌∙◌, append_assoc, append-nil}
 use Rattle.std.specs.Option.{option_map, option_or, option_to_list}
 use Rattle.std.specs.List.{filter_map, cons_option}
-use Rattle.start_model.specs.Lines.{Line, StartLine, EntryLine, LoadLine, SetLine, CommitLine, SelectLine, PhaseLine, TryLine, UnmetLine, VitalLine, LogonLine, SaveRefusedLine, EditOkLine, FlushNothingLine, RefusedLine, VerdictLine, EndLine}
+use Rattle.report_words.specs.declared.line.Line.{Line}
+use Rattle.report_words.specs.declared.line.Line.TheVariants as lines
 use Rattle.quiet_run.specs.declared.last.Attempt.{Attempt}
 use Rattle.quiet_run.specs.declared.last.LastStart.{LastStart}
 use Rattle.quiet_run.specs.Watch.{fresh_start, seen}
@@ -22,23 +23,23 @@ abbrev pub told : LastStart → LastStart
 told l = record l { phases = []; ended = false }
 
 seen_told : (x : Line) (l : LastStart) → told (seen x l) ≡ told (seen x (told l))
-seen_told (StartLine number) l = refl
-seen_told (EntryLine number path) l = refl
-seen_told (LoadLine sequence recovered) l = refl
-seen_told (SetLine number on_good) l = refl
-seen_told (CommitLine what sequence) l = refl
-seen_told (SelectLine a b c d) l = refl
-seen_told (PhaseLine word) l = refl
-seen_told (TryLine name word) l = refl
-seen_told (UnmetLine name) l = refl
-seen_told (VitalLine name) l = refl
-seen_told LogonLine l = refl
-seen_told (SaveRefusedLine full) l = refl
-seen_told EditOkLine l = refl
-seen_told FlushNothingLine l = refl
-seen_told (RefusedLine event why) l = refl
-seen_told (VerdictLine word) l = refl
-seen_told EndLine l = refl
+seen_told (lines.Start number) l = refl
+seen_told (lines.Entry number path) l = refl
+seen_told (lines.Load sequence recovered) l = refl
+seen_told (lines.Set number on_good) l = refl
+seen_told (lines.Commit what sequence) l = refl
+seen_told (lines.Select a b c d) l = refl
+seen_told (lines.Phase word) l = refl
+seen_told (lines.Try name word) l = refl
+seen_told (lines.Unmet name) l = refl
+seen_told (lines.Vital name) l = refl
+seen_told lines.Logon l = refl
+seen_told (lines.SaveRefused full) l = refl
+seen_told lines.EditOk l = refl
+seen_told lines.FlushNothing l = refl
+seen_told (lines.Refused event why) l = refl
+seen_told (lines.Verdict word) l = refl
+seen_told lines.End l = refl
 
 -- lines are heard alike where all but the phases is alike
 pub heard_alike : (xs : List Line) (l k : LastStart) → told l ≡ told k → told (heard l xs) ≡ told (heard k xs)
@@ -64,23 +65,23 @@ Steps x l k (Some number) = k ≡ fresh_start number
 Steps x l k None = Adds x l k
 
 steps : (x : Line) (l : LastStart) → Steps x l (seen x l) (started_by x)
-steps (StartLine number) l = refl
-steps (EntryLine number path) l = record { number = refl; set = refl; attempts = none l.attempts; missing = none l.missing; verdict = refl }
-steps (LoadLine sequence recovered) l = record { number = refl; set = refl; attempts = none l.attempts; missing = none l.missing; verdict = refl }
-steps (SetLine number on_good) l = record { number = refl; set = refl; attempts = none l.attempts; missing = none l.missing; verdict = refl }
-steps (CommitLine what sequence) l = record { number = refl; set = refl; attempts = none l.attempts; missing = none l.missing; verdict = refl }
-steps (SelectLine a b c d) l = record { number = refl; set = refl; attempts = none l.attempts; missing = none l.missing; verdict = refl }
-steps (PhaseLine word) l = record { number = refl; set = refl; attempts = none l.attempts; missing = none l.missing; verdict = refl }
-steps (TryLine name word) l = record { number = refl; set = refl; attempts = refl; missing = none l.missing; verdict = refl }
-steps (UnmetLine name) l = record { number = refl; set = refl; attempts = none l.attempts; missing = none l.missing; verdict = refl }
-steps (VitalLine name) l = record { number = refl; set = refl; attempts = none l.attempts; missing = refl; verdict = refl }
-steps LogonLine l = record { number = refl; set = refl; attempts = none l.attempts; missing = none l.missing; verdict = refl }
-steps (SaveRefusedLine full) l = record { number = refl; set = refl; attempts = none l.attempts; missing = none l.missing; verdict = refl }
-steps EditOkLine l = record { number = refl; set = refl; attempts = none l.attempts; missing = none l.missing; verdict = refl }
-steps FlushNothingLine l = record { number = refl; set = refl; attempts = none l.attempts; missing = none l.missing; verdict = refl }
-steps (RefusedLine event why) l = record { number = refl; set = refl; attempts = none l.attempts; missing = none l.missing; verdict = refl }
-steps (VerdictLine word) l = record { number = refl; set = refl; attempts = none l.attempts; missing = none l.missing; verdict = refl }
-steps EndLine l = record { number = refl; set = refl; attempts = none l.attempts; missing = none l.missing; verdict = refl }
+steps (lines.Start number) l = refl
+steps (lines.Entry number path) l = record { number = refl; set = refl; attempts = none l.attempts; missing = none l.missing; verdict = refl }
+steps (lines.Load sequence recovered) l = record { number = refl; set = refl; attempts = none l.attempts; missing = none l.missing; verdict = refl }
+steps (lines.Set number on_good) l = record { number = refl; set = refl; attempts = none l.attempts; missing = none l.missing; verdict = refl }
+steps (lines.Commit what sequence) l = record { number = refl; set = refl; attempts = none l.attempts; missing = none l.missing; verdict = refl }
+steps (lines.Select a b c d) l = record { number = refl; set = refl; attempts = none l.attempts; missing = none l.missing; verdict = refl }
+steps (lines.Phase word) l = record { number = refl; set = refl; attempts = none l.attempts; missing = none l.missing; verdict = refl }
+steps (lines.Try name word) l = record { number = refl; set = refl; attempts = refl; missing = none l.missing; verdict = refl }
+steps (lines.Unmet name) l = record { number = refl; set = refl; attempts = none l.attempts; missing = none l.missing; verdict = refl }
+steps (lines.Vital name) l = record { number = refl; set = refl; attempts = none l.attempts; missing = refl; verdict = refl }
+steps lines.Logon l = record { number = refl; set = refl; attempts = none l.attempts; missing = none l.missing; verdict = refl }
+steps (lines.SaveRefused full) l = record { number = refl; set = refl; attempts = none l.attempts; missing = none l.missing; verdict = refl }
+steps lines.EditOk l = record { number = refl; set = refl; attempts = none l.attempts; missing = none l.missing; verdict = refl }
+steps lines.FlushNothing l = record { number = refl; set = refl; attempts = none l.attempts; missing = none l.missing; verdict = refl }
+steps (lines.Refused event why) l = record { number = refl; set = refl; attempts = none l.attempts; missing = none l.missing; verdict = refl }
+steps (lines.Verdict word) l = record { number = refl; set = refl; attempts = none l.attempts; missing = none l.missing; verdict = refl }
+steps lines.End l = record { number = refl; set = refl; attempts = none l.attempts; missing = none l.missing; verdict = refl }
 
 adds : (x : Line) (l k : LastStart) (o : Option ℕ) → o ≡ None → Steps x l k o → Adds x l k
 adds x l k None lone s = s

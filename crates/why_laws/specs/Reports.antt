@@ -4,15 +4,15 @@
 use Rattle.std.specs.Prelude.{◌≡◌, ℕ, Bool, List, [], ◌∷◌, Option, None, Some}
 use Rattle.std.specs.Option.{option_map, option_or}
 use Rattle.std.specs.List.{filter_map}
-use Rattle.boot_report.specs.declared.words.Verdict.{Verdict}
-use Rattle.start_model.specs.Lines.{Line, StartLine, SetLine, TryLine, VitalLine, VerdictLine}
+use Rattle.report_words.specs.declared.words.Verdict.{Verdict}
+use Rattle.report_words.specs.declared.line.Line.{Line}
+use Rattle.report_words.specs.declared.line.Line.TheVariants.{Start as StartLine, Set as SetLine, Try as TryLine, Vital as VitalLine, Verdict as VerdictLine}
 use Rattle.start_model.specs.Events.{Event}
 use Rattle.start_model.specs.Boot.{Choice}
 use Rattle.start_model.specs.Possible.{Woken}
 use Rattle.start_model.specs.Quiet as book
 use Rattle.quiet_run.specs.declared.last.Attempt.{Attempt}
 use Rattle.quiet_run.specs.declared.last.LastStart.{LastStart}
-use Rattle.quiet_run.specs.Words.{try_as, verdict_as}
 use Rattle.quiet_run.specs.Watch.{quiet_run_of}
 
 -- ---- lines
@@ -29,7 +29,7 @@ set_by line = None
 
 -- the attempt
 abbrev pub tried_by : Line → Option Attempt
-tried_by (TryLine name word) = Some (record { name = name; outcome = try_as word })
+tried_by (TryLine name word) = Some (record { name = name; outcome = word })
 tried_by line = None
 
 -- the vital name that is missing
@@ -39,7 +39,7 @@ missed_by line = None
 
 -- the verdict
 abbrev pub judged_by : Line → Option Verdict
-judged_by (VerdictLine word) = Some (verdict_as word)
+judged_by (VerdictLine word) = Some word
 judged_by line = None
 
 -- the last of what lines tell

@@ -2,11 +2,11 @@
 use Rattle.std.specs.Prelude.{◌≡◌, ◌<◌, ℕ, ◌+◌, List, slice_get, Option, None, Some}
 use Rattle.std.specs.Option.{option_map}
 use Rattle.std.specs.List.{filter_map}
-use Rattle.boot_report.specs.declared.words.TryWord.{TryWord}
-use Rattle.boot_report.specs.declared.words.TryWord.TheVariants as tries
+use Rattle.report_words.specs.declared.words.TryWord.{TryWord}
+use Rattle.report_words.specs.declared.words.TryWord.TheVariants as tries
 use Rattle.error_control.specs.declared.outcome.Judgement.{Judgement}
 use Rattle.error_control.specs.declared.outcome.Judgement.TheVariants as judgements
-use Rattle.start_model.specs.Lines.{Line}
+use Rattle.report_words.specs.declared.line.Line.{Line}
 use Rattle.start_model.specs.Events.{Event}
 use Rattle.start_model.specs.Possible.{Woken}
 use Rattle.start_model.specs.Boot.{Choice}

@@ -5,8 +5,8 @@ use Rattle.std.specs.Prelude.{ℕ, nat_lt, Bool, true, false, List, length, slic
 use Rattle.std.specs.Option.{option_map, option_map_or, option_and_then}
 use Rattle.std.specs.List.{filter_map, range_with_len}
 use Rattle.start_model.specs.Entries.{Entry}
-use Rattle.boot_report.specs.declared.words.TryWord.{TryWord}
-use Rattle.boot_report.specs.declared.words.TryWord.TheVariants as tries
+use Rattle.report_words.specs.declared.words.TryWord.{TryWord}
+use Rattle.report_words.specs.declared.words.TryWord.TheVariants as tries
 use Rattle.quiet_run.specs.declared.last.Attempt.{Attempt}
 use Rattle.why_state.specs.declared.views.PhaseView.{PhaseView}
 use Rattle.why_state.specs.declared.views.ViewedRun.{ViewedRun}

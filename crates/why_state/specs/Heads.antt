@@ -1,8 +1,8 @@
 -- What are the first lines about a start, and those about the name and its entry? (this project's own)
 use Rattle.std.specs.Prelude.{ℕ, Bool, true, false, ◌==◌, List, [], ◌∷◌, ◌++◌, map, find, Option, None, Some, if◌then◌else◌}
-use Rattle.boot_report.specs.declared.words.TryWord.{TryWord}
-use Rattle.boot_report.specs.declared.words.TryWord.TheVariants as tries
-use Rattle.boot_report.specs.declared.words.Verdict.{Verdict}
+use Rattle.report_words.specs.declared.words.TryWord.{TryWord}
+use Rattle.report_words.specs.declared.words.TryWord.TheVariants as tries
+use Rattle.report_words.specs.declared.words.Verdict.{Verdict}
 use Rattle.quiet_run.specs.declared.last.Attempt.{Attempt}
 use Rattle.quiet_run.specs.declared.last.LastStart.{LastStart}
 use Rattle.why_lines.specs.declared.lines.WhyLine.{WhyLine}

@@ -8,8 +8,8 @@ use Rattle.boot_phases.specs.declared.phase.Phase.{Phase}
 use Rattle.boot_phases.specs.declared.phase.Phase.TheVariants as phases
 use Rattle.boot_phases.specs.Phases.{phase_in}
 use Rattle.boot_machine.specs.Codes.{phase_number}
-use Rattle.boot_report.specs.declared.words.TryWord.{TryWord}
-use Rattle.boot_report.specs.declared.words.TryWord.TheVariants as tries
+use Rattle.report_words.specs.declared.words.TryWord.{TryWord}
+use Rattle.report_words.specs.declared.words.TryWord.TheVariants as tries
 use Rattle.error_control.specs.declared.outcome.Judgement.TheVariants as judgements
 use Rattle.quiet_run.specs.declared.last.Attempt.{Attempt}
 use Rattle.quiet_run.specs.declared.last.BegunPhase.{BegunPhase}

@@ -5,7 +5,6 @@ use Rattle.std.specs.Fmt.{decimal}
 use Rattle.start_model.specs.Lines.{name_text, set_word, verdict_word}
 use Rattle.boot_phases.specs.declared.phase.Phase.{Phase}
 use Rattle.boot_phases.specs.declared.phase.Phase.TheVariants as phases
-use Rattle.boot_report.specs.Report.{verdict_of}
 use Rattle.error_control.specs.declared.outcome.Judgement.{Judgement}
 use Rattle.error_control.specs.declared.outcome.Judgement.TheVariants as judgements
 use Rattle.line_text.specs.declared.form.ReportForm.{ReportForm}
@@ -147,7 +146,7 @@ abbrev pub line_parts : WhyLine → List ℕ
 line_parts lines.NoBoot = []
 line_parts (lines.Start number) = number_part number
 line_parts (lines.Set number on_good) = number_part number ++ word_part (set_word on_good)
-line_parts (lines.Verdict verdict) = word_part (verdict_word (verdict_of verdict))
+line_parts (lines.Verdict verdict) = word_part (verdict_word verdict)
 line_parts (lines.EndedBy name) = name_part name
 line_parts (lines.Vital name) = name_part name ++ word_part (codes "missing")
 line_parts (lines.Name name) = name_part name
@@ -221,7 +220,7 @@ abbrev pub line_fields : WhyLine → Fields
 line_fields lines.NoBoot = []
 line_fields (lines.Start number) = (codes "number", Number number) ∷ []
 line_fields (lines.Set number on_good) = (codes "number", Number number) ∷ (codes "by", Text (set_word on_good)) ∷ []
-line_fields (lines.Verdict verdict) = (codes "word", Text (verdict_word (verdict_of verdict))) ∷ []
+line_fields (lines.Verdict verdict) = (codes "word", Text (verdict_word verdict)) ∷ []
 line_fields (lines.EndedBy name) = name_fields name
 line_fields (lines.Vital name) = name_fields name
 line_fields (lines.Name name) = name_fields name

@@ -4,7 +4,7 @@ use Rattle.std.specs.List.{All}
 use Rattle.hive_model.specs.Base.{version_of}
 use Rattle.hive_model.specs.Edit.{edited}
 use Rattle.reg_tree.specs.Fitting.{Fits}
-use Rattle.start_model.specs.Lines.{BeginCommit}
+use Rattle.report_words.specs.declared.words.CommitWord.TheVariants as commits
 use Rattle.start_model.specs.Sets.{SetPlan, stepped}
 use Rattle.start_model.specs.Commit.{commit}
 use Rattle.start_model.specs.Boot.{begin_start}
@@ -48,7 +48,7 @@ end_start-requires g c = record
 pub returns-in-Ok : goal.returns-in-Ok
 returns-in-Ok g c = turns (search rules) (search rules) (λ m tells counts live.
     let u = c.apply.new.self.tree in
-    plays-as (ap (λ (p : SetPlan). commit BeginCommit u m (begin_start p.chosen c.args.on_good p.numbers)) c.plan.view_is
+    plays-as (ap (λ (p : SetPlan). commit commits.Begin u m (begin_start p.chosen c.args.on_good p.numbers)) c.plan.view_is
     ∙ begin_made c.args.on_good m c.args.plan (version_of c.args.hive.base.minor) c.args.hive.tree u c.requires.some
     live.version live.live (made g (goal.at.returns-in-Ok g c).In-Ok))
     (c.begin_committed.ensures.plays m tells counts

@@ -1,5 +1,6 @@
 use Rattle.std.proofs.Common.{◌≡◌, refl, false}
-use Rattle.start_model.specs.Lines.{SetLine, NoNumber}
+use Rattle.report_words.specs.declared.words.Verdict.TheVariants.{NoNumber}
+use Rattle.report_words.specs.declared.line.Line.TheVariants.{Set as SetLine}
 use Rattle.start_model.specs.Sets.{NoControlSet, NoLastKnownGood, NoFreeNumber, stepped}
 use Rattle.start_model.specs.Act.{RunState, say, end_with}
 use Rattle.start_model.specs.Boot.{set_line, take_set}

@@ -1,7 +1,7 @@
 use Rattle.std.proofs.Common.{rules, ◌≡◌, ◌+◌, ◌∙◌, [], Bool, false, refl, sym, ap}
 use Rattle.std.specs.Prelude.{◌||◌}
 use Rattle.boot_ini.specs.declared.choosing.Chosen.{Chosen}
-use Rattle.start_model.specs.Lines.{StartLine}
+use Rattle.report_words.specs.declared.line.Line.TheVariants.{Start as StartLine}
 use Rattle.start_model.specs.Machine.{MachineState}
 use Rattle.nt_edge.specs.Crash.{EachCrash}
 use Rattle.start_model.specs.Act.{Act, RunState}
@@ -19,7 +19,7 @@ use Rattle.boot_run.proofs.booting.boot.Goals.{Start, In-Some}
 number : (g : Over) (c : In-Some g) (m : RunState) → Counts m c.args.runner.now → c.in-Some.number ≡ m.starts + 1
 number g c m counts = number_is m c.args.runner.now c.in-Some.number counts (search rules)
 
--- what a boot plays behind its line, and that the disk may load as before
+-- what a boot plays after its line, and that the disk may load as before
 abbrev more : (g : Over) → Start g → RunState → Act
 more g c m = chosen (m.machine.fallback_due || c.args.last_known_good) (accepted_state m)
     (choices c.args.ini.now c.args.system.now c.args.entry)

@@ -1,5 +1,4 @@
 use Rattle.std.proofs.Common.{Some, None, ap, sym, refl}
-use Rattle.boot_report.specs.Report.{verdict_of}
 use Rattle.start_model.specs.Machine.{MachineState}
 use Rattle.boot_run.specs.Agrees.{IsSound}
 use Rattle.boot_run.proofs.PlayLemmas.{plays-as, plays-here, live_left, turn_left}
@@ -16,7 +15,7 @@ pub returns-in-Some-clause-plays : goal.returns-in-Some-clause-plays
 returns-in-Some-clause-plays g c = λ m tree rest tells ends h.
     let k = rw c.in-Some.is at h in
     plays-as (sym k.0)
-    (end_plays (verdict_of c.args.word) c.end_with.new.runner ends k.1.0
+    (end_plays c.args.word c.end_with.new.runner ends k.1.0
     (live_left (sound_on g (goal.at.returns-in-Some-clause-plays g c).In-Some).0 k.1.1)
     c.end_with.ensures.machine c.end_with.ensures.starts c.end_with.ensures.off (c.end_with.ensures.tells tells))
 

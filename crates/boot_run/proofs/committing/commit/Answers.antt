@@ -1,11 +1,10 @@
 use Rattle.std.proofs.Common.{◌≡◌, true, false, refl, rules, ap, sym, subst}
 use Rattle.std.specs.Prelude.{IsErrOf}
-use Rattle.boot_report.specs.Report.{commit_of}
 use Rattle.hive_model.specs.Carries.{Carries}
 use Rattle.hive_commit.specs.declared.stops.CommitStop.TheVariants as stops
 use Rattle.hive_store.specs.Session.{Session}
 use Rattle.hive_store.specs.Commits as store
-use Rattle.start_model.specs.Lines as book
+use Rattle.report_words.specs.declared.words.Verdict.TheVariants as verdicts
 use Rattle.start_model.specs.Possible.{PowerCut, DeviceFault}
 use Rattle.boot_run.proofs.DiskLemmas.{marked-by, cut-cause, fault-cause, commit-done, commit-lacked, commit-failed}
 use Rattle.boot_run.proofs.CommitLemmas.{Committed, IsDone, IsStopped, commit_down, commit_memory, commit_plays, commit_breaks, stop_plays, stop_breaks}
@@ -67,32 +66,32 @@ fault g c =
 
 pub returns-in_err-say-in-Ok-clause-plays : goal.returns-in_err-say-in-Ok-clause-plays
 returns-in_err-say-in-Ok-clause-plays g c = λ m next tells counts live stays.
-    commit_breaks m next (commit_of c.args.what) live (done g (goal.at.returns-in_err-say-in-Ok-clause-plays g c).In-Ok)
+    commit_breaks m next c.args.what live (done g (goal.at.returns-in_err-say-in-Ok-clause-plays g c).In-Ok)
     c.from_residual.ensures.0 stays (c.in_err-say-in-Ok.ensures.tells tells)
 
 pub returns-in_ok-say-in-Ok-clause-plays : goal.returns-in_ok-say-in-Ok-clause-plays
 returns-in_ok-say-in-Ok-clause-plays g c = λ m next tells counts live stays.
-    commit_plays m next (commit_of c.args.what) live (done g (goal.at.returns-in_ok-say-in-Ok-clause-plays g c).In-Ok)
+    commit_plays m next c.args.what live (done g (goal.at.returns-in_ok-say-in-Ok-clause-plays g c).In-Ok)
     (record c.args.runner.now { summary = c.say.new.summary }) (c.in_ok-say-in-Ok.ensures.tells tells)
     (record { machine = counts.machine; starts = counts.starts })
 
 pub returns-in-Err-Memory-clause-plays : goal.returns-in-Err-Memory-clause-plays
 returns-in-Err-Memory-clause-plays g c = λ m next tells counts live stays.
     let lacked : IsErrOf c.commit.result stops.Memory = search rules in
-    commit_memory m next (commit_of c.args.what) live refl
+    commit_memory m next c.args.what live refl
     (left g (goal.at.returns-in-Err-Memory-clause-plays g c).After-commit)
     (commit-lacked c.commit.result (g.B.Disk.state c.args.bench.now) (g.B.Disk.state c.commit.new.disk)
     c.commit.ensures.goes lacked)
 
 pub returns-in_err-end_with-in-Err-PowerLost-clause-plays : goal.returns-in_err-end_with-in-Err-PowerLost-clause-plays
 returns-in_err-end_with-in-Err-PowerLost-clause-plays g c = λ m next tells counts live stays.
-    stop_breaks m next (commit_of c.args.what) live book.Cut refl refl
+    stop_breaks m next c.args.what live verdicts.Cut refl refl
     (cut g (goal.at.returns-in_err-end_with-in-Err-PowerLost-clause-plays g c).After-end_with)
     c.from_residual-in_err-end_with-in-Err-PowerLost.ensures.0 (c.in_err-end_with-in-Err-PowerLost.ensures.tells tells)
 
 pub returns-in_ok-end_with-in-Err-PowerLost-clause-plays : goal.returns-in_ok-end_with-in-Err-PowerLost-clause-plays
 returns-in_ok-end_with-in-Err-PowerLost-clause-plays g c = λ m next tells counts live stays.
-    stop_plays m next (commit_of c.args.what) live book.Cut refl refl
+    stop_plays m next c.args.what live verdicts.Cut refl refl
     (cut g (goal.at.returns-in_ok-end_with-in-Err-PowerLost-clause-plays g c).After-end_with)
     c.end_with.new.runner (c.in_ok-end_with-in-Err-PowerLost.ensures.tells tells) counts c.end_with.ensures.machine
     c.end_with.ensures.starts
@@ -106,13 +105,13 @@ returns-in_ok-end_with-in-Err-PowerLost-clause-sound g c = (
 
 pub returns-in_err-end_with-in-Err-Device-clause-plays : goal.returns-in_err-end_with-in-Err-Device-clause-plays
 returns-in_err-end_with-in-Err-Device-clause-plays g c = λ m next tells counts live stays.
-    stop_breaks m next (commit_of c.args.what) live book.Device refl refl
+    stop_breaks m next c.args.what live verdicts.Device refl refl
     (fault g (goal.at.returns-in_err-end_with-in-Err-Device-clause-plays g c).After-end_with-in-Err-Device)
     c.from_residual-in_err-end_with-in-Err-Device.ensures.0 (c.in_err-end_with-in-Err-Device.ensures.tells tells)
 
 pub returns-in_ok-end_with-in-Err-Device-clause-plays : goal.returns-in_ok-end_with-in-Err-Device-clause-plays
 returns-in_ok-end_with-in-Err-Device-clause-plays g c = λ m next tells counts live stays.
-    stop_plays m next (commit_of c.args.what) live book.Device refl refl
+    stop_plays m next c.args.what live verdicts.Device refl refl
     (fault g (goal.at.returns-in_ok-end_with-in-Err-Device-clause-plays g c).After-end_with-in-Err-Device)
     c.end_with-in-Err-Device.new.runner (c.in_ok-end_with-in-Err-Device.ensures.tells tells) counts
     c.end_with-in-Err-Device.ensures.machine c.end_with-in-Err-Device.ensures.starts

@@ -8,7 +8,7 @@ use Rattle.hive_log.specs.declared.stops.LoadStop.{LoadStop}
 use Rattle.hive_log.specs.declared.stops.LoadStop.TheVariants as stops
 use Rattle.hive_store.specs.Loading.{StopsFrom}
 use Rattle.hive_store.specs.Loading as store
-use Rattle.start_model.specs.Lines as book
+use Rattle.report_words.specs.declared.words.Verdict.TheVariants as verdicts
 use Rattle.start_model.specs.Possible.{PowerCut, DeviceFault}
 use Rattle.boot_run.proofs.DiskLemmas.{marked-woken, marked-by, cut-cause, fault-cause, load-done, load-lacked, load-failed}
 use Rattle.boot_run.proofs.PlayLemmas.{plays-silent}
@@ -141,13 +141,13 @@ returns-in_ok-say-in-Ok-load_judged-clause-sound g c =
 
 pub returns-in_err-end_with-in-Err-PowerLost-clause-plays : goal.returns-in_err-end_with-in-Err-PowerLost-clause-plays
 returns-in_err-end_with-in-Err-PowerLost-clause-plays g c = λ m next tells counts may stays.
-    stopped_breaks m next (may c.in-Ok.ensures.woken.0 c.in-Ok.ensures.woken.1) book.Cut refl refl
+    stopped_breaks m next (may c.in-Ok.ensures.woken.0 c.in-Ok.ensures.woken.1) verdicts.Cut refl refl
     (cut g (goal.at.returns-in_err-end_with-in-Err-PowerLost-clause-plays g c).After-end_with)
     c.from_residual-in_err-end_with-in-Err-PowerLost.ensures.0 (c.in_err-end_with-in-Err-PowerLost.ensures.tells tells)
 
 pub returns-in_ok-end_with-in-Err-PowerLost-clause-plays : goal.returns-in_ok-end_with-in-Err-PowerLost-clause-plays
 returns-in_ok-end_with-in-Err-PowerLost-clause-plays g c = λ m next tells counts may stays.
-    stopped_plays m next (may c.in-Ok.ensures.woken.0 c.in-Ok.ensures.woken.1) book.Cut refl refl
+    stopped_plays m next (may c.in-Ok.ensures.woken.0 c.in-Ok.ensures.woken.1) verdicts.Cut refl refl
     (cut g (goal.at.returns-in_ok-end_with-in-Err-PowerLost-clause-plays g c).After-end_with)
     c.end_with.new.runner (c.in_ok-end_with-in-Err-PowerLost.ensures.tells tells) counts c.end_with.ensures.machine
     c.end_with.ensures.starts
@@ -161,13 +161,13 @@ returns-in_ok-end_with-in-Err-PowerLost-clause-sound g c = (
 
 pub returns-in_err-end_with-in-Err-Device-clause-plays : goal.returns-in_err-end_with-in-Err-Device-clause-plays
 returns-in_err-end_with-in-Err-Device-clause-plays g c = λ m next tells counts may stays.
-    stopped_breaks m next (may c.in-Ok.ensures.woken.0 c.in-Ok.ensures.woken.1) book.Device refl refl
+    stopped_breaks m next (may c.in-Ok.ensures.woken.0 c.in-Ok.ensures.woken.1) verdicts.Device refl refl
     (fault g (goal.at.returns-in_err-end_with-in-Err-Device-clause-plays g c).After-end_with-in-Err-Device)
     c.from_residual-in_err-end_with-in-Err-Device.ensures.0 (c.in_err-end_with-in-Err-Device.ensures.tells tells)
 
 pub returns-in_ok-end_with-in-Err-Device-clause-plays : goal.returns-in_ok-end_with-in-Err-Device-clause-plays
 returns-in_ok-end_with-in-Err-Device-clause-plays g c = λ m next tells counts may stays.
-    stopped_plays m next (may c.in-Ok.ensures.woken.0 c.in-Ok.ensures.woken.1) book.Device refl refl
+    stopped_plays m next (may c.in-Ok.ensures.woken.0 c.in-Ok.ensures.woken.1) verdicts.Device refl refl
     (fault g (goal.at.returns-in_ok-end_with-in-Err-Device-clause-plays g c).After-end_with-in-Err-Device)
     c.end_with-in-Err-Device.new.runner (c.in_ok-end_with-in-Err-Device.ensures.tells tells) counts
     c.end_with-in-Err-Device.ensures.machine c.end_with-in-Err-Device.ensures.starts

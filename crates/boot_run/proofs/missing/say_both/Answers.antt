@@ -1,5 +1,5 @@
 use Rattle.std.proofs.Common.{map, ◌∙◌}
-use Rattle.start_model.specs.Lines.{UnmetLine, VitalLine}
+use Rattle.report_words.specs.declared.line.Line.TheVariants.{Unmet as UnmetLine, Vital as VitalLine}
 use Rattle.boot_run.specs.Starts.{stop_lines}
 use Rattle.boot_run.specs.Views.{told_by}
 use Rattle.boot_run.proofs.StartLemmas.{says_err, says_more, says_behind}

@@ -1,5 +1,5 @@
 use Rattle.std.proofs.Common.{map, ◌∙◌}
-use Rattle.start_model.specs.Lines.{VitalLine}
+use Rattle.report_words.specs.declared.line.Line.TheVariants.{Vital as VitalLine}
 use Rattle.boot_run.specs.Views.{told_by}
 use Rattle.boot_run.proofs.HostLemmas.{still-then}
 use Rattle.boot_run.proofs.UnmetLemmas.{name_next}

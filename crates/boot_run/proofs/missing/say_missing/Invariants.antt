@@ -1,5 +1,5 @@
 use Rattle.std.proofs.Common.{◌≡◌, true, length, map}
-use Rattle.start_model.specs.Lines.{VitalLine}
+use Rattle.report_words.specs.declared.line.Line.TheVariants.{Vital as VitalLine}
 use Rattle.boot_run.specs.Hosts.{StillHost}
 use Rattle.boot_run.specs.Views.{told_by, TellsBefore}
 use Rattle.boot_run.proofs.missing.say_missing.Given as goal

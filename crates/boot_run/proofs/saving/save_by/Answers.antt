@@ -6,7 +6,7 @@ use Rattle.hive_model.specs.Base.{version_of}
 use Rattle.reg_tree.specs.Fitting.{Fits}
 use Rattle.start_model.specs.Sets.{SetPlan, save_of}
 use Rattle.start_model.specs.Commit.{commit}
-use Rattle.start_model.specs.Lines.{SaveCommit}
+use Rattle.report_words.specs.declared.words.CommitWord.TheVariants as commits
 use Rattle.boot_run.specs.Saves.{noting}
 use Rattle.boot_run.proofs.PlayLemmas.{plays-as, rests-silent}
 use Rattle.boot_run.proofs.SaveLemmas.{save_keeps, up_by, stored_by, save_made, save_full, saved_may, refused_why}
@@ -39,7 +39,7 @@ pub returns-in-Ok-clause-plays : goal.returns-in-Ok-clause-plays
 returns-in-Ok-clause-plays g c = λ m s clone next tells out counts live is stays.
     let u = c.apply.new.self.tree in
     save_made live clone c.args.plan is s next u (made g (goal.at.returns-in-Ok-clause-plays g c).In-Ok)
-    (plays-as (ap (λ (p : SetPlan). commit SaveCommit u m (noting p.numbers s next)) c.plan.view_is)
+    (plays-as (ap (λ (p : SetPlan). commit commits.Save u m (noting p.numbers s next)) c.plan.view_is)
     (c.commit_save.ensures.plays m s next tells out counts (stored_by m c.args.hive c.apply.new.self
     (g.B.Disk.state c.args.bench.now) c.in-Ok.ensures.base live) stays))
 

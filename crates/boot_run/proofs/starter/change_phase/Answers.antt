@@ -1,5 +1,5 @@
 use Rattle.std.proofs.Common.{◌≡◌, ◌∙◌, None, Some, false, sym, refl}
-use Rattle.start_model.specs.Lines as lines
+use Rattle.report_words.specs.declared.words.Verdict.TheVariants as verdicts
 use Rattle.start_model.specs.Machine.{Start}
 use Rattle.start_model.specs.Act.{RunState, Act, say_all, end_with}
 use Rattle.start_model.specs.Starter.{phase_step}
@@ -16,7 +16,7 @@ use Rattle.boot_run.proofs.starter.change_phase.Goals.{After-stop_without}
 -- the start stops
 stops : (g : Over) (c : After-stop_without g) (m : RunState) (s : Start) (next : RunState → Act)
     → Counts m c.args.runner.now → m.machine.start ≡ Some s
-    → say_all (stop_lines c.as_slice.result.now c.as_slice-2.result.now) (end_with lines.Stopped false m)
+    → say_all (stop_lines c.as_slice.result.now c.as_slice-2.result.now) (end_with verdicts.Stopped false m)
     ≡ phase_step s m next
 stops g c m s next counts at = stopped_act s m next c.args.runner.now c.in-Ok-unmet.unmet c.in-Ok.missing
     c.as_slice.result.now c.as_slice-2.result.now counts at c.in-Ok-unmet.ensures c.in-Ok.ensures

@@ -1,7 +1,7 @@
 use Rattle.std.proofs.Common.{◌≡◌, ◌∙◌, ap, sym, [], ◌∷◌, map, Option, Some}
 use Rattle.std.specs.Option.{option_map_or}
 use Rattle.start_model.specs.Entries.{Done}
-use Rattle.start_model.specs.Lines.{UnmetLine}
+use Rattle.report_words.specs.declared.line.Line.TheVariants.{Unmet as UnmetLine}
 use Rattle.start_model.specs.Machine.{Start, MachineState, unmet_in, phase_after}
 use Rattle.start_model.specs.Starter.{phase_line}
 use Rattle.boot_run.specs.Starts.{phase_lines}

@@ -1,5 +1,4 @@
 use Rattle.std.proofs.Common.{◌∙◌, sym, refl, ap}
-use Rattle.boot_report.specs.Report.{verdict_of}
 use Rattle.boot_machine.specs.Steps.{is_there}
 use Rattle.printed_parts.proofs.GoesLemmas.{idle}
 use Rattle.boot_run.proofs.PlayLemmas.{plays-as, plays-said, plays-here, counted}
@@ -9,7 +8,7 @@ use Rattle.boot_run.proofs.whole.say_last.Goals as goal
 
 pub returns-then-is_on-clause-plays : goal.returns-then-is_on-clause-plays
 returns-then-is_on-clause-plays g c = λ m d rest tells counts left.
-    let word = verdict_of c.ending-word.result in
+    let word = c.ending-word.result in
     let is = word_at counts c.ending-word.ensures in
     plays-as (verdict_on m.machine.start word rest is)
     (plays-said (idle d) (ending m.machine.start word is).none (c.say.ensures.tells tells) left (λ v. refl))

@@ -1,5 +1,4 @@
-use Rattle.std.specs.Prelude.{[], ◌∷◌, codes, option_map}
-use Rattle.boot_report.specs.Report.{verdict_of}
+use Rattle.std.specs.Prelude.{[], ◌∷◌, codes}
 use Rattle.line_text.specs.Objects.{Number, Text}
 use Rattle.line_objects.proofs.ObjectLemmas.{fields_then}
 use Rattle.ntboot_cli.specs.Made.{last_word}
@@ -10,6 +9,6 @@ returns c =
     fields_then c.push_outcome.result c.args.out.now.items c.push_counts.new.out.items c.push_outcome.new.out.items
     ((codes "services", Number c.args.count) ∷ (codes "started", Number c.args.summary.now.started)
     ∷ (codes "failed", Number c.args.summary.now.failed) ∷ (codes "unmet", Number c.args.summary.now.unmet) ∷ [])
-    ((codes "verdict", Text (last_word (option_map verdict_of c.args.summary.now.verdict)))
+    ((codes "verdict", Text (last_word c.args.summary.now.verdict))
     ∷ (codes "sequence", Number c.args.summary.now.sequence) ∷ [])
     c.in_ok-push_counts.ensures c.push_outcome.ensures

@@ -1,5 +1,5 @@
 use Rattle.std.proofs.Common.{◌∙◌, ◌++◌, map, ap}
-use Rattle.start_model.specs.Lines.{UnmetLine}
+use Rattle.report_words.specs.declared.line.Line.TheVariants.{Unmet as UnmetLine}
 use Rattle.safe_boot.specs.Lines.{line_of}
 use Rattle.safe_boot.proofs.PlayLemmas.{ended_by}
 use Rattle.safe_boot.proofs.playing.end_phase.Goals as goal

@@ -1,5 +1,5 @@
 use Rattle.std.proofs.Common.{false, map, ap, ◌∙◌}
-use Rattle.start_model.specs.Lines.{SetLine, EndLine}
+use Rattle.report_words.specs.declared.line.Line.TheVariants.{Set as SetLine, End as EndLine}
 use Rattle.safe_boot.specs.Lines.{line_of}
 use Rattle.safe_boot.specs.Played.{safe_lines_by}
 use Rattle.safe_command.proofs.TextLemmas.{framed}

@@ -1,5 +1,5 @@
 use Rattle.std.proofs.Common.{[], ◌∷◌, ◌++◌, ◌∙◌}
-use Rattle.start_model.specs.Lines.{EntryLine}
+use Rattle.report_words.specs.declared.line.Line.TheVariants.{Entry as EntryLine}
 use Rattle.boot_ini.specs.Choice.{path_at}
 use Rattle.line_objects.specs.Objects.{printed_lines}
 use Rattle.safe_command.specs.Report.{mode_text, default_lines}

@@ -1,6 +1,6 @@
 use Rattle.std.proofs.Common.{[], ◌∷◌, ◌++◌}
-use Rattle.start_model.specs.Lines as lines
-use Rattle.start_model.specs.Lines.{PhaseLine, VitalLine}
+use Rattle.report_words.specs.declared.words.PhaseWord.TheVariants as phases
+use Rattle.report_words.specs.declared.line.Line.TheVariants.{Phase as PhaseLine, Vital as VitalLine}
 use Rattle.start_model.specs.Run.{first_state}
 use Rattle.run_laws.specs.Parts.{part_of}
 use Rattle.vital_laws.specs.Asked.{vital_behind}
@@ -10,7 +10,7 @@ use Rattle.vital_laws.proofs.passing.no_start_passes_its_boot_phase_without_a_vi
 pub returns-clause-passed : goal.returns-clause-passed
 returns-clause-passed c = λ choice script e placed wakes outcomes m w o before after is said.
     passed (vital_behind [] (script ++ e ∷ [])) (part_of choice script (first_state placed) wakes outcomes).lines before
-    (line-fair choice script e placed wakes outcomes m w o before (PhaseLine lines.SystemPhase) after is said)
+    (line-fair choice script e placed wakes outcomes m w o before (PhaseLine phases.System) after is said)
 
 pub returns-clause-missing : goal.returns-clause-missing
 returns-clause-missing c = λ choice script e placed wakes outcomes m w o before after name is said.
