@@ -1,11 +1,14 @@
 //! Which entries of Start 3 the automatic phase takes.
 
-ghost use Rattle.std.specs.Prelude.{◌≡◌, ℕ, ◌-◌, ◌^◌, ◌<◌, Bool, true, List, [], ◌∷◌, ◌&&◌, not, length, IfOk, OnOk, if◌then◌else◌};
-ghost use Rattle.start_model.specs.Demand.{Need, IsClosed, is_taken, automatic_of, pulled_of, starts_at, member};
-ghost use Rattle.dependencies.specs.Work.{IsLeast, is_asked, IsWork, PullsIn, TakesNamed, TakesListed};
+ghost use Rattle.std.specs.Prelude.{◌≡◌, ℕ, ◌^◌, ◌<◌, ◌++◌, Bool, true, List, All, filter, length, IfOk, OnOk, if◌then◌else◌};
+ghost use Rattle.std.specs.List.{flat_map};
+ghost use Rattle.start_model.specs.Demand.{Need, IsClosed, is_taken, automatic_of, pulled_of, starts_at};
+ghost use Rattle.dependencies.specs.Work.{IsLeast, is_asked, given_at, demanded, firsts_of, rows_of};
 
 use crate::need::{Needs, Places};
 use crate::table::{NeedList, NeedTable};
+use least_set::{Edges, least_set};
+use nt_bytes::Row;
 use std::alloc::{AllocError, Global};
 
 /// The places of the entries of Start 2 and of those that they pull in, in rising order. The table has
@@ -14,7 +17,7 @@ pub fn automatic_in<T: NeedTable>(alloc: Global, table: &T) -> Result<Places, Al
     requires { length (T.needs table.now) < 2 ^ 32 }
     ensures places { IfOk result (λ places. places ≡ automatic_of (T.needs table.now)) }
 {
-    let taken = least_set(alloc, table)?;
+    let taken = taken_in(alloc, table)?;
     places_of(alloc, table, taken.as_slice(), false)
 }
 
@@ -33,7 +36,7 @@ pub fn pulled(alloc: Global, table: &Needs) -> Result<Places, AllocError>
     ensures places { IfOk result (λ places. places ≡ pulled_of table.now) }
 {
     let table = NeedList::new(alloc, table.as_slice())?;
-    let taken = least_set(alloc, &table)?;
+    let taken = taken_in(alloc, &table)?;
     places_of(alloc, &table, taken.as_slice(), true)
 }
 
@@ -72,15 +75,6 @@ fn is_asked<T: NeedTable>(table: &T, taken: &[bool], on_demand: bool, place: usi
     taken[place] && (!on_demand || starts(table, place, 3))
 }
 
-/// Whether the entry at a place is not taken and has Start 3.
-fn is_new<T: NeedTable>(table: &T, taken: &[bool], place: usize) -> bool
-    requires place { place < length (T.needs table.now) }
-    requires len { length taken.now ≡ length (T.needs table.now) }
-    ensures { result ≡ (not (member taken.now place) && starts_at (T.needs table.now) 3 place) }
-{
-    !taken[place] && starts(table, place, 3)
-}
-
 /// Whether the entry at a place has this Start value.
 fn starts<T: NeedTable>(table: &T, place: usize, start: u32) -> bool
     requires { place < length (T.needs table.now) }
@@ -90,78 +84,73 @@ fn starts<T: NeedTable>(table: &T, place: usize, start: u32) -> bool
 }
 
 /// For each place, whether it is in the least set.
-fn least_set<T: NeedTable>(alloc: Global, table: &T) -> Result<Vec<bool>, AllocError>
+fn taken_in<T: NeedTable>(alloc: Global, table: &T) -> Result<Vec<bool>, AllocError>
     ensures { IfOk result (λ taken. IsLeast (T.needs table.now) taken.items) }
 {
-    let mut taken = Vec::new(alloc);
-    let mut work = Vec::new(alloc);
-    for place in 0..table.count() {
-        let first = starts(table, place, 2);
-        taken.push(first)?;
-        if first {
-            work.push(place)?;
-        }
-    }
-    'work: while let Some(place) = work.pop() {
-        pull(alloc, table, place, &mut taken, &mut work)?;
-    }
+    let firsts = firsts_of(alloc, table)?;
+    let pulls = Pulls { table };
+    let taken = least_set(alloc, &pulls, firsts.as_slice())?;
     Ok(taken)
 }
 
-/// Takes in what the entry at a place pulls in, and notes as work what was not there before.
-fn pull<T: NeedTable>(
-    alloc: Global,
-    table: &T,
-    place: usize,
-    taken: &mut Vec<bool>,
-    work: &mut Vec<usize>,
-) -> Result<(), AllocError>
-    requires place { place < length (T.needs table.now) }
-    requires work { IsWork (T.needs table.now) taken.old.items work.old.items }
-    ensures work { OnOk result (IsWork (T.needs table.now) taken.new.items work.new.items) }
-    ensures pulls { OnOk result (PullsIn (T.needs table.now) place taken.old.items work.old.items taken.new.items work.new.items) }
+/// The places of the entries of Start 2.
+fn firsts_of<T: NeedTable>(alloc: Global, table: &T) -> Result<Row<usize>, AllocError>
+    ensures { IfOk result (λ places. places ≡ firsts_of (T.needs table.now)) }
+{
+    let mut places = Row::new(alloc);
+    for place in 0..table.count() {
+        if starts(table, place, 2) {
+            places.push(place)?;
+        }
+    }
+    Ok(places)
+}
+
+/// Leads from each entry of a table to those that it pulls in.
+#[derive(Drop)]
+struct Pulls<'a, T: NeedTable> {
+    table: &'a T,
+}
+
+impl<T: NeedTable> Edges for Pulls<'_, T> {
+    ghost rows = { λ pulls. rows_of (T.needs pulls.table.now) };
+
+    fn count(&self) -> usize {
+        self.table.count()
+    }
+
+    fn row(&self, alloc: Global, at: usize) -> Result<Row<usize>, AllocError> {
+        pulled_by(alloc, self.table, at)
+    }
+}
+
+/// The places of the entries that the one at a place pulls in.
+fn pulled_by<T: NeedTable>(alloc: Global, table: &T, place: usize) -> Result<Row<usize>, AllocError>
+    requires { place < length (T.needs table.now) }
+    ensures { IfOk result (λ row. row ≡ flat_map (demanded (T.needs table.now)) (given_at (T.needs table.now) place)) }
 {
     let names = table.services(place);
+    let mut row = Row::new(alloc);
     for name in names {
-        take_named(alloc, table, name.as_slice(), taken, work)?;
+        let places = table.places(alloc, name.as_slice())?;
+        put_demanded(table, places, &mut row)?;
     }
-    Ok(())
+    Ok(row)
 }
 
-/// Takes in each entry of this name, where it has Start 3.
-fn take_named<T: NeedTable>(
-    alloc: Global,
+/// Puts those of the places whose entries have Start 3 after the others.
+fn put_demanded<T: NeedTable>(
     table: &T,
-    name: &[u16],
-    taken: &mut Vec<bool>,
-    work: &mut Vec<usize>,
+    places: &[usize],
+    row: &mut Row<usize>,
 ) -> Result<(), AllocError>
-    requires work { IsWork (T.needs table.now) taken.old.items work.old.items }
-    ensures work { OnOk result (IsWork (T.needs table.now) taken.new.items work.new.items) }
-    ensures takes { OnOk result (TakesNamed (T.needs table.now) (name.now ∷ []) taken.old.items work.old.items taken.new.items work.new.items) }
+    requires { All (λ p. p < length (T.needs table.now)) places.now }
+    ensures { OnOk result (row.new ≡ row.old ++ filter (starts_at (T.needs table.now) 3) places.now) }
 {
-    let places = table.places(alloc, name)?;
     for place in places {
-        take_in(table, *place, taken, work)?;
-    }
-    Ok(())
-}
-
-/// Takes in the entry at a place, where it has Start 3, and notes it as work if it was not there before.
-fn take_in<T: NeedTable>(
-    table: &T,
-    place: usize,
-    taken: &mut Vec<bool>,
-    work: &mut Vec<usize>,
-) -> Result<(), AllocError>
-    requires place { place < length (T.needs table.now) }
-    requires work { IsWork (T.needs table.now) taken.old.items work.old.items }
-    ensures work { OnOk result (IsWork (T.needs table.now) taken.new.items work.new.items) }
-    ensures takes { OnOk result (TakesListed (T.needs table.now) (place ∷ []) taken.old.items work.old.items taken.new.items work.new.items) }
-{
-    if is_new(table, taken.as_slice(), place) {
-        taken[place] = true;
-        work.push(place)?;
+        if starts(table, *place, 3) {
+            row.push(*place)?;
+        }
     }
     Ok(())
 }

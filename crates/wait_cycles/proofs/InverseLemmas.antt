@@ -1,10 +1,11 @@
 -- Edges turned round, one by one.
-use Rattle.std.proofs.Common.{◌≡◌, ℕ, ◌+◌, ◌<◌, List, [], ◌∷◌, ◌++◌, length, take, get_or, set, refl, sym, ap, ◌∙◌, inl, inr, subst, arith}
-use Rattle.std.specs.Prelude.{All, Contains, replicate, Result, Ok, Err, OnOk, IfOk}
+use Rattle.std.proofs.Common.{◌≡◌, ℕ, ◌+◌, ◌<◌, List, [], ◌∷◌, ◌++◌, length, take, get_or, set, sym, ap, ◌∙◌, inl, inr, subst, arith}
+use Rattle.std.specs.Prelude.{Contains, replicate, Result, Ok, Err, OnOk, IfOk}
 use Rattle.std.proofs.lemmas.Bool.{cases_eq, cases_lt}
-use Rattle.std.proofs.lemmas.List.{get_or-set_same, get_or-set_other, get_or_past, length-set, length-replicate, get_or-replicate, take_more, take_all, get_or_read}
-use Rattle.std.proofs.lemmas.List.Elements.{Contains-get_or, Contains-push, Contains-push_cases, Contains-append_left, Contains-append_right, Contains-append_cases}
-use Rattle.wait_cycles.specs.Graph.{row_at, HasEdge, AreEdges, IsInverse, PutsEdges}
+use Rattle.std.proofs.lemmas.List.{get_or-set_same, get_or-set_other, get_or_past, length-set, length-replicate, get_or-replicate, take_more, get_or_read}
+use Rattle.std.proofs.lemmas.List.Elements.{Contains-push, Contains-push_cases, Contains-append_left, Contains-append_right, Contains-append_cases}
+pub use Rattle.least_set.proofs.MarkLemmas.{none_in, row_within, edge_from}
+use Rattle.wait_cycles.specs.Graph.{row_at, HasEdge, IsInverse, PutsEdges}
 
 pub on_ok : {E : Type 0} (r : Result (Unit {0}) E) (P Q : Type 0) → (P → Q) → OnOk r P → OnOk r Q
 on_ok (Ok u) P Q f p = f p
@@ -13,10 +14,6 @@ on_ok (Err why) P Q f p = tt
 pub if_ok : {X E : Type 0} (r : Result X E) (P Q : X → Type 0) → ((x : X) → P x → Q x) → IfOk r P → IfOk r Q
 if_ok (Ok x) P Q f p = f x p
 if_ok (Err why) P Q f p = tt
-
--- nothing is in the empty list
-pub none_in : {X : Type 0} (x : X) → Contains [] x → ⊥
-none_in x h = omega (arith, h.1)
 
 -- the edges of the first rows are turned round
 pub record IsTurned (rows : List (List ℕ)) (n : ℕ) (back : List (List ℕ)) : Type 0 where
@@ -68,14 +65,6 @@ put_as (Ok u) from end old row new lt is e =
 put_as (Err why) from end old row new lt is e = tt
 
 -- ---- more edges
-
-pub puts_none : (end : ℕ) (old : List (List ℕ)) → PutsEdges [] end old old
-puts_none end old = record {
-  len = refl;
-  kept = λ u v h. h;
-  put = λ u h. absurd (none_in u h);
-  only = λ u v h. inl h;
-}
 
 pub puts_both : (xs ys : List ℕ) (end : ℕ) (old mid new : List (List ℕ)) → PutsEdges xs end old mid
     → PutsEdges ys end mid new → PutsEdges (xs ++ ys) end old new
@@ -133,16 +122,6 @@ turned_more rows i back new is puts = record {
   ];
 }
 
-pub within : (rows : List (List ℕ)) (i n : ℕ) → AreEdges rows → n ≡ length rows → All (λ v. v < n) (row_at rows i)
-within rows i n edges e k d lt =
-    omega (arith, e, edges i (get_or (row_at rows i) k d) (Contains-get_or (row_at rows i) k d lt))
-
-pub edge_from : (rows : List (List ℕ)) (u v : ℕ) → HasEdge rows u v → u < length rows
-edge_from rows u v h = elim (cases_lt u (length rows)) [
-  | inl lt ↦ lt
-  | inr ge ↦ absurd (none_in v (subst (λ (xs : List ℕ). Contains xs v) (get_or_past rows u [] ge) h))
-]
-
 pub turned_all : (rows : List (List ℕ)) (n : ℕ) (back : List (List ℕ)) → n ≡ length rows → IsTurned rows n back
     → IsInverse rows back
 turned_all rows n back e is = record {
@@ -150,8 +129,3 @@ turned_all rows n back e is = record {
   turned = λ u v h. is.turned u v (omega (arith, e, edge_from rows u v h)) h;
   only = λ u v h. (is.only u v h).1;
 }
-
-pub puts_all : (row : List ℕ) (i end : ℕ) (old new : List (List ℕ)) → i ≡ length row → PutsEdges (take i row) end old new
-    → PutsEdges row end old new
-puts_all row i end old new e is =
-    subst (λ (xs : List ℕ). PutsEdges xs end old new) (take_all i row (omega (arith, e))) is

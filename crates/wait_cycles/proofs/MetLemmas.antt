@@ -5,14 +5,14 @@ use Rattle.std.specs.List.{list_any, list_all, range_with_len}
 use Rattle.std.proofs.lemmas.Bool.{false≢true, cases_lt, cases_Bool, and_parts, and_from, or_cases, or_left, or_right, eqb-true, lt-ltb, le-ltb}
 use Rattle.std.proofs.lemmas.Cmp.{nat_eq_equiv}
 use Rattle.std.proofs.lemmas.Map.Views.{Contains-from_any, list_any-from_Contains}
-use Rattle.std.proofs.lemmas.List.{get_or-set_same, length-set, length-replicate, length_push, take_more, take_all}
+use Rattle.std.proofs.lemmas.List.{get_or-set_same, length-set, length-replicate, length_push, take_more}
 use Rattle.std.proofs.lemmas.List.FromFn.{get_or-range_with_len, length-range_with_len}
 use Rattle.std.proofs.lemmas.List.Elements.{Contains-get_or, Contains-push, Contains-push_cases, Contains-append_left, Contains-append_cases}
 use Rattle.start_model.specs.Demand.{member}
-use Rattle.wait_cycles.specs.Graph.{row_at, HasEdge, AreWaits, IsInverse, is_ripe, IsMet, Settles}
+use Rattle.wait_cycles.specs.Graph.{row_at, HasEdge, AreWaits, IsInverse, is_ripe, Settles}
 use Rattle.wait_cycles.specs.Working.{is_done, IsSettling, AreFirsts}
 use Rattle.wait_cycles.proofs.InverseLemmas.{none_in, edge_from}
-use Rattle.wait_cycles.proofs.ReachLemmas.{member_none, one_fewer, set_mark, still_set}
+use Rattle.least_set.proofs.MarkLemmas.{member_none, one_fewer, set_mark, still_set}
 
 -- ---- tests on lists
 
@@ -112,19 +112,6 @@ ripe_weaker rows places set other u f h = elim (cases_lt u places) [
 ]
 
 -- ---- steps
-
-pub settles_none : (rows : List (List ℕ)) (places : ℕ) (marks : List Bool) (work : List ℕ)
-    → Settles rows places [] marks work marks work
-settles_none rows places marks work = record {
-  len = refl;
-  settled = λ u h r. absurd (none_in u h);
-  kept_marks = λ k h. h;
-  only = λ k h. inl h;
-  kept = λ k h. h;
-  noted = λ k h. inl h;
-  least = λ set by sub k h. sub k h;
-  nearer = omega arith;
-}
 
 -- one that is marked now
 pub settles_new : (rows : List (List ℕ)) (places at : ℕ) (marks : List Bool) (work : List ℕ) → length marks ≡ length rows
@@ -279,21 +266,6 @@ settling_more rows back places marks work rest at marks' work' turned e is step 
           | inl still ↦ (done_parts marks' work' k d).1 (step.kept k still)
           | inr this ↦ other (sym this)
         ])
-
-pub settled_all : (rows : List (List ℕ)) (places : ℕ) (marks : List Bool) (work : List ℕ) → work ≡ []
-    → IsSettling rows places marks work → IsMet rows places marks
-settled_all rows places marks work e is = record {
-  len = is.len;
-  closed = λ u within r. is.settled u within
-      (ripe_weaker rows places (member marks) (is_done marks work) u
-      (λ v edge on. done_from marks work v on (λ i. none_in v (subst (λ (xs : List ℕ). Contains xs v) e i))) r);
-  least = is.least;
-}
-
-pub settles_all : (rows : List (List ℕ)) (places : ℕ) (us : List ℕ) (i : ℕ) (m0 : List Bool) (w0 : List ℕ) (m1 : List Bool)
-    (w1 : List ℕ) → i ≡ length us → Settles rows places (take i us) m0 w0 m1 w1 → Settles rows places us m0 w0 m1 w1
-settles_all rows places us i m0 w0 m1 w1 e is =
-    subst (λ (xs : List ℕ). Settles rows places xs m0 w0 m1 w1) (take_all i us (omega (arith, e))) is
 
 -- where nothing was marked before
 pub settling_begun : (rows : List (List ℕ)) (places : ℕ) (us : List ℕ) (m0 : List Bool) (w0 : List ℕ) (marks : List Bool)

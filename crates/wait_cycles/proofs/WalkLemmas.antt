@@ -2,14 +2,14 @@
 use Rattle.std.proofs.Common.{◌≡◌, ℕ, ◌+◌, ◌<◌, Bool, true, false, not, ◌&&◌, nat_eq, List, [], ◌∷◌, ◌++◌, length, take, filter, get_or, set, cond, refl, sym, ap, ◌∙◌, inl, inr, subst, arith}
 use Rattle.std.specs.Prelude.{Contains}
 use Rattle.std.proofs.lemmas.Bool.{cases_eq, and_parts, not-true, eqb-true, eq-eqb}
-use Rattle.std.proofs.lemmas.List.{get_or-set_same, get_or-set_other, get_or-map, map-set, length-set, length-map, take_more, take_all}
+use Rattle.std.proofs.lemmas.List.{get_or-set_same, get_or-set_other, get_or-map, map-set, length-set, length-map, take_more}
 use Rattle.std.proofs.lemmas.List.Elements.{filter-append}
 use Rattle.start_model.specs.Demand.{member}
 use Rattle.dependencies.proofs.KeptLemmas.{within_waits}
-use Rattle.wait_cycles.specs.Graph.{row_at, HasEdge, Marks}
-use Rattle.wait_cycles.specs.Working.{IsReaching}
+use Rattle.least_set.specs.Work.{Marks, IsReaching}
+use Rattle.wait_cycles.specs.Graph.{row_at, HasEdge}
 use Rattle.wait_cycles.specs.Classes.{which, kept_rows, OnlyPuts, Numbers}
-use Rattle.wait_cycles.proofs.ReachLemmas.{marks_none, marks_new, marks_both, reaching_begun, reaching_more}
+use Rattle.least_set.proofs.MarkLemmas.{marks_new, marks_both, reaching_begun, reaching_more}
 use Rattle.wait_cycles.proofs.CycleLemmas.{filter_in, filter_out}
 use Rattle.wait_cycles.proofs.StuckLemmas.{row_left}
 
@@ -48,13 +48,6 @@ kept_from among rows u v edge on =
     (filter_in (member among) (row_at rows u) v edge on)
 
 -- ---- steps
-
-pub numbers_none : (k : ℕ) (numbers work : List ℕ) → Numbers k [] numbers work numbers work
-numbers_none k numbers work = record {
-  len = refl;
-  marks = marks_none (which k numbers) work;
-  puts = λ v. inr refl;
-}
 
 -- one that has the number now
 numbers_new : (k at : ℕ) (numbers work : List ℕ) → at < length numbers → member (which k numbers) at ≡ false
@@ -106,17 +99,12 @@ numbers_more k p row i n0 w0 n1 w1 n2 w2 lt one two =
     (sym (ap (filter p) (take_more row i 0 lt) ∙ filter-append p (take i row) (get_or row i 0 ∷ [])))
     (numbers_both k (filter p (take i row)) (filter p (get_or row i 0 ∷ [])) n0 w0 n1 w1 n2 w2 one two)
 
-pub numbers_all : (k : ℕ) (p : ℕ → Bool) (row : List ℕ) (i : ℕ) (n0 w0 n1 w1 : List ℕ) → i ≡ length row
-    → Numbers k (filter p (take i row)) n0 w0 n1 w1 → Numbers k (filter p row) n0 w0 n1 w1
-numbers_all k p row i n0 w0 n1 w1 e is =
-    subst (λ (xs : List ℕ). Numbers k (filter p xs) n0 w0 n1 w1) (take_all i row (omega (arith, e))) is
-
 -- ---- the whole
 
 -- how far a walk has come
 pub record IsWalking (rows : List (List ℕ)) (k : ℕ) (among : List Bool) (old numbers work : List ℕ) : Type 0 where
   pub len : length numbers ≡ length rows
-  pub reaching : IsReaching (kept_rows among rows) k (which k numbers) work
+  pub reaching : IsReaching (kept_rows among rows) (row_at (kept_rows among rows) k) (which k numbers) work
   pub puts : OnlyPuts k old numbers
 
 pub walking_begun : (rows : List (List ℕ)) (k : ℕ) (among : List Bool) (row n0 w0 n1 w1 : List ℕ) → row ≡ row_at rows k
@@ -124,7 +112,7 @@ pub walking_begun : (rows : List (List ℕ)) (k : ℕ) (among : List Bool) (row 
     → Numbers k (filter (member among) row) n0 w0 n1 w1 → IsWalking rows k among n0 n1 w1
 walking_begun rows k among row n0 w0 n1 w1 e len unused none is = record {
   len = is.len ∙ len;
-  reaching = reaching_begun (kept_rows among rows) k (which k n0) w0 (which k n1) w1
+  reaching = reaching_begun (kept_rows among rows) (row_at (kept_rows among rows) k) (which k n0) w0 (which k n1) w1
       (length-map n0 (nat_eq k) ∙ len ∙ sym (length-map rows (filter (member among)))) unused none
       (subst (λ (xs : List ℕ). Marks xs (which k n0) w0 (which k n1) w1)
       (ap (filter (member among)) e ∙ sym (kept_row among rows k)) is.marks);
@@ -136,7 +124,7 @@ pub walking_more : (rows : List (List ℕ)) (k : ℕ) (among : List Bool) (row o
     → Numbers k (filter (member among) row) n0 rest n1 w1 → IsWalking rows k among old n1 w1
 walking_more rows k among row old n0 w0 rest at n1 w1 e popped is step = record {
   len = step.len ∙ is.len;
-  reaching = reaching_more (kept_rows among rows) k (which k n0) w0 rest at (which k n1) w1 popped is.reaching
+  reaching = reaching_more (kept_rows among rows) (row_at (kept_rows among rows) k) (which k n0) w0 rest at (which k n1) w1 popped is.reaching
       (subst (λ (xs : List ℕ). Marks xs (which k n0) rest (which k n1) w1)
       (ap (filter (member among)) e ∙ sym (kept_row among rows at)) step.marks);
   puts = puts_both k old n0 n1 is.puts step.puts;

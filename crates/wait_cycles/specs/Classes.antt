@@ -3,7 +3,8 @@ use Rattle.std.specs.Prelude.{◌≡◌, ◌≢◌, ◌⊎◌, ℕ, ◌<◌, Boo
 use Rattle.std.specs.List.{list_any, range_with_len}
 use Rattle.start_model.specs.Demand.{member}
 use Rattle.wait_cycles.specs.Waits.{comes_to, begins_with}
-use Rattle.wait_cycles.specs.Graph.{row_at, IsReach, Marks}
+use Rattle.least_set.specs.Work.{Marks}
+use Rattle.wait_cycles.specs.Graph.{row_at, IsReach}
 
 -- an edge leads from u to v
 abbrev pub has_edge : List (List ℕ) → ℕ → ℕ → Bool

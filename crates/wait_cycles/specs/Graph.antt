@@ -1,20 +1,10 @@
 -- Places and needs as the vertices of one graph: first the places, then the needs.
-use Rattle.std.specs.Prelude.{◌≡◌, ◌⊎◌, ℕ, ◌+◌, ◌*◌, ◌<◌, ◌≤◌, Bool, true, not, nat_lt, List, [], map, take, filter, length, slice_index_or, count_by, Contains, if◌then◌else◌}
+use Rattle.std.specs.Prelude.{◌≡◌, ◌⊎◌, ℕ, ◌+◌, ◌*◌, ◌<◌, ◌≤◌, Bool, true, not, nat_lt, List, map, take, filter, length, count_by, Contains, if◌then◌else◌}
 use Rattle.std.specs.List.{list_any, list_all}
+pub use Rattle.least_set.specs.Edges.{row_at, HasEdge, AreEdges}
+use Rattle.least_set.specs.Edges.{IsClosed, IsLeast}
 use Rattle.start_model.specs.Demand.{member}
 use Rattle.wait_cycles.specs.Waits.{leads}
-
--- the list at a vertex
-abbrev pub row_at : List (List ℕ) → ℕ → List ℕ
-row_at rows u = slice_index_or rows u []
-
--- an edge leads from u to v
-abbrev pub HasEdge : List (List ℕ) → ℕ → ℕ → Type 0
-HasEdge rows u v = Contains (row_at rows u) v
-
--- edges lead to vertices
-abbrev pub AreEdges : List (List ℕ) → Type 0
-AreEdges rows = (u v : ℕ) → HasEdge rows u v → v < length rows
 
 -- The first vertices are places, and the others needs. Edges lead from a place to its needs and from a need to its ways.
 pub record AreWaits (places : ℕ) (rows : List (List ℕ)) : Type 0 where
@@ -44,25 +34,12 @@ pub record PutsEdges (row : List ℕ) (end : ℕ) (old new : List (List ℕ)) : 
 -- ---- what edges lead to
 
 -- the set has each vertex to which an edge leads from the start or from one of its own
-pub record IsClosedFrom (rows : List (List ℕ)) (start : ℕ) (set : ℕ → Bool) : Type 0 where
-  pub begun : (v : ℕ) → HasEdge rows start v → set v ≡ true
-  pub closed : (u v : ℕ) → set u ≡ true → HasEdge rows u v → set v ≡ true
+abbrev pub IsClosedFrom : List (List ℕ) → ℕ → (ℕ → Bool) → Type 0
+IsClosedFrom rows start = IsClosed rows (row_at rows start)
 
 -- the marks are the least such set
-pub record IsReach (rows : List (List ℕ)) (start : ℕ) (marks : List Bool) : Type 0 where
-  pub len : length marks ≡ length rows
-  pub closed : IsClosedFrom rows start (member marks)
-  pub least : (set : ℕ → Bool) → IsClosedFrom rows start set → (v : ℕ) → member marks v ≡ true → set v ≡ true
-
--- these vertices are marked, and are work where they were not marked before
-pub record Marks (row : List ℕ) (marks : List Bool) (work : List ℕ) (marks' : List Bool) (work' : List ℕ) : Type 0 where
-  pub len : length marks' ≡ length marks
-  pub marked : (k : ℕ) → Contains row k → member marks' k ≡ true
-  pub kept_marks : (k : ℕ) → member marks k ≡ true → member marks' k ≡ true
-  pub only : (k : ℕ) → member marks' k ≡ true → (member marks k ≡ true) ⊎ (Contains row k × Contains work' k)
-  pub kept : (k : ℕ) → Contains work k → Contains work' k
-  pub noted : (k : ℕ) → Contains work' k → Contains work k ⊎ (member marks' k ≡ true)
-  pub nearer : 2 * count_by not marks' + length work' ≤ 2 * count_by not marks + length work
+abbrev pub IsReach : List (List ℕ) → ℕ → List Bool → Type 0
+IsReach rows start = IsLeast rows (row_at rows start)
 
 -- ---- what is met
 

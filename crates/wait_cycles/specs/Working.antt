@@ -1,17 +1,8 @@
 -- How far has a list of work come?
-use Rattle.std.specs.Prelude.{◌≡◌, ◌⊎◌, ℕ, ◌+◌, ◌*◌, ◌<◌, Bool, true, not, nat_eq, ◌&&◌, List, length, take, slice_index, count_by, sum_by, Contains}
+use Rattle.std.specs.Prelude.{◌≡◌, ℕ, ◌+◌, ◌*◌, ◌<◌, Bool, true, not, nat_eq, ◌&&◌, List, length, take, slice_index, count_by, sum_by, Contains}
 use Rattle.std.specs.List.{list_any, list_all}
 use Rattle.start_model.specs.Demand.{member}
-use Rattle.wait_cycles.specs.Graph.{row_at, HasEdge, IsClosedFrom, is_ripe, IsMetBy}
-
--- what is marked has to be, and leads to what is marked or is still work
-pub record IsReaching (rows : List (List ℕ)) (start : ℕ) (marks : List Bool) (work : List ℕ) : Type 0 where
-  pub len : length marks ≡ length rows
-  pub honest : (k : ℕ) → Contains work k → member marks k ≡ true
-  pub begun : (v : ℕ) → HasEdge rows start v → member marks v ≡ true
-  pub closed : (u : ℕ) → member marks u ≡ true
-      → Contains work u ⊎ ((v : ℕ) → HasEdge rows u v → member marks v ≡ true)
-  pub least : (set : ℕ → Bool) → IsClosedFrom rows start set → (v : ℕ) → member marks v ≡ true → set v ≡ true
+use Rattle.wait_cycles.specs.Graph.{row_at, is_ripe, IsMetBy}
 
 -- it is marked, and was worked on
 abbrev pub is_done : List Bool → List ℕ → ℕ → Bool

@@ -10,7 +10,8 @@ ghost use Rattle.wait_cycles.specs.Classes.{AreMembers, first_from};
 use crate::classes::classes;
 use crate::inverse::{empty_rows, inverse};
 use crate::met::met;
-use crate::reach::{is_marked, row_at};
+use crate::reach::row_at;
+use least_set::is_marked;
 use nt_bytes::Row;
 use std::alloc::{AllocError, Global};
 

@@ -9,7 +9,8 @@ ghost use Rattle.start_model.specs.Demand.{member};
 ghost use Rattle.wait_cycles.specs.Graph.{AreWaits, IsInverse, IsMet, Settles, is_ripe, row_at};
 ghost use Rattle.wait_cycles.specs.Working.{IsSettling, AreFirsts};
 
-use crate::reach::{is_marked, none_marked, row_at};
+use crate::reach::row_at;
+use least_set::{is_marked, none_marked};
 use nt_bytes::Row;
 use std::alloc::{AllocError, Global};
 

@@ -4,7 +4,7 @@ ghost use Rattle.std.specs.Prelude.{◌+◌, ◌*◌, ◌≤◌, not, length, co
 ghost use Rattle.std.specs.Option.{option_to_list};
 ghost use Rattle.wait_cycles.specs.Working.{to_do};
 
-use crate::reach::{mark, none_marked};
+use least_set::{mark, none_marked};
 use nt_bytes::Row;
 use std::alloc::{AllocError, Global};
 

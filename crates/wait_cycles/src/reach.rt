@@ -1,10 +1,10 @@
 //! What edges lead to.
 
-ghost use Rattle.std.specs.Prelude.{◌≡◌, ◌<◌, [], ◌∷◌, false, not, All, length, replicate, IfOk, OnOk};
-ghost use Rattle.start_model.specs.Demand.{member};
-ghost use Rattle.wait_cycles.specs.Graph.{row_at, AreEdges, IsReach, Marks};
-ghost use Rattle.wait_cycles.specs.Working.{IsReaching};
+ghost use Rattle.std.specs.Prelude.{◌≡◌, IfOk};
+ghost use Rattle.least_set.specs.Edges.{row_at, AreEdges};
+ghost use Rattle.wait_cycles.specs.Graph.{IsReach};
 
+use least_set::{Edges, least_set};
 use nt_bytes::Row;
 use std::alloc::{AllocError, Global};
 
@@ -13,76 +13,27 @@ pub fn reach(alloc: Global, rows: &[Row<usize>], start: usize) -> Result<Vec<boo
     requires { AreEdges rows.now }
     ensures { IfOk result (λ marks. IsReach rows.now start marks.items) }
 {
-    let mut marks = none_marked(alloc, rows.len())?;
-    let mut work = Vec::new(alloc);
-    begin(rows, start, &mut marks, &mut work)?;
-    'work: while let Some(at) = work.pop() {
-        mark_all(row_at(rows, at), &mut marks, &mut work)?;
-    }
+    let edges = RowEdges { rows };
+    let marks = least_set(alloc, &edges, row_at(rows, start))?;
     Ok(marks)
 }
 
-/// Marks what an edge leads to from the start.
-fn begin(
-    rows: &[Row<usize>],
-    start: usize,
-    marks: &mut Vec<bool>,
-    work: &mut Vec<usize>,
-) -> Result<(), AllocError>
-    requires edges { AreEdges rows.now }
-    requires marks { marks.old.items ≡ replicate (length rows.now) false }
-    requires work { work.old.items ≡ [] }
-    ensures { OnOk result (IsReaching rows.now start marks.new.items work.new.items) }
-{
-    mark_all(row_at(rows, start), marks, work)
+/// The edges of a list of rows.
+#[derive(Drop)]
+struct RowEdges<'a> {
+    rows: &'a [Row<usize>],
 }
 
-/// Marks these vertices, and notes as work what was not marked before.
-fn mark_all(row: &[usize], marks: &mut Vec<bool>, work: &mut Vec<usize>) -> Result<(), AllocError>
-    requires { All (λ v. v < length marks.old.items) row.now }
-    ensures { OnOk result (Marks row.now marks.old.items work.old.items marks.new.items work.new.items) }
-{
-    for at in row {
-        mark(*at, marks, work)?;
+impl Edges for RowEdges<'_> {
+    ghost rows = { λ edges. edges.rows.now };
+
+    fn count(&self) -> usize {
+        self.rows.len()
     }
-    Ok(())
-}
 
-pub(crate) fn mark(
-    at: usize,
-    marks: &mut Vec<bool>,
-    work: &mut Vec<usize>,
-) -> Result<(), AllocError>
-    requires { at < length marks.old.items }
-    ensures { OnOk result (Marks (at ∷ []) marks.old.items work.old.items marks.new.items work.new.items) }
-{
-    if is_open(marks.as_slice(), at) {
-        marks[at] = true;
-        work.push(at)?;
+    fn row(&self, alloc: Global, at: usize) -> Result<Row<usize>, AllocError> {
+        Ok(Row::from_vec(Vec::from_slice(alloc, row_at(self.rows, at))?))
     }
-    Ok(())
-}
-
-/// No mark of that many.
-pub(crate) fn none_marked(alloc: Global, count: usize) -> Result<Vec<bool>, AllocError>
-    ensures { IfOk result (λ marks. marks.items ≡ replicate count false) }
-{
-    vec![in alloc; false; count]
-}
-
-pub(crate) fn is_marked(marks: &[bool], at: usize) -> bool
-    ensures { result ≡ member marks.now at }
-{
-    match marks.get(at) {
-        Some(mark) => *mark,
-        None => false,
-    }
-}
-
-fn is_open(marks: &[bool], at: usize) -> bool
-    ensures { result ≡ not (member marks.now at) }
-{
-    !is_marked(marks, at)
 }
 
 /// The list at a vertex, which is empty past the last one.

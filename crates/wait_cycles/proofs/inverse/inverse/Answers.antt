@@ -2,7 +2,7 @@ use Rattle.std.proofs.Common.{◌≡◌, ℕ, ◌<◌, List, [], length, refl, s
 use Rattle.std.specs.Prelude.{All}
 use Rattle.std.proofs.lemmas.List.{get_or_read}
 use Rattle.wait_cycles.specs.Graph.{row_at, PutsEdges}
-use Rattle.wait_cycles.proofs.InverseLemmas.{IsTurned, turned_none, turned_more, turned_all, within}
+use Rattle.wait_cycles.proofs.InverseLemmas.{IsTurned, turned_none, turned_more, turned_all, row_within}
 use Rattle.wait_cycles.proofs.inverse.inverse.Goals as goal
 
 pub loop-from-init : goal.loop-from-init
@@ -16,7 +16,7 @@ put_edges-requires c =
     let here : c.index-rows-from.result ≡ row_at c.args.rows.now i =
     get_or_read c.args.rows.now i c.index-rows-from.result c.loop-from-test.true c.index-rows-from.is [] in
     subst (λ (xs : List ℕ). All (λ v. v < length c.loop-from.back.items) xs) (sym (c.as_slice.ensures ∙ here))
-    (within c.args.rows.now i (length c.loop-from.back.items) c.requires c.loop-from.invariant.len)
+    (row_within c.args.rows.now i (length c.loop-from.back.items) c.requires c.loop-from.invariant.len)
 
 pub loop-from-preserved : goal.loop-from-preserved
 loop-from-preserved c =

@@ -1,6 +1,4 @@
-use Rattle.std.proofs.Common.{arith}
-use Rattle.std.proofs.lemmas.List.{nil_from_length}
-use Rattle.wait_cycles.proofs.MetLemmas.{back_within, settling_more, settled_all}
+use Rattle.wait_cycles.proofs.MetLemmas.{back_within, settling_more}
 use Rattle.wait_cycles.proofs.met.met.Goals as goal
 
 pub settle_all-requires-clause-within : goal.settle_all-requires-clause-within
@@ -13,8 +11,3 @@ work-preserved c = record {
       (rw c.row_at.ensures at c.in_ok-settle_all.ensures.settled);
   firsts = c.in_ok-settle_all.ensures.firsts;
 }
-
-pub returns : goal.returns
-returns c =
-    settled_all _ _ _ c.work.work.items (nil_from_length c.work.work.items (omega (arith, c.in_default.ensures.cases)))
-    c.work.invariant.settling

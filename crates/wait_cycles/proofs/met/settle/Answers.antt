@@ -1,6 +1,6 @@
 use Rattle.std.proofs.Common.{sym}
 use Rattle.std.proofs.lemmas.Bool.{not-true, and_parts}
-use Rattle.wait_cycles.proofs.ReachLemmas.{still_set}
+use Rattle.least_set.proofs.MarkLemmas.{still_set}
 use Rattle.wait_cycles.proofs.MetLemmas.{settles_new, firsts_kept}
 use Rattle.wait_cycles.proofs.met.settle.Goals as goal
 

@@ -1,7 +1,7 @@
 use Rattle.std.proofs.Common.{sym}
 use Rattle.std.proofs.lemmas.Bool.{not-true}
-use Rattle.wait_cycles.proofs.ReachLemmas.{marks_new}
-use Rattle.wait_cycles.proofs.reach.mark.Goals as goal
+use Rattle.least_set.proofs.MarkLemmas.{marks_new}
+use Rattle.least_set.proofs.marks.mark.Goals as goal
 
 pub returns-in_ok-push : goal.returns-in_ok-push
 returns-in_ok-push c =

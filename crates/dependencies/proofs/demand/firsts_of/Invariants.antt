@@ -1,0 +1,8 @@
+use Rattle.std.proofs.Common.{◌≡◌}
+use Rattle.std.specs.Prelude.{filter}
+use Rattle.std.specs.List.{range_with_len}
+use Rattle.start_model.specs.Demand.{starts_at}
+use Rattle.dependencies.proofs.demand.firsts_of.Given as goal
+
+abbrev pub invariant-loop-place : goal.invariant-loop-place
+invariant-loop-place g l = l.places ≡ filter (starts_at (g.T.NeedTable.needs l.table) 2) (range_with_len 0 l.place)
