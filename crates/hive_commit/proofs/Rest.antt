@@ -9,7 +9,8 @@ use Rattle.nt_edge.specs.Disk.{DiskState}
 use Rattle.nt_edge.specs.Crash.{AgreeOutside, EachCrash}
 use Rattle.hive_commit.specs.Stages.{in_log, is_base, is_marked}
 use Rattle.hive_model.specs.Asked.{primary_at, bin_at}
-use Rattle.hive_commit.specs.Alone.{KeepsLog, KeepsRest}
+use Rattle.hive_commit.specs.Alone.{KeepsRest, KeepsAll}
+use Rattle.hive_commit.specs.Cuts.{IsCutOfRestoring}
 use Rattle.hive_commit.proofs.Growth.{unmarked_before, unmarked_behind}
 use Rattle.hive_commit.proofs.Four.{no_base}
 use Rattle.hive_commit.proofs.Kept.{only_held, kept, kept_log, log_behind, one_recovery, recovered_along}
@@ -62,14 +63,6 @@ rest_restored old new held base bins view data_read held_is exact data_is is eac
     subst (λ (l : List ℕ). KeepsRest (length l) old.held c) (data_is ∙ same.1)
     (subst (λ (h : Image). KeepsRest (length data_read) h c) held_is (each c crash))
 
--- a cut keeps what is recovered, the log and the rest of the primary
-pub record KeepsAll (old new : DiskState) : Type 0 where
-  pub crash : (base : Base) (bins : List ℕ) → IsRecoveredAs old.held base bins
-      → EachCrash new (λ (c : Image). IsRecoveredAs c base bins)
-  pub log : EachCrash new (KeepsLog old.held)
-  pub rest : (base : Base) (bins : List ℕ) → IsRecoveredAs old.held base bins
-      → EachCrash new (KeepsRest (length bins) old.held)
-
 -- where nothing was written
 pub all_kept : (old new : DiskState) → new.held ≡ old.held → new.flight ≡ [] → KeepsAll old new
 all_kept old new held none = record {
@@ -81,14 +74,14 @@ all_kept old new held none = record {
 -- and after a restoring that was given what was read
 pub all_restored : (old read new : DiskState) (view : Recovered) (closed : Base) (data_read : List ℕ)
     → read.held ≡ old.held → recovered_of old.held ≡ Ok view → closed ≡ view.base → data_read ≡ view.bins
-    → EachCrash new (λ (c : Image). IsRecoveredAs c closed data_read) → EachCrash new (KeepsLog read.held)
-    → EachCrash new (KeepsRest (length data_read) read.held) → KeepsAll old new
-all_restored old read new view closed data_read same exact closed_is data_is crash log rest = record {
+    → EachCrash new (IsCutOfRestoring read.held closed data_read) → KeepsAll old new
+all_restored old read new view closed data_read same exact closed_is data_is cut = record {
   crash = λ base bins is. recovered_along old.held base closed bins data_read is
       (record {
         dirty = view.dirty;
         recovered = exact ∙ (λ i. Ok (record { base = (sym closed_is) i; bins = (sym data_is) i; dirty = view.dirty }));
-      }) new crash;
-  log = log_behind old.held read.held new same log;
-  rest = λ base bins is. rest_restored old new read.held base bins view data_read same exact data_is is rest;
+      }) new (λ c left. (cut c left).recovered);
+  log = log_behind old.held read.held new same (λ c left. (cut c left).log);
+  rest = λ base bins is. rest_restored old new read.held base bins view data_read same exact data_is is
+      (λ c left. (cut c left).rest);
 }

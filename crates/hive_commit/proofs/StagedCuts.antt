@@ -5,16 +5,11 @@ use Rattle.hive_model.specs.Image.{Image}
 use Rattle.nt_edge.specs.Disk.{DiskState}
 use Rattle.nt_edge.specs.Crash.{AgreeOutside, EachCrash}
 use Rattle.hive_commit.specs.Alone.{KeepsRest}
-use Rattle.hive_commit.specs.Cuts.{IsChange, IsCutInBlock}
-use Rattle.hive_commit.specs.Stages.{in_log, is_base, is_marked, BlockIsBeforeOr, opened_of, closed_of, IsBeforeOrAfter}
+use Rattle.hive_commit.specs.Cuts.{IsChange, IsCutInBlock, IsCutOfCommit}
+use Rattle.hive_commit.specs.Stages.{in_log, is_base, is_marked, BlockIsBeforeOr, opened_of, closed_of}
 use Rattle.hive_commit.proofs.Four.{change_asked, in_log_stage, opened_stage, bins_stage, closed_stage}
 use Rattle.hive_commit.proofs.Rest.{rest_log, rest_base, rest_marked, rest_then}
 use Rattle.hive_commit.proofs.Staged.{IsLogWritten, IsBlockOpened, IsBinsWritten}
-
--- a cut is recovered as before or as after, and has the rest of the primary as it was
-pub record IsCut (first : Image) (base : Base) (old new : List ℕ) (root : ℕ) (cut : Image) : Type 0 where
-  pub either : IsBeforeOrAfter base old (closed_of base new root) new cut
-  pub rest : KeepsRest (length new) first cut
 
 -- a base block that was made is this one
 block_cut : (s : DiskState) (before : Image) (made base : Base) → made ≡ base
@@ -28,7 +23,7 @@ block_cut s before made base same alone block cut left = record {
 -- from the first image on
 module _ {first : Image} {base : Base} {old new : List ℕ} {root : ℕ} {bits : ℕ → Bool} where
   pub cut_in_log : (s : DiskState) → IsChange first base old new root bits → EachCrash s (AgreeOutside in_log first)
-      → EachCrash s (IsCut first base old new root)
+      → EachCrash s (IsCutOfCommit first base old new root)
   cut_in_log s is alone cut left = record {
     either = inl (in_log_stage first cut base old is.carries (alone cut left));
     rest = rest_log (length new) first cut (alone cut left);
@@ -40,7 +35,7 @@ module _ {first : Image} {base : Base} {old new : List ℕ} {root : ℕ} {bits :
 
     module _ (s : DiskState) (made : Base) (same : made ≡ opened_of base)
         (alone : EachCrash s (AgreeOutside is_base before)) where
-      pub cut_in_opening : EachCrash s (BlockIsBeforeOr before made) → EachCrash s (IsCut first base old new root)
+      pub cut_in_opening : EachCrash s (BlockIsBeforeOr before made) → EachCrash s (IsCutOfCommit first base old new root)
       cut_in_opening block cut left =
           let at = block_cut s before made (opened_of base) same alone block cut left in
           record {
@@ -55,7 +50,7 @@ module _ {first : Image} {base : Base} {old new : List ℕ} {root : ℕ} {bits :
         (rest_base (length new) is.before before is.block.alone)
 
     module _ (s : DiskState) (alone : EachCrash s (AgreeOutside (is_marked (length new) bits) before)) where
-      pub cut_in_bins : EachCrash s (IsCut first base old new root)
+      pub cut_in_bins : EachCrash s (IsCutOfCommit first base old new root)
       cut_in_bins cut left =
           let log = is.stage in
           record {
@@ -73,7 +68,7 @@ module _ {first : Image} {base : Base} {old new : List ℕ} {root : ℕ} {bits :
 
     module _ (s : DiskState) (made : Base) (same : made ≡ closed_of base new root)
         (alone : EachCrash s (AgreeOutside is_base before)) where
-      pub cut_in_closing : EachCrash s (BlockIsBeforeOr before made) → EachCrash s (IsCut first base old new root)
+      pub cut_in_closing : EachCrash s (BlockIsBeforeOr before made) → EachCrash s (IsCutOfCommit first base old new root)
       cut_in_closing block cut left =
           let at = block_cut s before made (closed_of base new root) same alone block cut left in
           let opened = is.stage in

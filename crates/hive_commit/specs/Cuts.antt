@@ -3,10 +3,11 @@ use Rattle.std.specs.Prelude.{◌≡◌, ◌<◌, ◌*◌, ◌^◌, Bool, true, 
 use Rattle.hive_model.specs.Base.{Base, base_text, is_bins_size}
 use Rattle.hive_model.specs.Image.{Image, Bytes}
 use Rattle.hive_model.specs.Recovery.{primary_in, sector}
-use Rattle.hive_model.specs.Carries.{Carries, HasLog}
+use Rattle.hive_model.specs.Carries.{Carries, HasLog, IsRecoveredAs}
 use Rattle.nt_edge.specs.Crash.{AgreeOutside}
 use Rattle.regf_base.specs.Fitting.{NumbersFit, TextsFit}
-use Rattle.hive_commit.specs.Stages.{in_log, is_base, is_marked, BlockIsBeforeOr, HasMarked}
+use Rattle.hive_commit.specs.Alone.{KeepsLog, KeepsRest}
+use Rattle.hive_commit.specs.Stages.{in_log, is_base, is_marked, BlockIsBeforeOr, HasMarked, IsBeforeOrAfter, closed_of}
 
 -- An image carries the old data, and the new data with their root and their bits can be logged: a bit is off only
 -- where the old data have the same sector.
@@ -37,3 +38,14 @@ pub record HasNewBins (before after : Image) (bits : ℕ → Bool) (bins : List 
 pub record IsCutInBlock (before cut : Image) (base : Base) : Type 0 where
   pub alone : AgreeOutside is_base before cut
   pub block : BlockIsBeforeOr before base cut
+
+-- A cut in a commit is recovered as before or as after. Sectors 1 to 7 of the primary, and those after the new data, are as they were.
+pub record IsCutOfCommit (before : Image) (base : Base) (old new : List ℕ) (root : ℕ) (cut : Image) : Type 0 where
+  pub either : IsBeforeOrAfter base old (closed_of base new root) new cut
+  pub rest : KeepsRest (length new) before cut
+
+-- a cut in a restoring is recovered as what was found, and the log and the rest of the primary are as they were
+pub record IsCutOfRestoring (before : Image) (base : Base) (bins : List ℕ) (cut : Image) : Type 0 where
+  pub recovered : IsRecoveredAs cut base bins
+  pub log : KeepsLog before cut
+  pub rest : KeepsRest (length bins) before cut

@@ -1,5 +1,6 @@
 pub mod Alone
 pub mod Calls
+pub mod Commits
 pub mod Cuts
 pub mod Growing
 pub mod Stages

@@ -1,18 +1,15 @@
 //! What a disk stands for, and a recovery that leaves it clean.
 
-ghost use Rattle.std.specs.Prelude.{◌≡◌, true, [], length, List, ℕ, Err, IfOk, OnOk};
+ghost use Rattle.std.specs.Prelude.{◌≡◌, true, [], length, Err, IfOk};
 ghost use Rattle.nt_bytes.specs.declared.fault.HiveFault.{HiveFault};
-ghost use Rattle.hive_model.specs.Base.{Base, is_bins_size};
-ghost use Rattle.hive_model.specs.Image.{Image};
+ghost use Rattle.hive_model.specs.Base.{is_bins_size};
 ghost use Rattle.hive_model.specs.Recovery.{recovered_of};
-ghost use Rattle.hive_model.specs.Carries.{Carries, IsRecoveredAs};
-ghost use Rattle.nt_edge.specs.Crash.{EachCrash};
 ghost use Rattle.hive_model.specs.Asked.{asked_of};
 ghost use Rattle.hive_log.specs.Asked.{MakesReads, IsAsked};
 ghost use Rattle.hive_log.specs.Stops.{Reads, IsLookAt, IsLoadOn};
 ghost use Rattle.hive_commit.specs.Calls.{recovery_calls, AreAll, MakesRecovery};
-ghost use Rattle.hive_commit.specs.Alone.{KeepsLog, KeepsRest, KeepsClean};
-ghost use Rattle.hive_commit.specs.Untouched.{IsUntouched, IsUnwritten};
+ghost use Rattle.hive_commit.specs.Alone.{KeepsAll, WritesOnlyDirty};
+ghost use Rattle.hive_commit.specs.Commits.{IsRecoveredOn};
 
 use crate::restoring::restore;
 use hive_log::{LoadStop, Reading, Recovered, read_recovered};
@@ -49,23 +46,13 @@ pub fn recover<D: Disk>(alloc: Global, disk: &mut D) -> Result<Recovered, LoadSt
     ensures made { MakesRecovery (D.calls disk.old) (D.calls disk.new)
         (λ calls. D.tells ≡ true → AreAll (recovery_calls (D.state disk.old).held) result calls) }
     ensures exact { D.tells ≡ true → Reads result (recovered_of (D.state disk.old).held) }
-    ensures still { D.tells ≡ true → OnOk result ((D.state disk.new).flight ≡ []) }
-    ensures carries { D.tells ≡ true → IfOk result (λ r. Carries (D.state disk.new).held r.base r.bins) }
-    ensures sized { IfOk result (λ r. is_bins_size (length r.bins) ≡ true) }
-    // At every exit a cut leaves what is recovered as the disk was at entry.
-    ensures crash { D.tells ≡ true → (base : Base) (bins : List ℕ) → IsRecoveredAs (D.state disk.old).held base bins
-        → EachCrash (D.state disk.new) (λ (c : Image). IsRecoveredAs c base bins) }
-    // At every exit a cut leaves the log as it was.
-    ensures log { D.tells ≡ true → EachCrash (D.state disk.new) (KeepsLog (D.state disk.old).held) }
-    // And sectors 1 to 7 of the primary, and those after what is recovered.
-    ensures rest { D.tells ≡ true → (base : Base) (bins : List ℕ) → IsRecoveredAs (D.state disk.old).held base bins
-        → EachCrash (D.state disk.new) (KeepsRest (length bins) (D.state disk.old).held) }
-    // Where the primary was clean, all is as it was, whatever the answer.
-    ensures clean { D.tells ≡ true → KeepsClean (D.state disk.old) (D.state disk.new) }
-    // And so it is where the hive has a fault.
-    ensures faulty { D.tells ≡ true → (fault : HiveFault) → recovered_of (D.state disk.old).held ≡ Err fault
-        → IsUntouched (D.state disk.old) (D.state disk.new) }
-    ensures unwritten { D.tells ≡ true → IsUnwritten (D.state disk.old) (D.state disk.new) result }
+    // At Ok the disk is clean with the answer: a base block that can't be read is rewritten.
+    ensures recovered { IfOk result (IsRecoveredOn D.tells (D.state disk.new)) }
+    // At every exit a cut leaves what is recovered as the disk was at entry, and the log and the rest of the primary as they were.
+    ensures cut { D.tells ≡ true → KeepsAll (D.state disk.old) (D.state disk.new) }
+    // Where the primary was clean, or the hive has a fault, all is as it was, whatever the answer.
+    ensures written { WritesOnlyDirty D.tells (λ (fault : HiveFault). recovered_of (D.state disk.old).held ≡ Err fault)
+        (D.state disk.old) (D.state disk.new) result }
     ensures goes { IsLoadOn (D.state disk.old) (D.state disk.new) result }
 {
     let Reading { recovered, bitmap } = read_recovered(alloc, disk)?;

@@ -11,12 +11,14 @@ use Rattle.nt_edge.specs.Calls.{Made}
 use Rattle.nt_edge.specs.Crash.{EachCrash}
 use Rattle.hive_cells.proofs.Again.{one_list}
 use Rattle.hive_read.proofs.Loading.{one-load}
+use Rattle.hive_commit.specs.Alone.{KeepsAll}
 use Rattle.hive_commit.specs.Calls.{change_calls}
 use Rattle.hive_commit.specs.Stages.{closed_of, IsBeforeOrAfter}
 use Rattle.hive_store.specs.Session.{HasTree}
 use Rattle.hive_store.proofs.Holding.{tree_holds, tree_loads, either_loads}
-use Rattle.hive_store.proofs.LoadingLemmas.{kept_loads}
+use Rattle.hive_store.proofs.LoadingLemmas.{kept_loads, restored_loads}
 use Rattle.hive_mend.specs.Loaded.{Loaded, loaded_state}
+use Rattle.hive_mend.specs.Loading.{KeepsHive}
 use Rattle.hive_mend.specs.Mending.{CallsBy, next_state, LoadsAsOrNext}
 
 -- bins data in which its tree stands
@@ -61,4 +63,14 @@ no_calls T E at h (Some new) stop = record {
   rest = change_calls h.base h.bins new 32;
   cut = refl;
   made = λ earlier said. subst at (sym (append-nil earlier)) said;
+}
+
+-- what keeps all keeps what the disk loads as
+pub keeps_hive : (old new : DiskState) → KeepsAll old new → KeepsHive old new
+keeps_hive old new all = record {
+  crash = λ s dirty loads.
+      let r = loads.recovered in
+      restored_loads old.held r loads.read r.base r.bins refl refl new
+      (all.crash r.base r.bins (record { dirty = r.dirty; recovered = loads.read })) s dirty loads;
+  kept = all;
 }

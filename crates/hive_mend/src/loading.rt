@@ -1,23 +1,17 @@
 //! A hive loaded from a disk.
 
-ghost use Rattle.std.specs.Prelude.{◌≡◌, Bool, true, false, ℕ, List, [], length, IfOk, OnOk, MatchResult};
-ghost use Rattle.nt_bytes.specs.declared.fault.HiveFault.{HiveFault as HiveFaultModel};
+ghost use Rattle.std.specs.Prelude.{◌≡◌, true, false, [], length, IfOk, MatchResult};
 ghost use Rattle.hive_model.specs.Asked.{asked_of};
-ghost use Rattle.hive_model.specs.Base.{Base, is_bins_size};
-ghost use Rattle.hive_model.specs.Image.{Image};
-ghost use Rattle.hive_model.specs.Carries.{Carries, IsRecoveredAs};
-ghost use Rattle.hive_model.specs.State.{HiveState};
-ghost use Rattle.hive_model.specs.Load.{Loads, LoadsAs, LoadFault};
-ghost use Rattle.nt_edge.specs.Crash.{EachCrash};
+ghost use Rattle.hive_model.specs.Base.{is_bins_size};
+ghost use Rattle.hive_model.specs.Carries.{Carries};
+ghost use Rattle.hive_model.specs.Load.{LoadFault};
 ghost use Rattle.hive_log.specs.Asked.{MakesReads, IsAsked};
 ghost use Rattle.hive_log.specs.Found.{Found};
 ghost use Rattle.hive_log.specs.Stops.{IsLookAt, IsLoadOn};
-ghost use Rattle.hive_commit.specs.Alone.{KeepsLog, KeepsRest, KeepsClean};
+ghost use Rattle.hive_commit.specs.Alone.{WritesOnlyDirty};
 ghost use Rattle.hive_commit.specs.Calls.{MakesRecovery};
-ghost use Rattle.hive_commit.specs.Untouched.{IsUntouched, IsUnwritten};
 ghost use Rattle.hive_store.specs.Loading.{StopsFrom};
-ghost use Rattle.hive_mend.specs.Loaded.{loaded_state};
-ghost use Rattle.hive_mend.specs.Loading.{LoadsFrom, IsLoadOf, AreOfLoad};
+ghost use Rattle.hive_mend.specs.Loading.{LoadsFrom, IsLoadOf, AreOfLoad, StandsAs, KeepsHive};
 
 use crate::LoadedHive;
 use hive_commit::restore;
@@ -77,24 +71,12 @@ impl LoadedHive {
             (λ calls. D.tells ≡ true → AreOfLoad (D.state disk.old).held result calls) }
         // At Ok the hive is what the disk holds, and so is whether it was dirty; a fault is its first.
         ensures exact { D.tells ≡ true → LoadsFrom (D.state disk.old).held result }
-        // Then the disk is clean, and carries the hive's base block and bins data.
-        ensures still { D.tells ≡ true → OnOk result ((D.state disk.new).flight ≡ []) }
-        ensures carries { D.tells ≡ true → IfOk result (λ x. Carries (D.state disk.new).held x.0.base x.0.bins) }
-        ensures loads { D.tells ≡ true → IfOk result (λ x. Loads (D.state disk.new).held (loaded_state x.0) false) }
-        // At every exit a cut leaves what loads as the disk did at entry.
-        ensures crash { D.tells ≡ true → (s : HiveState) (dirty : Bool)
-            → Loads (D.state disk.old).held s dirty
-            → EachCrash (D.state disk.new) (λ (c : Image). LoadsAs c s) }
-        // And the log as it was, and sectors 1 to 7 of the primary and those after what is recovered.
-        ensures log { D.tells ≡ true → EachCrash (D.state disk.new) (KeepsLog (D.state disk.old).held) }
-        ensures rest { D.tells ≡ true → (base : Base) (bins : List ℕ) → IsRecoveredAs (D.state disk.old).held base bins
-            → EachCrash (D.state disk.new) (KeepsRest (length bins) (D.state disk.old).held) }
-        // Where the primary was clean, all is as it was, whatever the answer.
-        ensures clean { D.tells ≡ true → KeepsClean (D.state disk.old) (D.state disk.new) }
-        // A hive with a fault is not written, whatever the answer.
-        ensures faulty { D.tells ≡ true → (fault : HiveFaultModel) → LoadFault (D.state disk.old).held fault
-            → IsUntouched (D.state disk.old) (D.state disk.new) }
-        ensures unwritten { D.tells ≡ true → IsUnwritten (D.state disk.old) (D.state disk.new) result }
+        // Then the disk is clean with the hive's base block and bins data, and loads as its tree.
+        ensures stands { IfOk result (λ x. StandsAs D.tells (D.state disk.new) x.0) }
+        // At every exit a cut leaves what loads as the disk did at entry, with the log and the rest of the primary as they were.
+        ensures cut { D.tells ≡ true → KeepsHive (D.state disk.old) (D.state disk.new) }
+        // Where the primary was clean, or the hive has a fault, all is as it was, whatever the answer.
+        ensures written { WritesOnlyDirty D.tells (LoadFault (D.state disk.old).held) (D.state disk.old) (D.state disk.new) result }
         ensures goes { IsLoadOn (D.state disk.old) (D.state disk.new) result }
     {
         let Unmended {

@@ -1,20 +1,21 @@
 //! A loaded hive packed where that makes it shorter.
 
-ghost use Rattle.std.specs.Prelude.{◌≡◌, Bool, true, false, [], Some, None, IfOk, IfSome, OnOk, IsErrOf};
+ghost use Rattle.std.specs.Prelude.{◌≡◌, Bool, true, Some, None, IfOk, IfSome, IsErrOf};
 ghost use Rattle.hive_model.specs.Base.{version_of};
-ghost use Rattle.hive_model.specs.Carries.{Carries};
 ghost use Rattle.hive_model.specs.State.{HiveState};
 ghost use Rattle.hive_model.specs.Load.{Loads};
 ghost use Rattle.nt_edge.specs.Calls.{MakesUntil};
 ghost use Rattle.nt_edge.specs.Crash.{EachCrash};
 ghost use Rattle.nt_edge.specs.Frames.{GoesOn};
 ghost use Rattle.hive_commit.specs.Calls.{change_calls};
+ghost use Rattle.hive_commit.specs.Commits.{IsCleanWith};
 ghost use Rattle.hive_commit.specs.Stages.{next_number};
 ghost use Rattle.hive_commit.specs.Stops.{IsCommitOn};
 ghost use Rattle.hive_commit.specs.declared.stops.CommitStop.TheVariants.{PowerLost, Device, Memory};
 ghost use Rattle.hive_store.specs.Session.{HasTree};
 ghost use Rattle.hive_mend.specs.Loaded.{loaded_state};
-ghost use Rattle.hive_mend.specs.Mending.{shorter, mended_by, number_by, CallsBy, next_state, LoadsAsOrNext};
+ghost use Rattle.hive_mend.specs.Loading.{StandsAs};
+ghost use Rattle.hive_mend.specs.Mending.{shorter, mended_by, number_by, CallsBy, LoadsAsOrNext};
 
 use crate::LoadedHive;
 use hive_commit::{CommitStop, commit};
@@ -44,16 +45,12 @@ impl LoadedHive {
 
     /// Commits new bins data in which the tree is at 32.
     fn replace<D: Disk>(self, disk: &mut D, new: Bytes) -> Result<(LoadedHive, u32), CommitStop>
-        requires on { (D.state disk.old).on ≡ true }
-        requires still { D.tells ≡ true → (D.state disk.old).flight ≡ [] }
-        requires carries { D.tells ≡ true → Carries (D.state disk.old).held self.base self.bins }
+        requires clean { IsCleanWith D.tells (D.state disk.old) self.base self.bins }
         requires ready { HasTree (version_of self.base.minor) new 32 self.tree }
         ensures made { MakesUntil (D.calls disk.old) (D.calls disk.new) (change_calls self.base self.bins new 32) result }
         ensures answered { IfOk result (λ x. x.0 ≡ mended_by self (Some new)) }
         ensures number { IfOk result (λ x. x.1 ≡ next_number self.base.first) }
-        ensures still { D.tells ≡ true → OnOk result ((D.state disk.new).flight ≡ []) }
-        ensures carries { D.tells ≡ true → IfOk result (λ x. Carries (D.state disk.new).held x.0.base x.0.bins) }
-        ensures loads { D.tells ≡ true → OnOk result (Loads (D.state disk.new).held (next_state (loaded_state self)) false) }
+        ensures stands { IfOk result (λ x. StandsAs D.tells (D.state disk.new) x.0) }
         ensures crash { D.tells ≡ true → EachCrash (D.state disk.new) (LoadsAsOrNext (loaded_state self)) }
         ensures goes { IsCommitOn (D.state disk.old) (D.state disk.new) result }
     {
@@ -77,18 +74,14 @@ impl LoadedHive {
         alloc: Global,
         disk: &mut D,
     ) -> Result<(LoadedHive, Option<u32>), CommitStop>
-        requires on { (D.state disk.old).on ≡ true }
-        requires still { D.tells ≡ true → (D.state disk.old).flight ≡ [] }
-        requires carries { D.tells ≡ true → Carries (D.state disk.old).held self.base self.bins }
+        requires clean { IsCleanWith D.tells (D.state disk.old) self.base self.bins }
         // Where packing makes it shorter it makes the calls of one change to the packed form and no other, after a
         // refusal a prefix of them, and else none.
         ensures made { CallsBy (D.calls disk.old) (D.calls disk.new) self (shorter self) result }
         ensures answered { IfOk result (λ x. x.0 ≡ mended_by self (shorter self)) }
         ensures number { IfOk result (λ x. x.1 ≡ number_by self (shorter self)) }
-        // The disk is clean then, and carries the hive that is answered.
-        ensures still { D.tells ≡ true → OnOk result ((D.state disk.new).flight ≡ []) }
-        ensures carries { D.tells ≡ true → IfOk result (λ x. Carries (D.state disk.new).held x.0.base x.0.bins) }
-        ensures loads { D.tells ≡ true → IfOk result (λ x. Loads (D.state disk.new).held (loaded_state x.0) false) }
+        // The disk is clean then with the hive that is answered, and loads as its tree.
+        ensures stands { IfOk result (λ x. StandsAs D.tells (D.state disk.new) x.0) }
         // At every exit a cut leaves what loads as the disk did at entry, or as the same tree under the next number.
         ensures crash { D.tells ≡ true → (s : HiveState) (dirty : Bool)
             → Loads (D.state disk.old).held s dirty

@@ -14,7 +14,7 @@ use Rattle.hive_edit.specs.Hive.{HiveCells, cells_in, settled_as}
 use Rattle.nt_edge.specs.Disk.{DiskState}
 use Rattle.nt_edge.specs.Crash.{EachCrash}
 use Rattle.hive_commit.specs.Stages.{closed_of, IsBeforeOrAfter, LoadsAsEither}
-use Rattle.hive_commit.specs.Stops.{IsCommitOn}
+use Rattle.hive_commit.specs.Stops.{IsCommitOn, EndsCommit}
 use Rattle.hive_commit.specs.declared.stops.CommitStop.{CommitStop}
 use Rattle.hive_commit.specs.declared.stops.CommitStop.TheVariants as commit
 use Rattle.saved_pages.specs.Overlay.{before}
@@ -134,3 +134,7 @@ goes_again T U old new stop was =
       };
       lack = λ e. was.lack (back commit.Memory e);
     }
+
+pub ends_again : (T U : Type 0) (old new : DiskState) (stop : CommitStop) → EndsCommit {T = T} old new (Err stop)
+    → EndsCommit {T = U} old new (Err stop)
+ends_again T U old new stop was = record { goes = goes_again T U old new stop was.goes; done = was.done }

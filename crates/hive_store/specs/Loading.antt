@@ -1,17 +1,20 @@
 -- What does a load of a session answer, and which calls does it make? (This project's own.)
-use Rattle.std.specs.Prelude.{◌≡◌, Bool, List, Result, Ok, Err}
+use Rattle.std.specs.Prelude.{◌≡◌, Bool, true, false, List, Result, Ok, Err}
 use Rattle.nt_bytes.specs.declared.fault.HiveFault.{HiveFault}
 use Rattle.hive_model.specs.Image.{Image}
 use Rattle.hive_model.specs.State.{HiveState}
 use Rattle.hive_model.specs.Base.{version_of}
 use Rattle.hive_model.specs.Load.{Loads, LoadFault, state_of}
+use Rattle.hive_model.specs.Recovery.{recovered_of}
+use Rattle.nt_edge.specs.Disk.{DiskState}
 use Rattle.nt_edge.specs.Calls.{Made, reads_of}
 use Rattle.nt_bytes.specs.Front.{IsFront}
 use Rattle.hive_model.specs.Asked.{asked_of}
 use Rattle.hive_log.specs.declared.stops.LoadStop.{LoadStop}
 use Rattle.hive_log.specs.declared.stops.LoadStop.TheVariants as load
 use Rattle.hive_commit.specs.Calls.{recovery_calls}
-use Rattle.hive_store.specs.Session.{Session}
+use Rattle.hive_commit.specs.Commits.{IsCleanWith}
+use Rattle.hive_store.specs.Session.{Session, AreCarried}
 
 -- the session's tree under the number and in the version of its base block
 abbrev pub loaded_state : Session → HiveState
@@ -41,3 +44,12 @@ AreOfLoad image (Err (load.Fault f)) calls = calls ≡ reads_of (asked_of image)
 AreOfLoad image (Err load.PowerLost) calls = AreFrontOfLoad image calls
 AreOfLoad image (Err load.Device) calls = AreFrontOfLoad image calls
 AreOfLoad image (Err load.Memory) calls = AreFrontOfLoad image calls
+
+-- A load is done: the session's base block and bins data are those that the disk is recovered as, the data are the bytes of its cells,
+-- and nothing is changed yet. The disk is clean with them, and loads as the session's tree.
+pub record HasLoaded (tells : Bool) (old new : DiskState) (answer : Session × Bool) : Type 0 where
+  pub recovered : tells ≡ true → recovered_of old.held ≡ Ok (record { base = answer.0.base; bins = answer.0.bins; dirty = answer.1 })
+  pub unchanged : answer.0.changed ≡ false
+  pub cells : AreCarried answer.0.base answer.0.bins answer.0.cells
+  pub clean : IsCleanWith tells new answer.0.base answer.0.bins
+  pub loads : tells ≡ true → Loads new.held (loaded_state answer.0) false

@@ -1,8 +1,7 @@
 //! A session loaded from a disk.
 
-ghost use Rattle.std.specs.Prelude.{◌≡◌, Bool, true, false, [], length, IfOk, OnOk, Ok, MatchResult};
+ghost use Rattle.std.specs.Prelude.{◌≡◌, Bool, true, false, [], length, IfOk, Ok, MatchResult};
 ghost use Rattle.hive_model.specs.Base.{is_bins_size};
-ghost use Rattle.nt_bytes.specs.declared.fault.HiveFault.{HiveFault as HiveFaultModel};
 ghost use Rattle.hive_model.specs.Image.{Image};
 ghost use Rattle.hive_model.specs.Recovery.{recovered_of};
 ghost use Rattle.hive_model.specs.Carries.{Carries};
@@ -13,11 +12,10 @@ ghost use Rattle.hive_model.specs.Asked.{asked_of};
 ghost use Rattle.hive_log.specs.Asked.{MakesReads, IsAsked};
 ghost use Rattle.hive_log.specs.Found.{Found};
 ghost use Rattle.hive_log.specs.Stops.{IsLookAt, IsLoadOn};
-ghost use Rattle.hive_commit.specs.Alone.{KeepsClean};
+ghost use Rattle.hive_commit.specs.Alone.{WritesOnlyDirty};
 ghost use Rattle.hive_commit.specs.Calls.{MakesRecovery};
-ghost use Rattle.hive_commit.specs.Untouched.{IsUntouched, IsUnwritten};
 ghost use Rattle.hive_store.specs.Session.{AreCarried};
-ghost use Rattle.hive_store.specs.Loading.{loaded_state, LoadsFrom, StopsFrom, AreOfLoad};
+ghost use Rattle.hive_store.specs.Loading.{loaded_state, LoadsFrom, StopsFrom, AreOfLoad, HasLoaded};
 
 use crate::Hive;
 use crate::checking::taken_in;
@@ -88,25 +86,14 @@ impl Hive {
             (λ calls. D.tells ≡ true → AreOfLoad (D.state disk.old).held result calls) }
         // At Ok the tree and the number are what the disk loads as, and so is whether it was dirty; a fault is its first.
         ensures exact { D.tells ≡ true → LoadsFrom (D.state disk.old).held result }
-        // The session's base block and bins data are those that the disk is recovered as.
-        ensures recovered { D.tells ≡ true → IfOk result (λ x. recovered_of (D.state disk.old).held
-            ≡ Ok (record { base = x.0.base; bins = x.0.bins; dirty = x.1 })) }
-        ensures unchanged { IfOk result (λ x. x.0.changed ≡ false) }
-        // Then the disk is clean, and carries the session's base block and bins data, which are the bytes of its cells.
-        ensures still { D.tells ≡ true → OnOk result ((D.state disk.new).flight ≡ []) }
-        ensures carries { D.tells ≡ true → IfOk result (λ x. Carries (D.state disk.new).held x.0.base x.0.bins) }
-        ensures cells { IfOk result (λ x. AreCarried x.0.base x.0.bins x.0.cells) }
-        ensures loads { D.tells ≡ true → IfOk result (λ x. Loads (D.state disk.new).held (loaded_state x.0) false) }
+        // Then the disk is clean with the session's base block and bins data, and loads as its tree; nothing is changed yet.
+        ensures loaded { IfOk result (HasLoaded D.tells (D.state disk.old) (D.state disk.new)) }
         // At every exit a cut leaves what loads as the disk did at entry.
         ensures crash { D.tells ≡ true → (s : HiveState) (dirty : Bool)
             → Loads (D.state disk.old).held s dirty
             → EachCrash (D.state disk.new) (λ (c : Image). LoadsAs c s) }
-        // Where the primary was clean, all is as it was, whatever the answer.
-        ensures clean { D.tells ≡ true → KeepsClean (D.state disk.old) (D.state disk.new) }
-        // A hive with a fault is not written, whatever the answer.
-        ensures faulty { D.tells ≡ true → (fault : HiveFaultModel) → LoadFault (D.state disk.old).held fault
-            → IsUntouched (D.state disk.old) (D.state disk.new) }
-        ensures unwritten { D.tells ≡ true → IsUnwritten (D.state disk.old) (D.state disk.new) result }
+        // Where the primary was clean, or the hive has a fault, all is as it was, whatever the answer.
+        ensures written { WritesOnlyDirty D.tells (LoadFault (D.state disk.old).held) (D.state disk.old) (D.state disk.new) result }
         ensures goes { IsLoadOn (D.state disk.old) (D.state disk.new) result }
     {
         Hive::load_judged(alloc, disk, None)
@@ -124,20 +111,11 @@ impl Hive {
         ensures made { MakesRecovery (D.calls disk.old) (D.calls disk.new)
             (λ calls. D.tells ≡ true → AreOfLoad (D.state disk.old).held result calls) }
         ensures exact { D.tells ≡ true → LoadsFrom (D.state disk.old).held result }
-        ensures recovered { D.tells ≡ true → IfOk result (λ x. recovered_of (D.state disk.old).held
-            ≡ Ok (record { base = x.0.base; bins = x.0.bins; dirty = x.1 })) }
-        ensures unchanged { IfOk result (λ x. x.0.changed ≡ false) }
-        ensures still { D.tells ≡ true → OnOk result ((D.state disk.new).flight ≡ []) }
-        ensures carries { D.tells ≡ true → IfOk result (λ x. Carries (D.state disk.new).held x.0.base x.0.bins) }
-        ensures cells { IfOk result (λ x. AreCarried x.0.base x.0.bins x.0.cells) }
-        ensures loads { D.tells ≡ true → IfOk result (λ x. Loads (D.state disk.new).held (loaded_state x.0) false) }
+        ensures loaded { IfOk result (HasLoaded D.tells (D.state disk.old) (D.state disk.new)) }
         ensures crash { D.tells ≡ true → (s : HiveState) (dirty : Bool)
             → Loads (D.state disk.old).held s dirty
             → EachCrash (D.state disk.new) (λ (c : Image). LoadsAs c s) }
-        ensures clean { D.tells ≡ true → KeepsClean (D.state disk.old) (D.state disk.new) }
-        ensures faulty { D.tells ≡ true → (fault : HiveFaultModel) → LoadFault (D.state disk.old).held fault
-            → IsUntouched (D.state disk.old) (D.state disk.new) }
-        ensures unwritten { D.tells ≡ true → IsUnwritten (D.state disk.old) (D.state disk.new) result }
+        ensures written { WritesOnlyDirty D.tells (LoadFault (D.state disk.old).held) (D.state disk.old) (D.state disk.new) result }
         ensures goes { IsLoadOn (D.state disk.old) (D.state disk.new) result }
     {
         let Looked {

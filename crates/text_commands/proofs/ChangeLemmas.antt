@@ -13,7 +13,7 @@ use Rattle.hive_model.specs.State.{HiveState}
 use Rattle.hive_model.specs.Tree.{Tree, same_tree}
 use Rattle.hive_model.proofs.BaseLemmas.{base_in_checked}
 use Rattle.hive_commit.specs.Stages.{next_number}
-use Rattle.hive_store.specs.Commits.{committed_state, next_base}
+use Rattle.hive_store.specs.Commits.{committed_state, next_base, HasCommitted}
 use Rattle.hive_store.specs.Loading.{loaded_state}
 use Rattle.hive_store.specs.Session.{Session, next_bins}
 use Rattle.hive_store.proofs.Holding.{clean, held_by, carried}
@@ -468,3 +468,28 @@ pub change_loads : {E : Type 0} (how : How) (tells : Bool) (result : Result Said
 change_loads how tells result h dirty steps old new loads recovered changes told =
     loaded_changes how result h dirty steps old new (loads told)
     (record { dirty = dirty; recovered = recovered told }) (changes told)
+
+-- a session with a change is settled by its commit
+pub settled_by : (tells : Bool) (s : Session) (old new : DiskState) (answer : Session × ℕ) → s.changed ≡ true
+    → HasCommitted tells new s answer → Carries old.held s.base s.bins → s.cells.version ≡ version_of s.base.minor
+    → s.cells.tree ≡ s.tree → tells ≡ true → SettlesAs s answer.1 old new
+settled_by tells s old new answer changed done opened version tree told = record {
+  changed = changed;
+  number_is = done.number;
+  still = done.clean.still told;
+  loads = done.loads told;
+  opened = opened;
+  closed = done.clean.carries told;
+  log = done.logged told;
+  version = version;
+  tree = tree;
+}
+
+-- what is answered says so
+pub ok_settles : {E : Type 0} {s : Session} {old new : DiskState} {result : Result Done E} {number : ℕ}
+    → result ≡ Ok (dones.Commit number) → SettlesAs s number old new → IfOk result (Settles s old new)
+ok_settles {E} {s} {old} {new} is settled = subst (λ (r : Result Done E). IfOk r (Settles s old new)) (sym is) settled
+
+pub err_settles : {E : Type 0} {result : Result Done E} {e : E} (s : Session) (old new : DiskState)
+    → result ≡ Err e → IfOk result (Settles s old new)
+err_settles {E} s old new is = subst (λ (r : Result Done E). IfOk r (Settles s old new)) (sym is) tt

@@ -17,8 +17,8 @@ left : (g : Over) (c : After-commit g)
     → Committed c.args.hive (g.B.Disk.state c.args.bench.now) (g.B.Disk.state c.commit.new.disk)
 left g c = record {
   crash = c.commit.ensures.crash g.met.B.Bench.told;
-  history = c.commit.ensures.goes.goes_on.history;
-  counts = c.commit.ensures.goes.goes_on.counts;
+  history = c.commit.ensures.ends.goes.goes_on.history;
+  counts = c.commit.ensures.ends.goes.goes_on.counts;
 }
 
 done : (g : Over) (c : In-Ok g)
@@ -27,14 +27,14 @@ done g c =
     let told : g.B.Disk.tells ≡ true = g.met.B.Bench.told in
     record {
       left = left g (goal.at.In-Ok g c).After-commit;
-      after_is = c.in-Ok.ensures.answered;
-      raised = c.in-Ok.ensures.number;
-      none = c.in-Ok.ensures.still told;
-      loads = c.in-Ok.ensures.loads told;
+      after_is = c.in-Ok.ensures.committed.answered;
+      raised = c.in-Ok.ensures.committed.number;
+      none = c.in-Ok.ensures.committed.clean.still told;
+      loads = c.in-Ok.ensures.committed.loads told;
       opened = c.requires.up.carries;
-      closed = c.in-Ok.ensures.carries told;
-      log = c.in-Ok.ensures.logged told;
-      quiet = commit-done _ (g.B.Disk.state c.args.bench.now) (g.B.Disk.state c.commit.new.disk) c.in-Ok.ensures.goes;
+      closed = c.in-Ok.ensures.committed.clean.carries told;
+      log = c.in-Ok.ensures.committed.logged told;
+      quiet = commit-done _ (g.B.Disk.state c.args.bench.now) (g.B.Disk.state c.commit.new.disk) c.in-Ok.ensures.ends.goes;
     }
 
 cut : (g : Over) (c : After-end_with g)
@@ -42,7 +42,7 @@ cut : (g : Over) (c : After-end_with g)
     (g.B.Disk.state c.end_with.new.bench) PowerCut
 cut g c =
     let stopped : IsErrOf c.commit.result stops.PowerLost = search rules in
-    let counted = c.commit.ensures.goes.goes_on.cut stopped in
+    let counted = c.commit.ensures.ends.goes.goes_on.cut stopped in
     record {
       left = left g (goal.at.After-end_with g c).After-commit;
       cause = cut-cause (g.B.Disk.state c.args.bench.now) (g.B.Disk.state c.commit.new.disk) c.requires.up.marked counted;
@@ -59,8 +59,8 @@ fault g c =
     let stopped : IsErrOf c.commit.result stops.Device = search rules in
     record {
       left = left g (goal.at.After-end_with-in-Err-Device g c).After-commit;
-      cause = fault-cause d e c.requires.up.marked (c.commit.ensures.goes.goes_on.fault stopped);
-      counted = commit-failed c.commit.result d e c.commit.ensures.goes stopped;
+      cause = fault-cause d e c.requires.up.marked (c.commit.ensures.ends.goes.goes_on.fault stopped);
+      counted = commit-failed c.commit.result d e c.commit.ensures.ends.goes stopped;
       off = c.end_with-in-Err-Device.ensures.off;
     }
 
@@ -81,7 +81,7 @@ returns-in-Err-Memory-clause-plays g c = λ m next tells counts live stays.
     commit_memory m next c.args.what live refl
     (left g (goal.at.returns-in-Err-Memory-clause-plays g c).After-commit)
     (commit-lacked c.commit.result (g.B.Disk.state c.args.bench.now) (g.B.Disk.state c.commit.new.disk)
-    c.commit.ensures.goes lacked)
+    c.commit.ensures.ends.goes lacked)
 
 pub returns-in_err-end_with-in-Err-PowerLost-clause-plays : goal.returns-in_err-end_with-in-Err-PowerLost-clause-plays
 returns-in_err-end_with-in-Err-PowerLost-clause-plays g c = λ m next tells counts live stays.

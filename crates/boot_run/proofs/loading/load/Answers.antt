@@ -51,9 +51,9 @@ done g c =
     record {
       left = left g (goal.at.In-Ok-load_judged g c).After-load_judged;
       exact = subst P (held g (goal.at.In-Ok-load_judged g c).In-Ok) (c.in-Ok-load_judged.ensures.exact told);
-      unchanged = c.in-Ok-load_judged.ensures.unchanged;
-      none = c.in-Ok-load_judged.ensures.still told;
-      loads = c.in-Ok-load_judged.ensures.loads told;
+      unchanged = c.in-Ok-load_judged.ensures.loaded.unchanged;
+      none = c.in-Ok-load_judged.ensures.loaded.clean.still told;
+      loads = c.in-Ok-load_judged.ensures.loaded.loads told;
       quiet = load-done _ (g.B.Disk.state c.power_on.new.self) (g.B.Disk.state c.load_judged.new.disk)
           c.in-Ok-load_judged.ensures.goes;
     }
@@ -131,7 +131,7 @@ returns-in_ok-say-in-Ok-load_judged-clause-sound g c =
       record {
         on = search rules;
         still = all.none;
-        carries = c.in-Ok-load_judged.ensures.carries g.met.B.Bench.told;
+        carries = c.in-Ok-load_judged.ensures.loaded.clean.carries g.met.B.Bench.told;
         loads = (record { state = store.loaded_state c.in-Ok-load_judged.hive; dirty = false }, all.loads);
         marked = marked-by (g.B.Disk.state c.power_on.new.self) (g.B.Disk.state c.load_judged.new.disk) all.left.history
             all.left.counts (marked g (goal.at.returns-in_ok-say-in-Ok-load_judged-clause-sound g c).In-Ok);

@@ -1,5 +1,5 @@
 mod Cuts
-use Rattle.std.proofs.Common.{◌≡◌, ℕ, List, length, refl, arith, subst}
+use Rattle.std.proofs.Common.{◌≡◌, ℕ, List, length, refl, arith, rules, subst}
 use Rattle.hive_model.specs.Base.{Base}
 use Rattle.hive_model.specs.Carries.{HasLog}
 use Rattle.hive_model.specs.Recovery.{bit}
@@ -62,53 +62,36 @@ write_log-requires-clause-fits g c = λ tells.
     log_fits c.closed_block-closed.result c.closed_block-closed.ensures
     (change g (goal.at.write_log-requires-clause-fits g c).After-texts_fit (c.requires.change tells))
 
-pub returns-in_err-write_log-clause-crash : goal.returns-in_err-write_log-clause-crash
-returns-in_err-write_log-clause-crash g c =
-    (in_log g (goal.at.returns-in_err-write_log-clause-crash g c).After-write_log).crash
+pub returns-in_err-write_log-clause-cut : goal.returns-in_err-write_log-clause-cut
+returns-in_err-write_log-clause-cut g c = in_log g (goal.at.returns-in_err-write_log-clause-cut g c).After-write_log
 
-pub returns-in_err-write_block-clause-crash : goal.returns-in_err-write_block-clause-crash
-returns-in_err-write_block-clause-crash g c =
-    (in_opening g (goal.at.returns-in_err-write_block-clause-crash g c).After-write_block).crash
+pub returns-in_err-write_block-clause-cut : goal.returns-in_err-write_block-clause-cut
+returns-in_err-write_block-clause-cut g c = in_opening g (goal.at.returns-in_err-write_block-clause-cut g c).After-write_block
 
-pub returns-in_err-write_bins-clause-crash : goal.returns-in_err-write_bins-clause-crash
-returns-in_err-write_bins-clause-crash g c =
-    (in_bins g (goal.at.returns-in_err-write_bins-clause-crash g c).After-write_bins).crash
+pub returns-in_err-write_bins-clause-cut : goal.returns-in_err-write_bins-clause-cut
+returns-in_err-write_bins-clause-cut g c = in_bins g (goal.at.returns-in_err-write_bins-clause-cut g c).After-write_bins
 
-pub returns-in_err-write_block-2-clause-crash : goal.returns-in_err-write_block-2-clause-crash
-returns-in_err-write_block-2-clause-crash g c =
-    (in_closing g (goal.at.returns-in_err-write_block-2-clause-crash g c).After-write_block-2).crash
+pub returns-in_err-write_block-2-clause-cut : goal.returns-in_err-write_block-2-clause-cut
+returns-in_err-write_block-2-clause-cut g c = in_closing g (goal.at.returns-in_err-write_block-2-clause-cut g c).After-write_block-2
 
-pub returns-clause-crash : goal.returns-clause-crash
-returns-clause-crash g c = (in_closing g (goal.at.returns-clause-crash g c).After-write_block-2).crash
+pub returns-clause-cut : goal.returns-clause-cut
+returns-clause-cut g c = in_closing g (goal.at.returns-clause-cut g c).After-write_block-2
 
-pub returns-in_err-write_log-clause-rest : goal.returns-in_err-write_log-clause-rest
-returns-in_err-write_log-clause-rest g c = (in_log g (goal.at.returns-in_err-write_log-clause-rest g c).After-write_log).rest
-
-pub returns-in_err-write_block-clause-rest : goal.returns-in_err-write_block-clause-rest
-returns-in_err-write_block-clause-rest g c =
-    (in_opening g (goal.at.returns-in_err-write_block-clause-rest g c).After-write_block).rest
-
-pub returns-in_err-write_bins-clause-rest : goal.returns-in_err-write_bins-clause-rest
-returns-in_err-write_bins-clause-rest g c =
-    (in_bins g (goal.at.returns-in_err-write_bins-clause-rest g c).After-write_bins).rest
-
-pub returns-in_err-write_block-2-clause-rest : goal.returns-in_err-write_block-2-clause-rest
-returns-in_err-write_block-2-clause-rest g c =
-    (in_closing g (goal.at.returns-in_err-write_block-2-clause-rest g c).After-write_block-2).rest
-
-pub returns-clause-rest : goal.returns-clause-rest
-returns-clause-rest g c = (in_closing g (goal.at.returns-clause-rest g c).After-write_block-2).rest
-
-pub returns-clause-carries : goal.returns-clause-carries
-returns-clause-carries g c = λ tells.
-    carried (closed g (goal.at.returns-clause-carries g c).In_ok-write_block-2 tells (c.requires.change tells))
-
-pub returns-clause-logged : goal.returns-clause-logged
-returns-clause-logged g c = λ tells old marked.
+pub returns-clause-committed : goal.returns-clause-committed
+returns-clause-committed g c old marked =
     let base = c.args.base.now in
     let new = c.args.new.now in
     let bits = bit c.args.marks.now in
-    subst (HasLog (g.D.Disk.state c.write_block-2.new.disk).held)
-    (log_same bits (dirty old new) new (closed_of base new c.args.root)
-    (λ j small. marked j (omega (arith, (sized (length new) c.requires.sized).pages))))
-    (still_logged (closed g (goal.at.returns-clause-logged g c).In_ok-write_block-2 tells (c.requires.change tells)))
+    let here = (goal.at.returns-clause-committed g c).In_ok-write_block-2 in
+    record {
+      answered = search rules;
+      clean = record {
+        on = search rules;
+        still = search rules;
+        carries = λ tells. carried (closed g here tells (c.requires.change tells));
+      };
+      logged = λ tells. subst (HasLog (g.D.Disk.state c.write_block-2.new.disk).held)
+          (log_same bits (dirty old new) new (closed_of base new c.args.root)
+          (λ j small. marked j (omega (arith, (sized (length new) c.requires.sized).pages))))
+          (still_logged (closed g here tells (c.requires.change tells)));
+    }

@@ -1,15 +1,14 @@
-use Rattle.std.proofs.Common.{◌≡◌, ◌++◌, true, ℕ, List, [], sym, ◌∙◌, ap, length}
+use Rattle.std.proofs.Common.{◌≡◌, ◌++◌, true, ℕ, List, [], sym, ◌∙◌, ap}
 use Rattle.std.proofs.lemmas.List.{append-nil}
-use Rattle.hive_model.specs.Image.{Image}
-use Rattle.hive_model.specs.Carries.{IsRecoveredAs}
 use Rattle.hive_model.specs.Recovery.{Recovered, bit}
 use Rattle.nt_edge.specs.Calls.{reads_of}
 use Rattle.nt_edge.specs.Crash.{EachCrash}
 use Rattle.nt_edge.specs.Disk.{DiskState}
-use Rattle.hive_commit.specs.Alone.{KeepsLog, KeepsRest}
+use Rattle.hive_commit.specs.Alone.{KeepsAll}
 use Rattle.hive_commit.specs.Calls.{closing_calls, recovery_calls}
+use Rattle.hive_commit.specs.Cuts.{IsCutOfRestoring}
 use Rattle.hive_commit.proofs.RecoveryCalls.{only_read, read_then, refused, front_behind, stopped_by, restored_all, clean_all}
-use Rattle.hive_commit.proofs.Rest.{KeepsAll, all_kept, all_restored}
+use Rattle.hive_commit.proofs.Rest.{all_kept, all_restored}
 use Rattle.hive_commit.proofs.loading.recover.Given.{Over}
 use Rattle.hive_commit.proofs.loading.recover.Goals as goal
 use Rattle.hive_commit.proofs.loading.recover.Goals.{After-read_recovered, In_ok-recovered, After-restore, After-drop-bitmap-inside-2, then-recovered+in_ok-restore, else-recovered}
@@ -25,9 +24,8 @@ read g c tells =
 module _ (g : Over) (c : In_ok-recovered g) {view : Recovered} (same : view ≡ c.in_ok-recovered.field-0.recovered)
     (bins : List ℕ) (bins_is : bins ≡ view.bins) (tells : g.D.Disk.tells ≡ true) where
   -- a cut then keeps all
-  restored : (now : DiskState) → EachCrash now (λ (i : Image). IsRecoveredAs i view.base bins)
-      → EachCrash now (KeepsLog (g.D.Disk.state c.read_recovered.new.disk).held)
-      → EachCrash now (KeepsRest (length bins) (g.D.Disk.state c.read_recovered.new.disk).held)
+  restored : (now : DiskState)
+      → EachCrash now (IsCutOfRestoring (g.D.Disk.state c.read_recovered.new.disk).held view.base bins)
       → KeepsAll (g.D.Disk.state c.args.disk.now) now
   restored now =
       all_restored (g.D.Disk.state c.args.disk.now) (g.D.Disk.state c.read_recovered.new.disk) now
@@ -52,7 +50,7 @@ stopped : (g : Over) (c : After-restore g) → g.D.Disk.tells ≡ true
     → KeepsAll (g.D.Disk.state c.args.disk.now) (g.D.Disk.state c.restore.new.disk)
 stopped g c tells =
     restored g (goal.at.After-restore g c).In_ok-recovered c.recovered.view_is _ c.as_slice-then-recovered.ensures tells _
-    (c.restore.ensures.crash tells) (c.restore.ensures.log tells) (c.restore.ensures.rest tells)
+    (c.restore.ensures.cut tells)
 
 -- and at the end, with a restoring or with none
 at_end : (g : Over) (c : After-drop-bitmap-inside-2 g) → g.D.Disk.tells ≡ true
@@ -62,7 +60,7 @@ at_end g c tells =
     elim c.if-recovered.branch [
       | then-recovered+in_ok-restore w ↦
           rw w.disk-is (restored g way.In_ok-recovered c.recovered.view_is _ w.as_slice-then-recovered.ensures tells _
-          (w.restore.ensures.crash tells) (w.restore.ensures.log tells) (w.restore.ensures.rest tells))
+          (w.restore.ensures.cut tells))
       | else-recovered w ↦ rw w.disk-is (read g way.After-read_recovered tells)
     ]
 
@@ -111,31 +109,11 @@ returns-clause-made g c =
           (sym (ap (λ (r : Recovered). r.dirty) c.recovered.view_is) ∙ w.if-recovered.false)))
     ]
 
-pub returns-in_err-recovered-clause-crash : goal.returns-in_err-recovered-clause-crash
-returns-in_err-recovered-clause-crash g c = λ tells.
-    (read g (goal.at.returns-in_err-recovered-clause-crash g c).After-read_recovered tells).crash
+pub returns-in_err-recovered-clause-cut : goal.returns-in_err-recovered-clause-cut
+returns-in_err-recovered-clause-cut g c = read g (goal.at.returns-in_err-recovered-clause-cut g c).After-read_recovered
 
-pub returns-in_err-recovered-clause-rest : goal.returns-in_err-recovered-clause-rest
-returns-in_err-recovered-clause-rest g c = λ tells.
-    (read g (goal.at.returns-in_err-recovered-clause-rest g c).After-read_recovered tells).rest
+pub returns-in_err-restore-clause-cut : goal.returns-in_err-restore-clause-cut
+returns-in_err-restore-clause-cut g c = stopped g (goal.at.returns-in_err-restore-clause-cut g c).After-restore
 
-pub returns-in_err-restore-clause-crash : goal.returns-in_err-restore-clause-crash
-returns-in_err-restore-clause-crash g c = λ tells.
-    (stopped g (goal.at.returns-in_err-restore-clause-crash g c).After-restore tells).crash
-
-pub returns-in_err-restore-clause-log : goal.returns-in_err-restore-clause-log
-returns-in_err-restore-clause-log g c = λ tells.
-    (stopped g (goal.at.returns-in_err-restore-clause-log g c).After-restore tells).log
-
-pub returns-in_err-restore-clause-rest : goal.returns-in_err-restore-clause-rest
-returns-in_err-restore-clause-rest g c = λ tells.
-    (stopped g (goal.at.returns-in_err-restore-clause-rest g c).After-restore tells).rest
-
-pub returns-clause-crash : goal.returns-clause-crash
-returns-clause-crash g c = λ tells. (at_end g (goal.at.returns-clause-crash g c).After-drop-bitmap-inside-2 tells).crash
-
-pub returns-clause-log : goal.returns-clause-log
-returns-clause-log g c = λ tells. (at_end g (goal.at.returns-clause-log g c).After-drop-bitmap-inside-2 tells).log
-
-pub returns-clause-rest : goal.returns-clause-rest
-returns-clause-rest g c = λ tells. (at_end g (goal.at.returns-clause-rest g c).After-drop-bitmap-inside-2 tells).rest
+pub returns-clause-cut : goal.returns-clause-cut
+returns-clause-cut g c = at_end g (goal.at.returns-clause-cut g c).After-drop-bitmap-inside-2

@@ -1,11 +1,9 @@
-use Rattle.std.proofs.Common.{◌≡◌, true, refl, ◌∙◌, length, List}
+use Rattle.std.proofs.Common.{◌≡◌, true, refl, rules, ◌∙◌, length, List}
 use Rattle.hive_model.specs.Asked.{log_at}
-use Rattle.hive_model.specs.Carries.{IsRecoveredAs}
-use Rattle.hive_model.specs.Image.{Image}
 use Rattle.hive_model.specs.Recovery.{bit}
 use Rattle.nt_edge.specs.Calls.{Made, writes_of}
 use Rattle.nt_edge.specs.Crash.{EachCrash, AgreeOutside}
-use Rattle.hive_commit.specs.Alone.{KeepsLog, KeepsRest}
+use Rattle.hive_commit.specs.Cuts.{IsCutOfRestoring}
 use Rattle.hive_commit.specs.Calls.{bins_writes, block_calls}
 use Rattle.hive_commit.specs.Stages.{is_marked}
 use Rattle.hive_commit.proofs.CallLemmas.{stopped}
@@ -30,31 +28,20 @@ bins_agree g c tells =
 -- a cut while the base block is written, or after it
 cut_in_block : (g : Over) (c : After-write_block g) → g.D.Disk.tells ≡ true
     → EachCrash (g.D.Disk.state c.write_block.new.disk)
-    (λ (i : Image). IsRecoveredAs i c.args.closed.now c.args.bins.now)
+    (IsCutOfRestoring (g.D.Disk.state c.args.disk.now).held c.args.closed.now c.args.bins.now)
 cut_in_block g c tells left crash =
-    kept_in_block (g.D.Disk.state c.args.disk.now).held c.args.closed.now c.args.bitmap.now c.args.bins.now
-    (c.requires.found tells) c.numbers_fit.ensures c.texts_fit.ensures c.requires.whole
-    (g.D.Disk.state c.write_bins.new.disk).held (bins_agree g (goal.at.After-write_block g c).After-write_bins tells)
-    (c.in_ok-write_bins.ensures.written tells)
-    left (c.write_block.ensures.crash tells left crash) (c.write_block.ensures.block tells left crash)
-
-log_kept : (g : Over) (c : After-write_block g) → g.D.Disk.tells ≡ true
-    → EachCrash (g.D.Disk.state c.write_block.new.disk) (KeepsLog (g.D.Disk.state c.args.disk.now).held)
-log_kept g c tells left crash n =
-    c.write_block.ensures.crash tells left crash (log_at n) refl
-    ∙ bins_agree g (goal.at.After-write_block g c).After-write_bins tells (log_at n) refl
-
-rest_kept : (g : Over) (c : After-write_block g) → g.D.Disk.tells ≡ true
-    → EachCrash (g.D.Disk.state c.write_block.new.disk)
-    (KeepsRest (length c.args.bins.now) (g.D.Disk.state c.args.disk.now).held)
-rest_kept g c tells left crash =
     let size = length c.args.bins.now in
     let h0 = (g.D.Disk.state c.args.disk.now).held in
     let h1 = (g.D.Disk.state c.write_bins.new.disk).held in
-    rest_then size h0 h1 left
-    (rest_marked size h0 h1 (bit c.args.bitmap.now) (bins_agree g (goal.at.After-write_block g c).After-write_bins
-    tells))
-    (rest_base size h1 left (c.write_block.ensures.crash tells left crash))
+    let agree = bins_agree g (goal.at.After-write_block g c).After-write_bins tells in
+    let block = c.write_block.ensures.crash tells left crash in
+    record {
+      recovered = kept_in_block h0 c.args.closed.now c.args.bitmap.now c.args.bins.now (c.requires.found.found tells)
+          c.numbers_fit.ensures c.texts_fit.ensures c.requires.whole h1 agree (c.in_ok-write_bins.ensures.written tells)
+          left block (c.write_block.ensures.block tells left crash);
+      log = λ n. block (log_at n) refl ∙ agree (log_at n) refl;
+      rest = rest_then size h0 h1 left (rest_marked size h0 h1 (bit c.args.bitmap.now) agree) (rest_base size h1 left block);
+    }
 
 pub returns-in_err-write_bins-clause-made : goal.returns-in_err-write_bins-clause-made
 returns-in_err-write_bins-clause-made g c =
@@ -77,48 +64,34 @@ returns-clause-made g c =
     (g.D.Disk.calls c.args.disk.now) (g.D.Disk.calls c.write_bins.new.disk) (g.D.Disk.calls c.write_block.new.disk)
     c.in_ok-write_bins.ensures.made c.in_ok-write_block.ensures.made
 
-pub returns-in_err-write_bins-clause-crash : goal.returns-in_err-write_bins-clause-crash
-returns-in_err-write_bins-clause-crash g c = λ tells left crash.
-    kept_in_bins (g.D.Disk.state c.args.disk.now).held c.args.closed.now c.args.bitmap.now c.args.bins.now
-    (c.requires.found tells) c.numbers_fit.ensures c.texts_fit.ensures c.requires.whole left
-    (c.write_bins.ensures.crash tells left crash)
+pub returns-in_err-write_bins-clause-cut : goal.returns-in_err-write_bins-clause-cut
+returns-in_err-write_bins-clause-cut g c = λ tells left crash.
+    let held = (g.D.Disk.state c.args.disk.now).held in
+    let agree = c.write_bins.ensures.crash tells left crash in
+    record {
+      recovered = kept_in_bins held c.args.closed.now c.args.bitmap.now c.args.bins.now (c.requires.found.found tells)
+          c.numbers_fit.ensures c.texts_fit.ensures c.requires.whole left agree;
+      log = λ n. agree (log_at n) refl;
+      rest = rest_marked (length c.args.bins.now) held left (bit c.args.bitmap.now) agree;
+    }
 
-pub returns-in_err-write_block-clause-crash : goal.returns-in_err-write_block-clause-crash
-returns-in_err-write_block-clause-crash g c =
-    cut_in_block g (goal.at.returns-in_err-write_block-clause-crash g c).After-write_block
+pub returns-in_err-write_block-clause-cut : goal.returns-in_err-write_block-clause-cut
+returns-in_err-write_block-clause-cut g c =
+    cut_in_block g (goal.at.returns-in_err-write_block-clause-cut g c).After-write_block
 
-pub returns-clause-crash : goal.returns-clause-crash
-returns-clause-crash g c = cut_in_block g (goal.at.returns-clause-crash g c).After-write_block
+pub returns-clause-cut : goal.returns-clause-cut
+returns-clause-cut g c = cut_in_block g (goal.at.returns-clause-cut g c).After-write_block
 
-pub returns-clause-carries : goal.returns-clause-carries
-returns-clause-carries g c = λ tells.
+pub returns-clause-clean : goal.returns-clause-clean
+returns-clause-clean g c =
     let t = g.D.Disk.state c.write_block.new.disk in
-    closed_again (g.D.Disk.state c.args.disk.now).held c.args.closed.now c.args.bitmap.now c.args.bins.now
-    (c.requires.found tells) c.numbers_fit.ensures c.texts_fit.ensures c.requires.whole
-    (g.D.Disk.state c.write_bins.new.disk).held
-    (bins_agree g (goal.at.returns-clause-carries g c).After-write_bins tells)
-    (c.in_ok-write_bins.ensures.written tells)
-    t.held (c.write_block.ensures.crash tells t.held (held_left t)) (c.in_ok-write_block.ensures.written tells)
-
-pub returns-in_err-write_bins-clause-log : goal.returns-in_err-write_bins-clause-log
-returns-in_err-write_bins-clause-log g c =
-    λ tells left crash n. c.write_bins.ensures.crash tells left crash (log_at n) refl
-
-pub returns-in_err-write_block-clause-log : goal.returns-in_err-write_block-clause-log
-returns-in_err-write_block-clause-log g c =
-    log_kept g (goal.at.returns-in_err-write_block-clause-log g c).After-write_block
-
-pub returns-clause-log : goal.returns-clause-log
-returns-clause-log g c = log_kept g (goal.at.returns-clause-log g c).After-write_block
-
-pub returns-in_err-write_bins-clause-rest : goal.returns-in_err-write_bins-clause-rest
-returns-in_err-write_bins-clause-rest g c = λ tells left crash.
-    rest_marked (length c.args.bins.now) (g.D.Disk.state c.args.disk.now).held left (bit c.args.bitmap.now)
-    (c.write_bins.ensures.crash tells left crash)
-
-pub returns-in_err-write_block-clause-rest : goal.returns-in_err-write_block-clause-rest
-returns-in_err-write_block-clause-rest g c =
-    rest_kept g (goal.at.returns-in_err-write_block-clause-rest g c).After-write_block
-
-pub returns-clause-rest : goal.returns-clause-rest
-returns-clause-rest g c = rest_kept g (goal.at.returns-clause-rest g c).After-write_block
+    record {
+      on = search rules;
+      still = search rules;
+      carries = λ tells. closed_again (g.D.Disk.state c.args.disk.now).held c.args.closed.now c.args.bitmap.now
+          c.args.bins.now (c.requires.found.found tells) c.numbers_fit.ensures c.texts_fit.ensures c.requires.whole
+          (g.D.Disk.state c.write_bins.new.disk).held
+          (bins_agree g (goal.at.returns-clause-clean g c).After-write_bins tells)
+          (c.in_ok-write_bins.ensures.written tells) t.held (c.write_block.ensures.crash tells t.held (held_left t))
+          (c.in_ok-write_block.ensures.written tells);
+    }

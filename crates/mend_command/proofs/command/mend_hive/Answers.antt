@@ -7,7 +7,7 @@ use Rattle.mend_command.proofs.command.mend_hive.Goals as goal
 
 pub returns-in-Ok-clause-crash : goal.returns-in-Ok-clause-crash
 returns-in-Ok-clause-crash g c = λ tells s dirty loads.
-    let held = c.load.ensures.crash tells s dirty loads (g.D.Disk.state c.load.new.disk).held (λ a. inl refl) in
+    let held = (c.load.ensures.cut tells).crash s dirty loads (g.D.Disk.state c.load.new.disk).held (λ a. inl refl) in
     c.mend_loaded.ensures.crash tells s held.0 held.1
 
 pub returns-in-Ok-clause-faulty : goal.returns-in-Ok-clause-faulty
@@ -16,15 +16,15 @@ returns-in-Ok-clause-faulty g c = λ tells fault fails.
 
 pub returns-in-Err-Fault-clause-crash : goal.returns-in-Err-Fault-clause-crash
 returns-in-Err-Fault-clause-crash g c =
-    λ tells s dirty loads image crash. inl (c.load.ensures.crash tells s dirty loads image crash)
+    λ tells s dirty loads image crash. inl ((c.load.ensures.cut tells).crash s dirty loads image crash)
 
 pub returns-in-Err-PowerLost-clause-crash : goal.returns-in-Err-PowerLost-clause-crash
 returns-in-Err-PowerLost-clause-crash g c =
-    λ tells s dirty loads image crash. inl (c.load.ensures.crash tells s dirty loads image crash)
+    λ tells s dirty loads image crash. inl ((c.load.ensures.cut tells).crash s dirty loads image crash)
 
 pub returns-in-Err-Device-clause-crash : goal.returns-in-Err-Device-clause-crash
 returns-in-Err-Device-clause-crash g c =
-    λ tells s dirty loads image crash. inl (c.load.ensures.crash tells s dirty loads image crash)
+    λ tells s dirty loads image crash. inl ((c.load.ensures.cut tells).crash s dirty loads image crash)
 
 pub returns-in-Err-Memory-clause-said : goal.returns-in-Err-Memory-clause-said
 returns-in-Err-Memory-clause-said g c = λ tells. record {
@@ -36,4 +36,4 @@ returns-in-Err-Memory-clause-said g c = λ tells. record {
 
 pub returns-in-Err-Memory-clause-crash : goal.returns-in-Err-Memory-clause-crash
 returns-in-Err-Memory-clause-crash g c =
-    λ tells s dirty loads image crash. inl (c.load.ensures.crash tells s dirty loads image crash)
+    λ tells s dirty loads image crash. inl ((c.load.ensures.cut tells).crash s dirty loads image crash)

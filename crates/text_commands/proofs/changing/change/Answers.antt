@@ -8,5 +8,5 @@ returns-in-Ok-clause-changed g c =
     change_loads c.args.how g.D.Disk.tells c.change_loaded.result c.in-Ok.hive c.in-Ok.field-0-1
     (map step_of c.args.steps)
     (g.D.Disk.state c.args.disk.now).held
-    (g.D.Disk.state c.change_loaded.new.disk) c.in-Ok.ensures.exact c.in-Ok.ensures.recovered
+    (g.D.Disk.state c.change_loaded.new.disk) c.in-Ok.ensures.exact c.in-Ok.ensures.loaded.recovered
     c.change_loaded.ensures.changed

@@ -1,3 +1,4 @@
+use Rattle.std.proofs.lemmas.Result.{IfOk-weaker}
 use Rattle.hive_commit.specs.Calls.{recovery_calls}
 use Rattle.hive_alt.proofs.LogLemmas.{recovery_load, recovered_crash}
 use Rattle.hive_alt.proofs.log_scheme.LogSchemeScheme.load.Goals as goal
@@ -9,4 +10,14 @@ returns-clause-made g c =
 
 pub returns-clause-crash : goal.returns-clause-crash
 returns-clause-crash g c = λ tells.
-    recovered_crash (g.D.Disk.state c.args.disk.now) (g.D.Disk.state c.recover.new.disk) (c.recover.ensures.crash tells)
+    recovered_crash (g.D.Disk.state c.args.disk.now) (g.D.Disk.state c.recover.new.disk) (c.recover.ensures.cut tells).crash
+
+pub returns-clause-sized : goal.returns-clause-sized
+returns-clause-sized g c = IfOk-weaker c.recover.result _ _ (λ r is. is.sized) c.recover.ensures.recovered
+
+pub returns-clause-still : goal.returns-clause-still
+returns-clause-still g c = λ tells. IfOk-weaker c.recover.result _ _ (λ r is. is.clean.still tells) c.recover.ensures.recovered
+
+pub returns-clause-mended : goal.returns-clause-mended
+returns-clause-mended g c = λ tells.
+    IfOk-weaker c.recover.result _ _ (λ r is. is.clean.carries tells) c.recover.ensures.recovered

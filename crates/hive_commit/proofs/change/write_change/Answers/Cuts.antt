@@ -1,17 +1,15 @@
 -- What a cut leaves at each exit of a commit, by the clauses of its stages.
-use Rattle.std.proofs.Common.{◌≡◌, ℕ, Bool, List, true, length, rules}
+use Rattle.std.proofs.Common.{◌≡◌, ℕ, Bool, List, true, rules}
 use Rattle.hive_model.specs.Base.{Base}
 use Rattle.hive_model.specs.Image.{Image}
 use Rattle.hive_model.specs.Recovery.{bit}
-use Rattle.hive_model.specs.Carries.{Carries}
 use Rattle.nt_edge.specs.Disk.{DiskState}
 use Rattle.nt_edge.specs.Crash.{EachCrash}
-use Rattle.hive_commit.specs.Alone.{KeepsRest}
-use Rattle.hive_commit.specs.Cuts.{IsChange}
-use Rattle.hive_commit.specs.Stages.{AreMarked, IsBeforeOrAfter, IsMarkedChange, closed_of}
+use Rattle.hive_commit.specs.Cuts.{IsChange, IsCutOfCommit}
+use Rattle.hive_commit.specs.Stages.{IsMarkedChange}
 use Rattle.hive_commit.proofs.Four.{changed}
 use Rattle.hive_commit.proofs.Staged.{IsLogWritten, IsBlockOpened, IsBinsWritten, IsBlockClosed, log_written, block_opened, bins_written, block_closed}
-use Rattle.hive_commit.proofs.StagedCuts.{IsCut, cut_in_log, cut_in_opening, cut_in_bins, cut_in_closing}
+use Rattle.hive_commit.proofs.StagedCuts.{cut_in_log, cut_in_opening, cut_in_bins, cut_in_closing}
 use Rattle.hive_commit.proofs.change.write_change.Given.{Over}
 use Rattle.hive_commit.proofs.change.write_change.Goals as goal
 use Rattle.hive_commit.proofs.change.write_change.Goals.{Start, After-texts_fit, After-write_log, In_ok-write_log, After-write_block, In_ok-write_block, After-write_bins, In_ok-write_bins, After-write_block-2, In_ok-write_block-2}
@@ -26,22 +24,10 @@ abbrev Known : (g : Over) (c : Start g) → Told g c
 Known g c d stage now = stage (g.D.Disk.state c.args.disk.now).held c.args.base.now d.old c.args.new.now c.args.root
     (bit c.args.marks.now) now.held
 
--- what a cut leaves, whatever data the marks are of
-pub record IsSafe (g : Over) (c : Start g) (now : DiskState) : Type 0 where
-  pub crash : g.D.Disk.tells ≡ true → (old : List ℕ) → Carries (g.D.Disk.state c.args.disk.now).held c.args.base.now old
-      → AreMarked old c.args.new.now c.args.marks.now → EachCrash now (IsBeforeOrAfter c.args.base.now old
-      (closed_of c.args.base.now c.args.new.now c.args.root) c.args.new.now)
-  pub rest : g.D.Disk.tells ≡ true
-      → EachCrash now (KeepsRest (length c.args.new.now) (g.D.Disk.state c.args.disk.now).held)
-
--- it is so where each cut is recovered as before or as after
-safe : (g : Over) (c : Start g) (now : DiskState) → (g.D.Disk.tells ≡ true → (d : Told g c) → EachCrash now
-    (IsCut (g.D.Disk.state c.args.disk.now).held c.args.base.now d.old c.args.new.now c.args.root)) → IsSafe g c now
-safe g c now cuts = record {
-  crash = λ tells old carries marked cut left.
-      (cuts tells (record { old = old; carries = carries; marked = marked }) cut left).either;
-  rest = λ tells cut left. (cuts tells (c.requires.change tells) cut left).rest;
-}
+-- a cut is one of the commit, whatever data the marks are of
+abbrev pub IsSafe : (g : Over) (c : Start g) → DiskState → Type 0
+IsSafe g c now = g.D.Disk.tells ≡ true → (d : Told g c) → EachCrash now
+    (IsCutOfCommit (g.D.Disk.state c.args.disk.now).held c.args.base.now d.old c.args.new.now c.args.root)
 
 module _ (g : Over) where
   -- the data that the disk carries are changed as the marks tell
@@ -84,22 +70,22 @@ module _ (g : Over) where
 
   -- a cut in each of the four, and after the last
   pub in_log : (c : After-write_log g) → IsSafe g (goal.at.After-write_log g c).Start (g.D.Disk.state c.write_log.new.disk)
-  in_log c = safe g _ _ (λ tells d. cut_in_log (g.D.Disk.state c.write_log.new.disk)
-      (change (goal.at.After-write_log g c).After-texts_fit d) (c.write_log.ensures.crash tells))
+  in_log c = λ tells d. cut_in_log (g.D.Disk.state c.write_log.new.disk)
+      (change (goal.at.After-write_log g c).After-texts_fit d) (c.write_log.ensures.crash tells)
 
   pub in_opening : (c : After-write_block g)
       → IsSafe g (goal.at.After-write_block g c).Start (g.D.Disk.state c.write_block.new.disk)
-  in_opening c = safe g _ _ (λ tells d. cut_in_opening (logged (goal.at.After-write_block g c).In_ok-write_log tells d)
+  in_opening c = λ tells d. cut_in_opening (logged (goal.at.After-write_block g c).In_ok-write_log tells d)
       (g.D.Disk.state c.write_block.new.disk) c.opened_block.result c.opened_block.ensures
-      (c.write_block.ensures.crash tells) (c.write_block.ensures.block tells))
+      (c.write_block.ensures.crash tells) (c.write_block.ensures.block tells)
 
   pub in_bins : (c : After-write_bins g)
       → IsSafe g (goal.at.After-write_bins g c).Start (g.D.Disk.state c.write_bins.new.disk)
-  in_bins c = safe g _ _ (λ tells d. cut_in_bins (opened (goal.at.After-write_bins g c).In_ok-write_block tells d)
-      (g.D.Disk.state c.write_bins.new.disk) (c.write_bins.ensures.crash tells))
+  in_bins c = λ tells d. cut_in_bins (opened (goal.at.After-write_bins g c).In_ok-write_block tells d)
+      (g.D.Disk.state c.write_bins.new.disk) (c.write_bins.ensures.crash tells)
 
   pub in_closing : (c : After-write_block-2 g)
       → IsSafe g (goal.at.After-write_block-2 g c).Start (g.D.Disk.state c.write_block-2.new.disk)
-  in_closing c = safe g _ _ (λ tells d. cut_in_closing (written (goal.at.After-write_block-2 g c).In_ok-write_bins tells d)
+  in_closing c = λ tells d. cut_in_closing (written (goal.at.After-write_block-2 g c).In_ok-write_bins tells d)
       (g.D.Disk.state c.write_block-2.new.disk) c.closed_block-closed.result c.closed_block-closed.ensures
-      (c.write_block-2.ensures.crash tells) (c.write_block-2.ensures.block tells))
+      (c.write_block-2.ensures.crash tells) (c.write_block-2.ensures.block tells)

@@ -1,14 +1,16 @@
-use Rattle.std.proofs.Common.{◌≡◌, ◌++◌, ◌∙◌, true, [], refl, sym, ap}
+use Rattle.std.proofs.Common.{◌≡◌, ◌++◌, ◌∙◌, true, [], refl, rules, sym, ap}
 use Rattle.std.proofs.lemmas.List.{append-nil}
 use Rattle.nt_bytes.specs.declared.fault.HiveFault.{HiveFault}
 use Rattle.hive_model.specs.Load.{LoadFault}
 use Rattle.hive_model.specs.Recovery.{Recovered, bit}
 use Rattle.nt_edge.specs.Calls.{reads_of}
+use Rattle.hive_commit.specs.Alone.{KeepsAll}
 use Rattle.hive_commit.specs.Calls.{closing_calls}
 use Rattle.hive_commit.proofs.RecoveryCalls.{only_read, read_then, restored_front, restored_all, clean_all}
-use Rattle.hive_commit.proofs.Rest.{KeepsAll, all_kept, all_restored}
+use Rattle.hive_commit.proofs.Rest.{all_kept, all_restored}
 use Rattle.hive_mend.specs.Loaded.{Loaded, loaded_state}
-use Rattle.hive_store.proofs.LoadingLemmas.{loads_or_fails, kept_loads, restored_loads, found_again}
+use Rattle.hive_store.proofs.LoadingLemmas.{loads_or_fails, found_again}
+use Rattle.hive_mend.proofs.MendingLemmas.{keeps_hive}
 use Rattle.hive_mend.proofs.LoadingCalls.{stopped_look, stopped_restore}
 use Rattle.hive_mend.proofs.hive.LoadedHive.load.Given.{Over}
 use Rattle.hive_mend.proofs.hive.LoadedHive.load.Goals as goal
@@ -44,8 +46,7 @@ stopped g c tells =
     all_restored _ (g.D.Disk.state c.read_unmended.new.disk) _ (seen g (goal.at.After-restore g c).In_ok-hive)
     c.hive.inside.base c.as_slice-then-dirty.result.now (c.read_unmended.ensures.look.held tells)
     (c.in_ok-hive.ensures.exact tells).recovered (ap (λ (h : Loaded). h.base) c.hive.view_is)
-    (c.as_slice-then-dirty.ensures ∙ bins_read g (goal.at.After-restore g c).After-hive) (c.restore.ensures.crash tells)
-    (c.restore.ensures.log tells) (c.restore.ensures.rest tells)
+    (c.as_slice-then-dirty.ensures ∙ bins_read g (goal.at.After-restore g c).After-hive) (c.restore.ensures.cut tells)
 
 ended : (g : Over) (c : After-drop-bitmap-inside-2 g) → g.D.Disk.tells ≡ true
     → KeepsAll (g.D.Disk.state c.args.disk.now) (g.D.Disk.state c.if-dirty.disk)
@@ -54,8 +55,7 @@ ended g c tells = elim c.if-dirty.branch [
       (all_restored _ (g.D.Disk.state c.read_unmended.new.disk) _ (seen g (goal.at.After-drop-bitmap-inside-2 g c).In_ok-hive)
       c.hive.inside.base w.as_slice-then-dirty.result.now (c.read_unmended.ensures.look.held tells)
       (c.in_ok-hive.ensures.exact tells).recovered (ap (λ (h : Loaded). h.base) c.hive.view_is)
-      (w.as_slice-then-dirty.ensures ∙ bins_read g (goal.at.After-drop-bitmap-inside-2 g c).After-hive)
-      (w.restore.ensures.crash tells) (w.restore.ensures.log tells) (w.restore.ensures.rest tells))
+      (w.as_slice-then-dirty.ensures ∙ bins_read g (goal.at.After-drop-bitmap-inside-2 g c).After-hive) (w.restore.ensures.cut tells))
   | else-dirty w ↦ rw w.disk-is (unwritten g (goal.at.After-drop-bitmap-inside-2 g c).After-read_unmended tells)
 ]
 
@@ -112,66 +112,50 @@ returns-clause-made g c =
           w.if-dirty.false))
     ]
 
-pub returns-in_err-hive-clause-crash : goal.returns-in_err-hive-clause-crash
-returns-in_err-hive-clause-crash g c = λ tells.
-    kept_loads (g.D.Disk.state c.args.disk.now) (g.D.Disk.state c.read_unmended.new.disk)
-    (c.read_unmended.ensures.look.held tells) (c.read_unmended.ensures.look.flight tells ∙ c.requires.still tells)
+pub returns-in_err-hive-clause-cut : goal.returns-in_err-hive-clause-cut
+returns-in_err-hive-clause-cut g c = λ tells.
+    keeps_hive _ _ (unwritten g (goal.at.returns-in_err-hive-clause-cut g c).After-read_unmended tells)
 
-pub returns-in_err-restore-clause-crash : goal.returns-in_err-restore-clause-crash
-returns-in_err-restore-clause-crash g c = λ tells.
-    let view = seen g (goal.at.returns-in_err-restore-clause-crash g c).In_ok-hive in
-    let all = stopped g (goal.at.returns-in_err-restore-clause-crash g c).After-restore tells in
-    let is = (c.in_ok-hive.ensures.exact tells).recovered in
-    restored_loads (g.D.Disk.state c.args.disk.now).held view is view.base view.bins refl refl
-    (g.D.Disk.state c.restore.new.disk) (all.crash view.base view.bins (record { dirty = view.dirty; recovered = is }))
+pub returns-in_err-restore-clause-cut : goal.returns-in_err-restore-clause-cut
+returns-in_err-restore-clause-cut g c = λ tells.
+    keeps_hive _ _ (stopped g (goal.at.returns-in_err-restore-clause-cut g c).After-restore tells)
 
-pub returns-clause-crash : goal.returns-clause-crash
-returns-clause-crash g c = λ tells.
-    let view = seen g (goal.at.returns-clause-crash g c).In_ok-hive in
-    let all = ended g (goal.at.returns-clause-crash g c).After-drop-bitmap-inside-2 tells in
-    let is = (c.in_ok-hive.ensures.exact tells).recovered in
-    restored_loads (g.D.Disk.state c.args.disk.now).held view is view.base view.bins refl refl
-    (g.D.Disk.state c.if-dirty.disk) (all.crash view.base view.bins (record { dirty = view.dirty; recovered = is }))
+pub returns-clause-cut : goal.returns-clause-cut
+returns-clause-cut g c = λ tells.
+    keeps_hive _ _ (ended g (goal.at.returns-clause-cut g c).After-drop-bitmap-inside-2 tells)
 
-pub returns-clause-loads : goal.returns-clause-loads
-returns-clause-loads g c = λ tells.
+pub returns-clause-stands : goal.returns-clause-stands
+returns-clause-stands g c =
     let s0 = g.D.Disk.state c.args.disk.now in
-    let view = seen g (goal.at.returns-clause-loads g c).In_ok-hive in
-    let is = c.in_ok-hive.ensures.exact tells in
-    let found = found_again s0.held (loaded_state c.in_ok-hive.field-0.hive)
-    view.dirty view is.loads is.recovered c.in_ok-hive.ensures.sized in
-    elim c.if-dirty.branch [
-      | then-dirty+in_ok-restore w ↦ rw w.disk-is
-          (found c.hive.inside.base w.as_slice-then-dirty.result.now (ap (λ (h : Loaded). h.base) c.hive.view_is)
-          (w.as_slice-then-dirty.ensures ∙ bins_read g (goal.at.returns-clause-loads g c).After-hive)
-          (g.D.Disk.state w.restore.new.disk).held (w.in_ok-restore.ensures.carries tells))
-      | else-dirty w ↦ rw (w.disk-is, c.read_unmended.ensures.look.held tells)
-          (found view.base view.bins refl refl s0.held
-          (c.in_ok-hive.ensures.carries tells w.if-dirty.false))
-    ]
+    let view = seen g (goal.at.returns-clause-stands g c).In_ok-hive in
+    record {
+      clean = record { on = search rules; still = search rules; carries = search rules };
+      loads = λ tells.
+          let is = c.in_ok-hive.ensures.exact tells in
+          let found = found_again s0.held (loaded_state c.in_ok-hive.field-0.hive)
+          view.dirty view is.loads is.recovered c.in_ok-hive.ensures.sized in
+          elim c.if-dirty.branch [
+            | then-dirty+in_ok-restore w ↦ rw w.disk-is
+                (found c.hive.inside.base w.as_slice-then-dirty.result.now (ap (λ (h : Loaded). h.base) c.hive.view_is)
+                (w.as_slice-then-dirty.ensures ∙ bins_read g (goal.at.returns-clause-stands g c).After-hive)
+                (g.D.Disk.state w.restore.new.disk).held (w.in_ok-restore.ensures.clean.carries tells))
+            | else-dirty w ↦ rw (w.disk-is, c.read_unmended.ensures.look.held tells)
+                (found view.base view.bins refl refl s0.held
+                (c.in_ok-hive.ensures.carries tells w.if-dirty.false))
+          ];
+    }
 
-pub returns-in_err-restore-clause-faulty : goal.returns-in_err-restore-clause-faulty
-returns-in_err-restore-clause-faulty g c = λ tells fault fails. absurd
-    (no_fault g (goal.at.returns-in_err-restore-clause-faulty g c).In_ok-hive tells fault fails)
+pub returns-in_err-restore-clause-written : goal.returns-in_err-restore-clause-written
+returns-in_err-restore-clause-written g c = record {
+  clean = search rules;
+  faulty = λ tells fault fails. absurd
+      (no_fault g (goal.at.returns-in_err-restore-clause-written g c).In_ok-hive tells fault fails);
+  unwritten = search rules;
+}
 
-pub returns-clause-faulty : goal.returns-clause-faulty
-returns-clause-faulty g c = λ tells fault fails. absurd (no_fault g (goal.at.returns-clause-faulty g c).In_ok-hive
-    tells fault fails)
-
-pub returns-in_err-hive-clause-rest : goal.returns-in_err-hive-clause-rest
-returns-in_err-hive-clause-rest g c = λ tells.
-    (unwritten g (goal.at.returns-in_err-hive-clause-rest g c).After-read_unmended tells).rest
-
-pub returns-in_err-restore-clause-log : goal.returns-in_err-restore-clause-log
-returns-in_err-restore-clause-log g c = λ tells.
-    (stopped g (goal.at.returns-in_err-restore-clause-log g c).After-restore tells).log
-
-pub returns-clause-log : goal.returns-clause-log
-returns-clause-log g c = λ tells. (ended g (goal.at.returns-clause-log g c).After-drop-bitmap-inside-2 tells).log
-
-pub returns-in_err-restore-clause-rest : goal.returns-in_err-restore-clause-rest
-returns-in_err-restore-clause-rest g c = λ tells.
-    (stopped g (goal.at.returns-in_err-restore-clause-rest g c).After-restore tells).rest
-
-pub returns-clause-rest : goal.returns-clause-rest
-returns-clause-rest g c = λ tells. (ended g (goal.at.returns-clause-rest g c).After-drop-bitmap-inside-2 tells).rest
+pub returns-clause-written : goal.returns-clause-written
+returns-clause-written g c = record {
+  clean = search rules;
+  faulty = λ tells fault fails. absurd (no_fault g (goal.at.returns-clause-written g c).In_ok-hive tells fault fails);
+  unwritten = search rules;
+}

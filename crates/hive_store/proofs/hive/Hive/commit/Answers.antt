@@ -1,18 +1,17 @@
 use Rattle.std.proofs.Common.{◌≡◌, Bool, List, ℕ, true, false, refl, ap, sym, subst, ◌∙◌}
 use Rattle.std.proofs.lemmas.Result.{err_from_is_err_and}
 use Rattle.hive_model.specs.Base.{Base, version_of}
-use Rattle.hive_model.specs.Carries.{Carries, HasLog}
-use Rattle.hive_model.specs.Log.{dirty, log_of}
 use Rattle.hive_model.specs.State.{HiveState}
 use Rattle.hive_model.specs.Load.{Loads}
 use Rattle.nt_edge.specs.Calls.{Makes, MakesFront}
 use Rattle.nt_edge.specs.Crash.{EachCrash}
 use Rattle.hive_commit.specs.Calls.{change_calls}
-use Rattle.hive_commit.specs.Stages.{next_number, closed_of, IsBeforeOrAfter, LoadsAsEither}
+use Rattle.hive_commit.specs.Commits.{IsCleanWith, IsCommitted}
+use Rattle.hive_commit.specs.Stages.{closed_of, IsBeforeOrAfter, LoadsAsEither}
 use Rattle.saved_pages.specs.Overlay.{before}
 use Rattle.hive_store.specs.Session.{Session, HasTree, session_of, next_bins, next_root}
 use Rattle.hive_store.specs.Commits.{committed, committed_state}
-use Rattle.hive_store.proofs.CommittingLemmas.{IsReady, is_ready, stood, commit_loads, commit_crash, next_session, next_is, old_is, as_written, goes_again}
+use Rattle.hive_store.proofs.CommittingLemmas.{IsReady, is_ready, stood, commit_loads, commit_crash, next_session, next_is, old_is, as_written, ends_again}
 use Rattle.hive_store.proofs.SizedLemmas.{sized_bytes}
 use Rattle.hive_store.proofs.hive.Hive.commit.Given.{Over}
 use Rattle.hive_store.proofs.hive.Hive.commit.Goals as goal
@@ -36,7 +35,7 @@ has g c = subst (λ (s : Session). HasTree (version_of s.base.minor) s.bins s.ba
 loads_before : (g : Over) (c : After-self g) → g.D.Disk.tells ≡ true
     → (state : HiveState) × Loads (g.D.Disk.state c.args.disk.now).held state false
 loads_before g c tells =
-    stood c.args.self _ (has g c) (g.D.Disk.state c.args.disk.now).held (c.requires.carries tells)
+    stood c.args.self _ (has g c) (g.D.Disk.state c.args.disk.now).held (c.requires.clean.carries tells)
 
 -- what is said of the data and the root that the commit was given is said of the session's
 of_session : (g : Over) (c : After-commit_kept g) (P : Base → List ℕ → List ℕ → ℕ → Type 0)
@@ -53,9 +52,9 @@ crash g c tells =
     let state = g.D.Disk.state c.commit_kept.new.disk in
     commit_crash c.args.self (subst IsReady c.self.view_is (ready g (goal.at.After-commit_kept g c).After-root))
     (has g (goal.at.After-commit_kept g c).After-self).sized (g.D.Disk.state c.args.disk.now).held state
-    (c.requires.carries tells)
+    (c.requires.clean.carries tells)
     (of_session g c (λ base old new root. EachCrash state (IsBeforeOrAfter base old (closed_of base new root) new))
-    (c.commit_kept.ensures.crash tells))
+    (λ cut left. (c.commit_kept.ensures.cut tells cut left).either))
 
 pub commit_kept-requires-clause-sized : goal.commit_kept-requires-clause-sized
 commit_kept-requires-clause-sized g c =
@@ -63,27 +62,35 @@ commit_kept-requires-clause-sized g c =
     sized_bytes cells.version cells.bins cells.root cells.tree c.bytes-new.result.now c.bytes-new.ensures.sound
     c.root.ensures.stands c.bytes-new.ensures.exact
 
-pub commit_kept-requires-clause-carries : goal.commit_kept-requires-clause-carries
-commit_kept-requires-clause-carries g c = λ tells.
-    subst (λ (old : List ℕ). Carries (g.D.Disk.state c.args.disk.now).held c.self.inside.base old)
+pub commit_kept-requires-clause-clean : goal.commit_kept-requires-clause-clean
+commit_kept-requires-clause-clean g c =
+    let disk = g.D.Disk.state c.args.disk.now in
+    subst (λ (old : List ℕ). IsCleanWith g.D.Disk.tells disk c.self.inside.base old)
     (sym (old_is _ _ c.bytes-new.ensures.exact c.pages.ensures.base))
-    (subst (λ (v : Session). Carries (g.D.Disk.state c.args.disk.now).held v.base v.bins) (sym c.self.view_is) (c.requires.carries tells))
+    (subst (λ (v : Session). IsCleanWith g.D.Disk.tells disk v.base v.bins) (sym c.self.view_is) c.requires.clean)
 
 pub invariant_of-hive : goal.invariant_of-hive
 invariant_of-hive g c =
     let here = (goal.at.invariant_of-hive g c).After-root in
-    next_session (session g here) (ready g here) c.self.invariant.version _ _ _ _ c.in_ok-closed.ensures.answered
+    next_session (session g here) (ready g here) c.self.invariant.version _ _ _ _ c.in_ok-closed.ensures.committed.answered
     c.settle.ensures c.bytes-new.ensures.exact c.root.ensures.root
 
-pub returns-clause-answered : goal.returns-clause-answered
-returns-clause-answered g c =
-    next_is (session g (goal.at.returns-clause-answered g c).After-root) refl _ _ _ _ c.in_ok-closed.ensures.answered
-    c.settle.ensures c.bytes-new.ensures.exact c.root.ensures.root ∙ ap committed c.self.view_is
-
-pub returns-clause-number : goal.returns-clause-number
-returns-clause-number g c =
-    ap (λ (b : Base). b.first) (c.closed.view_is ∙ c.in_ok-closed.ensures.answered)
-    ∙ ap (λ (s : Session). next_number s.base.first) c.self.view_is
+pub returns-clause-committed : goal.returns-clause-committed
+returns-clause-committed g c =
+    let here = goal.at.returns-clause-committed g c in
+    let disk = g.D.Disk.state c.commit_kept.new.disk in
+    let done = of_session g here.After-commit_kept
+    (λ base old new root. IsCommitted g.D.Disk.tells disk old new (closed_of base new root) c.in_ok-closed.closed)
+    c.in_ok-closed.ensures.committed in
+    record {
+      answered = next_is (session g here.After-root) refl _ _ _ _ c.in_ok-closed.ensures.committed.answered
+          c.settle.ensures c.bytes-new.ensures.exact c.root.ensures.root ∙ ap committed c.self.view_is;
+      number = ap (λ (b : Base). b.first) (c.closed.view_is ∙ done.answered);
+      clean = done.clean;
+      loads = λ tells. commit_loads c.args.self (subst IsReady c.self.view_is (ready g here.After-root)) disk.held
+          (done.clean.carries tells);
+      logged = done.logged;
+    }
 
 pub returns-clause-made : goal.returns-clause-made
 returns-clause-made g c =
@@ -99,37 +106,17 @@ returns-in_err-closed-clause-made g c =
     (λ base old new root. MakesFront (g.D.Disk.calls c.args.disk.now) (g.D.Disk.calls c.commit_kept.new.disk)
     (change_calls base old new root)) c.in_err-closed.ensures.made)
 
-pub returns-clause-carries : goal.returns-clause-carries
-returns-clause-carries g c = λ tells.
-    of_session g (goal.at.returns-clause-carries g c).After-commit_kept
-    (λ base old new root. Carries (g.D.Disk.state c.commit_kept.new.disk).held (closed_of base new root) new)
-    (c.in_ok-closed.ensures.carries tells)
-
-pub returns-clause-logged : goal.returns-clause-logged
-returns-clause-logged g c = λ tells.
-    of_session g (goal.at.returns-clause-logged g c).After-commit_kept
-    (λ base old new root. HasLog (g.D.Disk.state c.commit_kept.new.disk).held
-    (log_of (dirty old new) new (closed_of base new root))) (c.in_ok-closed.ensures.logged tells)
-
-pub returns-clause-loads : goal.returns-clause-loads
-returns-clause-loads g c = λ tells.
-    let here = goal.at.returns-clause-loads g c in
-    let held = (g.D.Disk.state c.commit_kept.new.disk).held in
-    commit_loads c.args.self (subst IsReady c.self.view_is (ready g here.After-root)) held
-    (of_session g here.After-commit_kept (λ base old new root. Carries held (closed_of base new root) new)
-    (c.in_ok-closed.ensures.carries tells))
-
 pub returns-clause-crash : goal.returns-clause-crash
 returns-clause-crash g c = crash g (goal.at.returns-clause-crash g c).After-commit_kept
 
 pub returns-in_err-closed-clause-crash : goal.returns-in_err-closed-clause-crash
 returns-in_err-closed-clause-crash g c = crash g (goal.at.returns-in_err-closed-clause-crash g c).After-commit_kept
 
-pub returns-in_err-closed-clause-goes : goal.returns-in_err-closed-clause-goes
-returns-in_err-closed-clause-goes g c =
+pub returns-in_err-closed-clause-ends : goal.returns-in_err-closed-clause-ends
+returns-in_err-closed-clause-ends g c =
     let p = err_from_is_err_and c.from_residual.result c.from_residual.ensures.1 in
-    rw (p.1, p.2) (goes_again _ _ (g.D.Disk.state c.args.disk.now) (g.D.Disk.state c.commit_kept.new.disk)
-    c.in_err-closed.field-0.0 c.in_err-closed.ensures.goes)
+    rw (p.1, p.2) (ends_again _ _ (g.D.Disk.state c.args.disk.now) (g.D.Disk.state c.commit_kept.new.disk)
+    c.in_err-closed.field-0.0 c.in_err-closed.ensures.ends)
 
 pub returns-in_err-closed-clause-before : goal.returns-in_err-closed-clause-before
 returns-in_err-closed-clause-before g c = loads_before g (goal.at.returns-in_err-closed-clause-before g c).After-self

@@ -1,4 +1,4 @@
-use Rattle.std.proofs.Common.{◌≡◌, ◌++◌, ◌∙◌, ℕ, true, List, [], refl, sym, ap}
+use Rattle.std.proofs.Common.{◌≡◌, ◌++◌, ◌∙◌, ℕ, true, List, [], refl, rules, sym, ap}
 use Rattle.std.proofs.lemmas.List.{append-nil}
 use Rattle.nt_bytes.specs.declared.fault.HiveFault.{HiveFault}
 use Rattle.hive_model.specs.Bins.{spelled}
@@ -98,7 +98,7 @@ returns-in_err-restore-clause-crash g c = λ tells.
     (seen g (goal.at.returns-in_err-restore-clause-crash g c).In_ok-hive) (c.in_ok-hive.ensures.recovered tells)
     c.hive.inside.base c.bytes-bins.result.now (ap (λ (s : Session). s.base) c.hive.view_is)
     (bins_read g (goal.at.returns-in_err-restore-clause-crash g c).After-hive _ c.bytes-bins.ensures.exact)
-    (g.D.Disk.state c.restore.new.disk) (c.restore.ensures.crash tells)
+    (g.D.Disk.state c.restore.new.disk) (λ cut left. (c.restore.ensures.cut tells cut left).recovered)
 
 pub returns-clause-crash : goal.returns-clause-crash
 returns-clause-crash g c = λ tells.
@@ -109,33 +109,47 @@ returns-clause-crash g c = λ tells.
           (c.in_ok-hive.ensures.recovered tells)
           c.hive.inside.base w.bytes-bins.result.now (ap (λ (s : Session). s.base) c.hive.view_is)
           (bins_read g (goal.at.returns-clause-crash g c).After-hive _ w.bytes-bins.ensures.exact)
-          (g.D.Disk.state w.restore.new.disk) (w.restore.ensures.crash tells))
+          (g.D.Disk.state w.restore.new.disk) (λ cut left. (w.restore.ensures.cut tells cut left).recovered))
       | else-dirty w ↦ rw w.disk-is
           (kept_loads s0 (g.D.Disk.state c.look.new.disk) (c.look.ensures.look.held tells)
           (c.look.ensures.look.flight tells ∙ c.requires.still tells))
     ]
 
-pub returns-clause-loads : goal.returns-clause-loads
-returns-clause-loads g c = λ tells.
+pub returns-clause-loaded : goal.returns-clause-loaded
+returns-clause-loaded g c =
     let s0 = g.D.Disk.state c.args.disk.now in
     let looked = c.in_ok-hive.field-0 in
-    let found = found_again s0.held (loaded_state looked.hive) looked.dirty
-    (seen g (goal.at.returns-clause-loads g c).In_ok-hive)
-    (c.in_ok-hive.ensures.exact tells) (c.in_ok-hive.ensures.recovered tells) c.in_ok-hive.ensures.sized in
-    elim c.if-dirty.branch [
-      | then-dirty+in_ok-restore w ↦ rw w.disk-is
-          (found c.hive.inside.base w.bytes-bins.result.now (ap (λ (s : Session). s.base) c.hive.view_is)
-          (bins_read g (goal.at.returns-clause-loads g c).After-hive _ w.bytes-bins.ensures.exact)
-          (g.D.Disk.state w.restore.new.disk).held (w.in_ok-restore.ensures.carries tells))
-      | else-dirty w ↦ rw (w.disk-is, c.look.ensures.look.held tells)
-          (found looked.hive.base looked.hive.bins refl refl s0.held
-          (c.in_ok-hive.ensures.carries tells w.if-dirty.false))
-    ]
+    record {
+      recovered = search rules;
+      unchanged = search rules;
+      cells = search rules;
+      clean = record { on = search rules; still = search rules; carries = search rules };
+      loads = λ tells.
+          let found = found_again s0.held (loaded_state looked.hive) looked.dirty
+          (seen g (goal.at.returns-clause-loaded g c).In_ok-hive)
+          (c.in_ok-hive.ensures.exact tells) (c.in_ok-hive.ensures.recovered tells) c.in_ok-hive.ensures.sized in
+          elim c.if-dirty.branch [
+            | then-dirty+in_ok-restore w ↦ rw w.disk-is
+                (found c.hive.inside.base w.bytes-bins.result.now (ap (λ (s : Session). s.base) c.hive.view_is)
+                (bins_read g (goal.at.returns-clause-loaded g c).After-hive _ w.bytes-bins.ensures.exact)
+                (g.D.Disk.state w.restore.new.disk).held (w.in_ok-restore.ensures.clean.carries tells))
+            | else-dirty w ↦ rw (w.disk-is, c.look.ensures.look.held tells)
+                (found looked.hive.base looked.hive.bins refl refl s0.held
+                (c.in_ok-hive.ensures.carries tells w.if-dirty.false))
+          ];
+    }
 
-pub returns-in_err-restore-clause-faulty : goal.returns-in_err-restore-clause-faulty
-returns-in_err-restore-clause-faulty g c = λ tells fault fails. absurd
-    (no_fault g (goal.at.returns-in_err-restore-clause-faulty g c).In_ok-hive tells fault fails)
+pub returns-in_err-restore-clause-written : goal.returns-in_err-restore-clause-written
+returns-in_err-restore-clause-written g c = record {
+  clean = search rules;
+  faulty = λ tells fault fails. absurd
+      (no_fault g (goal.at.returns-in_err-restore-clause-written g c).In_ok-hive tells fault fails);
+  unwritten = search rules;
+}
 
-pub returns-clause-faulty : goal.returns-clause-faulty
-returns-clause-faulty g c = λ tells fault fails. absurd (no_fault g (goal.at.returns-clause-faulty g c).In_ok-hive
-    tells fault fails)
+pub returns-clause-written : goal.returns-clause-written
+returns-clause-written g c = record {
+  clean = search rules;
+  faulty = λ tells fault fails. absurd (no_fault g (goal.at.returns-clause-written g c).In_ok-hive tells fault fails);
+  unwritten = search rules;
+}
