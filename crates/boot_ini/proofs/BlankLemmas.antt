@@ -5,9 +5,9 @@ use Rattle.std.proofs.lemmas.Bool.{false≢true, eqb-true}
 use Rattle.std.proofs.lemmas.List.{take-append-drop, drop_at, drop_all}
 use Rattle.std.proofs.lemmas.List.Folds.{list_all-append}
 use Rattle.nt_bytes.specs.Text.{is_blank, trimmed, without_front_blanks, without_last_blanks}
-use Rattle.arc_path.proofs.Ends.{prefix_whole, whole_front, front_passes, no_front, first_fails, no_suffix, all_behind, last_fails, no_end, end_dropped}
-use Rattle.boot_ini.specs.Keys.{says_something, said_lines}
-use Rattle.boot_ini.specs.Parts.{IsBetweenBlanks, Says, IsSilent, AreSaid}
+use Rattle.boot_ini.proofs.Ends.{prefix_whole, whole_front, front_passes, no_front, first_fails, no_suffix, all_behind, last_fails, no_end, end_dropped}
+use Rattle.boot_ini.specs.boot_ini.Keys.{says_something, said_lines}
+use Rattle.boot_ini.specs.boot_ini.Parts.{IsBetweenBlanks, Says, IsSilent, AreSaid}
 
 -- ---- a text and the blanks around it
 

@@ -7,7 +7,7 @@ use Rattle.std.proofs.lemmas.List.Sums.{fails_before_first}
 use Rattle.std.proofs.lemmas.List.Splits.{slice_split_first, slice_split_none}
 use Rattle.std.proofs.lemmas.Bool.{ltb-true, ltb-false}
 use Rattle.nt_bytes.specs.Text.{is_blank}
-use Rattle.boot_ini.specs.Entries.{is_switch, switches_in}
+use Rattle.boot_ini.specs.boot_ini.Entries.{is_switch, switches_in}
 
 no_blank : (text : List ℕ) → length text ≤ position_or_len is_blank text → All (λ c. is_blank c ≡ false) text
 no_blank text all = All-from_get_or (λ c. is_blank c ≡ false) text 0

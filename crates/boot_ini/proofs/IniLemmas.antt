@@ -4,12 +4,12 @@ use Rattle.std.proofs.lemmas.List.Elements.{filter_map-append}
 use Rattle.std.specs.List.{filter_map}
 use Rattle.std.specs.Option.{option_or}
 use Rattle.std.specs.Str.Lines.{lines}
-use Rattle.boot_ini.specs.declared.keys.Section.{Section}
-use Rattle.boot_ini.specs.declared.keys.Section.TheVariants.{Loader, Systems}
-use Rattle.boot_ini.specs.declared.ini.OsEntry.{OsEntry}
-use Rattle.boot_ini.specs.Keys.{said_lines, said_in, lines_in, value_of}
-use Rattle.boot_ini.specs.Entries.{entry_of}
-use Rattle.boot_ini.specs.Ini.{first_of, values_from, entries_from}
+use Rattle.boot_ini.specs.declared.boot_ini.keys.Section.{Section}
+use Rattle.boot_ini.specs.declared.boot_ini.keys.Section.TheVariants.{Loader, Systems}
+use Rattle.boot_ini.specs.declared.boot_ini.ini.OsEntry.{OsEntry}
+use Rattle.boot_ini.specs.boot_ini.Keys.{said_lines, said_in, lines_in, value_of}
+use Rattle.boot_ini.specs.boot_ini.Entries.{entry_of}
+use Rattle.boot_ini.specs.boot_ini.Ini.{first_of, values_from, entries_from}
 
 first_append : {A : Type 0} (xs ys : List A) → first_of (xs ++ ys) ≡ option_or (first_of xs) (first_of ys)
 first_append [] ys = refl

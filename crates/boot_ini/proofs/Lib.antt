@@ -1,3 +1,9 @@
+pub mod Numerals
+pub mod Ends
+pub mod Found
+pub mod Meant
+pub mod FaultLemmas
+pub mod NamedLemmas
 pub mod BlankLemmas
 pub mod PartLemmas
 pub mod MeaningLemmas

@@ -7,14 +7,14 @@ use Rattle.std.proofs.Math.Seq.{drop-append-add}
 use Rattle.std.proofs.lemmas.List.Elements.{All-nil, All-cons}
 use Rattle.std.proofs.lemmas.List.Splits.{slice_split_at, slice_split_none}
 use Rattle.nt_bytes.specs.Text.{is_blank, trimmed, names_same, is_equals}
-use Rattle.boot_ini.specs.declared.keys.Section.TheVariants.{Loader, Systems, Other}
-use Rattle.boot_ini.specs.declared.ini.OsEntry.{OsEntry}
-use Rattle.boot_ini.specs.declared.ini.BootIni.{BootIni}
-use Rattle.boot_ini.specs.Keys.{sides, value_beside, value_of, said_in, lines_in}
-use Rattle.boot_ini.specs.Entries.{is_quote, is_slash, is_quoted, title_of, behind_title, is_switch, switches_in, entry_beside, entry_of}
-use Rattle.boot_ini.specs.Ini.{first_of, timeout_text, default_path, entries_in, ini_of}
-use Rattle.boot_ini.specs.Parts.{has_no, IsNothingOr, IsBetweenBlanks, lines_of}
-use Rattle.boot_ini.specs.Spelling.{IsSetting, IsFirst, IsQuoted, IsPlain, AreWords, IsEntry, AreEntries, IsSpelled}
+use Rattle.boot_ini.specs.declared.boot_ini.keys.Section.TheVariants.{Loader, Systems, Other}
+use Rattle.boot_ini.specs.declared.boot_ini.ini.OsEntry.{OsEntry}
+use Rattle.boot_ini.specs.declared.boot_ini.ini.BootIni.{BootIni}
+use Rattle.boot_ini.specs.boot_ini.Keys.{sides, value_beside, value_of, said_in, lines_in}
+use Rattle.boot_ini.specs.boot_ini.Entries.{is_quote, is_slash, is_quoted, title_of, behind_title, is_switch, switches_in, entry_beside, entry_of}
+use Rattle.boot_ini.specs.boot_ini.Ini.{first_of, timeout_text, default_path, entries_in, ini_of}
+use Rattle.boot_ini.specs.boot_ini.Parts.{has_no, IsNothingOr, IsBetweenBlanks, lines_of}
+use Rattle.boot_ini.specs.boot_ini.Spelling.{IsSetting, IsFirst, IsQuoted, IsPlain, AreWords, IsEntry, AreEntries, IsSpelled}
 use Rattle.boot_ini.proofs.BlankLemmas.{trim_found, trim_read, said_found, said_read}
 use Rattle.boot_ini.proofs.PartLemmas.{before_has_no, behind_is, place_is, Cut, cut, parts_read}
 

@@ -6,11 +6,11 @@ use Rattle.std.proofs.lemmas.Bool.{false≢true, eqb-true, and_parts}
 use Rattle.std.proofs.lemmas.Bool.Decides.{Decides-eqb}
 use Rattle.std.proofs.lemmas.List.{take-append-drop, take_at, append-nil}
 use Rattle.nt_bytes.specs.Text.{names_same}
-use Rattle.arc_path.proofs.Ends.{prefix_whole, whole_front, front_passes, no_front, first_fails}
-use Rattle.boot_ini.specs.declared.keys.Section.{Section}
-use Rattle.boot_ini.specs.declared.keys.Section.TheVariants.{Loader, Systems, Other}
-use Rattle.boot_ini.specs.Keys.{opens_section, is_closing, section_name, section_of_name, section_named, same_section, lines_in}
-use Rattle.boot_ini.specs.Parts.{has_no, IsNothingOr, IsNameOf, Opens, stays, Part, AreParts, lines_of}
+use Rattle.boot_ini.proofs.Ends.{prefix_whole, whole_front, front_passes, no_front, first_fails}
+use Rattle.boot_ini.specs.declared.boot_ini.keys.Section.{Section}
+use Rattle.boot_ini.specs.declared.boot_ini.keys.Section.TheVariants.{Loader, Systems, Other}
+use Rattle.boot_ini.specs.boot_ini.Keys.{opens_section, is_closing, section_name, section_of_name, section_named, same_section, lines_in}
+use Rattle.boot_ini.specs.boot_ini.Parts.{has_no, IsNothingOr, IsNameOf, Opens, stays, Part, AreParts, lines_of}
 
 -- ---- a text up to the first of some byte
 

@@ -1,6 +1,2 @@
-pub mod Keys
-pub mod Entries
-pub mod Ini
-pub mod Choice
-pub mod Parts
-pub mod Spelling
+pub mod arc_path
+pub mod boot_ini

@@ -2,8 +2,8 @@
 use Rattle.std.proofs.Common.{◌≡◌, ℕ, Bool, List, Option, Some, Result, Ok, Err, subst, refl, ◌∙◌}
 use Rattle.std.specs.Prelude.{IfOk}
 use Rattle.start_model.specs.Machine.{MachineState, Start, attempt_in, attempt_of}
-use Rattle.boot_machine.specs.declared.tried.Tried as code
-use Rattle.boot_machine.specs.Views.{tried_in}
+use Rattle.boot_machine.specs.declared.boot_machine.tried.Tried as code
+use Rattle.boot_machine.specs.boot_machine.Views.{tried_in}
 
 attempt_running : (m : MachineState) (s : Start) (usable : Bool) → m.start ≡ Some s
     → attempt_of m usable ≡ attempt_in m s usable

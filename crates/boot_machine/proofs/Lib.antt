@@ -4,3 +4,4 @@ pub mod QueueLemmas
 pub mod StartLemmas
 pub mod Noted
 pub mod Attempts
+pub mod PathLemmas

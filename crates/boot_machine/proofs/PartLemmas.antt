@@ -3,8 +3,8 @@ use Rattle.std.proofs.Common.{◌≡◌, ℕ, zero, suc, List, [], ◌∷◌, le
 use Rattle.std.specs.Prelude.{slice_get}
 use Rattle.start_model.specs.Demand.{Need}
 use Rattle.start_model.specs.Entries.{Entry, need_of}
-use Rattle.boot_machine.specs.declared.parts.Rest.{Rest}
-use Rattle.boot_machine.specs.Parts.{rest_of, joined, all_joined}
+use Rattle.boot_machine.specs.declared.boot_machine.parts.Rest.{Rest}
+use Rattle.boot_machine.specs.boot_machine.Parts.{rest_of, joined, all_joined}
 
 -- an entry that was split is the one that its parts make
 pub joined_again : (entries : List Entry) → all_joined (map need_of entries) (map rest_of entries) ≡ entries

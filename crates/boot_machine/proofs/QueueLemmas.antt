@@ -17,10 +17,10 @@ use Rattle.start_model.specs.Machine.{label_of}
 use Rattle.dependencies.specs.Waiting as deps
 use Rattle.dependencies.specs.Waiting.{WaitingState, waiting_in, places_in, next_place_in, labels_at, after_trying}
 use Rattle.dependencies.proofs.PickedLemmas.{all_picked, as_many, picked, some_is}
-use Rattle.boot_machine.specs.declared.parts.Rest.{Rest}
-use Rattle.boot_machine.specs.Parts.{rest_of, joined, all_joined}
-use Rattle.boot_machine.specs.Steps.{is_there}
-use Rattle.boot_machine.specs.Queue.{QueueState, next_among, IsFirst, TakesFirst}
+use Rattle.boot_machine.specs.declared.boot_machine.parts.Rest.{Rest}
+use Rattle.boot_machine.specs.boot_machine.Parts.{rest_of, joined, all_joined}
+use Rattle.boot_machine.specs.boot_machine.Steps.{is_there}
+use Rattle.boot_machine.specs.boot_machine.Queue.{QueueState, next_among, IsFirst, TakesFirst}
 use Rattle.boot_machine.proofs.PartLemmas.{joined_again, needs_joined, joined_at}
 
 -- ---- the items that are picked

@@ -7,9 +7,9 @@ use Rattle.start_model.specs.Entries.{Entry, Phase, need_of}
 use Rattle.start_model.specs.Order.{plan_of}
 use Rattle.start_model.specs.Ready.{Label, next_of}
 use Rattle.start_model.specs.Machine.{Start, label_of}
-use Rattle.boot_phases.specs.Lists.{Lists, lists_of, plan_among}
-use Rattle.boot_machine.specs.Steps.{AttemptsNext}
-use Rattle.boot_machine.specs.Queue.{QueueState, TakesFirst}
+use Rattle.boot_phases.specs.boot_phases.Lists.{Lists, lists_of, plan_among}
+use Rattle.boot_machine.specs.boot_machine.Steps.{AttemptsNext}
+use Rattle.boot_machine.specs.boot_machine.Queue.{QueueState, TakesFirst}
 
 pub attempts : (s : Start) (q q' : QueueState) (e : Entry) (ok : Bool) (tried : List (List ℕ)) → TakesFirst q q' e ok
     → s.waiting ≡ q.waiting → s.started ≡ q.started

@@ -1,5 +1,1 @@
-pub mod Codes
-pub mod Parts
-pub mod Queue
-pub mod Steps
-pub mod Views
+pub mod boot_machine

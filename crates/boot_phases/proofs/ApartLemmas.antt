@@ -6,7 +6,7 @@ use Rattle.std.proofs.lemmas.List.Elements.{All-from_recursion}
 use Rattle.hive_model.specs.Tree.{Tree}
 use Rattle.start_model.specs.Entries.{Phase}
 use Rattle.start_model.specs.Order.{Rank, is_before, placed, ordered_of, ranks_of}
-use Rattle.boot_phases.specs.Apart.{StandApart}
+use Rattle.boot_phases.specs.boot_phases.Apart.{StandApart}
 use Rattle.boot_phases.proofs.PlaceLemmas.{Rises}
 use Rattle.boot_phases.proofs.RisingLemmas.{ranks_rise}
 

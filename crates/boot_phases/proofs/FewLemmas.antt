@@ -11,7 +11,7 @@ use Rattle.start_model.specs.Demand.{automatic_of, is_taken}
 use Rattle.start_model.specs.Entries.{Entry, Phase, Boot, System, Automatic, Done, entry_of, entries_of, services_of, need_of, needs_at, is_driver_of, is_open, places_of, taken_of}
 use Rattle.start_model.specs.Order.{Rank, is_before, placed, ordered_of, rank_of, tags_count_in, plan_of}
 use Rattle.start_model.proofs.HeldLemmas.{services_few}
-use Rattle.boot_phases.specs.Lists.{Lists, lists_of, ranks_among, plan_among}
+use Rattle.boot_phases.specs.boot_phases.Lists.{Lists, lists_of, ranks_among, plan_among}
 
 one_more : {X : Type 0} (o : Option X) (xs : List X) (n : ℕ) → length xs ≤ n → length (cons_option o xs) ≤ suc n
 one_more None xs n le = omega arith

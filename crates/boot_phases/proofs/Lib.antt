@@ -1,3 +1,8 @@
+pub mod StartedLemmas
+pub mod TableLemmas
+pub mod FirstLemmas
+pub mod NameLemmas
+pub mod ValueLemmas
 pub mod ApartLemmas
 pub mod FewLemmas
 pub mod ListLemmas

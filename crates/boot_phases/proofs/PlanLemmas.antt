@@ -7,8 +7,8 @@ use Rattle.std.specs.List.{filter_map}
 use Rattle.hive_model.specs.Tree.{Tree}
 use Rattle.start_model.specs.Entries.{Entry, Phase, entries_of, taken_of}
 use Rattle.start_model.specs.Order.{GroupOrder, Rank, orders_of, tags_count_in, rank_of, ordered_of, plan_of}
-use Rattle.boot_phases.specs.Apart.{StandApart}
-use Rattle.boot_phases.specs.Lists.{Lists, lists_of, ranks_among, plan_among}
+use Rattle.boot_phases.specs.boot_phases.Apart.{StandApart}
+use Rattle.boot_phases.specs.boot_phases.Lists.{Lists, lists_of, ranks_among, plan_among}
 use Rattle.boot_phases.proofs.ApartLemmas.{plan_apart}
 
 abbrev of_both : List Entry → List GroupOrder → Lists

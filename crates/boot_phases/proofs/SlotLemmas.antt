@@ -7,7 +7,7 @@ use Rattle.std.proofs.lemmas.List.{take_more, length-take, get_or-take, get_or-s
 use Rattle.std.proofs.lemmas.List.Folds.{list_any-append}
 use Rattle.start_model.specs.Entries.{Entry}
 use Rattle.start_model.specs.Order.{Rank}
-use Rattle.boot_phases.specs.Apart.{StandApart}
+use Rattle.boot_phases.specs.boot_phases.Apart.{StandApart}
 
 -- the entries that none of these ranks is of still are in their slots
 abbrev pub AreLeft : List Entry → List Rank → List (Option Entry) → Type 0

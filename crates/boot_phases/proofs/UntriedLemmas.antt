@@ -8,13 +8,13 @@ use Rattle.std.proofs.lemmas.Option.{slice_get-get_or, get_or_from_slice_get}
 use Rattle.std.proofs.lemmas.List.{get_or_push, get_or_append_left, length_push, length-map}
 use Rattle.std.proofs.lemmas.List.Elements.{recursion_from_All, All-push, All-weaker}
 use Rattle.nt_bytes.specs.Folding.{folds_same}
-use Rattle.name_places.specs.Places.{places_named}
+use Rattle.nt_names.specs.name_places.Places.{places_named}
 use Rattle.start_model.specs.Demand.{Need}
 use Rattle.start_model.specs.Entries.{Entry, need_of, needs_at}
 use Rattle.dependencies.specs.Work.{names_of}
 use Rattle.dependencies.proofs.PulledLemmas.{filter-range_more}
-use Rattle.service_entries.specs.Named.{is_named_at, IsOnlyPlace}
-use Rattle.boot_phases.specs.Untried.{AreLedTo, indices_of}
+use Rattle.boot_phases.specs.service_entries.Named.{is_named_at, IsOnlyPlace}
+use Rattle.boot_phases.specs.boot_phases.Untried.{AreLedTo, indices_of}
 
 -- ---- the numbers below n that pass
 

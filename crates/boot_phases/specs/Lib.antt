@@ -1,4 +1,4 @@
-pub mod Apart
-pub mod Lists
-pub mod Phases
-pub mod Untried
+pub mod error_control
+pub mod service_entries
+pub mod group_order
+pub mod boot_phases

@@ -32,7 +32,7 @@ use Rattle.run_laws.proofs.KeptLemmas.{begin_with-keeps, begin_by-keeps}
 use Rattle.run_laws.proofs.StillLemmas.{may_load, next-may}
 use Rattle.start_laws.proofs.BeginLemmas.{begin_case, begins}
 use Rattle.start_laws.proofs.UsableLemmas.{usable_is, usable_parts, usable_from}
-use Rattle.run_parts.specs.Parts.{Stays}
+use Rattle.run_parts.specs.run_parts.Parts.{Stays}
 use Rattle.boot_run.specs.declared.runner.Runner.{Runner}
 use Rattle.boot_run.specs.Acts as acts
 use Rattle.boot_run.specs.Agrees.{IsLive, IsRunningBy, IsOnSet, Counts, LeavesUp, LoadsUp, TurnLeft}

@@ -16,9 +16,9 @@ use Rattle.start_model.specs.Fits.{outcomes_in, MayLoad}
 use Rattle.start_model.specs.Act.{Act, RunState, done, say, start_over, end_with}
 use Rattle.start_model.specs.Commit.{commit}
 use Rattle.start_model.specs.EventActs.{flush_act, off_act}
-use Rattle.boot_machine.specs.Steps.{is_there, falls_back}
-use Rattle.printed_parts.specs.Parts.{TellsOr}
-use Rattle.printed_parts.proofs.GoesLemmas.{idle}
+use Rattle.boot_machine.specs.boot_machine.Steps.{is_there, falls_back}
+use Rattle.run_parts.specs.printed_parts.Parts.{TellsOr}
+use Rattle.run_parts.proofs.GoesLemmas.{idle}
 use Rattle.boot_run.specs.declared.runner.Runner.{Runner}
 use Rattle.boot_run.specs.declared.stop.RunStop.{RunStop}
 use Rattle.boot_run.specs.Agrees.{IsUp, IsLive, IsSound, IsRunningBy, Counts, CommitLeft, TurnLeft, OffLeft, IsEnding}

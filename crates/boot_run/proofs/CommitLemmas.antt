@@ -22,20 +22,20 @@ use Rattle.report_words.specs.declared.words.CommitWord.{CommitWord}
 use Rattle.report_words.specs.declared.line.Line.TheVariants.{Commit as CommitLine, Verdict as VerdictLine}
 use Rattle.start_model.specs.Fits.{outcomes_in, MayLoad}
 use Rattle.start_model.specs.Causes.{HasCause}
-use Rattle.line_objects.specs.Objects.{printed}
-use Rattle.run_parts.specs.Counted.{CountedIn}
+use Rattle.report_text.specs.line_objects.Objects.{printed}
+use Rattle.run_parts.specs.run_parts.Counted.{CountedIn}
 use Rattle.start_model.specs.Machine.{ended}
 use Rattle.start_model.specs.Possible.{Possible, Outcome, Finished, settled_at, open_between}
 use Rattle.start_model.specs.Act.{Act, done, say, mark, Held, RunState, next_state, start_over, end_with}
 use Rattle.start_model.specs.Commit.{committed_state, opened_state, committed, commit}
 use Rattle.start_model.specs.Run.{play}
-use Rattle.run_parts.specs.Parts.{Stays, since_wake, tally_now}
-use Rattle.printed_parts.specs.Logged.{IsLogged}
-use Rattle.printed_parts.specs.Parts.{Told, Tells}
+use Rattle.run_parts.specs.run_parts.Parts.{Stays, since_wake, tally_now}
+use Rattle.run_parts.specs.printed_parts.Logged.{IsLogged}
+use Rattle.run_parts.specs.printed_parts.Parts.{Told, Tells}
 use Rattle.run_parts.proofs.CountLemmas.{alone-by}
-use Rattle.printed_parts.proofs.LoggedLemmas.{LogsWhere}
-use Rattle.printed_parts.proofs.GoesLemmas.{goes-then, goes-told, goes-held}
-use Rattle.printed_parts.proofs.BreakLemmas.{or-breaks, breaks-silent, breaks-told}
+use Rattle.run_parts.proofs.LoggedLemmas.{LogsWhere}
+use Rattle.run_parts.proofs.GoesLemmas.{goes-then, goes-told, goes-held}
+use Rattle.run_parts.proofs.BreakLemmas.{or-breaks, breaks-silent, breaks-told}
 use Rattle.boot_run.specs.Agrees.{IsDown, LoadsAny, IsStored, IsLive, Counts, CommitLeft}
 use Rattle.boot_run.specs.Views.{RunsTo}
 use Rattle.boot_run.specs.declared.stop.RunStop.{RunStop}

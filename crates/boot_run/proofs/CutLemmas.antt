@@ -18,13 +18,13 @@ use Rattle.start_model.specs.Possible.{Outcome, PowerCut}
 use Rattle.start_model.specs.Act.{Act, Note, RunState, Cuts, Ended, Ordered, done, ask, mark, start_over, end_with}
 use Rattle.start_model.specs.EventActs.{cut_act, arm_act}
 use Rattle.start_model.specs.Run.{play}
-use Rattle.run_parts.specs.Counted.{with_cut}
-use Rattle.run_parts.specs.Parts.{Grew, IsMarked, NoLess, since_wake, tally_now, cuts_behind}
-use Rattle.printed_parts.specs.Parts.{Told, Tells, Goes, GoesBut, Breaks, TellsOr}
+use Rattle.run_parts.specs.run_parts.Counted.{with_cut}
+use Rattle.run_parts.specs.run_parts.Parts.{Grew, IsMarked, NoLess, since_wake, tally_now, cuts_behind}
+use Rattle.run_parts.specs.printed_parts.Parts.{Told, Tells, Goes, GoesBut, Breaks, TellsOr}
 use Rattle.run_parts.proofs.CountLemmas.{still, no_less-same, no_less-bounded, rises-since}
-use Rattle.printed_parts.proofs.LoggedLemmas.{not_empty, logged-none, logged-stop}
-use Rattle.printed_parts.proofs.GoesLemmas.{tells-nothing}
-use Rattle.printed_parts.proofs.BreakLemmas.{breaks-silent, breaks-front}
+use Rattle.run_parts.proofs.LoggedLemmas.{not_empty, logged-none, logged-stop}
+use Rattle.run_parts.proofs.GoesLemmas.{tells-nothing}
+use Rattle.run_parts.proofs.BreakLemmas.{breaks-silent, breaks-front}
 use Rattle.boot_run.specs.declared.runner.Runner.{Runner}
 use Rattle.boot_run.specs.Agrees.{LoadsAny, IsDown, IsUp, IsLive, IsSound, Counts, OffLeft}
 use Rattle.boot_run.specs.Views.{Moment, RunsTo}

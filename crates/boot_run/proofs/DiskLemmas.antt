@@ -20,11 +20,11 @@ use Rattle.start_model.specs.Act.{Note}
 use Rattle.start_model.specs.Report.{Going}
 use Rattle.start_model.specs.Fits.{MayLoad}
 use Rattle.start_model.specs.Possible.{Outcome, PowerCut, DeviceFault, settled_at, open_between}
-use Rattle.run_parts.specs.Counted.{CountedIn}
-use Rattle.run_parts.specs.Parts.{Grew, Later, IsMarked, since_wake, tally_now, tally_at}
-use Rattle.printed_parts.specs.Parts.{Told, Goes, GoesBut}
+use Rattle.run_parts.specs.run_parts.Counted.{CountedIn}
+use Rattle.run_parts.specs.run_parts.Parts.{Grew, Later, IsMarked, since_wake, tally_now, tally_at}
+use Rattle.run_parts.specs.printed_parts.Parts.{Told, Goes, GoesBut}
 use Rattle.run_parts.proofs.CountLemmas.{Alone, later-same, no_less-then, no_less-bounded, rises-since, since-grown}
-use Rattle.printed_parts.proofs.GoesLemmas.{Idle}
+use Rattle.run_parts.proofs.GoesLemmas.{Idle}
 
 -- with nothing in flight a cut leaves what is held
 pub still_leaves : (d : DiskState) (P : Image → Type 0) → d.flight ≡ [] → P d.held → EachCrash d P

@@ -16,8 +16,8 @@ use Rattle.start_model.specs.Act.{Act, RunState, Saved, done, say, ask, mark, ne
 use Rattle.start_model.specs.Commit.{committed, commit, saved_by, save, save_where_due}
 use Rattle.start_model.specs.EventActs.{logon_act}
 use Rattle.start_model.specs.Run.{play}
-use Rattle.boot_machine.specs.Steps.{on_start}
-use Rattle.run_parts.specs.Parts.{Stays}
+use Rattle.boot_machine.specs.boot_machine.Steps.{on_start}
+use Rattle.run_parts.specs.run_parts.Parts.{Stays}
 use Rattle.boot_run.specs.declared.runner.Runner.{Runner}
 use Rattle.boot_run.specs.Agrees.{IsSound, IsRunningBy, Counts, OnLeft, TurnLeft}
 use Rattle.boot_run.specs.Saves.{HandedOut, noting}

@@ -20,12 +20,12 @@ use Rattle.start_model.specs.Act.{RunState}
 use Rattle.start_model.specs.EventActs.{edit_done}
 use Rattle.start_laws.proofs.StepLemmas.{select_key}
 use Rattle.start_laws.proofs.UsableLemmas.{usable_parts, usable_from}
-use Rattle.good_laws.proofs.EditLemmas.{KeepsSets, edited_keeps}
+use Rattle.kept_laws.proofs.EditLemmas.{KeepsSets, edited_keeps}
 use Rattle.run_laws.proofs.SameLemmas.{same-Decides}
-use Rattle.printed_parts.specs.Parts.{Told, Breaks}
+use Rattle.run_parts.specs.printed_parts.Parts.{Told, Breaks}
 use Rattle.run_parts.proofs.CountLemmas.{still}
-use Rattle.printed_parts.proofs.GoesLemmas.{idle}
-use Rattle.printed_parts.proofs.BreakLemmas.{breaks-silent}
+use Rattle.run_parts.proofs.GoesLemmas.{idle}
+use Rattle.run_parts.proofs.BreakLemmas.{breaks-silent}
 use Rattle.boot_run.specs.declared.runner.Runner.{Runner}
 use Rattle.boot_run.specs.Agrees.{IsUp, IsLive, IsSound, IsOnSet, IsRunningBy, RunsOnBy, Counts, TurnLeft}
 use Rattle.boot_run.specs.Edits.{refusal_line, edit_line, TellsLine}

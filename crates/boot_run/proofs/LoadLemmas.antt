@@ -20,19 +20,19 @@ use Rattle.report_words.specs.declared.line.Line.{Line}
 use Rattle.report_words.specs.declared.line.Line.TheVariants.{Load as LoadLine, Verdict as VerdictLine}
 use Rattle.start_model.specs.Fits.{outcomes_in, MayLoad, IsPossible}
 use Rattle.start_model.specs.Causes.{HasCause}
-use Rattle.line_objects.specs.Objects.{printed}
-use Rattle.run_parts.specs.Counted.{CountedIn}
+use Rattle.report_text.specs.line_objects.Objects.{printed}
+use Rattle.run_parts.specs.run_parts.Counted.{CountedIn}
 use Rattle.start_model.specs.Machine.{ended}
 use Rattle.start_model.specs.Possible.{Possible, Woken, Outcome, Finished, settled_at, woken_at}
 use Rattle.start_model.specs.Act.{Act, done, ask, wake, Woke, RunState, start_over, end_with}
 use Rattle.start_model.specs.Boot.{woken_state, loaded_state}
 use Rattle.start_model.specs.Run.{play}
-use Rattle.run_parts.specs.Parts.{Stays, since_wake, tally_now}
-use Rattle.printed_parts.specs.Parts.{Told, Tells, GoesBut}
+use Rattle.run_parts.specs.run_parts.Parts.{Stays, since_wake, tally_now}
+use Rattle.run_parts.specs.printed_parts.Parts.{Told, Tells, GoesBut}
 use Rattle.run_parts.proofs.CountLemmas.{alone-by, none_fell-same}
-use Rattle.printed_parts.proofs.LoggedLemmas.{LogsWhere}
-use Rattle.printed_parts.proofs.GoesLemmas.{tells-nothing, goes-but, goes-begun, goes-held}
-use Rattle.printed_parts.proofs.BreakLemmas.{or-breaks, breaks-silent, breaks-after, breaks-told}
+use Rattle.run_parts.proofs.LoggedLemmas.{LogsWhere}
+use Rattle.run_parts.proofs.GoesLemmas.{tells-nothing, goes-but, goes-begun, goes-held}
+use Rattle.run_parts.proofs.BreakLemmas.{or-breaks, breaks-silent, breaks-after, breaks-told}
 use Rattle.boot_run.specs.Acts as acts
 use Rattle.boot_run.specs.Acts.{loaded, load}
 use Rattle.boot_run.specs.Agrees.{IsDown, LoadsAny, IsLive, Counts, LoadLeft}

@@ -15,12 +15,12 @@ use Rattle.start_model.specs.Machine.{Start, MachineState}
 use Rattle.start_model.specs.Possible.{Possible}
 use Rattle.start_model.specs.Act.{Act, RunState, done, say, end_with}
 use Rattle.start_model.specs.Run.{play}
-use Rattle.line_objects.specs.Objects.{printed}
-use Rattle.run_parts.specs.Parts.{Stays}
+use Rattle.report_text.specs.line_objects.Objects.{printed}
+use Rattle.run_parts.specs.run_parts.Parts.{Stays}
 use Rattle.run_parts.proofs.CountLemmas.{still}
-use Rattle.printed_parts.specs.Parts.{Told, Tells, Goes, PlaysOr, TellsOr}
-use Rattle.printed_parts.proofs.GoesLemmas.{Idle, idle, goes-then, goes-line, goes-nothing}
-use Rattle.printed_parts.proofs.BreakLemmas.{or-breaks, breaks-silent, breaks-then, breaks-line}
+use Rattle.run_parts.specs.printed_parts.Parts.{Told, Tells, Goes, PlaysOr, TellsOr}
+use Rattle.run_parts.proofs.GoesLemmas.{Idle, idle, goes-then, goes-line, goes-nothing}
+use Rattle.run_parts.proofs.BreakLemmas.{or-breaks, breaks-silent, breaks-then, breaks-line}
 use Rattle.boot_run.specs.declared.runner.Runner.{Runner}
 use Rattle.boot_run.specs.declared.stop.RunStop.{RunStop}
 use Rattle.boot_run.specs.Agrees.{IsUp, IsStored, IsLive, IsSound, IsRunningBy, Counts, AgreesBy, TurnLeft, OffLeft, OnLeft}

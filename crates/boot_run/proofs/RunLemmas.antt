@@ -3,9 +3,9 @@ use Rattle.std.proofs.Common.{◌≡◌, ◌≤◌, ◌<◌, ◌-◌, length, ma
 use Rattle.std.specs.Prelude.{Result, Ok, Err, option_map, IfSome}
 use Rattle.reg_tree.proofs.Outcomes.{uncons}
 use Rattle.nt_bytes.specs.Front.{IsFront}
-use Rattle.boot_machine.specs.Steps.{is_there}
-use Rattle.boot_machine.specs.Views.{event_in}
-use Rattle.boot_script.specs.declared.event.Event as code
+use Rattle.boot_machine.specs.boot_machine.Steps.{is_there}
+use Rattle.boot_machine.specs.boot_machine.Views.{event_in}
+use Rattle.boot_script.specs.declared.boot_script.event.Event as code
 use Rattle.hive_model.specs.Image.{Image}
 use Rattle.hive_store.specs.Session.{Session}
 use Rattle.nt_edge.specs.Disk.{DiskState}
@@ -24,16 +24,16 @@ use Rattle.start_model.specs.Act.{Act, Note, Ended, RunState}
 use Rattle.start_model.specs.Boot.{Choice}
 use Rattle.start_model.specs.EventActs.{event_step_of}
 use Rattle.start_model.specs.Run.{RunResult, reached, behind, play, then_run, closing_act, verdict_first, run_from, run_of, first_state}
-use Rattle.run_laws.specs.Open.{IsClosed}
+use Rattle.run_laws.specs.run_laws.Open.{IsClosed}
 use Rattle.run_laws.proofs.PartLemmas.{with_rest, then-behind, play-more}
 use Rattle.run_laws.proofs.StillLemmas.{run-may, event-closed}
-use Rattle.line_text.specs.declared.form.ReportForm.{ReportForm}
-use Rattle.line_objects.specs.Objects.{printed_lines}
-use Rattle.printed_parts.specs.Parts.{Told, Goes, GoesBut, Breaks, RunBreaks, PlaysOr}
-use Rattle.printed_parts.specs.Reports.{Reports, ReportsFront}
-use Rattle.printed_parts.proofs.LoggedLemmas.{not_empty}
-use Rattle.printed_parts.proofs.GoesLemmas.{idle, goes-nothing, goes-then, goes-but, printed-append}
-use Rattle.printed_parts.proofs.ReportLemmas.{reports_of, reports_front_of}
+use Rattle.report_text.specs.declared.line_text.form.ReportForm.{ReportForm}
+use Rattle.report_text.specs.line_objects.Objects.{printed_lines}
+use Rattle.run_parts.specs.printed_parts.Parts.{Told, Goes, GoesBut, Breaks, RunBreaks, PlaysOr}
+use Rattle.run_parts.specs.printed_parts.Reports.{Reports, ReportsFront}
+use Rattle.run_parts.proofs.LoggedLemmas.{not_empty}
+use Rattle.run_parts.proofs.GoesLemmas.{idle, goes-nothing, goes-then, goes-but, printed-append}
+use Rattle.run_parts.proofs.ReportLemmas.{reports_of, reports_front_of}
 use Rattle.boot_run.specs.Agrees.{IsSound, Agrees, AgreesBy, Counts, TurnLeft}
 use Rattle.boot_run.specs.Begins.{Played, RunsOr, untold}
 use Rattle.boot_run.specs.Views.{told_by, summary_in}

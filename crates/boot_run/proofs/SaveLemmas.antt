@@ -24,10 +24,10 @@ use Rattle.start_laws.specs.Changes.{Saves}
 use Rattle.start_laws.proofs.SaveLemmas.{save_case, saves}
 use Rattle.start_laws.proofs.UsableLemmas.{usable_parts, usable_from}
 use Rattle.run_laws.proofs.StillLemmas.{opens}
-use Rattle.boot_machine.specs.Steps.{on_start}
-use Rattle.run_parts.specs.Parts.{Stays}
-use Rattle.printed_parts.specs.Parts.{Told, TellsOr}
-use Rattle.printed_parts.proofs.GoesLemmas.{goes-saved}
+use Rattle.boot_machine.specs.boot_machine.Steps.{on_start}
+use Rattle.run_parts.specs.run_parts.Parts.{Stays}
+use Rattle.run_parts.specs.printed_parts.Parts.{Told, TellsOr}
+use Rattle.run_parts.proofs.GoesLemmas.{goes-saved}
 use Rattle.boot_run.specs.declared.runner.Runner.{Runner}
 use Rattle.boot_run.specs.Agrees.{IsUp, IsLive, IsStored, IsSound, IsOnSet, IsRunningBy, Counts, LeavesUp, OnLeft}
 use Rattle.boot_run.specs.Saves.{HandedOut, IsSavePlan, noting}

@@ -9,7 +9,7 @@ use Rattle.hive_store.specs.Found.{found_names}
 use Rattle.start_model.specs.Entries.{services_of}
 use Rattle.start_model.specs.Sets.{set_name, set_of}
 use Rattle.start_model.specs.Starter.{no_set}
-use Rattle.boot_phases.specs.Lists.{Lists, lists_of}
+use Rattle.boot_phases.specs.boot_phases.Lists.{Lists, lists_of}
 use Rattle.boot_run.specs.Begins.{IsTaken}
 use Rattle.boot_run.specs.Kept.{current_set, AreRead}
 

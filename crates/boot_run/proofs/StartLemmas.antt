@@ -27,13 +27,13 @@ use Rattle.start_model.specs.Starter.{phase_line, phase_passed, phase_step, no_s
 use Rattle.start_model.specs.Run.{behind, play}
 use Rattle.run_laws.proofs.CountLemmas.{plan_few}
 use Rattle.start_laws.proofs.UsableLemmas.{usable_parts}
-use Rattle.boot_machine.specs.Steps.{falls_back, is_last_phase, is_in_last_phase, on_start}
-use Rattle.line_objects.specs.Objects.{printed}
-use Rattle.run_parts.specs.Parts.{Stays}
-use Rattle.printed_parts.specs.Parts.{Told, Tells, Goes, TellsOr}
+use Rattle.boot_machine.specs.boot_machine.Steps.{falls_back, is_last_phase, is_in_last_phase, on_start}
+use Rattle.report_text.specs.line_objects.Objects.{printed}
+use Rattle.run_parts.specs.run_parts.Parts.{Stays}
+use Rattle.run_parts.specs.printed_parts.Parts.{Told, Tells, Goes, TellsOr}
 use Rattle.run_parts.proofs.CountLemmas.{alone}
-use Rattle.printed_parts.proofs.LoggedLemmas.{logged-none}
-use Rattle.printed_parts.proofs.GoesLemmas.{idle, outcomes_in-append, tells-nothing, tells-then}
+use Rattle.run_parts.proofs.LoggedLemmas.{logged-none}
+use Rattle.run_parts.proofs.GoesLemmas.{idle, outcomes_in-append, tells-nothing, tells-then}
 use Rattle.boot_run.specs.declared.stop.RunStop.{RunStop}
 use Rattle.boot_run.specs.declared.runner.Runner.{Runner}
 use Rattle.boot_run.specs.Agrees.{IsOnSet, IsRunningBy, Counts, TurnLeft}

@@ -12,8 +12,8 @@ use Rattle.start_model.specs.Starter.{no_set, live_set, good_is_usable, starter_
 use Rattle.start_laws.proofs.NextLemmas.{next_is}
 use Rattle.run_laws.proofs.StillLemmas.{may_load, next-may}
 use Rattle.run_laws.proofs.KeptLemmas.{go_steps-keeps, up_rests}
-use Rattle.boot_machine.specs.Steps.{is_there, is_at_end}
-use Rattle.run_parts.specs.Parts.{Stays}
+use Rattle.boot_machine.specs.boot_machine.Steps.{is_there, is_at_end}
+use Rattle.run_parts.specs.run_parts.Parts.{Stays}
 use Rattle.boot_run.specs.declared.runner.Runner.{Runner}
 use Rattle.boot_run.specs.Agrees.{Counts}
 use Rattle.boot_run.specs.Starts.{is_under_way, NextPhase}

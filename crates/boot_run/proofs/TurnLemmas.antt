@@ -20,18 +20,18 @@ use Rattle.start_model.specs.Boot.{Choice}
 use Rattle.start_model.specs.EventActs.{edit_done, idle_act, accepted_act, act_unless, event_step_of, event_word_of}
 use Rattle.start_model.specs.Run.{play}
 use Rattle.start_laws.proofs.UsableLemmas.{usable_parts}
-use Rattle.boot_machine.specs.Views.{event_in}
-use Rattle.boot_script.specs.declared.event.Event as script
-use Rattle.boot_script.specs.declared.event.Event.TheVariants as code
+use Rattle.boot_machine.specs.boot_machine.Views.{event_in}
+use Rattle.boot_script.specs.declared.boot_script.event.Event as script
+use Rattle.boot_script.specs.declared.boot_script.event.Event.TheVariants as code
 use Rattle.nt_bytes.specs.declared.bytes.Bytes.{Bytes}
 use Rattle.nt_bytes.specs.declared.names.Names.{Names}
 use Rattle.nt_bytes.specs.declared.units.Units.{Units}
 use Rattle.nt_edge.specs.declared.disk.DiskCall as calls
 use Rattle.nt_edge.specs.declared.disk.Keep as keeps
-use Rattle.printed_parts.specs.Parts.{Told, Goes, Breaks}
+use Rattle.run_parts.specs.printed_parts.Parts.{Told, Goes, Breaks}
 use Rattle.run_parts.proofs.CountLemmas.{still}
-use Rattle.printed_parts.proofs.GoesLemmas.{idle, goes-nothing}
-use Rattle.printed_parts.proofs.BreakLemmas.{breaks-silent}
+use Rattle.run_parts.proofs.GoesLemmas.{idle, goes-nothing}
+use Rattle.run_parts.proofs.BreakLemmas.{breaks-silent}
 use Rattle.boot_run.specs.declared.runner.Runner.{Runner}
 use Rattle.boot_run.specs.Agrees.{IsUp, IsDown, IsLive, IsSound, IsRunningBy, RunsOnBy, Counts, Agrees, AgreesBy, TurnLeft}
 use Rattle.boot_run.specs.Begins.{aside_machine, aside_disk, aside_act, IsStepOf, IsEdit}

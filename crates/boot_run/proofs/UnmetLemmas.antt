@@ -2,8 +2,8 @@
 use Rattle.std.proofs.Common.{◌≡◌, ◌≤◌, ◌-◌, ℕ, List, [], ◌∷◌, ◌++◌, length, take, drop, map, get_or, sym, ap, subst, ◌∙◌, append_assoc}
 use Rattle.reg_tree.proofs.Outcomes.{uncons}
 use Rattle.report_words.specs.declared.line.Line.{Line}
-use Rattle.printed_parts.specs.Parts.{Told, Tells}
-use Rattle.printed_parts.proofs.GoesLemmas.{tells-then}
+use Rattle.run_parts.specs.printed_parts.Parts.{Told, Tells}
+use Rattle.run_parts.proofs.GoesLemmas.{tells-then}
 use Rattle.boot_run.specs.Views.{TellsBefore}
 
 -- one more name was printed, a copy of the next one

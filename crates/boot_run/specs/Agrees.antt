@@ -18,8 +18,8 @@ use Rattle.start_model.specs.Possible.{Woken, settled_at, woken_at}
 use Rattle.start_model.specs.Act.{RunState, Act, done, start_over}
 use Rattle.start_model.specs.Commit.{committed_state, opened_state}
 use Rattle.start_model.specs.Boot.{woken_state, loaded_state}
-use Rattle.boot_machine.specs.Steps.{falls_back}
-use Rattle.run_parts.specs.Parts.{IsMarked}
+use Rattle.boot_machine.specs.boot_machine.Steps.{falls_back}
+use Rattle.run_parts.specs.run_parts.Parts.{IsMarked}
 use Rattle.boot_run.specs.declared.runner.Runner.{Runner}
 
 -- ---- a disk

@@ -24,8 +24,8 @@ use Rattle.start_model.specs.Act.{RunState, Act, done, end_with, with_machine}
 use Rattle.start_model.specs.Boot.{begin_with}
 use Rattle.start_model.specs.EventActs.{arm_act}
 use Rattle.start_model.specs.Run.{reached}
-use Rattle.line_text.specs.declared.form.ReportForm.{ReportForm}
-use Rattle.printed_parts.specs.Parts.{Told, Goes, RunBreaks}
+use Rattle.report_text.specs.declared.line_text.form.ReportForm.{ReportForm}
+use Rattle.run_parts.specs.printed_parts.Parts.{Told, Goes, RunBreaks}
 use Rattle.boot_run.specs.Agrees.{IsUp, IsDown, IsEnding}
 use Rattle.boot_run.specs.Views.{summary_in}
 use Rattle.boot_run.specs.declared.summary.Summary.{Summary}

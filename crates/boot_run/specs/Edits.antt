@@ -7,7 +7,7 @@ use Rattle.start_model.specs.Events.{Event}
 use Rattle.report_words.specs.declared.line.Line.{Line}
 use Rattle.report_words.specs.declared.line.Line.TheVariants.{EditOk as EditOkLine, Refused as RefusedLine}
 use Rattle.start_model.specs.EventActs.{event_word_of, reason_of}
-use Rattle.printed_parts.specs.Parts.{Told, TellsOr}
+use Rattle.run_parts.specs.printed_parts.Parts.{Told, TellsOr}
 
 -- the line of an edit, by how it ended; lack of memory has none
 abbrev pub refusal_line : Event → Option Refusal → Option Line

@@ -2,8 +2,8 @@
 use Rattle.std.specs.Prelude.{◌≡◌, Bool, Option, Some, None, if◌then◌else◌}
 use Rattle.report_words.specs.declared.words.Verdict.{Verdict}
 use Rattle.report_words.specs.declared.words.Verdict.TheVariants as verdicts
-use Rattle.error_control.specs.declared.outcome.Judgement.{Judgement}
-use Rattle.error_control.specs.declared.outcome.Judgement.TheVariants as judged
+use Rattle.boot_phases.specs.declared.error_control.outcome.Judgement.{Judgement}
+use Rattle.boot_phases.specs.declared.error_control.outcome.Judgement.TheVariants as judged
 
 -- a start goes on after a failure that is ignored or logged, and ends after the others
 abbrev pub EndsAs : Option Verdict → Judgement → Type 0

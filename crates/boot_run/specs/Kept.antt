@@ -5,7 +5,7 @@ use Rattle.hive_model.specs.Tree.{Tree}
 use Rattle.hive_model.specs.Valid.{HoldsKeys}
 use Rattle.start_model.specs.Sets.{select_numbers_of, set_of}
 use Rattle.start_model.specs.Starter.{no_set, good_is_usable}
-use Rattle.boot_phases.specs.Lists.{Lists, lists_of}
+use Rattle.boot_phases.specs.boot_phases.Lists.{Lists, lists_of}
 
 -- the set that Current names
 abbrev pub current_set : Tree → Tree

@@ -5,8 +5,8 @@ use Rattle.nt_edge.specs.Host.{HostState, SaysFront}
 use Rattle.start_model.specs.Summary as book
 use Rattle.start_model.specs.Act.{Act}
 use Rattle.report_words.specs.declared.line.Line.{Line}
-use Rattle.line_objects.specs.Objects.{printed}
-use Rattle.printed_parts.specs.Parts.{Told, Tells, PlaysOr}
+use Rattle.report_text.specs.line_objects.Objects.{printed}
+use Rattle.run_parts.specs.printed_parts.Parts.{Told, Tells, PlaysOr}
 use Rattle.boot_run.specs.declared.summary.Summary.{Summary}
 use Rattle.boot_run.specs.declared.runner.Runner.{Runner}
 use Rattle.boot_run.specs.declared.stop.RunStop.{RunStop}

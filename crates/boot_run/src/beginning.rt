@@ -31,10 +31,10 @@ use crate::sets::{live_numbers, live_set, live_sets};
 use crate::stop::RunStop;
 use crate::summary::Summary;
 use crate::words::{edit_word, select_line};
-use boot_machine::{Machine, SetLists};
-use boot_report::{CommitWord, Line, PhaseWord, Verdict};
+use boot_machine::boot_machine::{Machine, SetLists};
 use hive_store::Hive;
 use nt_edge::{Bench, Host};
+use report_text::boot_report::{CommitWord, Line, PhaseWord, Verdict};
 use select_keys::{SelectNumbers, SelectStop, SetPlan, plan_begin};
 use std::alloc::{AllocError, Global};
 

@@ -1,12 +1,12 @@
 //! The boot event, up to the first phase of the start.
 
 ghost use Rattle.std.specs.Prelude.{◌≡◌, ◌||◌, true, None, IsSome};
-ghost use Rattle.boot_ini.specs.Choice.{entry_at, path_at, IsThere};
+ghost use Rattle.boot_ini.specs.boot_ini.Choice.{entry_at, path_at, IsThere};
 ghost use Rattle.report_words.specs.declared.line.Line.TheVariants.{Entry as EntryLine};
 ghost use Rattle.start_model.specs.Boot.{boot_act};
 ghost use Rattle.start_model.specs.Act as acts;
 ghost use Rattle.start_model.specs.Boot as boot_book;
-ghost use Rattle.printed_parts.specs.Parts.{TellsOr};
+ghost use Rattle.run_parts.specs.printed_parts.Parts.{TellsOr};
 ghost use Rattle.boot_run.specs.Agrees.{IsDown};
 ghost use Rattle.boot_run.specs.Choices.{is_on_good, choice_in, choices};
 ghost use Rattle.boot_run.specs.Hosts.{LeavesHost};
@@ -21,11 +21,11 @@ use crate::runner::Runner;
 use crate::saying::say;
 use crate::stop::RunStop;
 use crate::summary::Summary;
-use arc_path::Arc;
-use boot_ini::{BootIni, Chosen, choose, wants_last_known_good};
-use boot_report::{Line, Verdict};
+use boot_ini::arc_path::Arc;
+use boot_ini::boot_ini::{BootIni, Chosen, choose, wants_last_known_good};
 use nt_bytes::Bytes;
 use nt_edge::{Bench, Host};
+use report_text::boot_report::{Line, Verdict};
 use std::alloc::Global;
 
 /// Says the entry of a number, which must be there, with its path.

@@ -17,8 +17,8 @@ use crate::live::Live;
 use crate::runner::Runner;
 use crate::saying::say;
 use crate::stop::RunStop;
-use boot_report::{CommitWord, Line, Verdict};
 use nt_edge::{Bench, Host};
+use report_text::boot_report::{CommitWord, Line, Verdict};
 use std::alloc::Global;
 
 /// Commits the session's tree, where it was changed.

@@ -3,7 +3,7 @@
 ghost use Rattle.std.specs.Prelude.{◌≡◌, true, IfOk};
 ghost use Rattle.start_model.specs.Act.{RunState, Act};
 ghost use Rattle.start_model.specs.Commit as book;
-ghost use Rattle.run_parts.specs.Parts.{Stays};
+ghost use Rattle.run_parts.specs.run_parts.Parts.{Stays};
 ghost use Rattle.boot_run.specs.Agrees.{IsUp, IsStored, Counts, LeavesUp, CommitLeft};
 ghost use Rattle.boot_run.specs.Hosts.{LeavesHost};
 ghost use Rattle.boot_run.specs.Views.{moment, RunsTo};
@@ -13,9 +13,9 @@ use crate::live::Live;
 use crate::runner::Runner;
 use crate::saying::say;
 use crate::stop::RunStop;
-use boot_report::{CommitWord, Line, Verdict};
 use hive_store::{CommitStop, Hive};
 use nt_edge::{Bench, Host};
+use report_text::boot_report::{CommitWord, Line, Verdict};
 use std::alloc::Global;
 
 /// Commits the session's tree, and says so. A stop ends the start, and nothing is left of the session.

@@ -8,7 +8,7 @@ ghost use Rattle.nt_edge.specs.Crash.{EachCrash};
 ghost use Rattle.start_model.specs.Fits.{MayLoad};
 ghost use Rattle.start_model.specs.Act.{RunState, done};
 ghost use Rattle.start_model.specs.EventActs.{cut_act, arm_act};
-ghost use Rattle.printed_parts.specs.Parts.{Told, PlaysOr};
+ghost use Rattle.run_parts.specs.printed_parts.Parts.{Told, PlaysOr};
 ghost use Rattle.boot_run.specs.Agrees.{IsUp};
 ghost use Rattle.boot_run.specs.Turns.{Ends, stage};
 
@@ -16,8 +16,8 @@ use crate::ending::end_with;
 use crate::live::Live;
 use crate::runner::Runner;
 use crate::stop::RunStop;
-use boot_report::Verdict;
 use nt_edge::{Bench, DiskCall, Host, Keep};
+use report_text::boot_report::Verdict;
 use std::alloc::Global;
 
 /// Cuts the power, which ends the start.

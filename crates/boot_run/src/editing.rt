@@ -5,7 +5,7 @@ ghost use Rattle.nt_edge.specs.Disk.{DiskState};
 ghost use Rattle.hive_model.specs.Edit.{edited};
 ghost use Rattle.reg_tree.specs.Fitting.{Fits};
 ghost use Rattle.reg_tree.specs.Makes.{step_of};
-ghost use Rattle.boot_machine.specs.Views.{event_in};
+ghost use Rattle.boot_machine.specs.boot_machine.Views.{event_in};
 ghost use Rattle.start_model.specs.Events.{Edit, Edits, is_protected};
 ghost use Rattle.start_model.specs.Events as book;
 ghost use Rattle.start_model.specs.Act.{RunState};
@@ -20,10 +20,10 @@ use crate::runner::Runner;
 use crate::saying::say;
 use crate::stop::RunStop;
 use crate::words::{edit_word, event_word};
-use boot_report::Line;
-use boot_script::Event;
+use boot_script::boot_script::Event;
 use nt_edge::Host;
 use reg_tree::{EditStop, Steps, TreeStep};
+use report_text::boot_report::Line;
 use std::alloc::{AllocError, Global};
 
 /// Says how the edit of the event ended.

@@ -7,9 +7,9 @@ ghost use Rattle.start_model.specs.Act.{RunState};
 ghost use Rattle.start_model.specs.Act as book;
 ghost use Rattle.report_words.specs.declared.line.Line.TheVariants.{Verdict as VerdictLine};
 ghost use Rattle.start_model.specs.Machine.{ended};
-ghost use Rattle.boot_machine.specs.Steps.{falls_back};
+ghost use Rattle.boot_machine.specs.boot_machine.Steps.{falls_back};
 ghost use Rattle.nt_edge.specs.Bench.{turned_off};
-ghost use Rattle.printed_parts.specs.Parts.{TellsOr};
+ghost use Rattle.run_parts.specs.printed_parts.Parts.{TellsOr};
 ghost use Rattle.boot_run.specs.Hosts.{LeavesHost};
 ghost use Rattle.boot_run.specs.Agrees.{LoadsAny, IsSound, Counts, IsEnding, TurnLeft};
 ghost use Rattle.boot_run.specs.Views.{told_in, moment, RunsTo};
@@ -18,8 +18,8 @@ use crate::live::Live;
 use crate::runner::Runner;
 use crate::saying::say;
 use crate::stop::RunStop;
-use boot_report::{Line, Verdict};
 use nt_edge::{Bench, Host};
+use report_text::boot_report::{Line, Verdict};
 use std::alloc::Global;
 
 /// The disk is turned off, the start is over, and its verdict is printed.

@@ -14,7 +14,7 @@ ghost use Rattle.boot_run.specs.Begins.{IsTaken};
 ghost use Rattle.boot_run.specs.Kept.{current_set, AreRead};
 
 use crate::sets::{count_services, good_is_usable, live_lists};
-use boot_machine::SetLists;
+use boot_machine::boot_machine::SetLists;
 use hive_edit::HiveBytes;
 use hive_store::Hive;
 use reg_tree::{EditStop, Steps};

@@ -4,7 +4,7 @@ ghost use Rattle.std.specs.Prelude.{◌≡◌, true, IfOk};
 ghost use Rattle.nt_edge.specs.Crash.{EachCrash};
 ghost use Rattle.start_model.specs.Fits.{MayLoad};
 ghost use Rattle.start_model.specs.Act.{RunState, Act};
-ghost use Rattle.run_parts.specs.Parts.{Stays};
+ghost use Rattle.run_parts.specs.run_parts.Parts.{Stays};
 ghost use Rattle.boot_run.specs.Agrees.{Counts, IsDown, LoadsUp, LoadLeft};
 ghost use Rattle.boot_run.specs.Acts.{load};
 ghost use Rattle.boot_run.specs.Hosts.{LeavesHost};
@@ -14,9 +14,9 @@ use crate::ending::end_with;
 use crate::runner::Runner;
 use crate::saying::say;
 use crate::stop::RunStop;
-use boot_report::{Line, Verdict};
 use hive_store::{Hive, LoadStop};
 use nt_edge::{Bench, Host};
+use report_text::boot_report::{Line, Verdict};
 use std::alloc::Global;
 
 /// Turns the disk on, loads the session, and says so. A stop ends the start, and no session is left.

@@ -18,9 +18,9 @@ use crate::saying::say;
 use crate::stop::RunStop;
 use crate::summary::Summary;
 use crate::unmet::say_unmet;
-use boot_report::{Line, Verdict};
 use nt_bytes::Units;
 use nt_edge::{Bench, Host};
+use report_text::boot_report::{Line, Verdict};
 use std::alloc::Global;
 
 /// Says which vital names are missing, in their order.

@@ -1,7 +1,7 @@
 //! What the run keeps beside its session.
 
 use crate::summary::Summary;
-use boot_machine::Machine;
+use boot_machine::boot_machine::Machine;
 use hive_edit::HiveBytes;
 
 /// The machine, how many starts there were, and what was reported so far, counted; and the cells that were judged last, which the next load

@@ -1,15 +1,15 @@
 //! A line said through the host.
 
 ghost use Rattle.std.specs.Prelude.{◌≡◌, true};
-ghost use Rattle.printed_parts.specs.Parts.{TellsOr};
+ghost use Rattle.run_parts.specs.printed_parts.Parts.{TellsOr};
 ghost use Rattle.boot_run.specs.Hosts.{LeavesHost};
 ghost use Rattle.boot_run.specs.Views.{told_by};
 
 use crate::stop::RunStop;
 use crate::summary::Summary;
-use boot_report::Line;
-use line_objects::printed_bytes;
 use nt_edge::{Host, HostStop};
+use report_text::boot_report::Line;
+use report_text::line_objects::printed_bytes;
 use std::alloc::Global;
 
 /// Says a line of the report in its form, and counts it.

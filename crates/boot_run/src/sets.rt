@@ -10,12 +10,12 @@ ghost use Rattle.start_model.specs.Starter.{good_is_usable, no_set};
 ghost use Rattle.boot_run.specs.Begins.{IsTaken};
 ghost use Rattle.boot_run.specs.Kept.{current_set, AreRead};
 
-use boot_machine::SetLists;
+use boot_machine::boot_machine::SetLists;
 use hive_store::Hive;
 use nt_bytes::{Names, Units};
+use nt_names::startup_names::{CURRENT, DEFAULT, FAILED, LAST_KNOWN_GOOD, SERVICES};
 use reg_tree::Key;
 use select_keys::{SelectNumbers, TakenNumbers, select_path, set_path, sets_named};
-use startup_names::{CURRENT, DEFAULT, FAILED, LAST_KNOWN_GOOD, SERVICES};
 use std::alloc::{AllocError, Global};
 
 /// A number of the key at the path, 0 where it is absent or no DWORD.

@@ -8,9 +8,9 @@ ghost use Rattle.start_model.specs.Judge.{Judgement};
 ghost use Rattle.start_model.specs.Machine.{Start, MachineState, Tried, attempt_of, after_phase, unmet_in};
 ghost use Rattle.start_model.specs.Act.{RunState, Act};
 ghost use Rattle.start_model.specs.Starter.{good_is_usable, try_line, judged, starter_step, phase_step, stepping, go_steps, go_act, enough_steps};
-ghost use Rattle.boot_machine.specs.Steps.{is_at_end, is_in_last_phase, on_start};
-ghost use Rattle.run_parts.specs.Parts.{Stays};
-ghost use Rattle.printed_parts.specs.Parts.{TellsOr};
+ghost use Rattle.boot_machine.specs.boot_machine.Steps.{is_at_end, is_in_last_phase, on_start};
+ghost use Rattle.run_parts.specs.run_parts.Parts.{Stays};
+ghost use Rattle.run_parts.specs.printed_parts.Parts.{TellsOr};
 ghost use Rattle.boot_run.specs.Agrees.{IsRunningBy, IsLive, IsSound, Counts, OnLeft, TurnLeft};
 ghost use Rattle.boot_run.specs.Hosts.{LeavesHost};
 ghost use Rattle.boot_run.specs.Turns.{Turns, stage};
@@ -27,10 +27,10 @@ use crate::saying::say;
 use crate::stop::RunStop;
 use crate::unmet::say_unmet;
 use crate::words::{try_word, verdict_after};
-use boot_machine::{Machine, Phase, phase_word};
-use boot_report::{Line, Verdict};
+use boot_machine::boot_machine::{Machine, Phase, phase_word};
 use nt_bytes::Names;
 use nt_edge::{Bench, Host};
+use report_text::boot_report::{Line, Verdict};
 use std::alloc::Global;
 
 // ---- an attempt

@@ -4,8 +4,8 @@ ghost use Rattle.std.specs.Prelude.{◌≡◌};
 ghost use Rattle.start_model.specs.Summary as book;
 ghost use Rattle.boot_run.specs.Views.{summary_in};
 
-use boot_report::{Line, TryWord, Verdict};
-use line_text::ReportForm;
+use report_text::boot_report::{Line, TryWord, Verdict};
+use report_text::line_text::ReportForm;
 
 /// The lines of a report, counted: each count ends at 4,294,967,295 and stays there.
 #[derive(Clone, Copy, Debug, PartialEq, Eq)]

@@ -3,9 +3,9 @@
 ghost use Rattle.std.specs.Prelude.{◌≡◌, ◌≤◌, true, ℕ, None, Some, Option, IfOk, IfSome, OnOk};
 ghost use Rattle.nt_edge.specs.Crash.{EachCrash};
 ghost use Rattle.nt_edge.specs.Host.{HostState};
-ghost use Rattle.boot_machine.specs.Steps.{is_there};
-ghost use Rattle.boot_machine.specs.Views.{event_in, word_of_refusal};
-ghost use Rattle.boot_script.specs.Script.{HasCounts};
+ghost use Rattle.boot_machine.specs.boot_machine.Steps.{is_there};
+ghost use Rattle.boot_machine.specs.boot_machine.Views.{event_in, word_of_refusal};
+ghost use Rattle.boot_script.specs.boot_script.Script.{HasCounts};
 ghost use Rattle.reg_tree.specs.Fitting.{Fits};
 ghost use Rattle.reg_tree.specs.Makes.{step_of};
 ghost use Rattle.start_model.specs.Fits.{MayLoad};
@@ -14,7 +14,7 @@ ghost use Rattle.start_model.specs.Machine.{Start, failing, requiring, refusal_o
 ghost use Rattle.start_model.specs.Act.{RunState, done};
 ghost use Rattle.start_model.specs.Boot.{Choice};
 ghost use Rattle.start_model.specs.EventActs.{accepted_act, idle_act, event_step_of, event_word_of};
-ghost use Rattle.printed_parts.specs.Parts.{Told, PlaysOr, TellsOr};
+ghost use Rattle.run_parts.specs.printed_parts.Parts.{Told, PlaysOr, TellsOr};
 ghost use Rattle.boot_run.specs.Agrees.{IsSound, Agrees, TurnLeft};
 ghost use Rattle.boot_run.specs.Begins.{aside_machine, aside_disk, aside_act, IsStepOf, IsEdit};
 ghost use Rattle.boot_run.specs.Choices.{choices};
@@ -34,15 +34,15 @@ use crate::starter::go;
 use crate::stop::RunStop;
 use crate::summary::Summary;
 use crate::words::{event_word, refused_word};
-use arc_path::Arc;
-use boot_ini::BootIni;
-use boot_machine::{EventRefusal, Machine};
-use boot_report::Line;
-use boot_script::Event;
-use edit_steps::{delete_step, make_step, remove_step, set_step};
+use boot_ini::arc_path::Arc;
+use boot_ini::boot_ini::BootIni;
+use boot_machine::boot_machine::{EventRefusal, Machine};
+use boot_machine::edit_steps::{delete_step, make_step, remove_step, set_step};
+use boot_script::boot_script::Event;
 use nt_bytes::Units;
 use nt_edge::{Bench, Host};
 use reg_tree::TreeStep;
+use report_text::boot_report::Line;
 use std::alloc::{AllocError, Global};
 
 // ---- events that leave the session alone

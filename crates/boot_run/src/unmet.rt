@@ -8,9 +8,9 @@ ghost use Rattle.boot_run.specs.Views.{told_by, SaysAll};
 use crate::saying::say;
 use crate::stop::RunStop;
 use crate::summary::Summary;
-use boot_report::Line;
 use nt_bytes::Units;
 use nt_edge::Host;
+use report_text::boot_report::Line;
 use std::alloc::Global;
 
 /// Says which entries are unmet, in their order.

@@ -1,7 +1,7 @@
 //! The words of the report for what the machine, the tree and the script say.
 
 ghost use Rattle.std.specs.Prelude.{◌≡◌, option_map};
-ghost use Rattle.boot_machine.specs.Views.{event_in, word_of_refusal, tried_in};
+ghost use Rattle.boot_machine.specs.boot_machine.Views.{event_in, word_of_refusal, tried_in};
 ghost use Rattle.reg_tree.specs.Makes.{refusal_of};
 ghost use Rattle.start_model.specs.Commit.{select_line};
 ghost use Rattle.start_model.specs.Starter.{try_line};
@@ -9,11 +9,11 @@ ghost use Rattle.start_model.specs.EventActs.{event_word_of, reason_of};
 ghost use Rattle.report_words.specs.declared.line.Line.TheVariants.{Try as TryLine};
 ghost use Rattle.boot_run.specs.Ends.{EndsAs, missing};
 
-use boot_machine::{EventRefusal, Tried};
-use boot_report::{EventWord, Line, RefusedWord, TryWord, Verdict};
-use boot_script::Event;
-use error_control::Judgement;
+use boot_machine::boot_machine::{EventRefusal, Tried};
+use boot_phases::error_control::Judgement;
+use boot_script::boot_script::Event;
 use reg_tree::EditStop;
+use report_text::boot_report::{EventWord, Line, RefusedWord, TryWord, Verdict};
 use select_keys::SelectNumbers;
 
 /// The first word of the event's line.

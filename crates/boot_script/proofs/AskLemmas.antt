@@ -9,17 +9,17 @@ use Rattle.std.proofs.lemmas.List.{take-append-drop, length-append}
 use Rattle.std.proofs.lemmas.List.Elements.{All-nil, All-cons}
 use Rattle.std.proofs.lemmas.List.Splits.{length-slice_split}
 use Rattle.nt_bytes.specs.Reading.{◌>>=◌}
-use Rattle.boot_script.specs.declared.event.Event.{Event}
-use Rattle.boot_script.specs.declared.event.Event.TheVariants.{Boot, Go, Fail, Vital, Set, Delete, Make, Remove, Flush, Logon, Off, CutNow, ArmCut, ArmFault}
-use Rattle.boot_script.specs.declared.stop.ScriptFaultKind.{ScriptFaultKind}
-use Rattle.boot_script.specs.declared.stop.ScriptFaultKind.TheVariants.{TooLong, TooManyStarts}
-use Rattle.boot_script.specs.declared.stop.ScriptFault.{ScriptFault}
-use Rattle.boot_script.specs.declared.stop.ScriptStop.{ScriptStop}
-use Rattle.boot_script.specs.Words.{words_of, word_at, without_spaces, is_space}
-use Rattle.boot_script.specs.Commands.{command_of, event_of}
-use Rattle.boot_script.specs.Script.{trimmed_event, line_event, starts, starts_in, at_line, put_before, after_line, events_from, script_of, HasCounts, IsBounded, GivesScript}
-use Rattle.boot_script.specs.Events.{IsSpelledBy}
-use Rattle.boot_script.specs.Spelling.{IsBare, IsQuoted, Opens, IsLineOf, IsSilent, AsksFor, AskFor, IsScript}
+use Rattle.boot_script.specs.declared.boot_script.event.Event.{Event}
+use Rattle.boot_script.specs.declared.boot_script.event.Event.TheVariants.{Boot, Go, Fail, Vital, Set, Delete, Make, Remove, Flush, Logon, Off, CutNow, ArmCut, ArmFault}
+use Rattle.boot_script.specs.declared.boot_script.stop.ScriptFaultKind.{ScriptFaultKind}
+use Rattle.boot_script.specs.declared.boot_script.stop.ScriptFaultKind.TheVariants.{TooLong, TooManyStarts}
+use Rattle.boot_script.specs.declared.boot_script.stop.ScriptFault.{ScriptFault}
+use Rattle.boot_script.specs.declared.boot_script.stop.ScriptStop.{ScriptStop}
+use Rattle.boot_script.specs.boot_script.Words.{words_of, word_at, without_spaces, is_space}
+use Rattle.boot_script.specs.boot_script.Commands.{command_of, event_of}
+use Rattle.boot_script.specs.boot_script.Script.{trimmed_event, line_event, starts, starts_in, at_line, put_before, after_line, events_from, script_of, HasCounts, IsBounded, GivesScript}
+use Rattle.boot_script.specs.boot_script.Events.{IsSpelledBy}
+use Rattle.boot_script.specs.boot_script.Spelling.{IsBare, IsQuoted, Opens, IsLineOf, IsSilent, AsksFor, AskFor, IsScript}
 use Rattle.boot_script.proofs.WordLemmas.{next_word}
 use Rattle.boot_script.proofs.SpellingLemmas.{front_passes, all_pass, all_dropped, empty, comment_stops, word_starts, spaces_dropped, found, reads}
 use Rattle.boot_script.proofs.EventLemmas.{bind_ok, command_found, event_read}

@@ -16,14 +16,14 @@ use Rattle.nt_edge.specs.declared.disk.Keep.{Keep}
 use Rattle.nt_edge.specs.declared.disk.Keep.TheVariants.{Nothing, Everything, OddOnes, Torn}
 use Rattle.nt_edge.specs.declared.disk.DiskCall.{DiskCall}
 use Rattle.nt_edge.specs.declared.disk.DiskCall.TheVariants.{Read, Write, Sync}
-use Rattle.boot_script.specs.declared.event.Event.{Event}
-use Rattle.boot_script.specs.declared.event.Event.TheVariants.{Boot, Go, Fail, Vital, Set, Delete, Make, Remove, Flush, Logon, Off, CutNow, ArmCut, ArmFault}
-use Rattle.boot_script.specs.declared.stop.ScriptFaultKind.{ScriptFaultKind}
-use Rattle.boot_script.specs.declared.stop.ScriptFaultKind.TheVariants.{Word, Number}
-use Rattle.boot_script.specs.Words.{number_from}
-use Rattle.boot_script.specs.Values.{path_of, hex_value, hex_bytes, is_hex, dword_of, string_of, binary_of, data_of, text_bytes, texts_bytes}
-use Rattle.boot_script.specs.Commands.{boot_of, go_of, fail_of, vital_of, set_of, delete_of, make_of, remove_of, alone_of, keep_of, call_of, cut_of, fault_of, edit_of, command_of, event_of}
-use Rattle.boot_script.specs.Events.{IsNumber, is_in_name, is_name, IsPath, IsPair, IsHex, IsDword, IsString, IsStrings, IsBinary, IsData, good_words, keep_word, call_word, IsSpelledBy}
+use Rattle.boot_script.specs.declared.boot_script.event.Event.{Event}
+use Rattle.boot_script.specs.declared.boot_script.event.Event.TheVariants.{Boot, Go, Fail, Vital, Set, Delete, Make, Remove, Flush, Logon, Off, CutNow, ArmCut, ArmFault}
+use Rattle.boot_script.specs.declared.boot_script.stop.ScriptFaultKind.{ScriptFaultKind}
+use Rattle.boot_script.specs.declared.boot_script.stop.ScriptFaultKind.TheVariants.{Word, Number}
+use Rattle.boot_script.specs.boot_script.Words.{number_from}
+use Rattle.boot_script.specs.boot_script.Values.{path_of, hex_value, hex_bytes, is_hex, dword_of, string_of, binary_of, data_of, text_bytes, texts_bytes}
+use Rattle.boot_script.specs.boot_script.Commands.{boot_of, go_of, fail_of, vital_of, set_of, delete_of, make_of, remove_of, alone_of, keep_of, call_of, cut_of, fault_of, edit_of, command_of, event_of}
+use Rattle.boot_script.specs.boot_script.Events.{IsNumber, is_in_name, is_name, IsPath, IsPair, IsHex, IsDword, IsString, IsStrings, IsBinary, IsData, good_words, keep_word, call_word, IsSpelledBy}
 use Rattle.boot_script.proofs.SpellingLemmas.{not_true}
 use Rattle.boot_script.proofs.WordLemmas.{done, ok_is}
 

@@ -5,10 +5,10 @@ use Rattle.std.proofs.lemmas.List.{length-drop, append-nil, take-append-drop, ta
 use Rattle.std.proofs.lemmas.List.Folds.{length-prefix_len}
 use Rattle.std.proofs.lemmas.Bool.{false≢true, eqb-true, eqb-false, ne_eqb, and_parts, and_from}
 use Rattle.nt_bytes.specs.Reading.{◌>>=◌}
-use Rattle.boot_script.specs.declared.stop.ScriptFaultKind.{ScriptFaultKind}
-use Rattle.boot_script.specs.declared.stop.ScriptFaultKind.TheVariants.{Line}
-use Rattle.boot_script.specs.Words.{is_plain, is_quotable, is_space, ended, closed, word_at, words_within, words_of, without_spaces}
-use Rattle.boot_script.specs.Spelling.{IsBare, IsQuoted, ends_word, Opens, IsLineOf}
+use Rattle.boot_script.specs.declared.boot_script.stop.ScriptFaultKind.{ScriptFaultKind}
+use Rattle.boot_script.specs.declared.boot_script.stop.ScriptFaultKind.TheVariants.{Line}
+use Rattle.boot_script.specs.boot_script.Words.{is_plain, is_quotable, is_space, ended, closed, word_at, words_within, words_of, without_spaces}
+use Rattle.boot_script.specs.boot_script.Spelling.{IsBare, IsQuoted, ends_word, Opens, IsLineOf}
 use Rattle.boot_script.proofs.WordLemmas.{ok_is, shorter, next_word}
 
 -- ---- tests, and the front of a list that passes one

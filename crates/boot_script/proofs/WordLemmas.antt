@@ -4,9 +4,9 @@ use Rattle.std.specs.List.{prefix_len, take_while}
 use Rattle.std.proofs.lemmas.List.{length-drop, append-nil}
 use Rattle.std.proofs.lemmas.Bool.{eqb-false, ne_eqb}
 use Rattle.nt_bytes.specs.Reading.{◌>>=◌}
-use Rattle.boot_script.specs.declared.stop.ScriptFaultKind.{ScriptFaultKind}
-use Rattle.boot_script.specs.declared.stop.ScriptFaultKind.TheVariants.{Line}
-use Rattle.boot_script.specs.Words.{is_plain, is_quotable, ended, closed, word_at, words_within, words_of, without_spaces, is_space}
+use Rattle.boot_script.specs.declared.boot_script.stop.ScriptFaultKind.{ScriptFaultKind}
+use Rattle.boot_script.specs.declared.boot_script.stop.ScriptFaultKind.TheVariants.{Line}
+use Rattle.boot_script.specs.boot_script.Words.{is_plain, is_quotable, ended, closed, word_at, words_within, words_of, without_spaces, is_space}
 
 abbrev pub texts : List (Bor (List ℕ)) → List (List ℕ)
 texts words = map (λ w. w.now) words

@@ -1,6 +1,3 @@
-pub mod Words
-pub mod Values
-pub mod Commands
-pub mod Script
-pub mod Events
-pub mod Spelling
+pub mod boot_script
+pub mod quiet_script
+pub mod sweep_script

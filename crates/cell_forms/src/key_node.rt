@@ -1,7 +1,8 @@
 //! Key nodes.
 
-ghost use Rattle.std.specs.Prelude.{◌≡◌, ◌<◌, ◌≤◌, ℕ, ◌++◌, true, length, slice_index, IfOk, IfErr, OnOk};
-ghost use Rattle.std.specs.Int.{w32, to_le_bytes};
+ghost use Rattle.std.specs.Prelude.{◌≡◌, ◌<◌, ◌≤◌, ◌∷◌, ℕ, ◌++◌, true, length, slice_index, IfOk, IfErr, OnOk};
+ghost use Rattle.std.specs.Int.{w16, w32, w64, to_le_bytes};
+ghost use Rattle.hive_model.specs.StoredNames.{name_text};
 ghost use Rattle.nt_bytes.specs.declared.fault.ReadStop.TheVariants.{Memory};
 ghost use Rattle.hive_model.specs.Forms.{Gives};
 ghost use Rattle.hive_model.specs.KeyNode.{is_narrow_key, key_node_in, key_node_at, key_node_text};
@@ -194,6 +195,33 @@ fn put_greatest(bytes: &mut Bytes, form: &NkForm) -> Result<(), AllocError>
     bytes.put_u32(0)
 }
 
+/// The signature, the flags, the stamp and a field without a name.
+fn head_bytes(alloc: Global, form: &NkForm) -> Result<Bytes, AllocError>
+    ensures { IfOk result (λ b. b ≡ 0x6e ∷ 0x6b ∷ (to_le_bytes w16 form.now.flags ++ to_le_bytes w64 form.now.stamp ++ to_le_bytes w32 0)) }
+{
+    let mut bytes = Bytes::new(alloc);
+    bytes.push(0x6e)?;
+    bytes.push(0x6b)?;
+    bytes.put_u16(form.flags)?;
+    bytes.append(&form.stamp.to_le_bytes())?;
+    bytes.put_u32(0)?;
+    Ok(bytes)
+}
+
+/// Appends the two lengths and the name.
+fn put_name(bytes: &mut Bytes, form: &NkForm) -> Result<(), AllocError>
+    requires short { length form.now.name ≤ longest_key_name }
+    requires narrow { is_narrow_key form.now.flags ≡ true → (k : ℕ) → slice_index form.now.name k < 256 }
+    ensures { OnOk result (bytes.new ≡ bytes.old ++ to_le_bytes w16 (length (name_text (is_narrow_key form.now.flags) form.now.name))
+        ++ to_le_bytes w16 form.now.class_length ++ name_text (is_narrow_key form.now.flags) form.now.name) }
+{
+    let name = form.name.as_slice();
+    let is_narrow = is_narrow(form.flags);
+    bytes.put_u16(name_size(is_narrow, name) as u16)?;
+    bytes.put_u16(form.class_length)?;
+    append_name(bytes, is_narrow, name)
+}
+
 /// The payload that a key node is spelled as. The two fields without a name are zero.
 #[tactic(auto, unfolding(hive_model::specs::KeyNode::key_node_text))]
 pub fn nk_bytes(alloc: Global, form: &NkForm) -> Result<Bytes, AllocError>
@@ -201,18 +229,9 @@ pub fn nk_bytes(alloc: Global, form: &NkForm) -> Result<Bytes, AllocError>
     requires narrow { is_narrow_key form.now.flags ≡ true → (k : ℕ) → slice_index form.now.name k < 256 }
     ensures { IfOk result (λ b. b ≡ key_node_text (key_node_of form.now)) }
 {
-    let name = form.name.as_slice();
-    let is_narrow = is_narrow(form.flags);
-    let mut bytes = Bytes::new(alloc);
-    bytes.push(0x6e)?;
-    bytes.push(0x6b)?;
-    bytes.put_u16(form.flags)?;
-    bytes.append(&form.stamp.to_le_bytes())?;
-    bytes.put_u32(0)?;
+    let mut bytes = head_bytes(alloc, form)?;
     put_lists(&mut bytes, form)?;
     put_greatest(&mut bytes, form)?;
-    bytes.put_u16(name_size(is_narrow, name) as u16)?;
-    bytes.put_u16(form.class_length)?;
-    append_name(&mut bytes, is_narrow, name)?;
+    put_name(&mut bytes, form)?;
     Ok(bytes)
 }

@@ -25,7 +25,7 @@ pub use laws::{
     big_data_is_read_back, bytes_are_read_back, key_node_is_read_back, key_value_is_read_back,
     list_is_read_back, offsets_are_read_back, security_is_read_back,
 };
-pub use list_texts::{append_entries, lf_bytes, lh_bytes, name_hash, offsets_bytes, ri_bytes};
+pub use list_texts::{append_entries, name_hash, ri_bytes};
 pub use lists::{ListForm, ListKind, Offsets, read_list, read_offsets};
 pub use security::{SkForm, read_sk, sk_bytes};
 pub use stored::{FirstUnit, StoredName, compare_stored};

@@ -1,9 +1,8 @@
 //! Lists of offsets as they are spelled.
 
-ghost use Rattle.std.specs.Prelude.{◌≡◌, ◌<◌, ◌+◌, ◌*◌, ◌%◌, ◌^◌, ◌++◌, length, map, IfOk, OnOk};
-ghost use Rattle.std.specs.Int.{w32, to_le_bytes};
+ghost use Rattle.std.specs.Prelude.{◌≡◌, ◌<◌, ◌+◌, ◌*◌, ◌%◌, ◌^◌, ◌++◌, length, IfOk, OnOk};
 ghost use Rattle.nt_bytes.specs.Folding.{folded_unit};
-ghost use Rattle.hive_model.specs.Lists.{offsets_text, entries_text, lf_text, lh_text, ri_text, hash_of};
+ghost use Rattle.hive_model.specs.Lists.{offsets_text, entries_text, ri_text, hash_of};
 
 use nt_bytes::{Bytes, fold};
 use std::alloc::{AllocError, Global};
@@ -42,21 +41,6 @@ pub fn append_entries(out: &mut Bytes, offsets: &[u32], hints: &[[u8; 4]]) -> Re
     }
 }
 
-/// The payload of a list of key nodes with four bytes of each name.
-#[tactic(auto, unfolding(hive_model::specs::Lists::lf_text))]
-pub fn lf_bytes(alloc: Global, offsets: &[u32], hints: &[[u8; 4]]) -> Result<Bytes, AllocError>
-    requires same { length offsets.now ≡ length hints.now }
-    requires few { length offsets.now < 2 ^ 16 }
-    ensures { IfOk result (λ b. b ≡ lf_text offsets.now hints.now) }
-{
-    let mut bytes = Bytes::new(alloc);
-    bytes.push(0x6c)?;
-    bytes.push(0x66)?;
-    bytes.put_u16(offsets.len() as u16)?;
-    append_entries(&mut bytes, offsets, hints)?;
-    Ok(bytes)
-}
-
 /// The hash of a unit after others of this hash.
 fn hash_behind(hash: u32, unit: u16) -> u32
     ensures { result ≡ (37 * hash + folded_unit unit) % 4294967296 }
@@ -80,41 +64,6 @@ pub fn name_hash(units: &[u16]) -> u32
     }
 }
 
-fn append_hashed(out: &mut Bytes, offsets: &[u32], hashes: &[u32]) -> Result<(), AllocError>
-    requires { length offsets.now ≡ length hashes.now }
-    ensures { OnOk result (out.new ≡ out.old ++ entries_text offsets.now (map (to_le_bytes w32) hashes.now)) }
-{
-    let mut rest = offsets;
-    let mut rest_hashes = hashes;
-    'entries: loop {
-        let [offset, more @ ..] = rest else {
-            return Ok(());
-        };
-        let [hash, more_hashes @ ..] = rest_hashes else {
-            return Ok(());
-        };
-        out.put_u32(*offset)?;
-        out.put_u32(*hash)?;
-        rest = more;
-        rest_hashes = more_hashes;
-    }
-}
-
-/// The payload of a list of key nodes with the hash of each name.
-#[tactic(auto, unfolding(hive_model::specs::Lists::lh_text))]
-pub fn lh_bytes(alloc: Global, offsets: &[u32], hashes: &[u32]) -> Result<Bytes, AllocError>
-    requires same { length offsets.now ≡ length hashes.now }
-    requires few { length offsets.now < 2 ^ 16 }
-    ensures { IfOk result (λ b. b ≡ lh_text offsets.now (map (to_le_bytes w32) hashes.now)) }
-{
-    let mut bytes = Bytes::new(alloc);
-    bytes.push(0x6c)?;
-    bytes.push(0x68)?;
-    bytes.put_u16(offsets.len() as u16)?;
-    append_hashed(&mut bytes, offsets, hashes)?;
-    Ok(bytes)
-}
-
 /// The payload of a list of lists.
 #[tactic(auto, unfolding(hive_model::specs::Lists::ri_text))]
 pub fn ri_bytes(alloc: Global, lists: &[u32]) -> Result<Bytes, AllocError>
@@ -126,14 +75,5 @@ pub fn ri_bytes(alloc: Global, lists: &[u32]) -> Result<Bytes, AllocError>
     bytes.push(0x69)?;
     bytes.put_u16(lists.len() as u16)?;
     append_offsets(&mut bytes, lists)?;
-    Ok(bytes)
-}
-
-/// The payload of a value list.
-pub fn offsets_bytes(alloc: Global, offsets: &[u32]) -> Result<Bytes, AllocError>
-    ensures { IfOk result (λ b. b ≡ offsets_text offsets.now) }
-{
-    let mut bytes = Bytes::new(alloc);
-    append_offsets(&mut bytes, offsets)?;
     Ok(bytes)
 }

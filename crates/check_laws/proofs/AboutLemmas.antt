@@ -19,8 +19,8 @@ use Rattle.start_model.specs.Machine as machine
 use Rattle.start_model.specs.Order.{plan_of}
 use Rattle.start_model.specs.Ready.{Label}
 use Rattle.safe_boot.specs.Played.{start_lines_of}
-use Rattle.check_lines.specs.declared.lines.CheckLine.{CheckLine}
-use Rattle.check_lines.specs.declared.lines.CheckLine.TheVariants as lines
+use Rattle.answer_lines.specs.declared.check_lines.lines.CheckLine.{CheckLine}
+use Rattle.answer_lines.specs.declared.check_lines.lines.CheckLine.TheVariants as lines
 use Rattle.service_check.specs.declared.stage.Stage.TheVariants as stages
 use Rattle.service_check.specs.declared.stage.Staged.{Staged}
 use Rattle.service_check.specs.Stages.{is_taken, rows_of}

@@ -9,7 +9,7 @@ use Rattle.std.proofs.lemmas.List.Elements.{Contains-append_left, Contains-appen
 use Rattle.std.proofs.lemmas.List.Quantifiers.{position-Some}
 use Rattle.std.proofs.lemmas.Option.{slice_get_within, get_or_from_slice_get, same_Some, cond_some}
 use Rattle.nt_bytes.specs.Folding.{folds_same}
-use Rattle.name_places.proofs.FoldLemmas.{alike}
+use Rattle.nt_names.proofs.FoldLemmas.{alike}
 use Rattle.hive_model.specs.Tree.{Tree}
 use Rattle.hive_model.specs.Valid.{HoldsKeys}
 use Rattle.dependencies.specs.Work.{names_of}
@@ -24,7 +24,7 @@ use Rattle.start_model.specs.Ready.{Label, has_name, is_ready}
 use Rattle.wait_cycles.specs.Waits.{is_held, is_stuck, needs_at}
 use Rattle.wait_cycles.proofs.MetLemmas.{first_in, any_from, any_gives, in_range}
 use Rattle.wait_cycles.proofs.CycleLemmas.{filter_in, filter_out, filter_none}
-use Rattle.check_lines.specs.declared.lines.CheckLine.TheVariants as lines
+use Rattle.answer_lines.specs.declared.check_lines.lines.CheckLine.TheVariants as lines
 use Rattle.service_check.specs.declared.stage.Stage.{Stage}
 use Rattle.service_check.specs.declared.stage.Stage.TheVariants.{Boot, System, Automatic, Demand}
 use Rattle.service_check.specs.declared.stage.Staged.{Staged}
@@ -57,7 +57,7 @@ use Rattle.check_laws.proofs.WholeLemmas.{IsStart, over_automatic, well_all, tak
 use Rattle.check_laws.proofs.SetLemmas.{entries_apart, rows_apart, row_entry, entry_row, boot_stage, system_stage, automatic_stage, demand_stage, driver_from, boot_phase, system_phase, automatic_phase, IsEarly, below_by, boot_early, system_early, never_tried, automatic_late, boot_start, system_start}
 use Rattle.check_laws.proofs.LineLemmas.{set_says, set_says_cycle}
 use Rattle.check_laws.proofs.WaysLemmas.{wrong_is}
-use Rattle.check_lines.specs.declared.lines.Fault.{Fault}
+use Rattle.answer_lines.specs.declared.check_lines.lines.Fault.{Fault}
 
 -- ---- the start of which control knows
 

@@ -8,7 +8,7 @@ use Rattle.std.proofs.lemmas.List.{length-map}
 use Rattle.std.proofs.lemmas.List.Elements.{Contains-append_cases}
 use Rattle.std.proofs.lemmas.Option.{slice_get_within, slice_get-map}
 use Rattle.nt_bytes.specs.Folding.{folds_same}
-use Rattle.name_places.proofs.FoldLemmas.{alike}
+use Rattle.nt_names.proofs.FoldLemmas.{alike}
 use Rattle.dependencies.proofs.MeetLemmas.{names_flip}
 use Rattle.dependencies.proofs.PulledLemmas.{same_bool, is_taken-closed, is_taken-least_of_all}
 use Rattle.hive_model.specs.Tree.{Tree}
@@ -22,8 +22,8 @@ use Rattle.wait_cycles.specs.Waits.{is_stuck}
 use Rattle.wait_cycles.proofs.InverseLemmas.{none_in}
 use Rattle.wait_cycles.proofs.MetLemmas.{first_in, later_in, any_from, any_gives}
 use Rattle.wait_cycles.proofs.CycleLemmas.{filter_in, filter_out}
-use Rattle.check_lines.specs.declared.lines.Fault.{Fault}
-use Rattle.check_lines.specs.declared.lines.Fault.TheVariants as faults
+use Rattle.answer_lines.specs.declared.check_lines.lines.Fault.{Fault}
+use Rattle.answer_lines.specs.declared.check_lines.lines.Fault.TheVariants as faults
 use Rattle.service_check.specs.declared.stage.Stage.{Stage}
 use Rattle.service_check.specs.declared.stage.Stage.TheVariants.{Boot, System, Automatic, Demand}
 use Rattle.service_check.specs.declared.stage.Staged.{Staged}

@@ -12,12 +12,12 @@ use Rattle.start_model.specs.Order.{GroupOrder, first_names}
 use Rattle.start_model.specs.Sets.{SelectNumbers, select_numbers_of}
 use Rattle.select_keys.specs.Sets.{usable_set}
 use Rattle.wait_cycles.specs.Waits.{cycles_of}
-use Rattle.check_lines.specs.declared.lines.Fault.{Fault}
-use Rattle.check_lines.specs.declared.lines.Fault.TheVariants as faults
-use Rattle.check_lines.specs.declared.lines.SelectWord.{SelectWord}
-use Rattle.check_lines.specs.declared.lines.SelectWord.TheVariants.{Current, Default, Failed, LastKnownGood}
-use Rattle.check_lines.specs.declared.lines.CheckLine.{CheckLine}
-use Rattle.check_lines.specs.declared.lines.CheckLine.TheVariants as lines
+use Rattle.answer_lines.specs.declared.check_lines.lines.Fault.{Fault}
+use Rattle.answer_lines.specs.declared.check_lines.lines.Fault.TheVariants as faults
+use Rattle.answer_lines.specs.declared.check_lines.lines.SelectWord.{SelectWord}
+use Rattle.answer_lines.specs.declared.check_lines.lines.SelectWord.TheVariants.{Current, Default, Failed, LastKnownGood}
+use Rattle.answer_lines.specs.declared.check_lines.lines.CheckLine.{CheckLine}
+use Rattle.answer_lines.specs.declared.check_lines.lines.CheckLine.TheVariants as lines
 use Rattle.service_check.specs.declared.stage.Stage.{Stage}
 use Rattle.service_check.specs.declared.stage.Stage.TheVariants.{System, Automatic}
 use Rattle.service_check.specs.declared.stage.Staged.{Staged}

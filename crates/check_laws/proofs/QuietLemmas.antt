@@ -11,10 +11,10 @@ use Rattle.start_model.specs.Order.{first_names}
 use Rattle.start_model.specs.Sets.{SelectNumbers, select_numbers_of}
 use Rattle.select_keys.specs.Sets.{usable_set}
 use Rattle.wait_cycles.specs.Waits.{cycles_of}
-use Rattle.check_lines.specs.declared.lines.SelectWord.{SelectWord}
-use Rattle.check_lines.specs.declared.lines.SelectWord.TheVariants.{Current, Default, Failed, LastKnownGood}
-use Rattle.check_lines.specs.declared.lines.CheckLine.{CheckLine}
-use Rattle.check_lines.specs.declared.lines.CheckLine.TheVariants as lines
+use Rattle.answer_lines.specs.declared.check_lines.lines.SelectWord.{SelectWord}
+use Rattle.answer_lines.specs.declared.check_lines.lines.SelectWord.TheVariants.{Current, Default, Failed, LastKnownGood}
+use Rattle.answer_lines.specs.declared.check_lines.lines.CheckLine.{CheckLine}
+use Rattle.answer_lines.specs.declared.check_lines.lines.CheckLine.TheVariants as lines
 use Rattle.service_check.specs.Children.{Scope, child_faults}
 use Rattle.service_check.specs.declared.stage.Stage.TheVariants.{Automatic}
 use Rattle.service_check.specs.Needs.{groups_upto, waits_of}

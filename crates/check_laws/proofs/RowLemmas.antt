@@ -9,7 +9,7 @@ use Rattle.std.proofs.lemmas.List.Elements.{Contains-append_left, Contains-appen
 use Rattle.std.proofs.lemmas.List.Quantifiers.{position-Some}
 use Rattle.std.proofs.lemmas.Option.{slice_get_within, get_or_from_slice_get}
 use Rattle.nt_bytes.specs.Folding.{folds_same}
-use Rattle.name_places.proofs.FoldLemmas.{alike}
+use Rattle.nt_names.proofs.FoldLemmas.{alike}
 use Rattle.start_model.specs.Order.{first_names}
 use Rattle.boot_phases.proofs.TriedLemmas.{some_place}
 use Rattle.wait_cycles.specs.Waits.{needs_at}

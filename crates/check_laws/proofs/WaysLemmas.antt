@@ -10,8 +10,8 @@ use Rattle.start_model.specs.Order.{first_names}
 use Rattle.wait_cycles.specs.Waits.{needs_at, is_stuck, leads}
 use Rattle.wait_cycles.proofs.InverseLemmas.{none_in}
 use Rattle.wait_cycles.proofs.MetLemmas.{all_gives, any_gives}
-use Rattle.check_lines.specs.declared.lines.Fault.{Fault}
-use Rattle.check_lines.specs.declared.lines.Fault.TheVariants as faults
+use Rattle.answer_lines.specs.declared.check_lines.lines.Fault.{Fault}
+use Rattle.answer_lines.specs.declared.check_lines.lines.Fault.TheVariants as faults
 use Rattle.service_check.specs.declared.stage.Stage.{Stage}
 use Rattle.service_check.specs.declared.stage.Staged.{Staged}
 use Rattle.service_check.specs.Stages.{is_taken, stage_rank}

@@ -14,7 +14,7 @@ use Rattle.start_model.specs.Ready.{is_ready}
 use Rattle.wait_cycles.specs.Waits.{is_held, is_stuck}
 use Rattle.wait_cycles.proofs.InverseLemmas.{none_in}
 use Rattle.wait_cycles.proofs.MetLemmas.{first_in, any_from, any_gives}
-use Rattle.check_lines.specs.declared.lines.Fault.{Fault}
+use Rattle.answer_lines.specs.declared.check_lines.lines.Fault.{Fault}
 use Rattle.service_check.specs.declared.stage.Stage.{Stage}
 use Rattle.service_check.specs.declared.stage.Stage.TheVariants.{Boot, System, Automatic, Demand}
 use Rattle.service_check.specs.declared.stage.Staged.{Staged}

@@ -2,10 +2,10 @@
 use Rattle.std.specs.Prelude.{◌≡◌, ◌↔◌, ℕ, ◌<◌, Bool, true, false, ◌==◌, List, [], filter, length, Option, Contains}
 use Rattle.std.specs.List.{list_all}
 use Rattle.hive_model.specs.Tree.{Tree}
-use Rattle.check_lines.specs.declared.lines.Fault.{Fault}
-use Rattle.check_lines.specs.declared.lines.Fault.TheVariants as faults
-use Rattle.check_lines.specs.declared.lines.CheckLine.{CheckLine}
-use Rattle.check_lines.specs.declared.lines.CheckLine.TheVariants as lines
+use Rattle.answer_lines.specs.declared.check_lines.lines.Fault.{Fault}
+use Rattle.answer_lines.specs.declared.check_lines.lines.Fault.TheVariants as faults
+use Rattle.answer_lines.specs.declared.check_lines.lines.CheckLine.{CheckLine}
+use Rattle.answer_lines.specs.declared.check_lines.lines.CheckLine.TheVariants as lines
 use Rattle.wait_cycles.specs.Waits.{needs_at, is_held, is_stuck, cycles_of}
 use Rattle.service_check.specs.declared.stage.Staged.{Staged}
 use Rattle.service_check.specs.Needs.{waits_of}

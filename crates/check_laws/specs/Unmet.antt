@@ -5,10 +5,10 @@ use Rattle.hive_model.specs.Tree.{Tree}
 use Rattle.hive_model.specs.Valid.{HoldsKeys}
 use Rattle.report_words.specs.declared.line.Line.{Line}
 use Rattle.report_words.specs.declared.line.Line.TheVariants.{Unmet as UnmetLine}
-use Rattle.check_lines.specs.declared.lines.Fault.{Fault}
-use Rattle.check_lines.specs.declared.lines.Fault.TheVariants as faults
-use Rattle.check_lines.specs.declared.lines.CheckLine.{CheckLine}
-use Rattle.check_lines.specs.declared.lines.CheckLine.TheVariants as lines
+use Rattle.answer_lines.specs.declared.check_lines.lines.Fault.{Fault}
+use Rattle.answer_lines.specs.declared.check_lines.lines.Fault.TheVariants as faults
+use Rattle.answer_lines.specs.declared.check_lines.lines.CheckLine.{CheckLine}
+use Rattle.answer_lines.specs.declared.check_lines.lines.CheckLine.TheVariants as lines
 use Rattle.safe_boot.specs.Played.{safe_lines_of}
 use Rattle.service_check.specs.declared.stage.Staged.{Staged}
 use Rattle.service_check.specs.Stages.{rows_of, is_taken}

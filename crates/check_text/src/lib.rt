@@ -1,11 +1,5 @@
-//! The lines of a check, as texts or as objects of JSON.
-//!
-//! `lines_text` prints lines in one of the two forms. Definitions: `specs/Lines.antt`. This project's own.
+//! The answers of `check` and `whatif` as text and as JSON.
 #![tactic(auto)]
 
-mod json;
-mod printing;
-mod text;
-mod words;
-
-pub use printing::lines_text;
+pub mod check_text;
+pub mod whatif_text;

@@ -5,11 +5,11 @@ use Rattle.std.specs.Result.{IsErrAnd}
 use Rattle.nt_edge.specs.Host.{Files}
 use Rattle.nt_edge.specs.declared.host.HostStop.{HostStop}
 use Rattle.nt_edge.specs.declared.host.HostStop.TheVariants.{Read, Write, Memory}
-use Rattle.command_parts.specs.declared.refusal.Refusal.{Refusal}
-use Rattle.command_parts.specs.declared.refusal.Obstacle.{Obstacle}
-use Rattle.command_parts.specs.declared.refusal.Obstacle.TheVariants.{Refused, Stopped}
-use Rattle.command_parts.specs.Inputs.{file_in, behind_step, asks_hive}
-use Rattle.command_parts.specs.Leaves.{more, named, AsksSome, AsksStopped, AsksUntil, AsksBy, stop_in, stopped_as}
+use Rattle.command_parts.specs.declared.command_parts.refusal.Refusal.{Refusal}
+use Rattle.command_parts.specs.declared.command_parts.refusal.Obstacle.{Obstacle}
+use Rattle.command_parts.specs.declared.command_parts.refusal.Obstacle.TheVariants.{Refused, Stopped}
+use Rattle.command_parts.specs.command_parts.Inputs.{file_in, behind_step, asks_hive}
+use Rattle.command_parts.specs.command_parts.Leaves.{more, named, AsksSome, AsksStopped, AsksUntil, AsksBy, stop_in, stopped_as}
 
 pub more_more : (a b n : ℕ) → more a (more b n) ≡ more (a + b) n
 more_more zero b n = (let same : b ≡ 0 + b = omega arith in ap (λ (k : ℕ). more k n) same)

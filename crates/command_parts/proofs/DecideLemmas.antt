@@ -6,16 +6,16 @@ use Rattle.nt_edge.specs.Disk.{DiskState, new_state}
 use Rattle.nt_edge.specs.Host.{HostState, Files, KeepsFiles}
 use Rattle.nt_edge.specs.declared.host.HostStop.{HostStop}
 use Rattle.nt_edge.specs.declared.host.HostStop.TheVariants.{Read, Write, Memory}
-use Rattle.command_parts.specs.declared.refusal.Refusal.{Refusal}
-use Rattle.command_parts.specs.declared.refusal.Refusal.TheVariants as refusals
-use Rattle.command_parts.specs.declared.refusal.Obstacle.TheVariants.{Refused, Stopped}
-use Rattle.command_parts.specs.declared.status.Status.{Status}
-use Rattle.command_parts.specs.declared.status.Status.TheVariants as statuses
-use Rattle.command_parts.specs.Decides.{Decides, DecidesAlone}
-use Rattle.command_parts.specs.Leaves.{Leaves, Looks, stop_in, stopped_as}
-use Rattle.command_parts.specs.Placed.{IsUnrun, IsUntouchedBy}
-use Rattle.command_parts.specs.Refusals.{Ends, IsToldAs, refusal, refusal_status}
-use Rattle.command_parts.specs.Saves.{Saves, FilesAs}
+use Rattle.command_parts.specs.declared.command_parts.refusal.Refusal.{Refusal}
+use Rattle.command_parts.specs.declared.command_parts.refusal.Refusal.TheVariants as refusals
+use Rattle.command_parts.specs.declared.command_parts.refusal.Obstacle.TheVariants.{Refused, Stopped}
+use Rattle.command_parts.specs.declared.command_parts.status.Status.{Status}
+use Rattle.command_parts.specs.declared.command_parts.status.Status.TheVariants as statuses
+use Rattle.command_parts.specs.command_parts.Decides.{Decides, DecidesAlone}
+use Rattle.command_parts.specs.command_parts.Leaves.{Leaves, Looks, stop_in, stopped_as}
+use Rattle.command_parts.specs.command_parts.Placed.{IsUnrun, IsUntouchedBy}
+use Rattle.command_parts.specs.command_parts.Refusals.{Ends, IsToldAs, refusal, refusal_status}
+use Rattle.command_parts.specs.command_parts.Saves.{Saves, FilesAs}
 use Rattle.command_parts.proofs.LeaveLemmas.{keeps_then, counts_by, stop_counts}
 
 -- ---- files and disk after a status

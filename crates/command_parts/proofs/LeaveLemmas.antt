@@ -5,7 +5,7 @@ use Rattle.nt_edge.specs.Host.{HostState, SaysFront, KeepsHost, KeepsFiles, Keep
 use Rattle.nt_bytes.specs.Counts.{Rises}
 use Rattle.nt_edge.specs.declared.host.HostStop.{HostStop}
 use Rattle.nt_edge.specs.declared.host.HostStop.TheVariants.{Read, Write, Memory}
-use Rattle.command_parts.specs.Leaves.{CountsBy, stop_in, stopped_as}
+use Rattle.command_parts.specs.command_parts.Leaves.{CountsBy, stop_in, stopped_as}
 
 pub keeps_then : (old mid new : HostState) → KeepsHost old mid → KeepsHost mid new → KeepsHost old new
 keeps_then old mid new k l = record { tells = l.tells ∙ k.tells; quiet = λ q. l.quiet (k.quiet q); errors = l.errors ∙ k.errors }

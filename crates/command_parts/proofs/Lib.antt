@@ -4,3 +4,4 @@ pub mod SeekLemmas
 pub mod PlacedLemmas
 pub mod SaveLemmas
 pub mod DecideLemmas
+pub mod SearchLemmas

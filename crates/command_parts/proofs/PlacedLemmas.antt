@@ -6,8 +6,8 @@ use Rattle.nt_edge.specs.Disk.{DiskState, new_state}
 use Rattle.nt_edge.specs.Bench.{placed}
 use Rattle.nt_edge.proofs.Images.{same_images}
 use Rattle.nt_edge.proofs.Placing.{placed_both, sector_past}
-use Rattle.command_parts.specs.declared.inputs.HiveFiles.{HiveFiles}
-use Rattle.command_parts.specs.Placed.{placed_disk, with_log}
+use Rattle.command_parts.specs.declared.command_parts.inputs.HiveFiles.{HiveFiles}
+use Rattle.command_parts.specs.command_parts.Placed.{placed_disk, with_log}
 
 -- that many bytes of a file are placed
 abbrev pub front : List ℕ → List ℕ

@@ -9,11 +9,11 @@ use Rattle.nt_edge.specs.Host.{HostState, Files, KeepsOthers, Puts, CountsFault}
 use Rattle.nt_edge.specs.declared.host.HostStop.{HostStop}
 use Rattle.nt_edge.specs.declared.host.HostStop.TheVariants.{Read, Write, Memory}
 use Rattle.nt_edge.proofs.Images.{still_crash}
-use Rattle.run_parts.specs.Reports.{LeftOf}
-use Rattle.command_parts.specs.declared.status.Status.TheVariants as statuses
-use Rattle.command_parts.specs.Leaves.{CountsBy, more, named, stop_in}
-use Rattle.command_parts.specs.Placed.{IsUntouchedBy}
-use Rattle.command_parts.specs.Saves.{Saves, saved_count, saved_status, FilesAs, SavedAs, HasSaved, KeepsUnsaved, Settles, IsStill, WritesAlone, SavesFile, SavesBoth}
+use Rattle.run_parts.specs.run_parts.Reports.{LeftOf}
+use Rattle.command_parts.specs.declared.command_parts.status.Status.TheVariants as statuses
+use Rattle.command_parts.specs.command_parts.Leaves.{CountsBy, more, named, stop_in}
+use Rattle.command_parts.specs.command_parts.Placed.{IsUntouchedBy}
+use Rattle.command_parts.specs.command_parts.Saves.{Saves, saved_count, saved_status, FilesAs, SavedAs, HasSaved, KeepsUnsaved, Settles, IsStill, WritesAlone, SavesFile, SavesBoth}
 use Rattle.command_parts.proofs.AskLemmas.{more_more}
 use Rattle.command_parts.proofs.LeaveLemmas.{keeps_then, fault_then}
 use Rattle.std.proofs.lemmas.Bool.{false_from_ne_true}

@@ -10,13 +10,13 @@ use Rattle.hive_model.specs.Load.{state_of}
 use Rattle.hive_model.specs.Tree.{Tree}
 use Rattle.hive_store.specs.Checks.{ChecksAs}
 use Rattle.start_model.specs.Possible.{Woken}
-use Rattle.command_parts.specs.declared.answering.Told.{Told}
-use Rattle.command_parts.specs.declared.refusal.Refusal.{Refusal}
-use Rattle.command_parts.specs.declared.refusal.Obstacle.{Obstacle}
-use Rattle.command_parts.specs.declared.refusal.Obstacle.TheVariants.{Refused, Stopped}
-use Rattle.command_parts.specs.Leaves.{Looks, CountsObstacle}
-use Rattle.command_parts.specs.OnHive.{Question, told_answer, AnswersOnHive, AnswersAfter, SeeksAnswer}
-use Rattle.command_parts.specs.Refusals.{Answer}
+use Rattle.command_parts.specs.declared.command_parts.answering.Told.{Told}
+use Rattle.command_parts.specs.declared.command_parts.refusal.Refusal.{Refusal}
+use Rattle.command_parts.specs.declared.command_parts.refusal.Obstacle.{Obstacle}
+use Rattle.command_parts.specs.declared.command_parts.refusal.Obstacle.TheVariants.{Refused, Stopped}
+use Rattle.command_parts.specs.command_parts.Leaves.{Looks, CountsObstacle}
+use Rattle.command_parts.specs.command_parts.OnHive.{Question, told_answer, AnswersOnHive, AnswersAfter, SeeksAnswer}
+use Rattle.command_parts.specs.command_parts.Refusals.{Answer}
 
 -- the answer is that to the tree that was read
 pub told_at : (image : Image) (answer : Woken → Answer) (root : Tree) (sequence : ℕ) (version : HiveVersion) (told : Told)

@@ -1,11 +1,2 @@
-pub mod Views
-pub mod Kinds
-pub mod Exits
-pub mod Inputs
-pub mod Leaves
-pub mod Refusals
-pub mod Placed
-pub mod Saves
-pub mod Decides
-pub mod OnHive
-pub mod Reporting
+pub mod command_parts
+pub mod input_search

@@ -4,7 +4,7 @@ ghost use Rattle.std.specs.Prelude.{◌≡◌, ◌||◌, is_ok, map, None, optio
 ghost use Rattle.std.specs.Prelude.{Ok};
 ghost use Rattle.std.specs.List.{before_first};
 ghost use Rattle.nt_bytes.specs.Text.{is_equals};
-ghost use Rattle.arc_path.specs.Reading.{arc_of};
+ghost use Rattle.boot_ini.specs.arc_path.Reading.{arc_of};
 ghost use Rattle.command_words.specs.Words.{begins_with_hyphen, is_empty_text};
 ghost use Rattle.command_words.specs.Table.{accepts, is_either};
 ghost use Rattle.command_words.specs.Walk.{attached_in, long_name, no_values, value_at};
@@ -14,7 +14,7 @@ ghost use Rattle.command_words.specs.Views.{Sees, found_seen, option_seen, value
 use crate::count::{count_in, depth_in, encoding_named, mode_named, set_named, set_number_in};
 use crate::reason::Reason;
 use crate::table::{CommandOption, Found, Takes, free_word, is_flag, option_named};
-use arc_path::{ArcStop, read_arc};
+use boot_ini::arc_path::{ArcStop, read_arc};
 use std::alloc::Global;
 
 /// No command has more options.

@@ -3,12 +3,12 @@ use Rattle.std.proofs.Common.{◌≡◌, ℕ, ◌+◌, List, [], ◌∷◌, ◌+
 use Rattle.std.proofs.lemmas.List.{append-nil}
 use Rattle.std.specs.Prelude.{option_to_list}
 use Rattle.std.specs.Str.Lines.{lines}
-use Rattle.boot_script.specs.declared.stop.ScriptFault.{ScriptFault}
-use Rattle.boot_script.specs.declared.stop.ScriptStop.{ScriptStop}
-use Rattle.boot_script.specs.declared.stop.ScriptStop.TheVariants as stops
+use Rattle.boot_script.specs.declared.boot_script.stop.ScriptFault.{ScriptFault}
+use Rattle.boot_script.specs.declared.boot_script.stop.ScriptStop.{ScriptStop}
+use Rattle.boot_script.specs.declared.boot_script.stop.ScriptStop.TheVariants as stops
 use Rattle.control_command.specs.declared.command.ControlCommand.{ControlCommand}
 use Rattle.control_command.specs.Commands.{commands_from, TakesLine, RefusesLine}
-use Rattle.boot_script.specs.Script.{FailsBy, put_before}
+use Rattle.boot_script.specs.boot_script.Script.{FailsBy, put_before}
 
 regroup : (front adds : List ControlCommand) (read : Result (List ControlCommand) ScriptFault)
     → put_before front (put_before adds read) ≡ put_before (front ++ adds) read

@@ -8,10 +8,10 @@ use Rattle.hive_model.specs.Tree.{Tree}
 use Rattle.service_control.specs.State.{ControlState}
 use Rattle.service_control.specs.First.{control_of}
 use Rattle.service_control.specs.Calls.{StopsBy}
-use Rattle.line_text.specs.Objects.{Value, fields_text}
+use Rattle.report_text.specs.line_text.Objects.{Value, fields_text}
 use Rattle.control_command.specs.declared.command.ControlCommand.{ControlCommand}
 use Rattle.control_command.specs.Report.{Answered, Adds, answers_in, default_set, no_set_lines_in, report_in, unless_in, refused_line_in, stop_fields}
-use Rattle.line_text.specs.declared.form.ReportForm.{ReportForm}
+use Rattle.report_text.specs.declared.line_text.form.ReportForm.{ReportForm}
 
 -- a refusal that is no lack of memory is the reason
 pub is_reason : (stop : ControlStop) (why : Option ControlStop) → StopsBy why stop → (stop ≡ stops.Memory → ⊥)

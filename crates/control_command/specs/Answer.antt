@@ -3,15 +3,15 @@ use Rattle.std.specs.Prelude.{Result, Ok, Err}
 use Rattle.nt_edge.specs.Host.{Files}
 use Rattle.start_model.specs.Possible.{Woken}
 use Rattle.command_words.specs.Words.{ControlAsked}
-use Rattle.command_parts.specs.declared.refusal.Refusal.{Refusal}
-use Rattle.command_parts.specs.declared.status.Status.TheVariants as statuses
-use Rattle.command_parts.specs.OnHive.{Question}
-use Rattle.command_parts.specs.Placed.{image_in}
-use Rattle.command_parts.specs.Refusals.{Answer}
+use Rattle.command_parts.specs.declared.command_parts.refusal.Refusal.{Refusal}
+use Rattle.command_parts.specs.declared.command_parts.status.Status.TheVariants as statuses
+use Rattle.command_parts.specs.command_parts.OnHive.{Question}
+use Rattle.command_parts.specs.command_parts.Placed.{image_in}
+use Rattle.command_parts.specs.command_parts.Refusals.{Answer}
 use Rattle.control_command.specs.declared.inputs.ControlInputs.{ControlInputs}
 use Rattle.control_command.specs.Inputs.{inputs_in}
 use Rattle.control_command.specs.Report.{report_in}
-use Rattle.line_text.specs.declared.form.ReportForm.{ReportForm}
+use Rattle.report_text.specs.declared.line_text.form.ReportForm.{ReportForm}
 
 -- the report on the tree that was loaded, in one of the two forms
 abbrev pub answer_at : ReportForm → ControlInputs → Woken → Answer

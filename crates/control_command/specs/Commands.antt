@@ -7,15 +7,15 @@ use Rattle.std.specs.Prelude.{◌≡◌, ℕ, ◌+◌, List, [], ◌∷◌, ◌+
 use Rattle.std.specs.Str.{bytes_eq}
 use Rattle.std.specs.Str.Lines.{lines}
 use Rattle.nt_bytes.specs.Reading.{◌>>=◌}
-use Rattle.boot_script.specs.declared.stop.ScriptFaultKind.{ScriptFaultKind}
-use Rattle.boot_script.specs.declared.stop.ScriptFaultKind.TheVariants.{TooLong, Word}
-use Rattle.boot_script.specs.declared.stop.ScriptFault.{ScriptFault}
-use Rattle.boot_script.specs.declared.stop.ScriptStop.{ScriptStop}
-use Rattle.boot_script.specs.declared.stop.ScriptStop.TheVariants as stops
-use Rattle.boot_script.specs.Words.{words_of, without_spaces}
+use Rattle.boot_script.specs.declared.boot_script.stop.ScriptFaultKind.{ScriptFaultKind}
+use Rattle.boot_script.specs.declared.boot_script.stop.ScriptFaultKind.TheVariants.{TooLong, Word}
+use Rattle.boot_script.specs.declared.boot_script.stop.ScriptFault.{ScriptFault}
+use Rattle.boot_script.specs.declared.boot_script.stop.ScriptStop.{ScriptStop}
+use Rattle.boot_script.specs.declared.boot_script.stop.ScriptStop.TheVariants as stops
+use Rattle.boot_script.specs.boot_script.Words.{words_of, without_spaces}
 use Rattle.control_command.specs.declared.command.ControlCommand.{ControlCommand}
 use Rattle.control_command.specs.declared.command.ControlCommand.TheVariants.{Start, Stop, StopAll, Listing}
-use Rattle.boot_script.specs.Script.{at_line, put_before, FailsBy}
+use Rattle.boot_script.specs.boot_script.Script.{at_line, put_before, FailsBy}
 
 -- the command of one word, or of a word and a name
 abbrev pub alone_of : List ℕ → Result ControlCommand ScriptFaultKind

@@ -3,11 +3,11 @@
 -- The text of the commands is absent or cannot be parsed; then the hive or its log is absent.
 use Rattle.std.specs.Prelude.{ℕ, List, Result, Ok, Err}
 use Rattle.nt_edge.specs.Host.{Files}
-use Rattle.boot_script.specs.declared.stop.ScriptFault.{ScriptFault}
+use Rattle.boot_script.specs.declared.boot_script.stop.ScriptFault.{ScriptFault}
 use Rattle.command_words.specs.Words.{ControlAsked}
-use Rattle.command_parts.specs.declared.refusal.Refusal.{Refusal}
-use Rattle.command_parts.specs.declared.refusal.Refusal.TheVariants.{ScriptFault as BadCommands}
-use Rattle.input_search.specs.Search.{Search, ◌>>=◌, reads, finds, file, hive}
+use Rattle.command_parts.specs.declared.command_parts.refusal.Refusal.{Refusal}
+use Rattle.command_parts.specs.declared.command_parts.refusal.Refusal.TheVariants.{ScriptFault as BadCommands}
+use Rattle.command_parts.specs.input_search.Search.{Search, ◌>>=◌, reads, finds, file, hive}
 use Rattle.control_command.specs.declared.command.ControlCommand.{ControlCommand}
 use Rattle.control_command.specs.declared.inputs.ControlInputs.{ControlInputs}
 use Rattle.control_command.specs.Commands.{commands_of}

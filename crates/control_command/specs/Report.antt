@@ -11,10 +11,10 @@ use Rattle.report_words.specs.declared.words.Verdict.TheVariants.{NoControlSet}
 use Rattle.report_words.specs.declared.line.Line.TheVariants.{Verdict as VerdictLine, End as EndLine}
 use Rattle.start_model.specs.Lines.{name_text}
 use Rattle.start_model.specs.Sets.{select_numbers_of}
-use Rattle.line_text.specs.Objects.{Value, Text, object_text}
-use Rattle.line_text.specs.declared.form.ReportForm.{ReportForm}
-use Rattle.line_text.specs.declared.form.ReportForm.TheVariants as forms
-use Rattle.line_objects.specs.Objects.{line_json}
+use Rattle.report_text.specs.line_text.Objects.{Value, Text, object_text}
+use Rattle.report_text.specs.declared.line_text.form.ReportForm.{ReportForm}
+use Rattle.report_text.specs.declared.line_text.form.ReportForm.TheVariants as forms
+use Rattle.report_text.specs.line_objects.Objects.{line_json}
 use Rattle.dependencies.specs.Work.{names_of}
 use Rattle.select_keys.specs.Sets.{usable_set}
 use Rattle.service_control.specs.State.{ControlState, named}

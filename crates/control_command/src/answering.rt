@@ -10,9 +10,9 @@ ghost use Rattle.control_command.specs.declared.command.ControlCommand.TheVarian
 use crate::command::ControlCommand;
 use crate::printing::{push_end, push_line, push_lines, push_no_set, push_refused};
 use dependencies::Need;
-use line_text::ReportForm;
 use nt_bytes::{Bytes, Units};
 use reg_tree::Key;
+use report_text::line_text::ReportForm;
 use select_keys::{select_numbers, set_of};
 use service_control::Control;
 use std::alloc::{AllocError, Global};

@@ -1,11 +1,11 @@
 //! The command that a line stands for.
 
 ghost use Rattle.std.specs.Prelude.{map};
-ghost use Rattle.boot_script.specs.Words.{Gives};
+ghost use Rattle.boot_script.specs.boot_script.Words.{Gives};
 ghost use Rattle.control_command.specs.Commands.{alone_of, named_of, command_of};
 
 use crate::command::ControlCommand;
-use boot_script::{LineStop, ScriptFaultKind};
+use boot_script::boot_script::{LineStop, ScriptFaultKind};
 use nt_bytes::narrow;
 use std::alloc::Global;
 

@@ -2,20 +2,20 @@
 
 ghost use Rattle.std.specs.Prelude.{◌≡◌, Err};
 ghost use Rattle.command_words.specs.Views.{control_seen};
-ghost use Rattle.command_parts.specs.Inputs.{AsksSoMany};
-ghost use Rattle.command_parts.specs.OnHive.{AnswersOnHive, DecidesOnHive, SeeksAnswer};
-ghost use Rattle.input_search.specs.Search.{AsksFor};
+ghost use Rattle.command_parts.specs.command_parts.Inputs.{AsksSoMany};
+ghost use Rattle.command_parts.specs.command_parts.OnHive.{AnswersOnHive, DecidesOnHive, SeeksAnswer};
+ghost use Rattle.command_parts.specs.input_search.Search.{AsksFor};
 ghost use Rattle.control_command.specs.Inputs.{asks_control, control_search};
 ghost use Rattle.control_command.specs.Answer.{question_in, question_on};
 
 use crate::answering::report;
 use crate::inputs::{ControlInputs, inputs_in};
-use command_parts::{Obstacle, Refusal, Status, Told, answer, no_memory, read};
+use command_parts::command_parts::{Obstacle, Refusal, Status, Told, answer, no_memory, read};
 use command_words::ControlWords;
-use line_text::ReportForm;
 use nt_bytes::{HiveVersion, ReadStop};
 use nt_edge::Host;
 use reg_tree::Key;
+use report_text::line_text::ReportForm;
 use std::alloc::Global;
 
 /// The report on the hive's tree, or the hive's first fault.

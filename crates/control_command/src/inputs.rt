@@ -1,16 +1,16 @@
 //! What the command reads: one step after the other, up to the first obstacle.
 
 ghost use Rattle.std.specs.Prelude.{◌≡◌, Err};
-ghost use Rattle.command_parts.specs.Leaves.{Looks, Reads};
+ghost use Rattle.command_parts.specs.command_parts.Leaves.{Looks, Reads};
 ghost use Rattle.command_words.specs.Views.{control_seen};
-ghost use Rattle.input_search.specs.Search.{AsksFor};
+ghost use Rattle.command_parts.specs.input_search.Search.{AsksFor};
 ghost use Rattle.control_command.specs.Commands.{commands_of};
 ghost use Rattle.control_command.specs.Inputs.{inputs_in, commands_in, control_search};
 
 use crate::command::Commands;
 use crate::reading::read_commands;
-use boot_script::ScriptStop;
-use command_parts::{HiveFiles, Obstacle, Refusal, file_in, hive_in, no_memory};
+use boot_script::boot_script::ScriptStop;
+use command_parts::command_parts::{HiveFiles, Obstacle, Refusal, file_in, hive_in, no_memory};
 use command_words::ControlWords;
 use nt_bytes::Bytes;
 use nt_edge::Host;
@@ -36,7 +36,7 @@ fn commands_in(alloc: Global, text: &Bytes) -> Result<Commands, Obstacle>
 }
 
 /// What options and files have for the command, or the first obstacle. Nothing is printed.
-#[tactic(auto, unfolding(input_search::specs::Search::searched))]
+#[tactic(auto, unfolding(command_parts::specs::input_search::Search::searched))]
 pub(crate) fn inputs_in<H: Host>(
     alloc: Global,
     words: ControlWords<'_>,

@@ -2,14 +2,16 @@
 
 ghost use Rattle.std.specs.Prelude.{◌≡◌, [], ◌∷◌, ◌++◌, codes, OnOk};
 ghost use Rattle.start_model.specs.Lines.{name_text};
-ghost use Rattle.line_text.specs.Objects.{Text, fields_text, object_text};
+ghost use Rattle.report_text.specs.line_text.Objects.{Text, fields_text, object_text};
 ghost use Rattle.service_control.specs.declared.stop.ControlStop.TheVariants as stops;
 ghost use Rattle.control_command.specs.Report.{name_line, name_line_in, name_lines_in, stop_text, stop_fields, refused_line, refused_json, refused_line_in, end_line_in, no_set_lines_in};
 
-use boot_report::{Verdict, push_name};
-use line_objects::{push_end_object, push_verdict_object};
-use line_text::{ReportForm, close_object, open_object, push_text_field, push_word_field};
 use nt_bytes::Units;
+use report_text::boot_report::{Verdict, push_name};
+use report_text::line_objects::{push_end_object, push_verdict_object};
+use report_text::line_text::{
+    ReportForm, close_object, open_object, push_text_field, push_word_field,
+};
 use service_control::ControlStop;
 use std::alloc::AllocError;
 

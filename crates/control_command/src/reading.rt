@@ -2,13 +2,15 @@
 
 ghost use Rattle.std.specs.Prelude.{◌≡◌, ◌≤◌, length, IfErr, OnOk, Some};
 ghost use Rattle.std.specs.Str.Lines.{lines};
-ghost use Rattle.boot_script.specs.declared.stop.ScriptStop.TheVariants as stops;
-ghost use Rattle.boot_script.specs.Words.{Gives};
+ghost use Rattle.boot_script.specs.declared.boot_script.stop.ScriptStop.TheVariants as stops;
+ghost use Rattle.boot_script.specs.boot_script.Words.{Gives};
 ghost use Rattle.control_command.specs.Commands.{trimmed_command, line_command, commands_from, commands_of, GivesCommands, TakesLine, RefusesLine};
 
 use crate::command::{Commands, ControlCommand};
 use crate::commands::command;
-use boot_script::{LineStop, ScriptFault, ScriptFaultKind, ScriptStop, after_spaces, words_in};
+use boot_script::boot_script::{
+    LineStop, ScriptFault, ScriptFaultKind, ScriptStop, after_spaces, words_in,
+};
 use nt_bytes::first_line;
 use std::alloc::Global;
 

@@ -11,8 +11,8 @@ use Rattle.std.proofs.lemmas.List.Folds.{list_any-append}
 use Rattle.std.proofs.lemmas.List.Elements.{All-append, All-contains, All-filter, filter_passes}
 use Rattle.std.proofs.lemmas.Map.Views.{Contains-from_any, list_any-from_Contains}
 use Rattle.nt_bytes.specs.Folding.{folds_same}
-use Rattle.name_places.specs.Places.{places_named}
-use Rattle.name_places.proofs.PlaceLemmas.{all_named, each_named}
+use Rattle.nt_names.specs.name_places.Places.{places_named}
+use Rattle.nt_names.proofs.PlaceLemmas.{all_named, each_named}
 use Rattle.least_set.specs.Edges.{row_at, AreEdges}
 use Rattle.least_set.specs.Edges.{IsLeast as AreLeast}
 use Rattle.least_set.proofs.MarkLemmas.{edge_from}

@@ -11,9 +11,9 @@ use Rattle.std.proofs.lemmas.List.Elements.{All-contains}
 use Rattle.std.proofs.lemmas.Cmp.{nat_eq_equiv}
 use Rattle.std.proofs.lemmas.Map.Views.{Contains-from_any, list_any-from_Contains}
 use Rattle.nt_bytes.specs.Folding.{folded, folds_same, folded_unit}
-use Rattle.name_places.specs.Places.{places_named}
-use Rattle.name_places.proofs.PlaceLemmas.{all_named, each_named}
-use Rattle.name_places.proofs.FoldLemmas.{alike}
+use Rattle.nt_names.specs.name_places.Places.{places_named}
+use Rattle.nt_names.proofs.PlaceLemmas.{all_named, each_named}
+use Rattle.nt_names.proofs.FoldLemmas.{alike}
 use Rattle.start_model.specs.Demand.{Need, member}
 use Rattle.start_model.specs.Ready.{Label, has_name, has_group}
 use Rattle.dependencies.specs.declared.wants.Kind.{Kind}

@@ -12,7 +12,7 @@ use Rattle.std.proofs.lemmas.Bool.{cases_lt}
 use Rattle.std.proofs.lemmas.List.{take-append-drop}
 use Rattle.std.proofs.lemmas.List.Folds.{list_any-append}
 use Rattle.std.proofs.lemmas.List.Sorted.{ranks_by, searchable_from_sorted, list_any-IsPermutation}
-use Rattle.name_places.proofs.FoldLemmas.{same_from_order, alike}
+use Rattle.nt_names.proofs.FoldLemmas.{same_from_order, alike}
 use Rattle.nt_bytes.specs.Folding.{folded, folds_same, folded_order}
 use Rattle.start_model.specs.Ready.{Label, has_name, has_group}
 use Rattle.dependencies.specs.Index.{AddsAlike, AreInOrder, IsGap, IsIndexed, AreCarried, is_among, is_that, stands_in}
@@ -146,6 +146,12 @@ pub alike_in : (runs slice : List (List (List ℕ))) (name own : Option (List �
     → AddsAlike slice name own → AddsAlike runs name own
 alike_in runs slice name own is h q =
     ap (λ rs. stands_in rs q || is_that own q) (sym is) ∙ h q ∙ ap (λ rs. stands_in rs q || is_that name q) is
+
+-- a name that adds as much as another is carried as that one
+pub carried_alike : {E : Type 0} (r : Result (ℕ × List (List ℕ)) E) (runs : List (List (List ℕ))) (name own : Option (List ℕ))
+    → IfOk r (λ c. AreCarried runs own c.0 c.1) → AddsAlike runs name own → IfOk r (λ c. AreCarried runs name c.0 c.1)
+carried_alike (Ok c) runs name own carries alike = λ q. carries q ∙ alike q
+carried_alike (Err e) runs name own carries alike = tt
 
 -- ---- who was started
 

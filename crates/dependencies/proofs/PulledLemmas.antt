@@ -8,17 +8,10 @@ use Rattle.std.proofs.lemmas.List.Folds.{list_all-append, list_all-map, list_any
 use Rattle.std.proofs.lemmas.List.FromFn.{get_or-range_with_len, length-range_with_len, get_or-map-range_with_len, length-map-range_with_len}
 use Rattle.std.proofs.lemmas.List.Sums.{AllPass-from_list_all}
 use Rattle.std.proofs.lemmas.List.Elements.{filter_agree, filter-append}
-use Rattle.std.proofs.Math.Bool.{and-true}
 use Rattle.nt_bytes.specs.Folding.{folds_same}
 use Rattle.start_model.specs.Demand.{Need}
-use Rattle.start_model.specs.Demand.{starts_at, pulls, IsClosed, is_due, is_closed, member, all_sets, is_taken, pulled_of, automatic_of}
-use Rattle.dependencies.specs.Work.{IsLeast, is_asked}
-
-and_flip : (a b : Bool) → (a && b) ≡ (b && a)
-and_flip true true = refl
-and_flip true false = refl
-and_flip false true = refl
-and_flip false false = refl
+use Rattle.start_model.specs.Demand.{starts_at, pulls, IsClosed, is_due, is_closed, member, all_sets, is_taken, automatic_of}
+use Rattle.dependencies.specs.Work.{IsLeast}
 
 -- `not a || b` is "if a then b"
 pub then_true : (a b : Bool) → (a ≡ true → b ≡ true) → (not a || b) ≡ true
@@ -129,16 +122,10 @@ is_taken-least table taken is q =
     (λ m. all_true _ (all_sets (length table)) (λ s. then_true (is_closed table (member s)) (member s q)
     (λ c. is.least (member s) (passes_closed table (member s) c) q m)))
 
--- the places that are asked for are those that demand start takes, or all
-pub asked_of-least : (table : List Need) (taken : List Bool) (on_demand : Bool) → IsLeast table taken
-    → cond on_demand (pulled_of table) (automatic_of table)
-    ≡ filter (is_asked table taken on_demand) (range_with_len 0 (length table))
-asked_of-least table taken true is =
-    filter_agree _ _ (λ q. ap (λ b. starts_at table 3 q && b) (is_taken-least table taken is q)
-    ∙ and_flip (starts_at table 3 q) (member taken q)) (range_with_len 0 (length table))
-asked_of-least table taken false is =
-    filter_agree _ _ (λ q. is_taken-least table taken is q ∙ sym (and-true (member taken q)))
-    (range_with_len 0 (length table))
+-- the places that are taken are those that are in the least set
+pub automatic_of-least : (table : List Need) (taken : List Bool) → IsLeast table taken
+    → automatic_of table ≡ filter (member taken) (range_with_len 0 (length table))
+automatic_of-least table taken is = filter_agree _ _ (is_taken-least table taken is) (range_with_len 0 (length table))
 
 range_suc : (a n : ℕ) → range_with_len a (suc n) ≡ range_with_len a n ++ (a + n) ∷ []
 range_suc a zero = ap (λ k. k ∷ []) (sym (add-zero a))

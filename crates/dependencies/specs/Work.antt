@@ -1,8 +1,8 @@
 -- How does what an entry pulls in lead to the least set?
-use Rattle.std.specs.Prelude.{◌≡◌, ℕ, Bool, true, not, ◌&&◌, ◌||◌, List, [], length, map, filter, slice_get}
+use Rattle.std.specs.Prelude.{◌≡◌, ℕ, Bool, true, List, [], length, map, filter, slice_get}
 use Rattle.std.specs.Option.{option_map_or}
 use Rattle.std.specs.List.{flat_map, range_with_len}
-use Rattle.name_places.specs.Places.{places_named}
+use Rattle.nt_names.specs.name_places.Places.{places_named}
 use Rattle.start_model.specs.Demand.{Need, IsClosed, starts_at, member}
 
 -- these places are the least set that is closed
@@ -34,7 +34,3 @@ demanded table name = filter (starts_at table 3) (places_named name (names_of ta
 -- each entry leads to those that it pulls in
 abbrev pub rows_of : List Need → List (List ℕ)
 rows_of table = map (λ n. flat_map (demanded table) n.services) table
-
--- the place is taken, and its entry has Start 3 where only what demand start takes is asked for
-abbrev pub is_asked : List Need → List Bool → Bool → ℕ → Bool
-is_asked table taken on_demand q = member taken q && (not on_demand || starts_at table 3 q)

@@ -1,9 +1,9 @@
 //! Which entries of Start 3 the automatic phase takes.
 
-ghost use Rattle.std.specs.Prelude.{◌≡◌, ℕ, ◌^◌, ◌<◌, ◌++◌, Bool, true, List, All, filter, length, IfOk, OnOk, if◌then◌else◌};
+ghost use Rattle.std.specs.Prelude.{◌≡◌, ℕ, ◌^◌, ◌<◌, ◌++◌, Bool, true, List, All, filter, length, IfOk, OnOk};
 ghost use Rattle.std.specs.List.{flat_map};
-ghost use Rattle.start_model.specs.Demand.{Need, IsClosed, is_taken, automatic_of, pulled_of, starts_at};
-ghost use Rattle.dependencies.specs.Work.{IsLeast, is_asked, given_at, demanded, firsts_of, rows_of};
+ghost use Rattle.start_model.specs.Demand.{Need, IsClosed, is_taken, automatic_of, starts_at, member};
+ghost use Rattle.dependencies.specs.Work.{IsLeast, given_at, demanded, firsts_of, rows_of};
 
 use crate::need::{Needs, Places};
 use crate::table::{NeedList, NeedTable};
@@ -18,7 +18,7 @@ pub fn automatic_in<T: NeedTable>(alloc: Global, table: &T) -> Result<Places, Al
     ensures places { IfOk result (λ places. places ≡ automatic_of (T.needs table.now)) }
 {
     let taken = taken_in(alloc, table)?;
-    places_of(alloc, table, taken.as_slice(), false)
+    places_of(alloc, table, taken.as_slice())
 }
 
 /// The same places of a list, whose names are copied and sorted for it.
@@ -30,49 +30,33 @@ pub fn automatic(alloc: Global, table: &Needs) -> Result<Places, AllocError>
     automatic_in(alloc, &table)
 }
 
-/// The places of the entries of Start 3 that the entries of Start 2 pull in, in rising order.
-pub fn pulled(alloc: Global, table: &Needs) -> Result<Places, AllocError>
-    requires { length table.now < 2 ^ 32 }
-    ensures places { IfOk result (λ places. places ≡ pulled_of table.now) }
-{
-    let table = NeedList::new(alloc, table.as_slice())?;
-    let taken = taken_in(alloc, &table)?;
-    places_of(alloc, &table, taken.as_slice(), true)
-}
-
 /// What is taken is the least of the closed sets of places.
 pub fn taken_is_the_least_closed_set()
     ensures closed { (table : List Need) → IsClosed table (is_taken table) }
     ensures least { (table : List Need) (set : ℕ → Bool) → IsClosed table set → (q : ℕ) → q < length table → is_taken table q ≡ true → set q ≡ true }
 {}
 
-/// The places that are taken, in rising order; of them only those of Start 3 where `on_demand`.
-fn places_of<T: NeedTable>(
-    alloc: Global,
-    table: &T,
-    taken: &[bool],
-    on_demand: bool,
-) -> Result<Places, AllocError>
+/// The places that are taken, in rising order.
+fn places_of<T: NeedTable>(alloc: Global, table: &T, taken: &[bool]) -> Result<Places, AllocError>
     requires few { length (T.needs table.now) < 2 ^ 32 }
     requires least { IsLeast (T.needs table.now) taken.now }
-    ensures { IfOk result (λ places. places ≡ (if on_demand then pulled_of (T.needs table.now) else automatic_of (T.needs table.now))) }
+    ensures { IfOk result (λ places. places ≡ automatic_of (T.needs table.now)) }
 {
     let mut places = Places::new(alloc);
     for place in 0..table.count() {
-        if is_asked(table, taken, on_demand, place) {
+        if is_member(taken, place) {
             places.push(place as u32)?;
         }
     }
     Ok(places)
 }
 
-/// Whether the entry at a place is taken, and has Start 3 where `on_demand`.
-fn is_asked<T: NeedTable>(table: &T, taken: &[bool], on_demand: bool, place: usize) -> bool
-    requires place { place < length (T.needs table.now) }
-    requires len { length taken.now ≡ length (T.needs table.now) }
-    ensures { result ≡ is_asked (T.needs table.now) taken.now on_demand place }
+/// Whether a place is in the set.
+fn is_member(set: &[bool], place: usize) -> bool
+    requires { place < length set.now }
+    ensures { result ≡ member set.now place }
 {
-    taken[place] && (!on_demand || starts(table, place, 3))
+    set[place]
 }
 
 /// Whether the entry at a place has this Start value.

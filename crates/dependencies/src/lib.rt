@@ -14,9 +14,9 @@ mod test_count;
 mod waiting;
 mod wants;
 
-pub use demand::{automatic, automatic_in, pulled, taken_is_the_least_closed_set};
+pub use demand::{automatic, automatic_in, taken_is_the_least_closed_set};
 pub use need::{Need, Needs, Places};
-pub use next::{both_ways_try_the_same, next_ready, ready, services_met};
+pub use next::{both_ways_try_the_same, services_met};
 pub use started::Started;
 pub use table::NeedTable;
 pub use test_count::TestCount;

@@ -11,8 +11,8 @@ ghost use Rattle.dependencies.specs.Waiting.{raised};
 use crate::place_set::PlaceSet;
 use crate::test_count::TestCount;
 use crate::wants::Wants;
-use name_places::NamePlaces;
 use nt_bytes::Units;
+use nt_names::name_places::NamePlaces;
 
 /// Marks the wants of this group as met, where there is one.
 pub(crate) fn meet_group(

@@ -17,7 +17,7 @@ pub(crate) fn stands_in(runs: &[NamesInOrder], name: &[u16]) -> bool
 }
 
 /// A copy of the name, unless it is in the runs, or there is none.
-pub(crate) fn unlisted(
+fn unlisted(
     alloc: Global,
     runs: &[NamesInOrder],
     name: &Option<Units>,
@@ -56,7 +56,7 @@ pub(crate) fn one_run(alloc: Global, names: Vec<Units>) -> Result<Vec<NamesInOrd
 }
 
 /// How many runs stay where a name reaches that many, and the run that goes after them.
-pub(crate) fn carried(
+fn carried(
     alloc: Global,
     runs: &[NamesInOrder],
     count: usize,
@@ -67,6 +67,32 @@ pub(crate) fn carried(
     let kept = kept(runs.len(), count);
     let run = merged(alloc, &runs[kept..], name)?;
     Ok((kept, run))
+}
+
+/// How many runs stay, and the run that goes after them, where this name is put in.
+pub(crate) fn carried_name(
+    alloc: Global,
+    runs: &[NamesInOrder],
+    count: usize,
+    name: &Units,
+) -> Result<(usize, NamesInOrder), AllocError>
+    ensures { IfOk result (λ r. AreCarried runs.now (Some name.now) r.0 r.1) }
+{
+    let own = name.copy(alloc)?;
+    carried(alloc, runs, count, Some(own))
+}
+
+/// The same for a name that is put in only where the runs lack it.
+pub(crate) fn carried_group(
+    alloc: Global,
+    runs: &[NamesInOrder],
+    count: usize,
+    name: &Option<Units>,
+) -> Result<(usize, NamesInOrder), AllocError>
+    ensures { IfOk result (λ r. AreCarried runs.now name.now r.0 r.1) }
+{
+    let own = unlisted(alloc, runs, name)?;
+    carried(alloc, runs, count, own)
 }
 
 /// How many runs stay. Each has a power of two of the names that were put in, the greatest one the first.

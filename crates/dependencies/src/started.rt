@@ -7,7 +7,7 @@ ghost use Rattle.start_model.specs.Ready.{has_name, has_group};
 
 use crate::need::copied;
 use crate::order::NamesInOrder;
-use crate::runs::{carried, one_run, push_some, replace, stands_in, unlisted};
+use crate::runs::{carried_group, carried_name, one_run, push_some, replace, stands_in};
 use nt_bytes::Units;
 use std::alloc::{AllocError, Global};
 use std::marker::Model;
@@ -74,10 +74,8 @@ impl Started {
         ensures err { OnErr result (self.new ≡ self.old) }
     {
         let count = self.entries.len();
-        let own_name = Some(name.copy(alloc)?);
-        let own_group = unlisted(alloc, self.groups.as_slice(), &group)?;
-        let (names_kept, names) = carried(alloc, self.names.as_slice(), count, own_name)?;
-        let (groups_kept, groups) = carried(alloc, self.groups.as_slice(), count, own_group)?;
+        let (names_kept, names) = carried_name(alloc, self.names.as_slice(), count, &name)?;
+        let (groups_kept, groups) = carried_group(alloc, self.groups.as_slice(), count, &group)?;
         make_room(&mut self.entries, &mut self.names, &mut self.groups)?;
         put(&mut self.entries, (name, group));
         replace(&mut self.names, names_kept, names);

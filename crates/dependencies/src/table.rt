@@ -1,13 +1,13 @@
 //! A table of entries that need others, as demand start asks it.
 
 ghost use Rattle.std.specs.Prelude.{◌≡◌, ◌<◌, List, length, IfOk};
-ghost use Rattle.name_places.specs.Places.{places_named};
+ghost use Rattle.nt_names.specs.name_places.Places.{places_named};
 ghost use Rattle.start_model.specs.Demand.{Need};
 ghost use Rattle.dependencies.specs.Work.{names_of, given_at, start_at};
 
 use crate::need::Need;
-use name_places::NamePlaces;
 use nt_bytes::{Names, Units};
+use nt_names::name_places::NamePlaces;
 use std::alloc::{AllocError, Global};
 use std::marker::Model;
 

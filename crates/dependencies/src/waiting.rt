@@ -14,8 +14,8 @@ use crate::place_set::PlaceSet;
 use crate::started::{Started, copied_labels};
 use crate::test_count::TestCount;
 use crate::wants::{Kind, Wants, test_all, wanted};
-use name_places::{NamePlaces, folded};
 use nt_bytes::Units;
+use nt_names::name_places::{NamePlaces, folded};
 use std::alloc::{AllocError, Global};
 use std::marker::Model;
 
@@ -99,8 +99,7 @@ impl Waiting {
         })
     }
 
-    /// The place in the phase of the first waiting entry that is ready: the one that `next_ready` finds among
-    /// those that wait.
+    /// The place in the phase of the first waiting entry that is ready.
     pub fn next(&self) -> Option<u32>
         ensures place { result ≡ next_place_in self.now }
         ensures waits { IfSome result (λ at. member self.now.waits at ≡ true) }

@@ -6,16 +6,16 @@ use Rattle.nt_bytes.specs.Folding.{folds_same}
 use Rattle.boot_phases.proofs.TriedLemmas.{some_place}
 use Rattle.dependencies.proofs.MeetLemmas.{names_flip}
 use Rattle.start_model.specs.Order.{GroupOrder}
-use Rattle.diff_lines.specs.declared.lines.DiffField.{DiffField}
-use Rattle.diff_lines.specs.declared.lines.DiffLine.{DiffLine}
-use Rattle.diff_lines.specs.declared.lines.DiffLine.TheVariants.{Sets, StartsSame, Same, End, Lone, Differs, Tags, StartPhase}
-use Rattle.diff_lines.specs.declared.lines.Part.{Part}
-use Rattle.diff_lines.specs.declared.lines.Part.TheVariants.{Group, Start, Unmet}
-use Rattle.diff_lines.specs.declared.lines.Sequence.{Sequence}
-use Rattle.diff_lines.specs.declared.lines.Sequence.TheVariants.{Registry, Groups, Starts}
-use Rattle.diff_lines.specs.declared.lines.Side.{Side}
-use Rattle.diff_lines.specs.declared.lines.Side.TheVariants.{First, Second}
-use Rattle.diff_lines.specs.declared.lines.Shown.TheVariants.{Numbers}
+use Rattle.answer_lines.specs.declared.diff_lines.lines.DiffField.{DiffField}
+use Rattle.answer_lines.specs.declared.diff_lines.lines.DiffLine.{DiffLine}
+use Rattle.answer_lines.specs.declared.diff_lines.lines.DiffLine.TheVariants.{Sets, StartsSame, Same, End, Lone, Differs, Tags, StartPhase}
+use Rattle.answer_lines.specs.declared.diff_lines.lines.Part.{Part}
+use Rattle.answer_lines.specs.declared.diff_lines.lines.Part.TheVariants.{Group, Start, Unmet}
+use Rattle.answer_lines.specs.declared.diff_lines.lines.Sequence.{Sequence}
+use Rattle.answer_lines.specs.declared.diff_lines.lines.Sequence.TheVariants.{Registry, Groups, Starts}
+use Rattle.answer_lines.specs.declared.diff_lines.lines.Side.{Side}
+use Rattle.answer_lines.specs.declared.diff_lines.lines.Side.TheVariants.{First, Second}
+use Rattle.answer_lines.specs.declared.diff_lines.lines.Shown.TheVariants.{Numbers}
 use Rattle.set_diff.specs.declared.boot.Attempt.{Attempt}
 use Rattle.set_diff.specs.declared.service.Service.{Service}
 use Rattle.set_diff.specs.Boots.{attempt_names, attempt_named, phase_rank, phase_lines, paired_phases, phases_lines, lone_names, common_attempts, boots_lines, or_same}
@@ -23,7 +23,7 @@ use Rattle.set_diff.specs.Listed.{has, lacks, lone_lines, both_lone, shared, par
 use Rattle.set_diff.specs.Services.{all_fields, field_shown, field_lines, pair_lines, paired_lines, differs_lines, service_named, service_names, is_only, only_line, only_lines, apart_lines, common_lines, services_lines}
 use Rattle.set_diff.specs.Sets.{Compared, compared_of, group_names, group_named, tag_lines, paired_tags, tags_lines, orders_lines, groups_lines, both_lines, is_difference, closed}
 use Rattle.set_diff.specs.Shown.{names_same, numbers_same}
-use Rattle.diff_laws.specs.Laws.{is_none, has_all, same_names, field_agrees, service_agrees, service_agrees_in, services_agree, ServicesAgree, group_agrees_in, groups_agree, GroupsAgree, attempt_agrees_in, boots_agree, BootsAgree, SetsAgree}
+use Rattle.diff_laws.specs.diff_laws.Laws.{is_none, has_all, same_names, field_agrees, service_agrees, service_agrees_in, services_agree, ServicesAgree, group_agrees_in, groups_agree, GroupsAgree, attempt_agrees_in, boots_agree, BootsAgree, SetsAgree}
 use Rattle.diff_laws.proofs.NoneLemmas.{none_append, none_when, none_map, none_flat, none_pair, none_parts, all_same, all_map, not_not}
 
 -- ---- names

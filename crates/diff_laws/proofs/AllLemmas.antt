@@ -2,10 +2,10 @@
 use Rattle.std.proofs.Common.{List, ◌++◌, sym, ap}
 use Rattle.std.proofs.lemmas.List.{append-nil}
 use Rattle.select_keys.specs.Sets.{usable_set}
-use Rattle.diff_lines.specs.declared.lines.DiffLine.{DiffLine}
+use Rattle.answer_lines.specs.declared.diff_lines.lines.DiffLine.{DiffLine}
 use Rattle.set_diff.specs.Sets.{sets_lines}
-use Rattle.diff_command.specs.Compared.{both_trees}
-use Rattle.diff_laws.specs.All.{AllAddsLines}
+use Rattle.set_commands.specs.diff_command.Compared.{both_trees}
+use Rattle.diff_laws.specs.diff_laws.All.{AllAddsLines}
 
 pub all_adds : AllAddsLines
 all_adds a n b m =

@@ -3,14 +3,14 @@ use Rattle.std.proofs.Common.{◌≡◌, ℕ, ◌+◌, Bool, true, false, not, �
 use Rattle.std.specs.Prelude.{Option, Some, None}
 use Rattle.std.specs.List.{list_all, flat_map}
 use Rattle.std.specs.Option.{option_map_or}
-use Rattle.diff_lines.specs.declared.lines.DiffLine.{DiffLine}
-use Rattle.diff_lines.specs.declared.lines.DiffLine.TheVariants.{Parts}
-use Rattle.diff_lines.specs.declared.lines.Sequence.{Sequence}
-use Rattle.diff_lines.specs.declared.lines.Shown.TheVariants.{Text}
+use Rattle.answer_lines.specs.declared.diff_lines.lines.DiffLine.{DiffLine}
+use Rattle.answer_lines.specs.declared.diff_lines.lines.DiffLine.TheVariants.{Parts}
+use Rattle.answer_lines.specs.declared.diff_lines.lines.Sequence.{Sequence}
+use Rattle.answer_lines.specs.declared.diff_lines.lines.Shown.TheVariants.{Text}
 use Rattle.nt_bytes.specs.Folding.{folds_same}
 use Rattle.set_diff.specs.Listed.{parts_from}
 use Rattle.set_diff.specs.Shown.{line_when, names_same}
-use Rattle.diff_laws.specs.Laws.{is_none}
+use Rattle.diff_laws.specs.diff_laws.Laws.{is_none}
 
 pub none_append : (xs ys : List DiffLine) → is_none (xs ++ ys) ≡ (is_none xs && is_none ys)
 none_append [] ys = refl

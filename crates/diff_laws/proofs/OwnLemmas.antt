@@ -4,10 +4,10 @@ use Rattle.std.specs.Prelude.{Some, find, position, slice_get, option_and_then}
 use Rattle.std.specs.List.{list_all}
 use Rattle.std.proofs.lemmas.Bool.{eq-eqb}
 use Rattle.nt_bytes.specs.Folding.{folded_unit, folds_same}
-use Rattle.group_order.proofs.FirstLemmas.{find_at_place, position-map}
+use Rattle.boot_phases.proofs.FirstLemmas.{find_at_place, position-map}
 use Rattle.reg_tree.proofs.Unlike.{Each, Unlike}
 use Rattle.set_diff.specs.Shown.{names_same, numbers_same}
-use Rattle.diff_laws.specs.Laws.{has_all}
+use Rattle.diff_laws.specs.diff_laws.Laws.{has_all}
 use Rattle.diff_laws.proofs.AgreeLemmas.{and_of, same_has}
 
 -- ---- alike with itself

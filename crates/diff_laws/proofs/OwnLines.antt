@@ -11,14 +11,14 @@ use Rattle.start_model.specs.Order.{GroupOrder, first_names, listed_groups, orde
 use Rattle.start_model.proofs.HeldLemmas.{services_differ}
 use Rattle.dependencies.proofs.MeetLemmas.{names_flip}
 use Rattle.reg_tree.proofs.Unlike.{Lacks, Unlike, unlike_from}
-use Rattle.diff_lines.specs.declared.lines.Shown.{Shown}
-use Rattle.diff_lines.specs.declared.lines.Shown.TheVariants.{Nothing, Number, Text, Texts, Numbers}
+use Rattle.answer_lines.specs.declared.diff_lines.lines.Shown.{Shown}
+use Rattle.answer_lines.specs.declared.diff_lines.lines.Shown.TheVariants.{Nothing, Number, Text, Texts, Numbers}
 use Rattle.set_diff.specs.declared.service.Service.{Service}
 use Rattle.set_diff.specs.Services.{all_fields, field_shown, service_at, service_of, service_named, services_in, service_names, services_lines}
 use Rattle.set_diff.specs.Sets.{Compared, compared_of, group_names, group_named, groups_lines}
 use Rattle.set_diff.specs.Shown.{names_same, numbers_same, shown_same}
-use Rattle.diff_laws.specs.Laws.{has_all, field_agrees, service_agrees, service_agrees_in, services_agree, group_agrees_in, groups_agree}
-use Rattle.diff_laws.specs.Own.{OwnServices, OwnGroups}
+use Rattle.diff_laws.specs.diff_laws.Laws.{has_all, field_agrees, service_agrees, service_agrees_in, services_agree, group_agrees_in, groups_agree}
+use Rattle.diff_laws.specs.diff_laws.Own.{OwnServices, OwnGroups}
 use Rattle.diff_laws.proofs.AgreeLemmas.{and_of, nil_of, services_agree_so, groups_agree_so}
 use Rattle.diff_laws.proofs.OwnLemmas.{folds_self, names_self, numbers_self, has_self, each_more, all_each, each_of, own_named}
 

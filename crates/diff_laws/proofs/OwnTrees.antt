@@ -9,19 +9,19 @@ use Rattle.nt_bytes.specs.Counts.{capped}
 use Rattle.hive_model.specs.Tree.{key_count, Head, Item, Tree, Trees, key, none, more, head, listed}
 use Rattle.hive_model.specs.Valid.{HoldsKeys, AllHoldKeys, IsKey}
 use Rattle.reg_tree.proofs.Unlike.{Each, Unlike, unlike_from}
-use Rattle.diff_lines.specs.declared.lines.DiffLine.{DiffLine}
-use Rattle.diff_lines.specs.declared.lines.DiffLine.TheVariants.{KeyDiffers, KeyOnly, ValueDiffers, ValueOnly}
-use Rattle.diff_lines.specs.declared.lines.KeyField.{KeyField}
-use Rattle.diff_lines.specs.declared.lines.KeyField.TheVariants.{Name, Class, Security, Values, Keys}
-use Rattle.diff_lines.specs.declared.lines.Side.{Side}
-use Rattle.diff_lines.specs.declared.lines.Side.TheVariants.{First, Second}
+use Rattle.answer_lines.specs.declared.diff_lines.lines.DiffLine.{DiffLine}
+use Rattle.answer_lines.specs.declared.diff_lines.lines.DiffLine.TheVariants.{KeyDiffers, KeyOnly, ValueDiffers, ValueOnly}
+use Rattle.answer_lines.specs.declared.diff_lines.lines.KeyField.{KeyField}
+use Rattle.answer_lines.specs.declared.diff_lines.lines.KeyField.TheVariants.{Name, Class, Security, Values, Keys}
+use Rattle.answer_lines.specs.declared.diff_lines.lines.Side.{Side}
+use Rattle.answer_lines.specs.declared.diff_lines.lines.Side.TheVariants.{First, Second}
 use Rattle.set_diff.specs.Listed.{has, shared}
 use Rattle.set_diff.specs.Shown.{names_same}
 use Rattle.tree_diff.specs.declared.whole.Marks.{Marks}
 use Rattle.tree_diff.specs.Heads.{item_names, key_names, item_named, tree_named, field_lines, name_lines, order_lines, heads_lines, same_item, data_line, item_lines, paired_items, lone_item, lone_items, items_lines, lone_key, lone_keys, both_lone_keys, orders_lines, content_lines, own_lines}
 use Rattle.tree_diff.specs.Trees.{key_lines, keys_lines, marks_of, key_marks, keys_marks, stamps_lines, flags_lines, marks_lines, trees_lines}
-use Rattle.diff_laws.specs.Laws.{is_none}
-use Rattle.diff_laws.specs.Own.{OwnTree}
+use Rattle.diff_laws.specs.diff_laws.Laws.{is_none}
+use Rattle.diff_laws.specs.diff_laws.Own.{OwnTree}
 use Rattle.diff_laws.proofs.AgreeLemmas.{and_of, nil_of}
 use Rattle.diff_laws.proofs.NoneLemmas.{none_append, none_when}
 use Rattle.diff_laws.proofs.OwnLemmas.{names_self, has_self, each_more, own_named}

@@ -1,3 +1,4 @@
-pub mod Laws
-pub mod Own
-pub mod All
+pub mod diff_laws
+pub mod tree_laws
+pub mod boot_laws
+pub mod turned_laws

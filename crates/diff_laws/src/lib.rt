@@ -1,13 +1,7 @@
-//! Laws of comparisons of two control sets.
-//!
-//! When there is no line on services, groups and boots, and when the answer is that nothing differs. Definitions: `specs/Laws.antt`. This
-//! project's own.
+//! Laws of `diff`: sets, trees, boots, and both inputs turned.
 #![tactic(auto)]
 
-mod laws;
-
-pub use laws::{
-    a_set_is_like_itself, all_only_adds_lines, boots_are_the_same_where_they_agree,
-    groups_have_no_line_where_they_agree, services_have_no_line_where_they_agree,
-    sets_that_agree_are_the_same,
-};
+pub mod boot_laws;
+pub mod diff_laws;
+pub mod tree_laws;
+pub mod turned_laws;

@@ -4,17 +4,17 @@ use Rattle.std.specs.List.{join_by}
 use Rattle.std.specs.Fmt.{decimal}
 use Rattle.hex.specs.Hex.{encode_lower}
 use Rattle.start_model.specs.Lines.{name_text}
-use Rattle.boot_phases.specs.declared.phase.Phase.{Phase}
-use Rattle.line_text.specs.Paths.{written_path}
-use Rattle.line_text.specs.Quoted.{quoted, quoted_list}
+use Rattle.boot_phases.specs.declared.boot_phases.phase.Phase.{Phase}
+use Rattle.report_text.specs.line_text.Paths.{written_path}
+use Rattle.report_text.specs.line_text.Quoted.{quoted, quoted_list}
 use Rattle.key_text.specs.declared.data.DataForm.{DataForm}
 use Rattle.key_text.specs.declared.data.DataForm.TheVariants.{Raw}
 use Rattle.key_text.specs.Data.{form_of, form_text}
 use Rattle.key_text.specs.Kinds.{kind_text}
-use Rattle.diff_lines.specs.declared.lines.DiffLine.{DiffLine}
-use Rattle.diff_lines.specs.declared.lines.DiffLine.TheVariants as lines
-use Rattle.diff_lines.specs.declared.lines.Shown.{Shown}
-use Rattle.diff_lines.specs.declared.lines.Shown.TheVariants.{Nothing, Number, Text, Texts, Numbers}
+use Rattle.answer_lines.specs.declared.diff_lines.lines.DiffLine.{DiffLine}
+use Rattle.answer_lines.specs.declared.diff_lines.lines.DiffLine.TheVariants as lines
+use Rattle.answer_lines.specs.declared.diff_lines.lines.Shown.{Shown}
+use Rattle.answer_lines.specs.declared.diff_lines.lines.Shown.TheVariants.{Nothing, Number, Text, Texts, Numbers}
 use Rattle.diff_text.specs.Words.{side_word, field_word, key_field_word, phase_word, line_word}
 
 -- ---- what a set has

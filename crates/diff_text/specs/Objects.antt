@@ -1,18 +1,18 @@
 -- How are the lines of a comparison printed as objects of JSON, and in either form? (this project's own)
 use Rattle.std.specs.Prelude.{ℕ, List, [], ◌∷◌, codes}
 use Rattle.std.specs.List.{flat_map}
-use Rattle.boot_phases.specs.declared.phase.Phase.{Phase}
-use Rattle.line_text.specs.declared.form.ReportForm.{ReportForm}
-use Rattle.line_text.specs.declared.form.ReportForm.TheVariants as forms
-use Rattle.line_text.specs.Objects as objects
-use Rattle.line_text.specs.Objects.{Value, object_text}
+use Rattle.boot_phases.specs.declared.boot_phases.phase.Phase.{Phase}
+use Rattle.report_text.specs.declared.line_text.form.ReportForm.{ReportForm}
+use Rattle.report_text.specs.declared.line_text.form.ReportForm.TheVariants as forms
+use Rattle.report_text.specs.line_text.Objects as objects
+use Rattle.report_text.specs.line_text.Objects.{Value, object_text}
 use Rattle.key_text.specs.Data.{form_of, form_fields}
 use Rattle.key_text.specs.Kinds.{kind_text}
-use Rattle.diff_lines.specs.declared.lines.DiffLine.{DiffLine}
-use Rattle.diff_lines.specs.declared.lines.DiffLine.TheVariants as lines
-use Rattle.diff_lines.specs.declared.lines.Shown.{Shown}
-use Rattle.diff_lines.specs.declared.lines.Shown.TheVariants.{Nothing, Number, Text, Texts, Numbers}
-use Rattle.diff_lines.specs.declared.lines.Side.{Side}
+use Rattle.answer_lines.specs.declared.diff_lines.lines.DiffLine.{DiffLine}
+use Rattle.answer_lines.specs.declared.diff_lines.lines.DiffLine.TheVariants as lines
+use Rattle.answer_lines.specs.declared.diff_lines.lines.Shown.{Shown}
+use Rattle.answer_lines.specs.declared.diff_lines.lines.Shown.TheVariants.{Nothing, Number, Text, Texts, Numbers}
+use Rattle.answer_lines.specs.declared.diff_lines.lines.Side.{Side}
 use Rattle.diff_text.specs.Words.{side_word, field_word, key_field_word, part_name, phase_word, line_word}
 use Rattle.diff_text.specs.Lines.{line_text}
 

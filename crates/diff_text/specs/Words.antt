@@ -1,19 +1,19 @@
 -- Which words have the lines of a comparison? (this project's own)
 use Rattle.std.specs.Prelude.{ℕ, List, codes}
-use Rattle.boot_phases.specs.declared.phase.Phase.{Phase}
-use Rattle.boot_phases.specs.declared.phase.Phase.TheVariants as phases
-use Rattle.diff_lines.specs.declared.lines.DiffField.{DiffField}
-use Rattle.diff_lines.specs.declared.lines.DiffField.TheVariants as fields
-use Rattle.diff_lines.specs.declared.lines.DiffLine.{DiffLine}
-use Rattle.diff_lines.specs.declared.lines.DiffLine.TheVariants as lines
-use Rattle.diff_lines.specs.declared.lines.KeyField.{KeyField}
-use Rattle.diff_lines.specs.declared.lines.KeyField.TheVariants as key_fields
-use Rattle.diff_lines.specs.declared.lines.Part.{Part}
-use Rattle.diff_lines.specs.declared.lines.Part.TheVariants as parts
-use Rattle.diff_lines.specs.declared.lines.Sequence.{Sequence}
-use Rattle.diff_lines.specs.declared.lines.Sequence.TheVariants as sequences
-use Rattle.diff_lines.specs.declared.lines.Side.{Side}
-use Rattle.diff_lines.specs.declared.lines.Side.TheVariants as sides
+use Rattle.boot_phases.specs.declared.boot_phases.phase.Phase.{Phase}
+use Rattle.boot_phases.specs.declared.boot_phases.phase.Phase.TheVariants as phases
+use Rattle.answer_lines.specs.declared.diff_lines.lines.DiffField.{DiffField}
+use Rattle.answer_lines.specs.declared.diff_lines.lines.DiffField.TheVariants as fields
+use Rattle.answer_lines.specs.declared.diff_lines.lines.DiffLine.{DiffLine}
+use Rattle.answer_lines.specs.declared.diff_lines.lines.DiffLine.TheVariants as lines
+use Rattle.answer_lines.specs.declared.diff_lines.lines.KeyField.{KeyField}
+use Rattle.answer_lines.specs.declared.diff_lines.lines.KeyField.TheVariants as key_fields
+use Rattle.answer_lines.specs.declared.diff_lines.lines.Part.{Part}
+use Rattle.answer_lines.specs.declared.diff_lines.lines.Part.TheVariants as parts
+use Rattle.answer_lines.specs.declared.diff_lines.lines.Sequence.{Sequence}
+use Rattle.answer_lines.specs.declared.diff_lines.lines.Sequence.TheVariants as sequences
+use Rattle.answer_lines.specs.declared.diff_lines.lines.Side.{Side}
+use Rattle.answer_lines.specs.declared.diff_lines.lines.Side.TheVariants as sides
 
 abbrev pub side_word : Side → List ℕ
 side_word sides.First = codes "first"

@@ -1,20 +1,20 @@
 //! The lines as objects of JSON.
 
 ghost use Rattle.std.specs.Prelude.{◌≡◌, [], ◌∷◌, ◌++◌, codes, OnOk};
-ghost use Rattle.line_text.specs.Objects.{Number, Text, Texts, fields_text};
+ghost use Rattle.report_text.specs.line_text.Objects.{Number, Text, Texts, fields_text};
 ghost use Rattle.key_text.specs.Data.{form_of, form_fields};
 ghost use Rattle.key_text.specs.Kinds.{kind_text};
 ghost use Rattle.diff_text.specs.Objects.{text_field, shown_value, side_field, path_field, both_fields, settings_fields, image_fields, phases_fields, line_fields, line_json};
 
 use crate::words::{field_word, key_field_word, line_word, part_name, phase_word, side_word};
-use boot_phases::Phase;
-use diff_lines::{DiffLine, Shown, Side};
+use answer_lines::diff_lines::{DiffLine, Shown, Side};
+use boot_phases::boot_phases::Phase;
 use key_text::{data_form, push_form_fields, push_kind};
-use line_text::{
+use nt_bytes::{Names, Units};
+use report_text::line_text::{
     close_object, open_object, push_null_field, push_number_field, push_numbers_field,
     push_text_field, push_texts_field, push_word_field,
 };
-use nt_bytes::{Names, Units};
 use std::alloc::{AllocError, Global};
 
 // ---- fields

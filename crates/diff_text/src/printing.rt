@@ -6,9 +6,9 @@ ghost use Rattle.diff_text.specs.Objects.{printed, printed_lines};
 
 use crate::json::push_line_json;
 use crate::text::push_line_text;
-use diff_lines::DiffLine;
-use line_text::ReportForm;
+use answer_lines::diff_lines::DiffLine;
 use nt_bytes::Bytes;
+use report_text::line_text::ReportForm;
 use std::alloc::{AllocError, Global};
 
 fn push_line(

@@ -5,12 +5,14 @@ ghost use Rattle.diff_text.specs.Lines.{texts_text, numbers_text, shown_text, fi
 ghost use Rattle.diff_text.specs.Words.{side_word};
 
 use crate::words::{field_word, key_field_word, line_word, phase_word, side_word};
-use boot_phases::Phase;
-use boot_report::push_name;
-use diff_lines::{DiffLine, Shown, Side};
+use answer_lines::diff_lines::{DiffLine, Shown, Side};
+use boot_phases::boot_phases::Phase;
 use key_text::{DataForm, data_form, push_form, push_kind};
-use line_text::{push_hex, push_number, push_numbers, push_path, push_quoted, push_quoted_texts};
 use nt_bytes::{Names, Units};
+use report_text::boot_report::push_name;
+use report_text::line_text::{
+    push_hex, push_number, push_numbers, push_path, push_quoted, push_quoted_texts,
+};
 use std::alloc::{AllocError, Global};
 
 // ---- what a set has

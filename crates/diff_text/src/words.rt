@@ -3,8 +3,8 @@
 ghost use Rattle.std.specs.Prelude.{◌≡◌};
 ghost use Rattle.diff_text.specs.Words.{side_word, field_word, sequence_word, part_word, part_name, key_field_word, phase_word, line_word};
 
-use boot_phases::Phase;
-use diff_lines::{DiffField, DiffLine, KeyField, Part, Sequence, Side};
+use answer_lines::diff_lines::{DiffField, DiffLine, KeyField, Part, Sequence, Side};
+use boot_phases::boot_phases::Phase;
 
 pub(crate) fn side_word(side: Side) -> &'static [u8]
     ensures { result.now ≡ side_word side }

@@ -3,8 +3,8 @@ use Rattle.std.proofs.Common.{◌≡◌, ℕ, Bool, List, [], Option, ap, ◌∙
 use Rattle.std.specs.Prelude.{Result, Ok, Err, OnOk}
 use Rattle.hive_model.specs.Tree.{Tree}
 use Rattle.start_model.specs.Machine.{MachineState, off_machine, begun_with, with_start}
-use Rattle.boot_phases.specs.Lists.{Lists, lists_of}
-use Rattle.boot_machine.specs.Steps.{without_clone}
+use Rattle.boot_phases.specs.boot_phases.Lists.{Lists, lists_of}
+use Rattle.boot_machine.specs.boot_machine.Steps.{without_clone}
 use Rattle.failure_effects.specs.declared.opening.Taken.{Taken}
 use Rattle.failure_effects.specs.declared.course.Course.{Course}
 use Rattle.failure_effects.specs.Played.{noted, begun, attempts_of, phase_ended, phase_played, played_on, played, waiting_count}

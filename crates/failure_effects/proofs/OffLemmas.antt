@@ -7,7 +7,7 @@ use Rattle.std.proofs.lemmas.Bool.{false≢true}
 use Rattle.std.proofs.lemmas.Bool.Decides.{nat_tests}
 use Rattle.std.proofs.lemmas.Option.{same_Some}
 use Rattle.nt_bytes.specs.Folding.{folds_same}
-use Rattle.name_places.proofs.FoldLemmas.{alike}
+use Rattle.nt_names.proofs.FoldLemmas.{alike}
 use Rattle.hive_model.specs.Tree.{Item, Tree, key, head, children, is_named, is_item, find_item, find_dword, find_string, find_strings, find_key, dword_in, string_in, strings_in}
 use Rattle.hive_model.specs.Edit.{at_first, of_children}
 use Rattle.hive_model.specs.Valid.{HoldsKeys}
@@ -16,10 +16,10 @@ use Rattle.reg_tree.proofs.Unlike.{Each, Unlike, unlike_from, folds_swap}
 use Rattle.start_model.specs.Entries.{Entry, control_in, named_group, entry_of, entry_with, entries_of, services_of}
 use Rattle.start_model.specs.Order.{orders_of, order_of, tag_lists, first_names, listed_groups}
 use Rattle.start_model.proofs.HeldLemmas.{services_differ}
-use Rattle.service_entries.specs.Named.{IsOnlyPlace, is_named_at}
-use Rattle.service_entries.specs.Started.{with_start, with_start_at}
-use Rattle.service_entries.proofs.StartedLemmas.{kept_start, start_restored}
-use Rattle.boot_phases.specs.Lists.{Lists, lists_of}
+use Rattle.boot_phases.specs.service_entries.Named.{IsOnlyPlace, is_named_at}
+use Rattle.boot_phases.specs.service_entries.Started.{with_start, with_start_at}
+use Rattle.boot_phases.proofs.StartedLemmas.{kept_start, start_restored}
+use Rattle.boot_phases.specs.boot_phases.Lists.{Lists, lists_of}
 use Rattle.failure_effects.specs.declared.opening.Taken.{Taken}
 use Rattle.failure_effects.specs.declared.told.Told.{Told}
 use Rattle.failure_effects.specs.Played.{played}

@@ -7,12 +7,12 @@ use Rattle.start_model.specs.Judge as book
 use Rattle.start_model.specs.Entries.{Entry}
 use Rattle.start_model.specs.Machine as machine
 use Rattle.start_model.specs.Machine.{Start, MachineState, off_machine, next_in, attempt_at, attempt_in, attempt_of}
-use Rattle.error_control.specs.declared.outcome.Judgement.{Judgement}
-use Rattle.error_control.specs.declared.outcome.Judgement.TheVariants as judgements
-use Rattle.error_control.specs.Judgement.{judgement_in}
-use Rattle.boot_machine.specs.declared.tried.Tried.{Tried}
-use Rattle.boot_machine.specs.Views.{tried_in}
-use Rattle.boot_machine.specs.Steps.{is_there, is_at_end}
+use Rattle.boot_phases.specs.declared.error_control.outcome.Judgement.{Judgement}
+use Rattle.boot_phases.specs.declared.error_control.outcome.Judgement.TheVariants as judgements
+use Rattle.boot_phases.specs.error_control.Judgement.{judgement_in}
+use Rattle.boot_machine.specs.declared.boot_machine.tried.Tried.{Tried}
+use Rattle.boot_machine.specs.boot_machine.Views.{tried_in}
+use Rattle.boot_machine.specs.boot_machine.Steps.{is_there, is_at_end}
 use Rattle.failure_effects.specs.declared.told.Told.{Told}
 use Rattle.failure_effects.specs.declared.course.Course.{Course}
 use Rattle.failure_effects.specs.Played.{judgement_as, told_of, judged, noted, attempted, next_course, attempts_of, waiting_count}

@@ -2,8 +2,8 @@
 use Rattle.std.specs.Prelude.{ℕ, Bool, true, false, not, ◌&&◌, List, [], ◌∷◌, ◌++◌, map, filter, length, Option, Some, None, if◌then◌else◌}
 use Rattle.std.specs.List.{list_any, flat_map}
 use Rattle.nt_bytes.specs.Folding.{folds_same}
-use Rattle.error_control.specs.declared.outcome.Judgement.{Judgement}
-use Rattle.error_control.specs.declared.outcome.Judgement.TheVariants as judgements
+use Rattle.boot_phases.specs.declared.error_control.outcome.Judgement.{Judgement}
+use Rattle.boot_phases.specs.declared.error_control.outcome.Judgement.TheVariants as judgements
 use Rattle.failure_effects.specs.declared.lines.EffectLine.{EffectLine}
 use Rattle.failure_effects.specs.declared.lines.EffectLine.TheVariants as lines
 use Rattle.failure_effects.specs.declared.lost.Other.{Other}

@@ -7,9 +7,9 @@ use Rattle.hive_model.specs.Tree.{Tree}
 use Rattle.start_model.specs.Judge as book
 use Rattle.start_model.specs.Machine as machine
 use Rattle.start_model.specs.Machine.{Start, MachineState, off_machine, failing, attempt_of, after_phase, begun_with, with_start, ended}
-use Rattle.error_control.specs.declared.outcome.Judgement.{Judgement}
-use Rattle.error_control.specs.declared.outcome.Judgement.TheVariants as judgements
-use Rattle.boot_machine.specs.Steps.{on_start}
+use Rattle.boot_phases.specs.declared.error_control.outcome.Judgement.{Judgement}
+use Rattle.boot_phases.specs.declared.error_control.outcome.Judgement.TheVariants as judgements
+use Rattle.boot_machine.specs.boot_machine.Steps.{on_start}
 use Rattle.failure_effects.specs.declared.told.Fate.{Fate}
 use Rattle.failure_effects.specs.declared.told.Fate.TheVariants.{Started, Failed, Unmet}
 use Rattle.failure_effects.specs.declared.told.Told.{Told}

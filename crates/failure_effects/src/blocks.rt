@@ -11,7 +11,7 @@ use crate::lines::{EffectLine, EffectLines};
 use crate::lost::{Other, goes_on, lost_in, other_of, push_lost};
 use crate::reading::ReadTaken;
 use crate::told::{Told, is_started};
-use error_control::Judgement;
+use boot_phases::error_control::Judgement;
 use nt_bytes::{Units, same_folded};
 use std::alloc::{AllocError, Global};
 

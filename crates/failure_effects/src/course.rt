@@ -3,18 +3,18 @@
 ghost use Rattle.std.specs.Prelude.{◌≡◌, ◌<◌, ◌++◌, [], false, map, Some, IfOk, OnOk};
 ghost use Rattle.std.specs.Option.{option_copied};
 ghost use Rattle.hive_model.specs.Tree.{Tree};
-ghost use Rattle.boot_phases.specs.Lists.{lists_of};
+ghost use Rattle.boot_phases.specs.boot_phases.Lists.{lists_of};
 ghost use Rattle.start_model.specs.Machine.{off_machine};
-ghost use Rattle.boot_machine.specs.Steps.{is_at_end};
+ghost use Rattle.boot_machine.specs.boot_machine.Steps.{is_at_end};
 ghost use Rattle.failure_effects.specs.Played.{noted, judged, left, begun, next_course, attempts_of, phase_ended, phase_played, played_on, played, waiting_count};
-ghost use Rattle.error_control.specs.Judgement.{judgement_in};
+ghost use Rattle.boot_phases.specs.error_control.Judgement.{judgement_in};
 
 use crate::opening::Taken;
 use crate::told::{Fate, Told, ToldRow, told_of};
-use boot_machine::{Machine, SetLists};
-use boot_report::Verdict;
-use error_control::Judgement;
+use boot_machine::boot_machine::{Machine, SetLists};
+use boot_phases::error_control::Judgement;
 use nt_bytes::Units;
+use report_text::boot_report::Verdict;
 use std::alloc::{AllocError, Global};
 use std::mem::replace;
 

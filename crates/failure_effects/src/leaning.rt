@@ -11,10 +11,10 @@ ghost use Rattle.failure_effects.specs.Leans.{layer_of, first_layer, names_one, 
 use crate::lines::{EffectLine, EffectLines, NeedWord};
 use crate::lost::has_name;
 use crate::states::States;
-use name_places::NamePlaces;
+use boot_phases::service_entries::{Entries, Entry, entries};
 use nt_bytes::{Names, Units, same_folded};
+use nt_names::name_places::NamePlaces;
 use reg_tree::Key;
-use service_entries::{Entries, Entry, entries};
 use std::alloc::{AllocError, Global};
 
 /// The names of entries, and the groups that they are members of, each found without a scan.

@@ -1,8 +1,8 @@
 //! What is said of failures, line by line.
 
-use boot_report::Verdict;
-use error_control::Judgement;
+use boot_phases::error_control::Judgement;
 use nt_bytes::{Row, Units};
+use report_text::boot_report::Verdict;
 
 /// What the plain start made of an entry.
 #[derive(Clone, Copy, Debug, PartialEq, Eq)]

@@ -5,9 +5,9 @@ ghost use Rattle.failure_effects.specs.Lost.{other_of, has_name, is_lost, lost_i
 
 use crate::lines::{EffectLine, EffectLines};
 use crate::told::{Told, failure_in, is_started, started_in, unmet_in};
-use error_control::Judgement;
-use name_places::NamePlaces;
+use boot_phases::error_control::Judgement;
 use nt_bytes::{Names, Units, same_folded};
+use nt_names::name_places::NamePlaces;
 use std::alloc::{AllocError, Global};
 
 /// What counts of another start. Its names are found without a scan.

@@ -10,9 +10,9 @@ ghost use Rattle.start_model.specs.Sets.{begin_of, stepped, is_usable};
 ghost use Rattle.start_model.specs.Starter.{no_set, good_is_usable};
 ghost use Rattle.failure_effects.specs.Opening.{opening_of, opened, opened_by, stopped_as, taken_set, taken_of, HoldsTaken};
 
-use boot_report::Verdict;
 use nt_bytes::{Bytes, HiveVersion, Units};
 use reg_tree::{EditStop, Key, Keys, Steps, Values};
+use report_text::boot_report::Verdict;
 use select_keys::{SelectStop, SetPlan, plan_begin, select_numbers, set_of, sets_in};
 use std::alloc::{AllocError, Global};
 

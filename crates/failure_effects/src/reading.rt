@@ -4,8 +4,8 @@ ghost use Rattle.std.specs.Prelude.{◌≡◌, None, slice_get, IfOk};
 ghost use Rattle.std.specs.Option.{option_copied, option_map};
 ghost use Rattle.hive_model.specs.Tree.{Tree};
 ghost use Rattle.hive_model.specs.Valid.{HoldsKeys};
-ghost use Rattle.service_entries.specs.Started.{with_start_at};
-ghost use Rattle.boot_phases.specs.Lists.{Lists, lists_of};
+ghost use Rattle.boot_phases.specs.service_entries.Started.{with_start_at};
+ghost use Rattle.boot_phases.specs.boot_phases.Lists.{Lists, lists_of};
 ghost use Rattle.failure_effects.specs.Played.{played};
 ghost use Rattle.failure_effects.specs.Switching.{off_set};
 
@@ -13,7 +13,7 @@ use crate::course::play;
 use crate::opening::Taken;
 use crate::switching::{OFF, off_set};
 use crate::told::ToldRow;
-use boot_machine::SetLists;
+use boot_machine::boot_machine::SetLists;
 use nt_bytes::Units;
 use reg_tree::Key;
 use std::alloc::{AllocError, Global};
@@ -29,7 +29,7 @@ pub(crate) struct ReadTaken<'a> {
 impl<'a> Model for ReadTaken<'a> {
     ghost use Rattle.std.specs.Prelude.{◌≡◌};
     ghost use Rattle.hive_model.specs.Valid.{HoldsKeys};
-    ghost use Rattle.boot_phases.specs.Lists.{lists_of};
+    ghost use Rattle.boot_phases.specs.boot_phases.Lists.{lists_of};
     ghost use Rattle.failure_effects.specs.declared.opening.Taken.{Taken};
     ghost use Rattle.failure_effects.specs.Codes.{coded_taken};
 

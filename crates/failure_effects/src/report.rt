@@ -13,9 +13,9 @@ use crate::opening::{Opening, StartChoice, Taken, open};
 use crate::reading::ReadTaken;
 use crate::states::{States, spelled, state_of};
 use crate::told::Told;
-use boot_report::Verdict;
 use nt_bytes::{HiveVersion, Units};
 use reg_tree::Key;
+use report_text::boot_report::Verdict;
 use std::alloc::{AllocError, Global};
 
 /// What single failures do to the plain start of a tree that a hive of this version loads as: of each entry that it takes, or of

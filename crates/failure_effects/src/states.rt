@@ -9,10 +9,10 @@ ghost use Rattle.failure_effects.specs.States.{state_by, told_named, state_in, k
 
 use crate::lines::EntryState;
 use crate::told::{Fate, Told};
-use name_places::NamePlaces;
 use nt_bytes::{Names, Units};
+use nt_names::name_places::NamePlaces;
+use nt_names::startup_names::{SERVICES, START, TYPE};
 use reg_tree::Key;
-use startup_names::{SERVICES, START, TYPE};
 use std::alloc::{AllocError, Global};
 use std::marker::Model;
 

@@ -7,8 +7,8 @@ ghost use Rattle.hive_model.specs.Edit.{of_children, of_items, at_first};
 ghost use Rattle.failure_effects.specs.Switching.{as_four, off_key, off_set};
 
 use nt_bytes::{Bytes, Units, same_folded};
+use nt_names::startup_names::{SERVICES, START};
 use reg_tree::{Key, Keys, Value, Values};
-use startup_names::{SERVICES, START};
 use std::alloc::{AllocError, Global};
 
 /// A DWORD.

@@ -1,11 +1,11 @@
 //! What a start says of the entries that it takes.
 
 ghost use Rattle.std.specs.Prelude.{◌≡◌, IfOk};
-ghost use Rattle.boot_machine.specs.Views.{tried_in};
+ghost use Rattle.boot_machine.specs.boot_machine.Views.{tried_in};
 ghost use Rattle.failure_effects.specs.Played.{told_of, is_started, is_unmet, started_in, unmet_in, failure_in, failed_by};
 
-use boot_machine::Tried;
-use error_control::Judgement;
+use boot_machine::boot_machine::Tried;
+use boot_phases::error_control::Judgement;
 use nt_bytes::{Names, Row, Units};
 use std::alloc::{AllocError, Global};
 

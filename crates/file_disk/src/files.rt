@@ -1,6 +1,8 @@
 //! An open file, as a disk of sectors asks it.
 
-ghost use Rattle.std.specs.Prelude.{◌≤◌, ◌∷◌, [], ℕ, List, length};
+ghost use Rattle.std.specs.Prelude.{◌≡◌, ◌≤◌, ◌∷◌, [], ℕ, List, Option, length, IfOk};
+ghost use Rattle.std.specs.Option.{IfSome};
+ghost use Rattle.file_disk.specs.Given.{Gives};
 ghost use Rattle.std.specs.Io.{ReadsAtMost};
 ghost use Rattle.file_disk.specs.Asked.{Asked, ReadFrom, WroteTo, SyncedFile, Asks, CountsFailure};
 
@@ -14,11 +16,16 @@ pub trait SectorFile {
     /// How many of them failed, up to the end of the count.
     ghost failed: { Self → ℕ };
 
+    /// The bytes that it has, where it shows them; a file of the system shows nothing.
+    ghost holds: { Self → Option (List ℕ) };
+
     /// Reads bytes from this place on, the same number as the file gives at once; none at and past its end.
     fn read_at(&mut self, into: &mut [u8], place: u64) -> IoResult<usize>
         ensures asked { Asks (asked self.old) (asked self.new) (ReadFrom place (length into.old) ∷ []) }
         ensures failed { CountsFailure result (failed self.old) (failed self.new) }
-        ensures within { ReadsAtMost result into.new };
+        ensures within { ReadsAtMost result into.new }
+        ensures given { IfSome (holds self.old) (λ bytes. IfOk result (λ n. Gives bytes place n into.old into.new)) }
+        ensures held { holds self.new ≡ holds self.old };
 
     /// Writes all the bytes from this place on.
     fn write_all_at(&mut self, bytes: &[u8], place: u64) -> IoResult<()>

@@ -1,6 +1,8 @@
 //! A sector of an open file.
 
-ghost use Rattle.std.specs.Prelude.{◌≡◌, ◌<◌, ◌≤◌, ◌+◌, ◌-◌, ◌*◌, ◌∷◌, [], if◌then◌else◌, nat_eq, IfOk};
+ghost use Rattle.std.specs.Prelude.{◌≡◌, ◌<◌, ◌≤◌, ◌+◌, ◌-◌, ◌*◌, ◌∷◌, [], if◌then◌else◌, nat_eq, IfOk, ℕ, take, drop};
+ghost use Rattle.std.specs.Option.{IfSome};
+ghost use Rattle.file_disk.specs.Given.{Gives, Fills};
 ghost use Rattle.file_disk.specs.Asked.{ReadFrom, WroteTo, Asks, CountsFailure, ReadsSector};
 ghost use Rattle.nt_edge.specs.declared.disk.Presence.TheVariants.{Whole, Absent};
 
@@ -26,6 +28,9 @@ fn read_on<F: SectorFile>(
     ensures asked { Asks (F.asked file.old) (F.asked file.new) (ReadFrom (512 * sector + got) (512 - got) ∷ []) }
     ensures failed { CountsFailure result (F.failed file.old) (F.failed file.new) }
     ensures within { IfOk result (λ n. got + n ≤ 512) }
+    ensures given { IfSome (F.holds file.old) (λ bytes. IfOk result (λ n. Gives bytes (512 * sector + got) n (drop got into.old) (drop got into.new))) }
+    ensures before { take got into.new ≡ take got into.old }
+    ensures held { F.holds file.new ≡ F.holds file.old }
 {
     file.read_at(&mut into[got..], place_of(sector) + got as u64)
 }
@@ -35,6 +40,8 @@ fn fill<F: SectorFile>(file: &mut F, sector: u32, into: &mut [u8; 512]) -> Resul
     ensures asked { ReadsSector sector (F.asked file.old) (F.asked file.new) }
     ensures failed { CountsFailure result (F.failed file.old) (F.failed file.new) }
     ensures most { IfOk result (λ n. n ≤ 512) }
+    ensures filled { IfSome (F.holds file.old) (λ bytes. IfOk result (λ n. Fills bytes (512 * sector) n into.new)) }
+    ensures held { F.holds file.new ≡ F.holds file.old }
 {
     *into = [0; 512];
     let mut got = 0;
@@ -69,6 +76,7 @@ pub(crate) fn read_sector<F: SectorFile>(
     ensures asked { ReadsSector sector (F.asked file.old) (F.asked file.new) }
     ensures failed { CountsFailure result (F.failed file.old) (F.failed file.new) }
     ensures readable { IfOk result (λ found. found ≡ Presence.Unreadable → ⊥) }
+    ensures content { IfSome (F.holds file.old) (λ bytes. IfOk result (λ found. (n : ℕ) × (Fills bytes (512 * sector) n into.new) × (found ≡ (if nat_eq n 0 then Absent else Whole)))) }
 {
     match fill(file, sector, into) {
         Ok(there) => Ok(presence(there)),

@@ -64,6 +64,10 @@ impl SectorFile for SystemFile {
 
     ghost failed = { λ file. file.failed };
 
+    ghost use Rattle.std.specs.Prelude.{None};
+
+    ghost holds = { λ file. None };
+
     fn read_at(&mut self, into: &mut [u8], place: u64) -> IoResult<usize> {
         let answer = read_on(&self.file, into, place);
         self.counted(answer)

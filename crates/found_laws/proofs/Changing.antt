@@ -5,9 +5,9 @@ use Rattle.nt_bytes.specs.Folding.{folds_same}
 use Rattle.hive_model.specs.Tree.{Head, Tree, Trees, key, trees, listed, head, children, is_named, find_key}
 use Rattle.reg_tree.proofs.Trees.{listed_trees}
 use Rattle.salvage_parents.specs.Change.{changed_among, changed_at, with_children}
-use Rattle.parent_laws.proofs.Apart.{some, some_same}
-use Rattle.parent_laws.proofs.Reaching.{then-found}
-use Rattle.found_laws.specs.Found.{with_named, with_keys_at}
+use Rattle.found_laws.proofs.Apart.{some, some_same}
+use Rattle.found_laws.proofs.Reaching.{then-found}
+use Rattle.found_laws.specs.found_laws.Found.{with_named, with_keys_at}
 
 -- ---- a change where the key is found
 

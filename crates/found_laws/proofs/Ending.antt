@@ -21,9 +21,9 @@ use Rattle.salvage_laws.proofs.Wider.{Upto, upto-adds}
 use Rattle.salvage_laws.proofs.Leaving.{join, nothing-more}
 use Rattle.salvage_laws.proofs.LeavingKeys.{salvage-apart}
 use Rattle.salvage_laws.proofs.UsesLie.{Lie}
-use Rattle.parent_laws.proofs.Apart.{salvaged-apart}
-use Rattle.found_laws.specs.Lines.{lacking, AreNoted, AreIncomplete}
-use Rattle.found_laws.specs.Searched.{SearchLeft, search_end, end_uses, uses_by_parents, end_notes, notes_by_parents, IsFoundSalvage, with_found, with_nothing}
+use Rattle.found_laws.proofs.Apart.{salvaged-apart}
+use Rattle.found_laws.specs.found_laws.Lines.{lacking, AreNoted, AreIncomplete}
+use Rattle.found_laws.specs.found_laws.Searched.{SearchLeft, search_end, end_uses, uses_by_parents, end_notes, notes_by_parents, IsFoundSalvage, with_found, with_nothing}
 use Rattle.found_laws.proofs.Lying.{found-lies}
 use Rattle.found_laws.proofs.Noting.{Within, RootNoted, incomplete-noted, each-so, IsIn, in-below}
 use Rattle.found_laws.proofs.Stepping.{IsSearch, Goes, IsTold, IsCounted, StepLeft, step-goes, step-left, step-tells, step-counts}

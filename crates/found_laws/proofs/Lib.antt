@@ -1,3 +1,9 @@
+pub mod Apart
+pub mod Reaching
+pub mod Arranging
+pub mod Searching
+pub mod Withins
+pub mod Files
 pub mod Nodes
 pub mod Lying
 pub mod Noting

@@ -14,8 +14,8 @@ use Rattle.salvage_parents.specs.Naming.{naming}
 use Rattle.salvage_laws.specs.LeftKeys.{Leaving, TreeLeft}
 use Rattle.salvage_laws.proofs.LeavingKeys.{salvage-is}
 use Rattle.salvage_laws.proofs.UsesLie.{Lie, none-lie, both-lie, lie-as, AllLie, tree-lies, salvage-lies}
-use Rattle.found_laws.specs.Found.{NodesLeft, levels_below}
-use Rattle.found_laws.specs.Searched.{SearchLeft, IsFoundSalvage, with_found, with_nothing}
+use Rattle.found_laws.specs.found_laws.Found.{NodesLeft, levels_below}
+use Rattle.found_laws.specs.found_laws.Searched.{SearchLeft, IsFoundSalvage, with_found, with_nothing}
 
 module _ (hive : Ground) where
   nodes-lie : (Child : Leaving) (left : ℕ) (used : List Claim) (names : List (List ℕ)) (places : List ℕ) (keys : List Tree)

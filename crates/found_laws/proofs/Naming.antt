@@ -10,7 +10,7 @@ use Rattle.hive_model.specs.KeyNode.{KeyNode, key_node_at}
 use Rattle.hive_model.specs.Walk.{reading}
 use Rattle.salvage_bins.specs.Ground.{Ground}
 use Rattle.salvage_parents.specs.Naming.{parent_in, place_if, naming}
-use Rattle.found_laws.specs.Found.{NamesParent}
+use Rattle.found_laws.specs.found_laws.Found.{NamesParent}
 
 module _ (hive : Ground) (parent : ℕ) where
   -- a place more names the parent, or doesn't

@@ -17,7 +17,7 @@ use Rattle.salvage_laws.proofs.Grows.{Follows, follows-self, follows-after, Foll
 use Rattle.salvage_laws.proofs.Wider.{Upto}
 use Rattle.salvage_laws.proofs.Leaving.{Leaves, join, nothing-more, upto-before}
 use Rattle.salvage_laws.proofs.LeavingKeys.{ChildLeft, judged-left}
-use Rattle.found_laws.specs.Found.{NodesLeft}
+use Rattle.found_laws.specs.found_laws.Found.{NodesLeft}
 
 -- ---- the search only adds
 

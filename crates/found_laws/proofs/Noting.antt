@@ -30,12 +30,12 @@ use Rattle.salvage_walk.specs.Found.{unsaid, found_next, found_notes}
 use Rattle.salvage_laws.proofs.PartViews.{done, PartView, part-view}
 use Rattle.salvage_laws.proofs.Alike.{named-so}
 use Rattle.salvage_laws.proofs.Wider.{made-reads}
-use Rattle.parent_laws.proofs.Apart.{Judged, JudgesApart, judged-apart, some}
-use Rattle.parent_laws.proofs.Arranging.{Holds}
-use Rattle.parent_laws.proofs.Reaching.{Reaches}
-use Rattle.parent_laws.proofs.Searching.{unsaid-judged, child-holds, found-holds}
-use Rattle.parent_laws.proofs.Withins.{folds_itself}
-use Rattle.found_laws.specs.Found.{IsNodeOf}
+use Rattle.found_laws.proofs.Apart.{Judged, JudgesApart, judged-apart, some}
+use Rattle.found_laws.proofs.Arranging.{Holds}
+use Rattle.found_laws.proofs.Reaching.{Reaches}
+use Rattle.found_laws.proofs.Searching.{unsaid-judged, child-holds, found-holds}
+use Rattle.found_laws.proofs.Withins.{folds_itself}
+use Rattle.found_laws.specs.found_laws.Found.{IsNodeOf}
 use Rattle.found_laws.proofs.Changing.{find-on}
 
 -- ---- what is noted after other keys

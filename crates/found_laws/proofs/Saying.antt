@@ -23,7 +23,7 @@ use Rattle.salvage_walk.specs.Incomplete.{noted, says_more, incomplete_at}
 use Rattle.salvage_laws.specs.Left.{ClassLeft, class_stands, class_lost, SecurityLeft, security_none, security_first, security_again, security_lost, short_lines, ItemsLeft, ValuesLeft, values_none, values_listed, values_lost}
 use Rattle.salvage_laws.specs.LeftLists.{ListLeft, list_read, list_lost, LeavesLeft, ListsLeft, own_entries, entries_of_lists, lists_lost, is_silent, count_lines, EntriesLeft, entries_none, entries_named}
 use Rattle.salvage_laws.proofs.Leaving.{nothing-more}
-use Rattle.found_laws.specs.Lines.{lacking, AreNoted, by_none, by_another, by_first}
+use Rattle.found_laws.specs.found_laws.Lines.{lacking, AreNoted, by_none, by_another, by_first}
 
 -- ---- notes by lines
 

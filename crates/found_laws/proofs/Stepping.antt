@@ -19,12 +19,12 @@ use Rattle.salvage_parents.specs.Search.{Search, adopted, adopted_none, arranged
 use Rattle.salvage_laws.proofs.Grows.{Adds, judged-follows}
 use Rattle.salvage_laws.proofs.Wider.{Upto}
 use Rattle.salvage_laws.proofs.Leaving.{nothing-more}
-use Rattle.parent_laws.proofs.Apart.{Apart, Siblings, siblings-of, judged-apart, some, some_same}
-use Rattle.parent_laws.proofs.Arranging.{Holds, arranged-holds}
-use Rattle.parent_laws.proofs.Reaching.{Reaches, then-found}
-use Rattle.parent_laws.proofs.Searching.{found-apart, step-apart, step-reaches}
-use Rattle.found_laws.specs.Found.{IsNodeOf, KeyFound, levels_below, with_keys_at}
-use Rattle.found_laws.specs.Lines.{lacking, lacking_later, AreNoted}
+use Rattle.found_laws.proofs.Apart.{Apart, Siblings, siblings-of, judged-apart, some, some_same}
+use Rattle.found_laws.proofs.Arranging.{Holds, arranged-holds}
+use Rattle.found_laws.proofs.Reaching.{Reaches, then-found}
+use Rattle.found_laws.proofs.Searching.{found-apart, step-apart, step-reaches}
+use Rattle.found_laws.specs.found_laws.Found.{IsNodeOf, KeyFound, levels_below, with_keys_at}
+use Rattle.found_laws.specs.found_laws.Lines.{lacking, lacking_later, AreNoted}
 use Rattle.found_laws.proofs.Nodes.{found-follow, nodes-left}
 use Rattle.found_laws.proofs.Noting.{each-both, each-so, Among, found-noted, IsIn, in-held, in-reached}
 use Rattle.found_laws.proofs.Saying.{Said}

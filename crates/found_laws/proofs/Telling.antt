@@ -24,7 +24,7 @@ use Rattle.salvage_walk.specs.Keys.{judged_key, key_line, key_names, with_child,
 use Rattle.salvage_walk.specs.Incomplete.{noted, notes_next, says_more, incomplete_at, notes_below, notes_done, notes_key, notes_root, notes_there, notes_other, notes_by, incomplete}
 use Rattle.salvage_walk.specs.Found.{unsaid, found_next, found_notes}
 use Rattle.salvage_laws.proofs.Leaving.{nothing-more, class-left, security-left, values-left, entries-left}
-use Rattle.found_laws.specs.Lines.{lacking, lacking_later, AreNoted, none_yet, by_none}
+use Rattle.found_laws.specs.found_laws.Lines.{lacking, lacking_later, AreNoted, none_yet, by_none}
 use Rattle.found_laws.proofs.Noting.{NotesOf, key-noted}
 use Rattle.found_laws.proofs.Saying.{Said, some_path, IsNoted, noted-more, again-so, first-so, AllQuiet, quiet-lines, own-noted, of-lines, class-quiet, security-quiet, values-quiet, entries-of, more-said}
 

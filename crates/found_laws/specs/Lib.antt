@@ -1,3 +1,2 @@
-pub mod Found
-pub mod Searched
-pub mod Lines
+pub mod parent_laws
+pub mod found_laws

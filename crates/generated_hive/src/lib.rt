@@ -6,8 +6,6 @@
 
 mod file;
 mod services;
-#[cfg(test)]
-mod tests;
 mod tree;
 mod values;
 

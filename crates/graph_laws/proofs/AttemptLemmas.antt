@@ -7,8 +7,8 @@ use Rattle.std.proofs.lemmas.Bool.{false≢true}
 use Rattle.std.proofs.lemmas.List.Elements.{Contains-append_cases}
 use Rattle.report_words.specs.declared.words.TryWord.{TryWord}
 use Rattle.report_words.specs.declared.words.TryWord.TheVariants as tries
-use Rattle.error_control.specs.declared.outcome.Judgement.{Judgement}
-use Rattle.error_control.specs.declared.outcome.Judgement.TheVariants as judgements
+use Rattle.boot_phases.specs.declared.error_control.outcome.Judgement.{Judgement}
+use Rattle.boot_phases.specs.declared.error_control.outcome.Judgement.TheVariants as judgements
 use Rattle.report_words.specs.declared.line.Line.{Line}
 use Rattle.start_model.specs.Events.{Event}
 use Rattle.start_model.specs.Possible.{Woken}
@@ -18,22 +18,22 @@ use Rattle.wait_cycles.proofs.InverseLemmas.{none_in}
 use Rattle.check_laws.proofs.ProperLaws.{only_in, flat_from}
 use Rattle.check_laws.proofs.TakenLemmas.{item_here}
 use Rattle.service_control.proofs.LeanLemmas.{mapped_from}
-use Rattle.why_lines.specs.declared.lines.NameState.{NameState}
-use Rattle.why_lines.specs.declared.lines.NameState.TheVariants as names
-use Rattle.why_state.specs.declared.views.ViewedRun.{ViewedRun}
-use Rattle.why_state.specs.States.{state_of}
-use Rattle.why_laws.specs.Reports.{last_start_in}
-use Rattle.why_laws.specs.States.{failed_as, attempt_in, TriedAt, view_from}
+use Rattle.answer_lines.specs.declared.why_lines.lines.NameState.{NameState}
+use Rattle.answer_lines.specs.declared.why_lines.lines.NameState.TheVariants as names
+use Rattle.why_needs.specs.declared.why_state.views.ViewedRun.{ViewedRun}
+use Rattle.why_needs.specs.why_state.States.{state_of}
+use Rattle.why_laws.specs.why_laws.Reports.{last_start_in}
+use Rattle.why_laws.specs.why_laws.States.{failed_as, attempt_in, TriedAt, view_from}
 use Rattle.why_laws.proofs.StateLemmas.{attempt_reported}
-use Rattle.graph_lines.specs.declared.graph.NodeState.{NodeState}
-use Rattle.graph_lines.specs.declared.graph.NodeState.TheVariants as states
-use Rattle.graph_lines.specs.declared.graph.GraphNode.{GraphNode}
+use Rattle.answer_lines.specs.declared.graph_lines.graph.NodeState.{NodeState}
+use Rattle.answer_lines.specs.declared.graph_lines.graph.NodeState.TheVariants as states
+use Rattle.answer_lines.specs.declared.graph_lines.graph.GraphNode.{GraphNode}
 use Rattle.start_model.specs.Entries.{Entry}
 use Rattle.graph_rule.specs.Entries.{entries_in}
 use Rattle.graph_rule.specs.Nodes.{node_state, node_number, entry_node, missing_node, group_node}
 use Rattle.graph_rule.specs.Rows.{members_in, is_started_at, parts_by, group_state, whole_of}
 use Rattle.graph_rule.specs.Shown.{is_entry, marks_of, numbers_from, number_at, node_at, drawn, graph_of}
-use Rattle.graph_laws.specs.Attempts.{state_after, IsAttempt, NumberIsAttempt, AttemptHasNumber}
+use Rattle.graph_laws.specs.graph_laws.Attempts.{state_after, IsAttempt, NumberIsAttempt, AttemptHasNumber}
 
 -- ---- the nodes that are shown
 

@@ -19,7 +19,7 @@ use Rattle.start_model.specs.Starter.{stepping, enough_steps}
 use Rattle.start_model.specs.EventActs.{act_unless}
 use Rattle.start_model.specs.Quiet.{quiet_wake}
 use Rattle.start_model.specs.Run.{closing_act}
-use Rattle.boot_machine.specs.Codes.{phase_number}
+use Rattle.boot_machine.specs.boot_machine.Codes.{phase_number}
 use Rattle.quiet_run.specs.declared.last.BegunPhase.{BegunPhase}
 use Rattle.quiet_run.specs.declared.last.LastStart.{LastStart}
 use Rattle.quiet_run.specs.Words.{phase_as}
@@ -28,10 +28,10 @@ use Rattle.wait_cycles.proofs.InverseLemmas.{none_in}
 use Rattle.check_laws.proofs.ProperLaws.{only_in}
 use Rattle.check_laws.proofs.TakenLemmas.{item_here}
 use Rattle.service_control.proofs.LeastLemmas.{from}
-use Rattle.why_state.specs.declared.views.PhaseView.{PhaseView}
-use Rattle.why_state.specs.Views.{view_of, views_of, viewed_of}
-use Rattle.why_laws.specs.States.{view_from}
-use Rattle.dot_laws.specs.Forms.{is_drawn_in}
+use Rattle.why_needs.specs.declared.why_state.views.PhaseView.{PhaseView}
+use Rattle.why_needs.specs.why_state.Views.{view_of, views_of, viewed_of}
+use Rattle.why_laws.specs.why_laws.States.{view_from}
+use Rattle.graph_laws.specs.dot_laws.Forms.{is_drawn_in}
 
 -- each phase that began is one of the three
 record AreBegun (l : LastStart) : Type 0 where

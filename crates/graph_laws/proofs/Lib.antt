@@ -1,6 +1,22 @@
+pub mod QuoteLemmas
+pub mod TextLemmas
+pub mod TokenLemmas
+pub mod StatementLemmas
+pub mod DrawingLemmas
+pub mod ObjectLemmas
+pub mod TellingLemmas
 pub mod NeedLemmas
 pub mod AttemptLemmas
 pub mod ReachLemmas
 pub mod NumberLemmas
-mod BegunLemmas
-mod ToldLemmas
+pub mod BegunLemmas
+pub mod ToldLemmas
+pub mod EntryLemmas
+pub mod NodeLemmas
+pub mod EdgeLemmas
+pub mod GroupLemmas
+pub mod MissingLemmas
+pub mod VertexLemmas
+pub mod SameLemmas
+pub mod SharedLemmas
+pub mod PartLemmas

@@ -9,7 +9,7 @@ use Rattle.std.proofs.lemmas.List.Elements.{Contains-append_left, Contains-appen
 use Rattle.std.proofs.lemmas.List.Quantifiers.{position-Some}
 use Rattle.std.proofs.lemmas.Option.{same_Some, slice_get-get_or, slice_get-map, get_or_from_slice_get}
 use Rattle.nt_bytes.specs.Folding.{folds_same}
-use Rattle.name_places.proofs.FoldLemmas.{alike}
+use Rattle.nt_names.proofs.FoldLemmas.{alike}
 use Rattle.start_model.specs.Entries.{Entry}
 use Rattle.start_model.specs.Order.{first_names}
 use Rattle.boot_phases.proofs.TriedLemmas.{some_place}
@@ -21,15 +21,15 @@ use Rattle.check_laws.proofs.CycleLaws.{flat_in}
 use Rattle.check_laws.proofs.RowLemmas.{first_sub, first_for}
 use Rattle.check_laws.proofs.TakenLemmas.{item_here, mapped_on}
 use Rattle.service_control.proofs.LeastLemmas.{from}
-use Rattle.why_state.specs.declared.views.ViewedRun.{ViewedRun}
-use Rattle.why_state.specs.States.{place_in}
-use Rattle.graph_lines.specs.declared.graph.GraphNode.{GraphNode}
+use Rattle.why_needs.specs.declared.why_state.views.ViewedRun.{ViewedRun}
+use Rattle.why_needs.specs.why_state.States.{place_in}
+use Rattle.answer_lines.specs.declared.graph_lines.graph.GraphNode.{GraphNode}
 use Rattle.graph_rule.specs.Entries.{entries_in}
 use Rattle.graph_rule.specs.Nodes.{entry_node, missing_node, group_node}
 use Rattle.graph_rule.specs.Rows.{parts_by, name_vertex, group_vertex, entry_row, group_row, rows_of, group_state, nodes_of, whole_of}
 use Rattle.graph_rule.specs.Shown.{is_group}
-use Rattle.graph_laws.specs.Needs.{StandsFor, LeadsToNeeds, IsEntryVertex, NeedsAreEdges}
-use Rattle.graph_laws.specs.Shown.{NameHasVertex}
+use Rattle.graph_laws.specs.graph_laws.Needs.{StandsFor, LeadsToNeeds, IsEntryVertex, NeedsAreEdges}
+use Rattle.graph_laws.specs.graph_laws.Shown.{NameHasVertex}
 
 -- ---- places
 

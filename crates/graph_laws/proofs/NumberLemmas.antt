@@ -12,12 +12,12 @@ use Rattle.wait_cycles.proofs.InverseLemmas.{none_in, edge_from}
 use Rattle.wait_cycles.proofs.MetLemmas.{first_in, later_in, in_range, range_in}
 use Rattle.check_laws.proofs.CycleLaws.{flat_in}
 use Rattle.check_laws.proofs.ProperLaws.{flat_from, only_in}
-use Rattle.why_state.specs.declared.views.ViewedRun.{ViewedRun}
-use Rattle.graph_lines.specs.declared.graph.GraphNode.{GraphNode}
-use Rattle.graph_lines.specs.declared.graph.GraphEdge.{GraphEdge}
+use Rattle.why_needs.specs.declared.why_state.views.ViewedRun.{ViewedRun}
+use Rattle.answer_lines.specs.declared.graph_lines.graph.GraphNode.{GraphNode}
+use Rattle.answer_lines.specs.declared.graph_lines.graph.GraphEdge.{GraphEdge}
 use Rattle.graph_rule.specs.Rows.{whole_of}
 use Rattle.graph_rule.specs.Shown.{marks_of, is_shown_of_all, is_shown_about, next_if, numbers_from, number_at, node_at, edge_to, is_group_at, edges_at, drawn}
-use Rattle.graph_laws.specs.Shown.{shown_in, NodesAreShown, IsShownEdge, EdgesAreShown}
+use Rattle.graph_laws.specs.graph_laws.Shown.{shown_in, NodesAreShown, IsShownEdge, EdgesAreShown}
 use Rattle.graph_laws.proofs.ReachLemmas.{same_count}
 
 -- ---- numbers

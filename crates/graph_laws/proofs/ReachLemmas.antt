@@ -18,14 +18,14 @@ use Rattle.wait_cycles.proofs.InverseLemmas.{edge_from}
 use Rattle.wait_cycles.proofs.ReachLemmas.{member_none, one_fewer, set_mark}
 use Rattle.wait_cycles.proofs.MetLemmas.{any_gives, range_in}
 use Rattle.wait_cycles.proofs.CycleLemmas.{IsClosedBy, comes_from, not_all}
-use Rattle.why_state.specs.declared.views.ViewedRun.{ViewedRun}
+use Rattle.why_needs.specs.declared.why_state.views.ViewedRun.{ViewedRun}
 use Rattle.graph_rule.specs.Entries.{entries_in}
 use Rattle.graph_rule.specs.Nodes.{entry_node, missing_node, group_node}
 use Rattle.graph_rule.specs.Rows.{parts_by, entry_row, is_untaken, group_row, group_state, whole_by, whole_of}
-use Rattle.graph_lines.specs.declared.graph.GraphNode.{GraphNode}
+use Rattle.answer_lines.specs.declared.graph_lines.graph.GraphNode.{GraphNode}
 use Rattle.graph_rule.specs.Shown.{is_entry, is_taken, leads, is_shown_of_all, is_shown_about, marks_of}
 use Rattle.graph_rule.proofs.EdgeLemmas.{edges_whole, start_whole}
-use Rattle.graph_laws.specs.Shown.{AreLed, Reaches, NameShowsReach, AllShowsTaken}
+use Rattle.graph_laws.specs.graph_laws.Shown.{AreLed, Reaches, NameShowsReach, AllShowsTaken}
 
 leads_edge : (rows : List (List ℕ)) (u v : ℕ) → leads rows u v ≡ true → HasEdge rows u v
 leads_edge rows u v h = Contains-from_any eqb-true v (row_at rows u) h

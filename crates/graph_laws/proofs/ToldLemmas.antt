@@ -5,30 +5,30 @@ use Rattle.std.specs.Option.{option_map, option_map_or, is_some}
 use Rattle.std.specs.List.{AllByRecursion}
 use Rattle.std.proofs.lemmas.Bool.{ne_eqb}
 use Rattle.std.proofs.lemmas.Option.{same_Some, slice_get-map}
-use Rattle.boot_phases.specs.declared.phase.Phase.{Phase}
-use Rattle.boot_phases.specs.declared.phase.Phase.TheVariants as phases
+use Rattle.boot_phases.specs.declared.boot_phases.phase.Phase.{Phase}
+use Rattle.boot_phases.specs.declared.boot_phases.phase.Phase.TheVariants as phases
 use Rattle.report_words.specs.declared.words.TryWord.{TryWord}
 use Rattle.report_words.specs.declared.words.TryWord.TheVariants as tries
 use Rattle.wait_cycles.proofs.MetLemmas.{first_in, later_in}
-use Rattle.why_lines.specs.declared.lines.NameState.{NameState}
-use Rattle.why_lines.specs.declared.lines.NameState.TheVariants as names
-use Rattle.why_state.specs.declared.views.PhaseView.{PhaseView}
-use Rattle.why_state.specs.declared.views.ViewedRun.{ViewedRun}
-use Rattle.boot_phases.specs.Phases.{phase_in}
-use Rattle.boot_machine.specs.Codes.{phase_number}
-use Rattle.why_state.specs.States.{reason_of, place_in, first_coming, placed_of, attempt_upto, outcome_at, tried_as, waited, placed_state, coming_state, unplaced_state, state_by, state_of}
-use Rattle.why_laws.specs.States.{view_from}
-use Rattle.graph_lines.specs.declared.graph.NodeKind.{NodeKind}
-use Rattle.graph_lines.specs.declared.graph.NodeKind.TheVariants as kinds
-use Rattle.graph_lines.specs.declared.graph.NodeState.TheVariants as states
-use Rattle.graph_lines.specs.declared.graph.GraphNode.{GraphNode}
-use Rattle.graph_lines.specs.declared.graph.GraphEdge.{GraphEdge}
+use Rattle.answer_lines.specs.declared.why_lines.lines.NameState.{NameState}
+use Rattle.answer_lines.specs.declared.why_lines.lines.NameState.TheVariants as names
+use Rattle.why_needs.specs.declared.why_state.views.PhaseView.{PhaseView}
+use Rattle.why_needs.specs.declared.why_state.views.ViewedRun.{ViewedRun}
+use Rattle.boot_phases.specs.boot_phases.Phases.{phase_in}
+use Rattle.boot_machine.specs.boot_machine.Codes.{phase_number}
+use Rattle.why_needs.specs.why_state.States.{reason_of, place_in, first_coming, placed_of, attempt_upto, outcome_at, tried_as, waited, placed_state, coming_state, unplaced_state, state_by, state_of}
+use Rattle.why_laws.specs.why_laws.States.{view_from}
+use Rattle.answer_lines.specs.declared.graph_lines.graph.NodeKind.{NodeKind}
+use Rattle.answer_lines.specs.declared.graph_lines.graph.NodeKind.TheVariants as kinds
+use Rattle.answer_lines.specs.declared.graph_lines.graph.NodeState.TheVariants as states
+use Rattle.answer_lines.specs.declared.graph_lines.graph.GraphNode.{GraphNode}
+use Rattle.answer_lines.specs.declared.graph_lines.graph.GraphEdge.{GraphEdge}
 use Rattle.graph_rule.specs.Nodes.{node_state, node_number, coming_phase, node_phase, group_node}
 use Rattle.graph_rule.specs.Rows.{whole_of}
 use Rattle.graph_rule.specs.Shown.{is_group, drawn, no_graph, graph_of}
-use Rattle.dot_laws.specs.Forms.{suits, has_number, is_drawn_in, IsStartNode, is_group as is_group_kind, is_group_numbered, IsStartEdge}
-use Rattle.graph_laws.specs.Shown.{shown_in}
-use Rattle.graph_laws.specs.Told.{GraphIsOfStart}
+use Rattle.graph_laws.specs.dot_laws.Forms.{suits, has_number, is_drawn_in, IsStartNode, is_group as is_group_kind, is_group_numbered, IsStartEdge}
+use Rattle.graph_laws.specs.graph_laws.Shown.{shown_in}
+use Rattle.graph_laws.specs.graph_laws.Told.{GraphIsOfStart}
 use Rattle.graph_laws.proofs.AttemptLemmas.{each_node}
 use Rattle.graph_laws.proofs.NumberLemmas.{nodes_are_shown, edges_are_shown}
 use Rattle.graph_laws.proofs.BegunLemmas.{views_begun}

@@ -1,4 +1,3 @@
-pub mod Needs
-pub mod Attempts
-pub mod Shown
-pub mod Told
+pub mod dot_laws
+pub mod graph_laws
+pub mod node_laws

@@ -6,14 +6,14 @@ use Rattle.std.specs.List.{filter_map, cons_option, range_with_len}
 use Rattle.std.proofs.lemmas.List.{length-append, length-map}
 use Rattle.std.proofs.lemmas.List.Elements.{All-nil, All-cons, All-append, All-map, All-filter, All-get_or, All-contains}
 use Rattle.std.proofs.lemmas.Option.{slice_get_within, get_or_from_slice_get}
-use Rattle.name_places.specs.Places.{places_named}
-use Rattle.name_places.proofs.PlaceLemmas.{place_within}
+use Rattle.nt_names.specs.name_places.Places.{places_named}
+use Rattle.nt_names.proofs.PlaceLemmas.{place_within}
 use Rattle.start_model.specs.Entries.{Entry}
 use Rattle.start_model.specs.Order.{first_names}
 use Rattle.wait_cycles.specs.Graph.{row_at, AreEdges}
 use Rattle.wait_cycles.proofs.InverseLemmas.{edge_from}
-use Rattle.why_state.specs.declared.views.ViewedRun.{ViewedRun}
-use Rattle.why_state.specs.States.{place_in}
+use Rattle.why_needs.specs.declared.why_state.views.ViewedRun.{ViewedRun}
+use Rattle.why_needs.specs.why_state.States.{place_in}
 use Rattle.graph_rule.specs.declared.parts.GraphParts.{GraphParts}
 use Rattle.graph_rule.specs.declared.whole.WholeGraph.{WholeGraph}
 use Rattle.graph_rule.specs.Entries.{entries_in}

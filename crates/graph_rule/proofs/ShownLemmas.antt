@@ -11,7 +11,7 @@ use Rattle.wait_cycles.specs.Graph.{row_at, HasEdge, AreEdges, IsInverse, IsReac
 use Rattle.wait_cycles.proofs.InverseLemmas.{edge_from}
 use Rattle.wait_cycles.proofs.MetLemmas.{any_gives, any_from, range_in}
 use Rattle.wait_cycles.proofs.CycleLemmas.{comes_from, comes_gives, turned}
-use Rattle.graph_lines.specs.declared.graph.GraphNode.{GraphNode}
+use Rattle.answer_lines.specs.declared.graph_lines.graph.GraphNode.{GraphNode}
 use Rattle.graph_rule.specs.Shown.{is_taken, leads, is_shown_of_all, is_shown_about}
 use Rattle.graph_rule.proofs.GatherLemmas.{map_same}
 

@@ -6,11 +6,11 @@ use Rattle.std.specs.Option.{option_map_or, option_and_then, option_or}
 use Rattle.std.specs.List.{filter_map, flat_map, range_with_len}
 use Rattle.start_model.specs.Entries.{Entry, entries_of}
 use Rattle.start_model.specs.Order.{first_names}
-use Rattle.why_state.specs.declared.views.PhaseView.{PhaseView}
-use Rattle.why_state.specs.declared.views.ViewedRun.{ViewedRun}
-use Rattle.why_state.specs.Views.{names_of}
-use Rattle.why_state.specs.States.{place_in, placed_of}
-use Rattle.why_needs.specs.Met.{entry_at}
+use Rattle.why_needs.specs.declared.why_state.views.PhaseView.{PhaseView}
+use Rattle.why_needs.specs.declared.why_state.views.ViewedRun.{ViewedRun}
+use Rattle.why_needs.specs.why_state.Views.{names_of}
+use Rattle.why_needs.specs.why_state.States.{place_in, placed_of}
+use Rattle.why_needs.specs.why_needs.Met.{entry_at}
 
 -- ---- the phases that began
 

@@ -2,16 +2,16 @@
 use Rattle.std.specs.Prelude.{ℕ, List, slice_get, Option, None, Some}
 use Rattle.std.specs.Option.{option_map, option_map_or}
 use Rattle.start_model.specs.Entries.{Entry}
-use Rattle.boot_phases.specs.declared.phase.Phase.{Phase}
-use Rattle.why_lines.specs.declared.lines.NameState.{NameState}
-use Rattle.why_lines.specs.declared.lines.NameState.TheVariants as states
-use Rattle.why_state.specs.declared.views.PhaseView.{PhaseView}
-use Rattle.why_state.specs.declared.views.ViewedRun.{ViewedRun}
-use Rattle.why_state.specs.States.{placed_of, state_of}
-use Rattle.graph_lines.specs.declared.graph.NodeKind.TheVariants as kinds
-use Rattle.graph_lines.specs.declared.graph.NodeState.{NodeState}
-use Rattle.graph_lines.specs.declared.graph.NodeState.TheVariants as nodes
-use Rattle.graph_lines.specs.declared.graph.GraphNode.{GraphNode}
+use Rattle.boot_phases.specs.declared.boot_phases.phase.Phase.{Phase}
+use Rattle.answer_lines.specs.declared.why_lines.lines.NameState.{NameState}
+use Rattle.answer_lines.specs.declared.why_lines.lines.NameState.TheVariants as states
+use Rattle.why_needs.specs.declared.why_state.views.PhaseView.{PhaseView}
+use Rattle.why_needs.specs.declared.why_state.views.ViewedRun.{ViewedRun}
+use Rattle.why_needs.specs.why_state.States.{placed_of, state_of}
+use Rattle.answer_lines.specs.declared.graph_lines.graph.NodeKind.TheVariants as kinds
+use Rattle.answer_lines.specs.declared.graph_lines.graph.NodeState.{NodeState}
+use Rattle.answer_lines.specs.declared.graph_lines.graph.NodeState.TheVariants as nodes
+use Rattle.answer_lines.specs.declared.graph_lines.graph.GraphNode.{GraphNode}
 
 -- an entry that no phase takes is untaken, also where an edit made it so too late
 abbrev pub node_state : NameState → NodeState

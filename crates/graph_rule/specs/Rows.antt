@@ -5,15 +5,15 @@ use Rattle.std.specs.Prelude.{ℕ, ◌+◌, Bool, true, false, not, ◌||◌, Li
 use Rattle.std.specs.Option.{is_some, option_map, option_map_or, option_and_then, option_or, option_to_list}
 use Rattle.std.specs.List.{filter_map, flat_map, list_any, range_with_len}
 use Rattle.nt_bytes.specs.Folding.{folds_same}
-use Rattle.name_places.specs.Places.{places_named}
+use Rattle.nt_names.specs.name_places.Places.{places_named}
 use Rattle.start_model.specs.Entries.{Entry}
 use Rattle.start_model.specs.Order.{first_names}
-use Rattle.why_state.specs.declared.views.ViewedRun.{ViewedRun}
-use Rattle.why_state.specs.Views.{names_of}
-use Rattle.why_state.specs.States.{place_in}
-use Rattle.graph_lines.specs.declared.graph.NodeState.{NodeState}
-use Rattle.graph_lines.specs.declared.graph.NodeState.TheVariants as nodes
-use Rattle.graph_lines.specs.declared.graph.GraphNode.{GraphNode}
+use Rattle.why_needs.specs.declared.why_state.views.ViewedRun.{ViewedRun}
+use Rattle.why_needs.specs.why_state.Views.{names_of}
+use Rattle.why_needs.specs.why_state.States.{place_in}
+use Rattle.answer_lines.specs.declared.graph_lines.graph.NodeState.{NodeState}
+use Rattle.answer_lines.specs.declared.graph_lines.graph.NodeState.TheVariants as nodes
+use Rattle.answer_lines.specs.declared.graph_lines.graph.GraphNode.{GraphNode}
 use Rattle.graph_rule.specs.declared.parts.GroupEntries.{GroupEntries}
 use Rattle.graph_rule.specs.declared.parts.GraphParts.{GraphParts}
 use Rattle.graph_rule.specs.declared.whole.WholeGraph.{WholeGraph}

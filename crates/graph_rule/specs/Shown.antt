@@ -2,14 +2,14 @@
 use Rattle.std.specs.Prelude.{ℕ, ◌+◌, nat_eq, ◌==◌, Bool, true, false, not, ◌&&◌, ◌||◌, List, [], ◌∷◌, map, length, slice_get, slice_index_or, Option, None, Some, if◌then◌else◌}
 use Rattle.std.specs.Option.{option_map_or, option_to_list}
 use Rattle.std.specs.List.{flat_map, list_any, range_with_len}
-use Rattle.graph_lines.specs.declared.graph.NodeKind.{NodeKind}
-use Rattle.graph_lines.specs.declared.graph.NodeKind.TheVariants as kinds
-use Rattle.graph_lines.specs.declared.graph.GraphNode.{GraphNode}
-use Rattle.graph_lines.specs.declared.graph.GraphEdge.{GraphEdge}
-use Rattle.graph_lines.specs.declared.graph.Graph.{Graph}
+use Rattle.answer_lines.specs.declared.graph_lines.graph.NodeKind.{NodeKind}
+use Rattle.answer_lines.specs.declared.graph_lines.graph.NodeKind.TheVariants as kinds
+use Rattle.answer_lines.specs.declared.graph_lines.graph.GraphNode.{GraphNode}
+use Rattle.answer_lines.specs.declared.graph_lines.graph.GraphEdge.{GraphEdge}
+use Rattle.answer_lines.specs.declared.graph_lines.graph.Graph.{Graph}
 use Rattle.wait_cycles.specs.Waits.{comes_to}
 use Rattle.wait_cycles.specs.Graph.{row_at}
-use Rattle.why_state.specs.declared.views.ViewedRun.{ViewedRun}
+use Rattle.why_needs.specs.declared.why_state.views.ViewedRun.{ViewedRun}
 use Rattle.graph_rule.specs.declared.whole.WholeGraph.{WholeGraph}
 use Rattle.graph_rule.specs.Rows.{is_untaken, whole_of}
 

@@ -4,15 +4,15 @@ ghost use Rattle.std.specs.Prelude.{◌≡◌, ◌++◌, filter, length, IfOk, O
 ghost use Rattle.std.specs.List.{filter_map, flat_map, range_with_len};
 ghost use Rattle.std.specs.Option.{option_copied, option_to_list};
 ghost use Rattle.hive_model.specs.Valid.{HoldsKeys};
-ghost use Rattle.why_needs.specs.Met.{entry_at};
+ghost use Rattle.why_needs.specs.why_needs.Met.{entry_at};
 ghost use Rattle.graph_rule.specs.Entries.{is_placed_at, begun_names, begun_at, unbegun, coming_names, all_names, in_plan, in_set, entry_named, entries_by, entries_in};
 
 use crate::names::{first_names, names_of, push_names};
-use name_places::NamePlaces;
+use boot_phases::service_entries::{Entries, Entry, entries};
 use nt_bytes::{Names, Units};
-use service_entries::{Entries, Entry, entries};
+use nt_names::name_places::NamePlaces;
 use std::alloc::{AllocError, Global};
-use why_state::{PhaseView, ViewedRun, placed_of};
+use why_needs::why_state::{PhaseView, ViewedRun, placed_of};
 
 // ---- names phase by phase
 

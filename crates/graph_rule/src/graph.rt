@@ -9,10 +9,10 @@ ghost use Rattle.graph_rule.specs.Shown.{drawn, no_graph, graph_of};
 use crate::marks::marks_of;
 use crate::numbers::{drawn_by, numbers};
 use crate::whole::{WholeGraph, whole_of};
-use graph_lines::{Graph, GraphEdges, GraphNodes};
+use answer_lines::graph_lines::{Graph, GraphEdges, GraphNodes};
 use nt_bytes::Units;
 use std::alloc::{AllocError, Global};
-use why_state::ViewedRun;
+use why_needs::why_state::ViewedRun;
 
 /// What is shown of all nodes and edges of a start.
 fn drawn(alloc: Global, run: &ViewedRun, of: Option<&Units>) -> Result<Graph, AllocError>

@@ -8,7 +8,7 @@ ghost use Rattle.graph_rule.specs.Shown.{is_entry, is_taken, is_shown_of_all, is
 
 use crate::rows::is_untaken;
 use crate::whole::WholeGraph;
-use graph_lines::{GraphNode, NodeKind};
+use answer_lines::graph_lines::{GraphNode, NodeKind};
 use nt_bytes::Row;
 use std::alloc::{AllocError, Global};
 use wait_cycles::inverse::inverse;

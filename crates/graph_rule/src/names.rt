@@ -3,11 +3,11 @@
 ghost use Rattle.std.specs.Prelude.{◌≡◌, ◌↔◌, ◌++◌, position, IfOk, OnOk, IsTrue, Some};
 ghost use Rattle.nt_bytes.specs.Folding.{folds_same};
 ghost use Rattle.start_model.specs.Order.{first_names};
-ghost use Rattle.why_state.specs.Views.{names_of};
+ghost use Rattle.why_needs.specs.why_state.Views.{names_of};
 
-use name_places::NamePlaces;
+use boot_phases::service_entries::Entry;
 use nt_bytes::{Names, Units};
-use service_entries::Entry;
+use nt_names::name_places::NamePlaces;
 use std::alloc::{AllocError, Global};
 
 /// The names without those that fold as one before them. Takes n log n time.

@@ -2,16 +2,16 @@
 
 ghost use Rattle.std.specs.Prelude.{◌≡◌, map, slice_get, IfOk};
 ghost use Rattle.std.specs.Option.{option_map};
-ghost use Rattle.why_state.specs.declared.views.PhaseView.{PhaseView as View};
+ghost use Rattle.why_needs.specs.declared.why_state.views.PhaseView.{PhaseView as View};
 ghost use Rattle.graph_rule.specs.Nodes.{node_state, node_number, coming_phase, node_phase, named_node, entry_node, missing_node, group_node};
 
-use boot_phases::Phase;
-use graph_lines::{GraphNode, GraphNodes, NodeKind, NodeState};
+use answer_lines::graph_lines::{GraphNode, GraphNodes, NodeKind, NodeState};
+use answer_lines::why_lines::NameState;
+use boot_phases::boot_phases::Phase;
+use boot_phases::service_entries::Entry;
 use nt_bytes::Units;
-use service_entries::Entry;
 use std::alloc::{AllocError, Global};
-use why_lines::NameState;
-use why_state::{ViewedRun, placed_of, state_of};
+use why_needs::why_state::{ViewedRun, placed_of, state_of};
 
 fn node_state(state: NameState) -> NodeState
     ensures { result ≡ node_state state }

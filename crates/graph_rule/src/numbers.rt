@@ -7,7 +7,7 @@ ghost use Rattle.graph_rule.specs.Shown.{number_if, next_if, numbers_from, numbe
 
 use crate::marks::row_at;
 use crate::whole::WholeGraph;
-use graph_lines::{Graph, GraphEdge, GraphEdges, GraphNode, GraphNodes, NodeKind};
+use answer_lines::graph_lines::{Graph, GraphEdge, GraphEdges, GraphNode, GraphNodes, NodeKind};
 use std::alloc::{AllocError, Global};
 
 // ---- numbers

@@ -4,18 +4,18 @@ ghost use Rattle.std.specs.Prelude.{◌≡◌, ◌++◌, filter, length, not, sl
 ghost use Rattle.std.specs.List.{filter_map, flat_map, range_with_len};
 ghost use Rattle.std.specs.Option.{is_some, option_and_then, option_copied, option_to_list};
 ghost use Rattle.start_model.specs.Entries.{Entry as Item};
-ghost use Rattle.why_state.specs.States.{place_in};
-ghost use Rattle.why_state.specs.Views.{names_of};
+ghost use Rattle.why_needs.specs.why_state.States.{place_in};
+ghost use Rattle.why_needs.specs.why_state.Views.{names_of};
 ghost use Rattle.graph_rule.specs.Rows.{missing_names, group_names, grouped_at, members_of, members_in, parts_by};
 
 use crate::names::{first_names, names_of, push_names};
 use crate::nodes::entry_nodes;
-use graph_lines::GraphNodes;
-use name_places::NamePlaces;
+use answer_lines::graph_lines::GraphNodes;
+use boot_phases::service_entries::{Entries, Entry};
 use nt_bytes::{Names, Row, Units};
-use service_entries::{Entries, Entry};
+use nt_names::name_places::NamePlaces;
 use std::alloc::{AllocError, Global};
-use why_state::ViewedRun;
+use why_needs::why_state::ViewedRun;
 
 /// Entries that have a group, by their places, and these groups, each found without a scan.
 #[derive(Drop)]

@@ -3,15 +3,15 @@
 ghost use Rattle.std.specs.Prelude.{◌≡◌, ◌+◌, [], ◌++◌, filter, map, IfOk, OnOk};
 ghost use Rattle.std.specs.List.{filter_map};
 ghost use Rattle.std.specs.Option.{option_copied, option_map, option_to_list};
-ghost use Rattle.why_state.specs.States.{place_in};
+ghost use Rattle.why_needs.specs.why_state.States.{place_in};
 ghost use Rattle.graph_rule.specs.Rows.{name_vertex, group_vertex, entry_row, is_untaken, is_asked, is_drawn, group_row, rows_of};
 
 use crate::names::first_names;
 use crate::parts::{GraphParts, members_in};
-use graph_lines::{GraphNode, NodeState};
-use name_places::NamePlaces;
+use answer_lines::graph_lines::{GraphNode, NodeState};
+use boot_phases::service_entries::Entry;
 use nt_bytes::{Names, Row, Units, same_folded};
-use service_entries::Entry;
+use nt_names::name_places::NamePlaces;
 use std::alloc::{AllocError, Global};
 
 /// Vertices.

@@ -12,11 +12,11 @@ use crate::entries::entries_in;
 use crate::nodes::{group_node, missing_node};
 use crate::parts::{GraphParts, members_in, parts};
 use crate::rows::{VertexRows, name_vertex, rows_of};
-use graph_lines::{GraphNode, GraphNodes, NodeState};
-use name_places::NamePlaces;
+use answer_lines::graph_lines::{GraphNode, GraphNodes, NodeState};
 use nt_bytes::Units;
+use nt_names::name_places::NamePlaces;
 use std::alloc::{AllocError, Global};
-use why_state::ViewedRun;
+use why_needs::why_state::ViewedRun;
 
 /// All nodes and edges.
 #[derive(Drop)]

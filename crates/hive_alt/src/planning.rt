@@ -17,8 +17,8 @@ use hive_log::Recovered;
 use hive_pack::pack;
 use hive_read::read_tree;
 use nt_bytes::{Bytes, HiveVersion, Names, ReadStop, Units};
+use nt_names::startup_names::{DEFAULT, SELECT};
 use reg_tree::{EditStop, Key, Steps, TreeStep};
-use startup_names::{DEFAULT, SELECT};
 use std::alloc::{AllocError, Global};
 
 /// The type of a number of 32 bits.

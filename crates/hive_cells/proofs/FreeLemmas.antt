@@ -18,7 +18,7 @@ use Rattle.hive_cells.specs.Frees.{EndsAt, Neighbours, IsFreeOf}
 use Rattle.hive_cells.proofs.Indexed.{IsIndexed}
 use Rattle.hive_cells.proofs.PlaceLemmas.{Place, place_of, bin_with, bins_here, Edited, edited, bytes_before, marks_before, rooms_before, marks_long}
 use Rattle.hive_cells.proofs.SizeLemmas.{length_bins, room_at, some_room}
-use Rattle.free_index.specs.Sizes.{AreUpTo, IsLastSome}
+use Rattle.cell_tables.specs.free_index.Sizes.{AreUpTo, IsLastSome}
 use Rattle.hive_cells.proofs.FillLemmas.{put_front, payload_back}
 use Rattle.hive_cells.proofs.FilledLemmas.{lookup_over, lookup_under}
 

@@ -3,8 +3,8 @@ use Rattle.std.proofs.Common.{◌≡◌, ℕ, suc, ◌+◌, ◌-◌, ◌*◌, �
 use Rattle.std.specs.List.{AllByRecursion, flat_map}
 use Rattle.std.specs.Option.{option_map}
 use Rattle.std.proofs.lemmas.List.{get_or-replicate, length-append, length-replicate, length-set, get_or-set_same, get_or-set_other, get_or-append_right, get_or_append_left, set-set, set_comm, set-get_or}
-use Rattle.free_index.specs.Sizes.{AreTops}
-use Rattle.free_index.proofs.TopLemmas.{raised, grown}
+use Rattle.cell_tables.specs.free_index.Sizes.{AreTops}
+use Rattle.cell_tables.proofs.TopLemmas.{raised, grown}
 use Rattle.hive_model.specs.Bins.{Cell, Bin, cell_size, bins_size, cell_at, IsBin}
 use Rattle.hive_cells.specs.Reading.{bins_of, head_of, IsKept}
 use Rattle.hive_cells.specs.Holes.{cell_free_sizes, free_sizes, free_size}

@@ -6,9 +6,9 @@ use Rattle.hive_cells.specs.Reading.{bins_of, IsKept}
 use Rattle.hive_cells.proofs.Steps.{kept_seen}
 use Rattle.hive_cells.proofs.Tools.{length_spelled}
 use Rattle.hive_cells.proofs.IndexLemmas.{bins_pages}
-use Rattle.saved_pages.specs.Overlay.{before, AreWhole, IsCovered}
-use Rattle.saved_pages.proofs.OverlayLemmas.{before_more, before_none}
-use Rattle.saved_pages.proofs.CoveredLemmas.{covered_long, covered_more, covered_none}
+use Rattle.cell_tables.specs.saved_pages.Overlay.{before, AreWhole, IsCovered}
+use Rattle.cell_tables.proofs.OverlayLemmas.{before_more, before_none}
+use Rattle.cell_tables.proofs.CoveredLemmas.{covered_long, covered_more, covered_none}
 
 -- the bytes are those of the bins
 pub seen_bytes : (text : List ℕ) (starts : List Bool) (bins : List Bin) → IsKept text starts → bins_of text ≡ bins

@@ -9,7 +9,7 @@ use Rattle.hive_cells.specs.Reading.{cells_in, or_none}
 use Rattle.hive_cells.proofs.Tools.{length_cells}
 use Rattle.hive_cells.proofs.Again.{cells_again}
 use Rattle.hive_cells.proofs.Spots.{cells_before, bins_before, cells_past, spot, bin_round, all_first, sizes_whole, bins_whole}
-use Rattle.free_index.specs.Sizes.{AreUnder, IsLowestFit}
+use Rattle.cell_tables.specs.free_index.Sizes.{AreUnder, IsLowestFit}
 use Rattle.hive_cells.specs.Held.{run_cells}
 use Rattle.hive_cells.specs.Holes.{cell_free_sizes, bin_free_sizes, free_sizes, free_size, IsLowestHole}
 

@@ -3,7 +3,7 @@ use Rattle.std.specs.Prelude.{◌≤◌, ◌*◌, ◌⊎◌, ℕ, List, length, 
 use Rattle.std.specs.Coded.{Coded, code_by, coded×, coded_ℕ, coded_list}
 use Rattle.hive_model.specs.Bins.{Bin, spelled}
 use Rattle.hive_model.specs.Codes.{coded_bin}
-use Rattle.saved_pages.specs.Overlay.{before}
+use Rattle.cell_tables.specs.saved_pages.Overlay.{before}
 
 -- the bins, and the bins data as they were when they were settled last
 pub record Opened : Type 0 where

@@ -4,22 +4,22 @@
 
 ghost use Rattle.std.specs.Prelude.{◌≡◌, ℕ, ◌+◌, ◌/◌, ◌%◌, ◌<◌, ◌≤◌, ◌∷◌, [], ◌++◌, List, length, None, slice_index, slice_set, IfOk, OnErr, OnOk};
 ghost use Rattle.std.specs.Option.{IfSome, IsSome, IsSomeAnd, MatchOption, option_map};
-ghost use Rattle.free_index.specs.Sizes.{AreTops};
+ghost use Rattle.cell_tables.specs.free_index.Sizes.{AreTops};
 ghost use Rattle.hive_model.specs.Limits.{most_bins};
 ghost use Rattle.hive_model.specs.Bins.{or_else, cell_at, cell_size, bins_size, spelled, IsHeap};
 ghost use Rattle.hive_cells.specs.Held.{held_at, held_among, patched, run_cells, IsRun};
 ghost use Rattle.hive_cells.specs.Holes.{free_bin, free_size, free_sizes, new_bin_size, FindsHole, Grows, IsHole};
 ghost use Rattle.hive_cells.specs.Changes.{at_cell, with_free, with_next, with_part, with_run};
 ghost use Rattle.hive_cells.specs.Frees.{EndsAt, IsFreed, IsFreeOf, Neighbours};
-ghost use Rattle.saved_pages.specs.Overlay.{before, IsCovered};
+ghost use Rattle.cell_tables.specs.saved_pages.Overlay.{before, IsCovered};
 
 use crate::heap::{CellHeap, MOST_BINS};
 use crate::lookup::free_at;
 use crate::marks::mark_run;
 use crate::pushes::{push_bin, push_marks, put, put_word};
-use free_index::{FreeIndex, Numbers};
+use cell_tables::free_index::{FreeIndex, Numbers};
+use cell_tables::saved_pages::{SavedPages, touch};
 use nt_bytes::u32_at;
-use saved_pages::{SavedPages, touch};
 use std::alloc::{AllocError, Global};
 
 impl CellHeap {

@@ -3,15 +3,15 @@
 ghost use Rattle.std.specs.Prelude.{◌≡◌, ◌*◌, ◌%◌, ◌≤◌, List, length, IfOk};
 ghost use Rattle.nt_bytes.specs.Reading.{Sees};
 ghost use Rattle.hive_model.specs.Bins.{bins_size, payload_at, with_place, spelled, Bin, IsBins};
-ghost use Rattle.saved_pages.specs.Overlay.{before};
+ghost use Rattle.cell_tables.specs.saved_pages.Overlay.{before};
 
 use crate::lookup::{free_at, head};
 use crate::marks::unmark;
 use crate::pushes::put_pages;
 use crate::read::mark_bins;
-use free_index::Numbers;
+use cell_tables::free_index::Numbers;
+use cell_tables::saved_pages::SavedPages;
 use nt_bytes::{Bytes, HiveFault, HiveFaultKind};
-use saved_pages::SavedPages;
 use std::marker::Model;
 
 /// How long bins data may be, in bytes: 16 MiB.

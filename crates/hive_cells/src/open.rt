@@ -10,14 +10,14 @@ ghost use Rattle.hive_cells.specs.Held.{held_at, held_among, patched, run_cells,
 ghost use Rattle.hive_cells.specs.Holes.{new_bin_size, FindsHole, Grows, IsHole, MakesRoom};
 ghost use Rattle.hive_cells.specs.Changes.{at_cell, with_part, with_run, Allocates};
 ghost use Rattle.hive_cells.specs.Frees.{IsFreed};
-ghost use Rattle.saved_pages.specs.Overlay.{before, IsCovered};
+ghost use Rattle.cell_tables.specs.saved_pages.Overlay.{before, IsCovered};
 
 use crate::heap::CellHeap;
 use crate::pushes::zero_run;
 use crate::spare::{begin_anew, keep_longer, widen_to};
-use free_index::FreeIndex;
+use cell_tables::free_index::FreeIndex;
+use cell_tables::saved_pages::{SavedPages, touch};
 use nt_bytes::{Bytes, HiveFault};
-use saved_pages::{SavedPages, touch};
 use std::alloc::{AllocError, Global};
 use std::marker::Model;
 use std::mem::swap;
@@ -35,11 +35,11 @@ pub struct OpenHeap {
 }
 
 impl Model for OpenHeap {
-    ghost use Rattle.free_index.specs.Sizes.{AreTops};
+    ghost use Rattle.cell_tables.specs.free_index.Sizes.{AreTops};
     ghost use Rattle.hive_model.specs.Bins.{bins_size};
     ghost use Rattle.hive_cells.specs.Holes.{free_sizes};
     ghost use Rattle.hive_cells.specs.Opened.{HaveRoom, Opened, coded_opened, opened_of};
-    ghost use Rattle.saved_pages.specs.Overlay.{IsCovered};
+    ghost use Rattle.cell_tables.specs.saved_pages.Overlay.{IsCovered};
 
     ghost Value = { Opened };
 

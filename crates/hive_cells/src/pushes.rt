@@ -11,10 +11,10 @@ ghost use Rattle.hive_cells.specs.Reading.{bin_marks};
 ghost use Rattle.hive_cells.specs.Held.{run_cells, IsRun};
 ghost use Rattle.hive_cells.specs.Holes.{free_bin};
 ghost use Rattle.hive_cells.specs.Changes.{zero_cell};
-ghost use Rattle.saved_pages.specs.Overlay.{before};
+ghost use Rattle.cell_tables.specs.saved_pages.Overlay.{before};
 
+use cell_tables::saved_pages::SavedPages;
 use nt_bytes::put_u32;
-use saved_pages::SavedPages;
 use std::alloc::{AllocError, Global};
 
 pub(crate) fn put(bytes: &mut Vec<u8>, at: usize, part: &[u8])

@@ -2,7 +2,7 @@
 
 ghost use Rattle.std.specs.Prelude.{◌≡◌, ◌⊎◌, ◌<◌, ◌≤◌, [], length, replicate, OnOk};
 
-use saved_pages::SavedPages;
+use cell_tables::saved_pages::SavedPages;
 use std::alloc::AllocError;
 use std::mem::swap;
 

@@ -6,9 +6,9 @@ use Rattle.std.proofs.lemmas.Bool.{le-leb, lt-leb}
 use Rattle.std.proofs.lemmas.Slice.Eq.{bytes_eq-Decides}
 use Rattle.hive_model.specs.Recovery.{sector, one_if}
 use Rattle.hive_model.specs.Log.{byte_of, dirty}
-use Rattle.saved_pages.specs.Overlay.{page_at, kept_at, page_or, before, AreWhole, IsCovered}
-use Rattle.saved_pages.proofs.OverlayLemmas.{page_long}
-use Rattle.saved_pages.proofs.CoveredLemmas.{covered_long, covered_page}
+use Rattle.cell_tables.specs.saved_pages.Overlay.{page_at, kept_at, page_or, before, AreWhole, IsCovered}
+use Rattle.cell_tables.proofs.OverlayLemmas.{page_long}
+use Rattle.cell_tables.proofs.CoveredLemmas.{covered_long, covered_page}
 
 sector_in_page : (xs : List ℕ) (k j : ℕ) → j < 8 → sector xs (8 * k + j) ≡ sector (page_at k xs) j
 unfolding sector

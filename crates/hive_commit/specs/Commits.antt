@@ -14,7 +14,7 @@ pub record IsCleanWith (tells : Bool) (disk : DiskState) (base : Base) (bins : L
   pub carries : tells ≡ true → Carries disk.held base bins
 
 -- A commit is done: this base block is answered, and the disk is clean with it and the new data. Its log begins with the file
--- that `log_sectors` spells: it has the sectors that differ, and no other.
+-- of the change: it has the sectors that differ, and no other.
 pub record IsCommitted (tells : Bool) (disk : DiskState) (old new : List ℕ) (closed answer : Base) : Type 0 where
   pub answered : answer ≡ closed
   pub clean : IsCleanWith tells disk closed new

@@ -4,10 +4,10 @@ ghost use Rattle.std.specs.Prelude.{◌≡◌, ◌+◌, ◌*◌, ◌≤◌, true
 ghost use Rattle.hive_model.specs.Base.{is_bins_size};
 ghost use Rattle.hive_model.specs.Recovery.{one_if, sector};
 ghost use Rattle.hive_model.specs.Log.{byte_of, dirty};
-ghost use Rattle.saved_pages.specs.Overlay.{before, page_at, IsCovered};
+ghost use Rattle.cell_tables.specs.saved_pages.Overlay.{before, page_at, IsCovered};
 ghost use Rattle.hive_commit.specs.Stages.{AreMarked};
 
-use saved_pages::SavedPages;
+use cell_tables::saved_pages::SavedPages;
 
 /// Turns on the bits of those sectors of the new data that differ from the old or lie past their end, and turns off those
 /// of the others. Only the pages that were kept are compared.

@@ -4,7 +4,7 @@ ghost use Rattle.std.specs.Prelude.{◌≡◌, true, length, IfOk};
 ghost use Rattle.hive_model.specs.Base.{is_bins_size};
 ghost use Rattle.nt_edge.specs.Calls.{MakesUntil};
 ghost use Rattle.nt_edge.specs.Crash.{EachCrash};
-ghost use Rattle.saved_pages.specs.Overlay.{before, IsCovered};
+ghost use Rattle.cell_tables.specs.saved_pages.Overlay.{before, IsCovered};
 ghost use Rattle.hive_commit.specs.Calls.{change_calls};
 ghost use Rattle.hive_commit.specs.Commits.{IsCleanWith, IsCommitted};
 ghost use Rattle.hive_commit.specs.Cuts.{IsCutOfCommit};
@@ -14,9 +14,9 @@ ghost use Rattle.hive_commit.specs.Stops.{EndsCommit};
 use crate::CommitStop;
 use crate::change::write_change;
 use crate::kept_marks::mark_kept;
+use cell_tables::saved_pages::SavedPages;
 use nt_edge::Disk;
 use regf_base::BaseBlock;
-use saved_pages::SavedPages;
 
 /// The same as `commit`, of old data that are told by the pages of them that were kept: only these are compared.
 pub fn commit_kept<D: Disk>(

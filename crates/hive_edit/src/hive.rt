@@ -9,14 +9,14 @@ ghost use Rattle.hive_model.specs.Stands.{IsWellFormed};
 ghost use Rattle.hive_edit.specs.Found.{found_names, FitsBelow};
 ghost use Rattle.hive_look.specs.Places.{found_dword};
 ghost use Rattle.hive_edit.specs.Hive.{cells_in, settled_as, Takes};
-ghost use Rattle.saved_pages.specs.Overlay.{before, IsCovered};
+ghost use Rattle.cell_tables.specs.saved_pages.Overlay.{before, IsCovered};
 
+use cell_tables::saved_pages::SavedPages;
 use hive_cells::{CellHeap, OpenHeap, Source};
 use hive_look::{child_names, dword_under, key_at};
 use hive_read::{judge, read_tree};
 use nt_bytes::{HiveVersion, Names, ReadStop};
 use reg_tree::Key;
-use saved_pages::SavedPages;
 use std::alloc::{AllocError, Global};
 use std::marker::Model;
 

@@ -11,13 +11,13 @@ ghost use Rattle.hive_edit.specs.Hive.{hive_of, settled, settled_as, WasHive};
 ghost use Rattle.hive_edit.specs.Stepped.{LacksStepRoom};
 ghost use Rattle.hive_edit.specs.Steps.{AreMadeOrNone, AreStepped, AreStrained};
 ghost use Rattle.hive_edit.specs.Tells.{IsToldStep};
-ghost use Rattle.saved_pages.specs.Overlay.{before, IsCovered};
+ghost use Rattle.cell_tables.specs.saved_pages.Overlay.{before, IsCovered};
 
 use crate::hive::HiveBytes;
+use cell_tables::saved_pages::SavedPages;
 use hive_cells::MOST_BINS;
 use nt_bytes::HiveVersion;
 use reg_tree::{EditStop, MOST_BULK, TreeStep};
-use saved_pages::SavedPages;
 use std::alloc::{AllocError, Global};
 
 impl HiveBytes {

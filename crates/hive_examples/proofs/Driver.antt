@@ -22,7 +22,7 @@ use Rattle.hive_model.specs.Walk.{Check, uses, tests, found, at_place, failing, 
 use Rattle.hive_model.specs.Stands.{KeyStands, Stands, HasApartNames, IsWellFormed, class_of, security_of, data_of, item_at, values_of}
 use Rattle.hive_model.proofs.UsedOnce.{OnceBehind, used_once}
 use Rattle.hive_examples.specs.OneDriver.{driver_words, driver_bin}
-use Rattle.hive_laws.specs.Trees.{one_driver, set_key, services_key, disk_key, select_key}
+use Rattle.hive_laws.specs.hive_laws.Trees.{one_driver, set_key, services_key, disk_key, select_key}
 
 -- ---- cells
 

@@ -11,9 +11,9 @@ use Rattle.hive_model.specs.Bins.{bins_size, spelled, head_bytes, header_at, siz
 use Rattle.hive_model.specs.Recovery.{Recovered, recovered_of}
 use Rattle.hive_model.specs.Walk.{first_fault}
 use Rattle.hive_model.specs.Load.{Loads, LoadFault}
-use Rattle.hive_laws.specs.Samples.{block, changed}
+use Rattle.hive_laws.specs.hive_laws.Samples.{block, changed}
 use Rattle.hive_examples.specs.OneDriver.{driver_bin, driver_with}
-use Rattle.hive_laws.specs.Trees.{one_driver}
+use Rattle.hive_laws.specs.hive_laws.Trees.{one_driver}
 use Rattle.hive_examples.proofs.Driver.{cut, driver_sizes, is_cell, cells_in, heap, well_formed}
 
 -- what is recovered where these bytes are changed

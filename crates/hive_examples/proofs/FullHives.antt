@@ -6,7 +6,7 @@ use Rattle.nt_bytes.specs.Reading.{◌>>=◌}
 use Rattle.hive_model.specs.Tree.{Tree}
 use Rattle.hive_model.specs.Size.{bulk_of}
 use Rattle.hive_model.specs.Edit.{Refusal, most_bulk, set_value, after_step, after_steps, data_too_long, full}
-use Rattle.hive_laws.specs.Trees.{full_root}
+use Rattle.hive_laws.specs.hive_laws.Trees.{full_root}
 
 pub passed : {A : Type 0} (b : Bool) (x y : A) → b ≡ false → (if b then x else y) ≡ y
 passed false x y e = refl

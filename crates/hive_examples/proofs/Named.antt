@@ -14,7 +14,7 @@ use Rattle.hive_model.specs.Footprint.{unless_refused, used_in, child_places, se
 use Rattle.hive_model.specs.Owned.{Role, node, class, security, value_list, value, lists, In, node_name, value_name, value_places, value_list_at, class_cell_at, HasRole, Reaches, Owns, Folds, Extends, named_keys, IsNamed, IsOfValue, IsChanged, Matches, IsMatched, IsInFootprint}
 use Rattle.edited_cells.proofs.Ins.{in_left, in_right, in_cases, in_flat, in_flat_from}
 use Rattle.edited_cells.proofs.Pairs.{in_map, in_map_from}
-use Rattle.hive_laws.specs.Both.{HasFootprint}
+use Rattle.hive_laws.specs.hive_laws.Both.{HasFootprint}
 
 -- ---- does a step name what a key owns?
 

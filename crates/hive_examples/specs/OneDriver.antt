@@ -3,7 +3,7 @@ use Rattle.std.specs.Prelude.{ℕ, List, [], ◌∷◌, ◌++◌, replicate}
 use Rattle.std.specs.List.{flat_map}
 use Rattle.std.specs.Int.{w32, to_le_bytes}
 use Rattle.hive_model.specs.Image.{Image, image_of}
-use Rattle.hive_laws.specs.Samples.{file_of, changed}
+use Rattle.hive_laws.specs.hive_laws.Samples.{file_of, changed}
 
 -- its bin up to the free cell, in words of four bytes
 unfoldable pub driver_words : List ℕ

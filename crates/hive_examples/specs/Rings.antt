@@ -1,7 +1,7 @@
 -- The bins data of two trees with descriptors, field by field, as the format's tables and the rules of the packed form give them
 -- by hand. A cell's place stands above it; a place is written with its lowest byte first.
 use Rattle.std.specs.Prelude.{ℕ, List, [], ◌∷◌, ◌++◌, codes, replicate}
-use Rattle.hive_laws.specs.Samples.{none_here}
+use Rattle.hive_laws.specs.hive_laws.Samples.{none_here}
 
 -- the header of one bin of 4096 bytes
 abbrev pub one_bin : List ℕ

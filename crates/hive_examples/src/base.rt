@@ -2,7 +2,7 @@
 
 ghost use Rattle.std.specs.Prelude.{◌≡◌, Ok};
 ghost use Rattle.hive_model.specs.Base.{checksum_of, summed_text, base_text, base_of};
-ghost use Rattle.hive_laws.specs.Samples.{block};
+ghost use Rattle.hive_laws.specs.hive_laws.Samples.{block};
 
 /// The words of the block cancel out but for `regf`, 1, 3, 1, 32, 4096 and 1. Equal sequence numbers change
 /// nothing.

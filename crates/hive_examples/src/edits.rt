@@ -6,8 +6,8 @@ ghost use Rattle.nt_bytes.specs.declared.version.HiveVersion.TheVariants.{V3, V5
 ghost use Rattle.hive_model.specs.Size.{bulk_of};
 ghost use Rattle.hive_model.specs.Edit.{edited, set_value, delete_value, make_key, delete_key, copy_child, add_child, most_bulk};
 ghost use Rattle.hive_model.specs.Edit.{no_key, no_value, bad_name, exists, name_too_long, too_deep, data_too_long, full};
-ghost use Rattle.hive_laws.specs.Both.{LeadTo};
-ghost use Rattle.hive_laws.specs.Trees.{folder, number, root_with, tagged, a_key, d_key, home, chain, steps_down, full_root, new_in_home};
+ghost use Rattle.hive_laws.specs.hive_laws.Both.{LeadTo};
+ghost use Rattle.hive_laws.specs.hive_laws.Trees.{folder, number, root_with, tagged, a_key, d_key, home, chain, steps_down, full_root, new_in_home};
 
 /// A value that is there keeps its name, whatever the case of the name that was given. A new one is the last.
 pub fn a_value_is_set()

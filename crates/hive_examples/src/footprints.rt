@@ -8,8 +8,8 @@ ghost use Rattle.hive_model.specs.Tree.{key, none};
 ghost use Rattle.hive_model.specs.Edit.{set_value, delete_value, make_key, delete_key, copy_child, add_child};
 ghost use Rattle.hive_model.specs.Packed.{packed_bins};
 ghost use Rattle.hive_model.specs.Footprint.{key_place};
-ghost use Rattle.hive_laws.specs.Both.{HasFootprint, FootprintIs};
-ghost use Rattle.hive_laws.specs.Trees.{long_root, one_driver, disk_path, guarded, guarded_by};
+ghost use Rattle.hive_laws.specs.hive_laws.Both.{HasFootprint, FootprintIs};
+ghost use Rattle.hive_laws.specs.hive_laws.Trees.{long_root, one_driver, disk_path, guarded, guarded_by};
 
 /// In the hive of one driver `Disk` is at 360, in `Services` at 256, with its value list at 448 and `Start` at 464.
 pub fn cells_of_the_start_value()

@@ -9,7 +9,7 @@ ghost use Rattle.hive_model.specs.BigData.{big_data_at, big_data_text};
 ghost use Rattle.hive_model.specs.Security.{security_at, security_text};
 ghost use Rattle.hive_model.specs.Lists.{list_at, li_text, lf_text, lh_text, ri_text, offsets_in};
 ghost use Rattle.hive_model.specs.Walk.{node_at, big_data_of, leaf_at};
-ghost use Rattle.hive_laws.specs.Samples.{root_alone};
+ghost use Rattle.hive_laws.specs.hive_laws.Samples.{root_alone};
 ghost use Rattle.hive_examples.specs.SmallCells.{plain_node, plain_value, plain_security};
 
 /// A key node has 76 bytes before its name, and a value 20; a cell of big data has eight.

@@ -6,7 +6,7 @@ ghost use Rattle.nt_bytes.specs.declared.version.HiveVersion.TheVariants.{V3};
 ghost use Rattle.hive_model.specs.Base.{fault_at};
 ghost use Rattle.hive_model.specs.Load.{Loads, LoadFault};
 ghost use Rattle.hive_examples.specs.OneDriver.{driver_with};
-ghost use Rattle.hive_laws.specs.Trees.{one_driver};
+ghost use Rattle.hive_laws.specs.hive_laws.Trees.{one_driver};
 
 /// Its sequence number is 5, its version 1.3, and its tree has a set, a service and `Select`.
 pub fn one_driver_loads()

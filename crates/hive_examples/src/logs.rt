@@ -3,7 +3,7 @@
 ghost use Rattle.std.specs.Prelude.{◌≡◌, ◌+◌, ◌*◌, [], ◌∷◌, ◌++◌, codes, replicate, length, take, slice_range};
 ghost use Rattle.hive_model.specs.Base.{base_text};
 ghost use Rattle.hive_model.specs.Log.{dirty, bytes_of_bits, log_of};
-ghost use Rattle.hive_laws.specs.Samples.{block, before, after, longer};
+ghost use Rattle.hive_laws.specs.hive_laws.Samples.{block, before, after, longer};
 
 /// Two lists of 4096 bytes differ at byte 600 alone: only sector 1 has to be logged. The log is a base
 /// block of file type 1 with its own checksum, a sector of bits, and the sectors whose bit is on.

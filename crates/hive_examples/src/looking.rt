@@ -5,7 +5,7 @@ ghost use Rattle.hive_model.specs.Image.{image_of};
 ghost use Rattle.hive_model.specs.Log.{dirty, log_of};
 ghost use Rattle.hive_model.specs.Asked.{primary_at, log_at, asked_of};
 ghost use Rattle.hive_examples.specs.OneDriver.{driver_with};
-ghost use Rattle.hive_laws.specs.Samples.{block, before, after, file_of};
+ghost use Rattle.hive_laws.specs.hive_laws.Samples.{block, before, after, file_of};
 ghost use Rattle.nt_edge.specs.Crash.{unreadable_at};
 
 /// What recovery asks for, in its order: of the clean hive of one driver, of no files, and of a hive with the

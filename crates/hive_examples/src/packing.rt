@@ -8,10 +8,10 @@ ghost use Rattle.hive_model.specs.KeyValue.{key_value_text};
 ghost use Rattle.hive_model.specs.BigData.{big_data_text};
 ghost use Rattle.hive_model.specs.Lists.{offsets_text};
 ghost use Rattle.hive_model.specs.Packed.{packed_cells, packed};
-ghost use Rattle.hive_laws.specs.Samples.{root_alone, changed};
+ghost use Rattle.hive_laws.specs.hive_laws.Samples.{root_alone, changed};
 ghost use Rattle.hive_examples.specs.OneDriver.{driver_bin, hashed_lists};
 ghost use Rattle.hive_examples.specs.Rings.{two_descriptors_bin, ring_of_three_bin};
-ghost use Rattle.hive_laws.specs.Trees.{long_bytes, long_root, only_root, one_driver, two_descriptors, ring_of_three};
+ghost use Rattle.hive_laws.specs.hive_laws.Trees.{long_bytes, long_root, only_root, one_driver, two_descriptors, ring_of_three};
 
 /// One bin of 4096 bytes: the root's cell of 88 bytes at 32, and a free cell of the rest at 120.
 pub fn a_root_alone_is_packed()

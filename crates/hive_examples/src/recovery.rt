@@ -8,7 +8,7 @@ ghost use Rattle.hive_model.specs.Image.{image_of};
 ghost use Rattle.hive_model.specs.Asked.{primary_at, log_at};
 ghost use Rattle.hive_model.specs.Recovery.{recovered_of};
 ghost use Rattle.hive_model.specs.Log.{dirty, log_of};
-ghost use Rattle.hive_laws.specs.Samples.{block, before, after, file_of, changed};
+ghost use Rattle.hive_laws.specs.hive_laws.Samples.{block, before, after, file_of, changed};
 ghost use Rattle.nt_edge.specs.Crash.{unreadable_at};
 
 /// Equal sequence numbers: the primary stands by itself, whatever the log is.

@@ -5,7 +5,7 @@ ghost use Rattle.nt_bytes.specs.declared.version.HiveVersion.{HiveVersion as Ver
 ghost use Rattle.nt_bytes.specs.declared.version.HiveVersion.TheVariants.{V3, V5};
 ghost use Rattle.hive_model.specs.Size.{data_sizes, bulk_of};
 ghost use Rattle.hive_model.specs.Footprint.{list_sizes};
-ghost use Rattle.hive_laws.specs.Trees.{full_root};
+ghost use Rattle.hive_laws.specs.hive_laws.Trees.{full_root};
 
 /// A list of two lists, one of 500 children, and one of the last.
 pub fn lists_of_501_children()

@@ -4,8 +4,8 @@ ghost use Rattle.std.specs.Prelude.{◌≡◌, [], ◌∷◌, codes, replicate};
 ghost use Rattle.nt_bytes.specs.declared.version.HiveVersion.TheVariants.{V3, V5};
 ghost use Rattle.hive_model.specs.Edit.{set_value, delete_value, make_key, delete_key, copy_child, add_child};
 ghost use Rattle.hive_model.specs.Footprint.{strain_of, list_strain_of};
-ghost use Rattle.hive_laws.specs.Both.{StrainIs};
-ghost use Rattle.hive_laws.specs.Trees.{one_driver, disk_key, services_path, disk_path};
+ghost use Rattle.hive_laws.specs.hive_laws.Both.{StrainIs};
+ghost use Rattle.hive_laws.specs.hive_laws.Trees.{one_driver, disk_key, services_path, disk_path};
 
 /// Each cell needs 4096 bytes here, but one of 16,344 or 16,345 bytes 16,384: of a value that is set the value list and its own, of
 /// over four bytes those of its data too; where one of two values is deleted, the list of the other.

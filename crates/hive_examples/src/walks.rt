@@ -9,9 +9,9 @@ ghost use Rattle.hive_model.specs.Bins.{look_up};
 ghost use Rattle.hive_model.specs.Walk.{data_checks, first_fault};
 ghost use Rattle.hive_model.specs.Stands.{data_of, Stands};
 ghost use Rattle.hive_model.specs.Footprint.{used_in};
-ghost use Rattle.hive_laws.specs.Both.{FaultIs};
+ghost use Rattle.hive_laws.specs.hive_laws.Both.{FaultIs};
 ghost use Rattle.hive_examples.specs.SmallCells.{family, kin, endless, long_value, segmented, data_fault};
-ghost use Rattle.hive_laws.specs.Trees.{folder};
+ghost use Rattle.hive_laws.specs.hive_laws.Trees.{folder};
 
 /// The children are at 144 and 232, as the list says.
 pub fn a_family_stands()

@@ -11,8 +11,8 @@ use Rattle.hive_model.specs.Image.{Image, Address, Primary, Log}
 use Rattle.hive_model.specs.Carries.{HasBase}
 use Rattle.hive_model.specs.Recovery.{primary_in, log_in, read_bin, read_log, gathered, rank, bitmap_sectors, first_dirty, front_in, bitmap_in, goes_with, logged_in, base_in}
 use Rattle.hive_log.specs.Found.{IsUnfinished}
-use Rattle.hive_laws.specs.Looking.{AreRead, IsOpen, HasLogBase, HasDirt, HasBits, bits_of, bins_sectors, marks, marked_in, bins_by, LooksAt}
-use Rattle.hive_laws.specs.Looking.LooksAt.{at_the_block, at_a_clean_one, at_the_log, at_the_sign, at_more_bits, at_a_marked_one, at_another_one}
+use Rattle.hive_laws.specs.hive_laws.Looking.{AreRead, IsOpen, HasLogBase, HasDirt, HasBits, bits_of, bins_sectors, marks, marked_in, bins_by, LooksAt}
+use Rattle.hive_laws.specs.hive_laws.Looking.LooksAt.{at_the_block, at_a_clean_one, at_the_log, at_the_sign, at_more_bits, at_a_marked_one, at_another_one}
 use Rattle.hive_laws.proofs.Alike.{first_there, rest_there, there}
 use Rattle.hive_laws.proofs.Found.{readable, read_back}
 use Rattle.hive_laws.proofs.OneByOne.{contains_first, contains_later, all_those, those_contain, all_run, run_contains, behind_run}

@@ -9,7 +9,7 @@ use Rattle.hive_model.specs.Base.{Base}
 use Rattle.hive_model.specs.Image.{Image, Address, File, Primary, Log, of_file, same_address}
 use Rattle.hive_model.specs.Recovery.{rank, bitmap_sectors, first_dirty, front_in, bitmap_in, goes_with, logged_in, base_in}
 use Rattle.hive_model.specs.Asked.{primary_at, log_at, bin_at, asked_if_read, asked_bins, asked_behind_sign, asked_bits, asked_behind_log, asked_log, asked_behind_base, asked_of}
-use Rattle.hive_laws.specs.Looking.{bits_of, bins_sectors}
+use Rattle.hive_laws.specs.hive_laws.Looking.{bits_of, bins_sectors}
 use Rattle.hive_laws.proofs.Asked.{past_block, clean_part, past_log, past_sign, past_bits, unmarked_part}
 use Rattle.hive_laws.proofs.OneByOne.{no_pairs, all_those, pairs_of_those, all_run, pairs_of_run}
 

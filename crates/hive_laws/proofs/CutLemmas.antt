@@ -8,7 +8,7 @@ use Rattle.hive_model.specs.State.{HiveState}
 use Rattle.hive_cells.proofs.Again.{one_list}
 use Rattle.hive_read.proofs.Loading.{one-load}
 use Rattle.hive_commit.specs.Stages.{IsBeforeOrAfter, LoadsAsEither}
-use Rattle.hive_laws.specs.Cuts.{HoldsIn, LoadsAsNoThird, ReadsAsEither}
+use Rattle.hive_laws.specs.hive_laws.Cuts.{HoldsIn, LoadsAsNoThird, ReadsAsEither}
 
 -- an image that is recovered as this loads as the state that this holds
 loads_as : (image : Image) (base : Base) (bins : List ℕ) (state : HiveState) → HoldsIn base bins state

@@ -4,7 +4,7 @@ use Rattle.std.proofs.Common.{◌≡◌, ◌<◌, ◌-◌, ◌*◌, ℕ, zero, s
 use Rattle.std.proofs.lemmas.List.{length-replicate}
 use Rattle.hive_model.specs.Image.{Address, File, Primary, Log, Content, Bytes, padded, sector_of, of_file, image_of}
 use Rattle.hive_cells.proofs.Tools.{IsBytes, IsBytes-drop, IsBytes-take}
-use Rattle.hive_laws.specs.Whole.{HasWholeSectors, HasBytes}
+use Rattle.hive_laws.specs.hive_laws.Whole.{HasWholeSectors, HasBytes}
 use Rattle.hive_laws.proofs.Sized.{bytes_append}
 
 abbrev held : List ℕ → Option Content

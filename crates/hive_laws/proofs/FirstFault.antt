@@ -11,7 +11,7 @@ use Rattle.hive_model.specs.Walk.{first_fault}
 use Rattle.hive_cells.proofs.Again.{one_list, one_fault, not_both}
 use Rattle.hive_cells.proofs.Either.{either_one}
 use Rattle.hive_read.proofs.Standing.{stands-where-none-fails}
-use Rattle.hive_laws.specs.Whole.{HasWholeSectors, HasBytes}
+use Rattle.hive_laws.specs.hive_laws.Whole.{HasWholeSectors, HasBytes}
 use Rattle.hive_laws.proofs.Sized.{recovered_small, recovered_bytes}
 
 some_same : (x y : HiveFault) (o : Option HiveFault) → o ≡ Some x → o ≡ Some y → x ≡ y

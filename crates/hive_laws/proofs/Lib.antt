@@ -13,3 +13,7 @@ pub mod Saved
 pub mod ReadBack
 pub mod WrittenLists
 pub mod SecurityRead
+pub mod KeptLemmas
+pub mod SavedLemmas
+pub mod UntornLemmas
+pub mod RoundTrip

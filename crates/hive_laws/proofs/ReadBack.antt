@@ -11,7 +11,7 @@ use Rattle.hive_model.proofs.BaseLemmas.{base_in_checked}
 use Rattle.hive_log.proofs.Appending.{sized}
 use Rattle.hive_log.proofs.Finding.{carries_recovered}
 use Rattle.hive_log.proofs.Opened.{IsCommitOf, opened_recovered}
-use Rattle.hive_laws.specs.Opened.{IsClosing, IsUnderWay}
+use Rattle.hive_laws.specs.hive_laws.Opened.{IsClosing, IsUnderWay}
 
 -- bins data of a size that a base block may have are whole bins
 pages : (size : ℕ) (bins : List ℕ) → size ≡ length bins → is_bins_size size ≡ true

@@ -7,8 +7,8 @@ use Rattle.hive_model.specs.Image.{Image, Address, File, Primary, Log, Content, 
 use Rattle.hive_model.specs.Load.{Loads}
 use Rattle.hive_model.specs.Recovery.{Recovered, primary_in, recovered_of}
 use Rattle.hive_model.specs.State.{HiveState}
-use Rattle.hive_laws.specs.Looking.{LooksAt}
-use Rattle.hive_laws.specs.Whole.{AreSaved}
+use Rattle.hive_laws.specs.hive_laws.Looking.{LooksAt}
+use Rattle.hive_laws.specs.hive_laws.Whole.{AreSaved}
 use Rattle.hive_laws.proofs.Alike.{recovered_alike}
 use Rattle.hive_laws.proofs.Found.{all_found}
 

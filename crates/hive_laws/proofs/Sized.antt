@@ -11,7 +11,7 @@ use Rattle.hive_model.specs.Image.{Image, Address, Content, Bytes, Unreadable}
 use Rattle.hive_model.specs.Asked.{log_at, bin_at}
 use Rattle.hive_model.specs.Recovery.{Recovered, Sectors, bytes_or, read_bin, read_log, joined, gathered, recovered_with, by_primary, bit, rank, first_dirty, picked, by_bits, bitmap_in, closed_by, goes_with, by_logged, logged_in, by_log, base_in, by_base, recovered_of}
 use Rattle.hive_model.proofs.BaseLemmas.{base_in_checked, logged_in_checked}
-use Rattle.hive_laws.specs.Whole.{HasWholeSectors, HasBytes}
+use Rattle.hive_laws.specs.hive_laws.Whole.{HasWholeSectors, HasBytes}
 use Rattle.hive_laws.proofs.Found.{went_on}
 
 -- ---- a run of sectors

@@ -10,7 +10,7 @@ use Rattle.hive_model.specs.Lists.{AreHints, ri_text}
 use Rattle.hive_model.specs.Packed.{list_text, part_places, parts, list_cells}
 use Rattle.hive_model.specs.InPlace.{PartsAt, PartedAt, IsPackedList}
 use Rattle.hive_model.proofs.Spelling.{length_lf, length_lh, length_ri}
-use Rattle.hive_laws.specs.Rows.{InARow}
+use Rattle.hive_laws.specs.hive_laws.Rows.{InARow}
 
 -- a list takes four bytes, and eight for each child
 list_long : (version : HiveVersion) (places : List ℕ) (hints : List (List ℕ)) → length places ≡ length hints

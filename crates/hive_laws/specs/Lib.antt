@@ -1,8 +1,3 @@
-pub mod Samples
-pub mod Trees
-pub mod Looking
-pub mod Cuts
-pub mod Whole
-pub mod Opened
-pub mod Rows
-pub mod Both
+pub mod hive_laws
+pub mod saved_laws
+pub mod packing_laws

@@ -1,7 +1,6 @@
 //! The log of a hive: what a commit writes first, and what a hive is recovered as.
 //!
-//! `log_sectors` spells the log of a change. The small functions on sectors and bits are what a commit
-//! shares with it, which writes the same log sector by sector. Rules: docs/format.md, "The log".
+//! The small functions on sectors and bits are what a commit writes a log with, sector by sector. Rules: docs/format.md, "The log".
 #![tactic(auto)]
 
 mod bitmap;
@@ -12,7 +11,6 @@ mod looking;
 mod marking;
 mod outcome;
 mod sectors;
-mod spelling;
 mod stops;
 
 pub use bitmap::{bitmap_sector, bitmap_sectors, first_dirty, has_bit};
@@ -23,5 +21,4 @@ pub use looking::{Reading, read_recovered};
 pub use marking::mark_dirty;
 pub use outcome::Recovered;
 pub use sectors::{copy_sector, logged_block};
-pub use spelling::log_sectors;
 pub use stops::LoadStop;

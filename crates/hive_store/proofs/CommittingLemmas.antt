@@ -17,7 +17,7 @@ use Rattle.hive_commit.specs.Stages.{closed_of, IsBeforeOrAfter, LoadsAsEither}
 use Rattle.hive_commit.specs.Stops.{IsCommitOn, EndsCommit}
 use Rattle.hive_commit.specs.declared.stops.CommitStop.{CommitStop}
 use Rattle.hive_commit.specs.declared.stops.CommitStop.TheVariants as commit
-use Rattle.saved_pages.specs.Overlay.{before}
+use Rattle.cell_tables.specs.saved_pages.Overlay.{before}
 use Rattle.hive_store.specs.Session.{Session, HasTree, IsSession, session_of, next_bins, next_root}
 use Rattle.hive_store.specs.Commits.{next_base, committed, committed_state}
 use Rattle.hive_store.proofs.SizedLemmas.{has_bytes}

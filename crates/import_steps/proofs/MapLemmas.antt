@@ -9,7 +9,7 @@ use Rattle.std.specs.Ordering.{is_eq, nat_cmp}
 use Rattle.std.specs.Str.{bytes_eq}
 use Rattle.std.proofs.lemmas.Map.Text.{is_eq-slice_cmp}
 use Rattle.nt_bytes.specs.Folding.{folded, folds_same}
-use Rattle.name_places.proofs.FoldLemmas.{same_from_order}
+use Rattle.nt_names.proofs.FoldLemmas.{same_from_order}
 use Rattle.import_steps.specs.Marks.{under}
 
 -- ---- names

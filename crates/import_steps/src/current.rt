@@ -10,9 +10,9 @@ ghost use Rattle.import_steps.specs.Current.{current_name, named_in, path_in, ch
 ghost use Rattle.import_steps.specs.Made.{made_steps};
 
 use nt_bytes::{Names, Row, Units, same_folded};
+use nt_names::startup_names::CURRENT_CONTROL_SET;
 use reg_tree::{Steps, TreeStep};
 use select_keys::set_name;
-use startup_names::CURRENT_CONTROL_SET;
 use std::alloc::{AllocError, Global};
 
 /// The steps to be made, and whether there is one after them that is refused since it deletes the set as a whole.

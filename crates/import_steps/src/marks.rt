@@ -3,8 +3,8 @@
 ghost use Rattle.std.specs.Prelude.{◌≡◌, IfOk};
 ghost use Rattle.import_steps.specs.Marks.{IsFresh, IsStart, IsPut, IsMarked, life_of, keys_of, values_of};
 
-use name_places::folded;
 use nt_bytes::Units;
+use nt_names::name_places::folded;
 use std::alloc::{AllocError, Global};
 use std::collections::BTreeMap;
 

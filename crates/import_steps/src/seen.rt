@@ -6,8 +6,8 @@ ghost use Rattle.import_steps.specs.Marks.{marked_child, base_child, child_by, b
 ghost use Rattle.import_steps.specs.Views.{seen_of};
 
 use crate::marks::{Life, Marks};
-use name_places::folded;
 use nt_bytes::Units;
+use nt_names::name_places::folded;
 use reg_tree::Key;
 use std::alloc::{AllocError, Global};
 

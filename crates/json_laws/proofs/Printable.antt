@@ -10,8 +10,8 @@ use Rattle.std.proofs.lemmas.List.Elements.{All-head, All-tail}
 use Rattle.std.proofs.lemmas.List.Folds.{list_all-append}
 use Rattle.nt_bytes.specs.Text.{is_printable}
 use Rattle.start_model.specs.Lines.{unit_text, escaped}
-use Rattle.line_text.specs.Objects.{Value, Number, Text, Numbers, Texts, Flag, Null, value_text, field_text, fields_text, opening_text}
-use Rattle.line_text.specs.Quoted.{quoted_unit, quoted}
+use Rattle.report_text.specs.line_text.Objects.{Value, Number, Text, Numbers, Texts, Flag, Null, value_text, field_text, fields_text, opening_text}
+use Rattle.report_text.specs.line_text.Quoted.{quoted_unit, quoted}
 use Rattle.json_laws.specs.Objects.{Object, is_word, IsNumber, AreUnits, IsValue, IsField, IsObject, IsPrintableLine, json_of}
 use Rattle.json_laws.proofs.Values.{is_digit, all_digits}
 

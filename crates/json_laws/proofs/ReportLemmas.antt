@@ -3,8 +3,8 @@ use Rattle.std.proofs.Common.{◌≡◌, ℕ, true, List, [], ◌∷◌, ◌++�
 use Rattle.std.specs.List.{AllByRecursion, flat_map, list_all}
 use Rattle.std.proofs.lemmas.Bool.{and_parts}
 use Rattle.std.proofs.lemmas.Grind.{flat_map-append}
-use Rattle.line_text.specs.declared.form.ReportForm.{ReportForm}
-use Rattle.line_text.specs.declared.form.ReportForm.TheVariants as forms
+use Rattle.report_text.specs.declared.line_text.form.ReportForm.{ReportForm}
+use Rattle.report_text.specs.declared.line_text.form.ReportForm.TheVariants as forms
 use Rattle.json_laws.specs.Objects.{Object, is_word, IsField, IsValue, IsObject, IsPrintableLine, json_of, jsons_of, told}
 use Rattle.json_laws.specs.Reports.{Field, Fields, Said, Reader, IsRead, IsReport, HasValues, HaveValues, printed, has_words}
 use Rattle.json_laws.proofs.Told.{parted_objects}

@@ -7,8 +7,8 @@ use Rattle.report_words.specs.declared.words.EventWord.{EventWord}
 use Rattle.report_words.specs.declared.line.Line.{Line}
 use Rattle.report_words.specs.declared.line.Line.TheVariants as lines
 use Rattle.start_model.specs.Lines.{commit_word, phase_word, event_word, refused_word, verdict_word, load_word, set_word, save_word}
-use Rattle.line_text.specs.Objects.{Value, Number, Text}
-use Rattle.line_objects.specs.Objects.{line_json, outcome_word, select_fields}
+use Rattle.report_text.specs.line_text.Objects.{Value, Number, Text}
+use Rattle.report_text.specs.line_objects.Objects.{line_json, outcome_word, select_fields}
 use Rattle.json_laws.specs.Objects.{Object, IsObject, json_of, told}
 use Rattle.json_laws.specs.Lines.{IsStartLine}
 use Rattle.json_laws.proofs.LineKinds.{Kind}

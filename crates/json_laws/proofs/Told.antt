@@ -3,7 +3,7 @@ use Rattle.std.proofs.Common.{◌≡◌, ℕ, ◌==◌, Bool, true, not, ◌&&�
 use Rattle.std.specs.Prelude.{codes}
 use Rattle.std.specs.List.{AllByRecursion}
 use Rattle.nt_bytes.specs.Text.{is_printable}
-use Rattle.line_text.specs.Objects.{Value, value_text, fields_text, opening_text}
+use Rattle.report_text.specs.line_text.Objects.{Value, value_text, fields_text, opening_text}
 use Rattle.json_laws.specs.Objects.{Object, is_word, IsField, IsObject, json_of, jsons_of, told, told_field}
 use Rattle.json_laws.proofs.Parts.{first_byte, rest_of, cancel, parted_where, apart}
 use Rattle.json_laws.proofs.Values.{ends, parted_value}

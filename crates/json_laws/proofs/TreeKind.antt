@@ -4,7 +4,7 @@ use Rattle.std.specs.Prelude.{bytes_eq, codes}
 use Rattle.hex.specs.Hex.{decode_of}
 use Rattle.hex.specs.declared.error.FromHexError.{FromHexError}
 use Rattle.hex.proofs.HexLemmas.{decode_of-encode_lower}
-use Rattle.line_text.specs.Objects.{Value, Number, Text}
+use Rattle.report_text.specs.line_text.Objects.{Value, Number, Text}
 use Rattle.tree_text.specs.TreeObjects.{TreeLine, HiveLine, KeyLine, ValueLine, line_json, value_fields}
 use Rattle.json_laws.specs.Objects.{Object, IsObject, json_of, told}
 use Rattle.json_laws.specs.TreeLines.{IsTreeLine}

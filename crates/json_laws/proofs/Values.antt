@@ -6,9 +6,9 @@ use Rattle.std.specs.Fmt.{decimal, digits, digits_onto, digit_glyph}
 use Rattle.std.proofs.lemmas.Bool.{false≢true, and_from, and_parts}
 use Rattle.std.proofs.lemmas.Bool.Decides.{nat_tests}
 use Rattle.std.proofs.lemmas.Fmt.{decimal_injective, decimal_nonempty}
-use Rattle.line_text.specs.Objects.{Value, Number, Text, Numbers, Texts, Flag, Null, value_text}
-use Rattle.line_text.specs.Quoted.{quoted}
-use Rattle.line_text.proofs.QuoteLemmas.{parted}
+use Rattle.report_text.specs.line_text.Objects.{Value, Number, Text, Numbers, Texts, Flag, Null, value_text}
+use Rattle.report_text.specs.line_text.Quoted.{quoted}
+use Rattle.report_text.proofs.QuoteLemmas.{parted}
 use Rattle.json_laws.specs.Objects.{IsNumber, AreUnits, IsValue, told_value}
 use Rattle.json_laws.proofs.Parts.{first_byte, rest_of, cancel, stops, parted_where, apart}
 use Rattle.json_laws.proofs.Lists.{parted_list}

@@ -13,7 +13,7 @@ use Rattle.report_words.specs.declared.words.CommitWord.TheVariants as commit_wo
 use Rattle.report_words.specs.declared.words.EventWord.TheVariants as event_words
 use Rattle.report_words.specs.declared.words.RefusedWord.TheVariants as reason_words
 use Rattle.start_model.specs.Lines.{commit_word, phase_word, event_word, refused_word, verdict_word, load_word, set_word, save_word}
-use Rattle.line_objects.specs.Objects.{outcome_word}
+use Rattle.report_text.specs.line_objects.Objects.{outcome_word}
 use Rattle.json_laws.specs.Objects.{AreUnits}
 use Rattle.json_laws.proofs.LineKinds.{pick}
 use Rattle.json_laws.proofs.Units.{word_units}

@@ -2,7 +2,7 @@
 use Rattle.std.specs.Prelude.{◌≡◌, ℕ, ◌<◌, ◌^◌, ◌==◌, Bool, true, ◌&&◌, not, List, [], ◌∷◌, ◌++◌, map, codes}
 use Rattle.std.specs.List.{All, AllByRecursion, flat_map, list_all}
 use Rattle.nt_bytes.specs.Text.{is_printable}
-use Rattle.line_text.specs.Objects.{Value, Number, Text, Numbers, Texts, Flag, Null, object_text}
+use Rattle.report_text.specs.line_text.Objects.{Value, Number, Text, Numbers, Texts, Flag, Null, object_text}
 
 -- ---- objects
 

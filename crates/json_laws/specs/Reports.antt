@@ -1,9 +1,9 @@
 -- What is a report in both of its forms, and what tells its text? (this project's own)
 use Rattle.std.specs.Prelude.{◌≡◌, ℕ, Bool, true, ◌&&◌, List, map}
 use Rattle.std.specs.List.{AllByRecursion, flat_map, list_all}
-use Rattle.line_text.specs.Objects.{Value}
-use Rattle.line_text.specs.declared.form.ReportForm.{ReportForm}
-use Rattle.line_text.specs.declared.form.ReportForm.TheVariants as forms
+use Rattle.report_text.specs.line_text.Objects.{Value}
+use Rattle.report_text.specs.declared.line_text.form.ReportForm.{ReportForm}
+use Rattle.report_text.specs.declared.line_text.form.ReportForm.TheVariants as forms
 use Rattle.json_laws.specs.Objects.{Object, is_word, IsValue, json_of, told_field}
 
 abbrev pub Field : Type 0

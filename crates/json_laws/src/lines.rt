@@ -3,7 +3,7 @@
 ghost use Rattle.std.specs.Prelude.{◌≡◌, ℕ, List, ◌++◌};
 ghost use Rattle.std.specs.List.{flat_map};
 ghost use Rattle.report_words.specs.declared.line.Line.{Line};
-ghost use Rattle.line_objects.specs.Objects.{line_json};
+ghost use Rattle.report_text.specs.line_objects.Objects.{line_json};
 ghost use Rattle.json_laws.specs.Lines.{IsStartLine, AreStartLines};
 ghost use Rattle.json_laws.specs.Objects.{IsPrintableLine};
 

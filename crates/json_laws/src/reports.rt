@@ -2,8 +2,8 @@
 
 ghost use Rattle.std.specs.Prelude.{◌≡◌, ℕ, List};
 ghost use Rattle.std.specs.List.{AllByRecursion};
-ghost use Rattle.line_text.specs.declared.form.ReportForm.{ReportForm};
-ghost use Rattle.line_text.specs.declared.form.ReportForm.TheVariants as forms;
+ghost use Rattle.report_text.specs.declared.line_text.form.ReportForm.{ReportForm};
+ghost use Rattle.report_text.specs.declared.line_text.form.ReportForm.TheVariants as forms;
 ghost use Rattle.json_laws.specs.Objects.{IsPrintableLine};
 ghost use Rattle.json_laws.specs.Reports.{Said, Reader, IsReport, HaveValues, printed};
 

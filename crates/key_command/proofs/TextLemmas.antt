@@ -6,10 +6,10 @@ use Rattle.hive_model.specs.Base.{version_of}
 use Rattle.hive_model.specs.Image.{Image}
 use Rattle.hive_model.specs.Tree.{Tree}
 use Rattle.hive_model.specs.Load.{state_of}
-use Rattle.hive_levels.specs.Cut.{Shows}
-use Rattle.judged_cells.specs.Judged.{JudgesCells, AreLoaded}
-use Rattle.judged_cells.specs.declared.judging.JudgedCells.{JudgedCells}
-use Rattle.key_command.specs.Texts.{PrintsOf}
+use Rattle.key_command.specs.hive_levels.Cut.{Shows}
+use Rattle.key_command.specs.judged_cells.Judged.{JudgesCells, AreLoaded}
+use Rattle.key_command.specs.declared.judged_cells.judging.JudgedCells.{JudgedCells}
+use Rattle.key_command.specs.key_command.Texts.{PrintsOf}
 
 pub prints_loaded : (image : Image) (text : Tree → List ℕ) (judged : JudgedCells) (l : AreLoaded image judged)
     (r : Result (List ℕ) ReadStop) → Shows (text l.tree) r → PrintsOf image text r

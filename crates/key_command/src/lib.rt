@@ -1,10 +1,7 @@
-//! `key`: one key of a hive, readable.
-//!
-//! `key` reads a hive and prints the key that a path means, and those of the levels below it that are asked for; or the first
-//! obstacle. It writes nothing and has no disk. The hive is judged whole, and no tree of it is made but of the keys that are printed.
+//! The command `key`: one key of a hive, read from its cells.
 #![tactic(auto)]
 
-mod command;
-mod text;
-
-pub use command::key;
+pub mod hive_levels;
+pub mod judged_cells;
+pub mod key_cells;
+pub mod key_command;

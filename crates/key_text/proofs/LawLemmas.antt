@@ -8,7 +8,7 @@ use Rattle.nt_bytes.specs.Front.{IsFront}
 use Rattle.hive_model.specs.Tree.{Tree, key, listed, find_key}
 use Rattle.hive_model.specs.Edit.{has_child}
 use Rattle.start_model.specs.Sets.{select_numbers_of, set_name, is_usable}
-use Rattle.line_text.specs.declared.form.ReportForm.{ReportForm}
+use Rattle.report_text.specs.declared.line_text.form.ReportForm.{ReportForm}
 use Rattle.key_text.specs.Lines.{KeyLine, NoKeyLine, EndLine, printed, printed_lines}
 use Rattle.key_text.specs.Blocks.{block_lines, key_lines}
 use Rattle.key_text.specs.Found.{current, means_current, true_path, spelled, found_key, found_lines, path_lines, no_key_lines, lines_of}

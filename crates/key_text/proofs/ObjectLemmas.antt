@@ -1,7 +1,7 @@
 -- An object by its beginning, its fields and its end.
 use Rattle.std.proofs.Common.{◌≡◌, ℕ, List, [], ◌∷◌, ◌++◌, ap, ◌∙◌, sym, append_assoc, append-nil}
 use Rattle.std.specs.Prelude.{Result, Ok, Err, OnOk, codes}
-use Rattle.line_text.specs.Objects.{Value, field_text, fields_text, opening_text, object_text}
+use Rattle.report_text.specs.line_text.Objects.{Value, field_text, fields_text, opening_text, object_text}
 
 pub object_parts : {E : Type 0} (r : Result (Unit {0}) E) (t t1 t2 t3 word : List ℕ) (fields : List (List ℕ × Value))
     → t1 ≡ t ++ opening_text word → t2 ≡ t1 ++ fields_text fields → OnOk r (t3 ≡ t2 ++ codes "}\n")

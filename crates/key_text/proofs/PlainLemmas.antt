@@ -14,7 +14,7 @@ use Rattle.nt_bytes.specs.Folding.{folded_unit, folds_same}
 use Rattle.nt_bytes.specs.Text.{is_printable, is_backslash}
 use Rattle.hive_model.specs.Tree.{Tree, head, children, is_named, find_key}
 use Rattle.hive_model.specs.Edit.{has_child}
-use Rattle.line_text.specs.Paths.{joined_path, begins_plain, is_plain, written, written_path}
+use Rattle.report_text.specs.line_text.Paths.{joined_path, begins_plain, is_plain, written, written_path}
 use Rattle.key_text.specs.Found.{current, means_current, true_path, spelled, found_key}
 use Rattle.key_text.specs.Words.{units_of, path_in}
 

@@ -5,9 +5,9 @@ use Rattle.std.specs.Int.{w16, w32, w64, from_le_bytes, to_le_bytes, to_be_bytes
 use Rattle.std.specs.Fmt.{decimal}
 use Rattle.hex.specs.Hex.{encode_lower}
 use Rattle.nt_bytes.specs.Text.{wide_of, is_zero}
-use Rattle.line_text.specs.Objects as objects
-use Rattle.line_text.specs.Objects.{Value}
-use Rattle.line_text.specs.Quoted.{quoted}
+use Rattle.report_text.specs.line_text.Objects as objects
+use Rattle.report_text.specs.line_text.Objects.{Value}
+use Rattle.report_text.specs.line_text.Quoted.{quoted}
 use Rattle.key_text.specs.declared.data.DataForm.{DataForm}
 use Rattle.key_text.specs.declared.data.DataForm.TheVariants.{Dword, Qword, Strings, Ended, Unended, Raw}
 

@@ -6,11 +6,11 @@ use Rattle.std.specs.Int.{w16, to_be_bytes}
 use Rattle.hex.specs.Hex.{encode_lower}
 use Rattle.hive_model.specs.Tree.{Item}
 use Rattle.start_model.specs.Lines.{name_text}
-use Rattle.line_text.specs.declared.form.ReportForm.{ReportForm}
-use Rattle.line_text.specs.declared.form.ReportForm.TheVariants as forms
-use Rattle.line_text.specs.Objects.{Value, Number, Text, Texts, object_text}
-use Rattle.line_text.specs.Paths.{written, written_path}
-use Rattle.line_text.specs.Quoted.{quoted}
+use Rattle.report_text.specs.declared.line_text.form.ReportForm.{ReportForm}
+use Rattle.report_text.specs.declared.line_text.form.ReportForm.TheVariants as forms
+use Rattle.report_text.specs.line_text.Objects.{Value, Number, Text, Texts, object_text}
+use Rattle.report_text.specs.line_text.Paths.{written, written_path}
+use Rattle.report_text.specs.line_text.Quoted.{quoted}
 use Rattle.key_text.specs.Data.{form_of, form_text, form_fields, bytes_fields}
 use Rattle.key_text.specs.Kinds.{kind_text}
 use Rattle.key_text.specs.Stamps.{stamp_text}

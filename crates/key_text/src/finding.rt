@@ -5,9 +5,9 @@ ghost use Rattle.hive_model.specs.Valid.{HoldsKeys};
 ghost use Rattle.key_text.specs.Found.{means_current, default_path, true_path, spelled};
 
 use nt_bytes::{Names, Units, same_folded};
+use nt_names::startup_names::CURRENT_CONTROL_SET;
 use reg_tree::Key;
 use select_keys::{select_numbers, set_name, set_of};
-use startup_names::CURRENT_CONTROL_SET;
 use std::alloc::{AllocError, Global};
 
 fn means_current(root: &Key, name: &[u16]) -> bool

@@ -3,7 +3,7 @@
 ghost use Rattle.std.specs.Prelude.{◌≡◌, ◌++◌, slice_get, option_map, OnOk};
 ghost use Rattle.key_text.specs.Kinds.{kind_names, kind_digits, kind_text};
 
-use line_text::push_hex;
+use report_text::line_text::push_hex;
 use std::alloc::{AllocError, Global};
 
 /// The name of a type from 0 to 11.

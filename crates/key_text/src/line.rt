@@ -1,18 +1,18 @@
 //! The lines, each in one of the two forms.
 
 ghost use Rattle.std.specs.Prelude.{◌≡◌, [], ◌∷◌, ◌++◌, codes, OnOk};
-ghost use Rattle.line_text.specs.Objects.{Text, fields_text, object_text};
+ghost use Rattle.report_text.specs.line_text.Objects.{Text, fields_text, object_text};
 ghost use Rattle.key_text.specs.Data.{bytes_fields};
 ghost use Rattle.key_text.specs.Lines.{RootLine, KeyAtLine, StampLine, FlagsLine, ClassLine, ClassBytesLine, SecurityLine, SubkeyLine, NoKeyLine, EndLine, counted_text, refused_fields, line_json, printed};
 
 use crate::printing::push_bytes_fields;
 use crate::stamp::{push_moment, push_moment_field};
-use boot_report::push_name;
-use line_text::{
+use nt_bytes::Units;
+use report_text::boot_report::push_name;
+use report_text::line_text::{
     ReportForm, close_object, open_object, push_hex, push_number, push_number_field, push_path,
     push_quoted, push_text_field, push_texts_field, push_word_field, push_written,
 };
-use nt_bytes::Units;
 use std::alloc::{AllocError, Global};
 
 // ---- objects

@@ -5,16 +5,16 @@ ghost use Rattle.std.specs.List.{flat_map};
 ghost use Rattle.std.specs.Fmt.{decimal};
 ghost use Rattle.std.specs.Int.{w32, w64, to_be_bytes};
 ghost use Rattle.hex.specs.Hex.{encode_lower};
-ghost use Rattle.line_text.specs.Objects.{fields_text};
-ghost use Rattle.line_text.specs.Quoted.{quoted};
+ghost use Rattle.report_text.specs.line_text.Objects.{fields_text};
+ghost use Rattle.report_text.specs.line_text.Quoted.{quoted};
 ghost use Rattle.key_text.specs.Data.{raw_text, form_text, bytes_fields, string_fields, form_fields};
 
 use crate::data::DataForm;
-use line_text::{
+use nt_bytes::Units;
+use report_text::line_text::{
     push_flag_field, push_hex, push_number, push_number_field, push_quoted, push_text_field,
     push_texts_field, push_word_field,
 };
-use nt_bytes::Units;
 use std::alloc::{AllocError, Global};
 
 /// Appends bytes after their count.

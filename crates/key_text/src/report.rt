@@ -9,9 +9,9 @@ ghost use Rattle.key_text.specs.Found.{no_key_lines, found_lines, path_lines, li
 use crate::finding::{spelled, true_path};
 use crate::line::{push_end, push_no_key};
 use crate::walk::push_key;
-use line_text::ReportForm;
 use nt_bytes::{Bytes, Names, Units};
 use reg_tree::Key;
+use report_text::line_text::ReportForm;
 use std::alloc::{AllocError, Global};
 
 fn push_nothing(out: &mut Vec<u8>, form: ReportForm) -> Result<(), AllocError>

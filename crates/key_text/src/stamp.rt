@@ -1,11 +1,11 @@
 //! Time stamps as texts.
 
 ghost use Rattle.std.specs.Prelude.{◌≡◌, ◌+◌, ◌++◌, ◌<◌, codes, OnOk};
-ghost use Rattle.line_text.specs.Objects.{Text, field_text};
+ghost use Rattle.report_text.specs.line_text.Objects.{Text, field_text};
 ghost use Rattle.key_text.specs.Stamps.{two_digits, year_text, date_text, clock_text, fraction_text, stamp_text};
 
 use crate::date::{Date, date_of};
-use line_text::{push_number, push_word_field};
+use report_text::line_text::{push_number, push_word_field};
 use std::alloc::{AllocError, Global};
 
 fn digit(value: u32) -> u8

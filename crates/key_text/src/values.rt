@@ -1,7 +1,7 @@
 //! The lines of values.
 
 ghost use Rattle.std.specs.Prelude.{◌≡◌, ◌++◌, map, codes, OnOk};
-ghost use Rattle.line_text.specs.Objects.{Text, field_text, fields_text};
+ghost use Rattle.report_text.specs.line_text.Objects.{Text, field_text, fields_text};
 ghost use Rattle.key_text.specs.Kinds.{kind_text};
 ghost use Rattle.key_text.specs.Data.{form_of, form_fields};
 ghost use Rattle.key_text.specs.Lines.{ValueLine, value_text, value_fields, value_json, printed, printed_lines};
@@ -9,10 +9,10 @@ ghost use Rattle.key_text.specs.Lines.{ValueLine, value_text, value_fields, valu
 use crate::data::data_form;
 use crate::kind::push_kind;
 use crate::printing::{push_form, push_form_fields};
-use line_text::{
+use reg_tree::Value;
+use report_text::line_text::{
     ReportForm, close_object, open_object, push_quoted, push_text_field, push_word_field,
 };
-use reg_tree::Value;
 use std::alloc::{AllocError, Global};
 
 #[tactic(auto, unfolding(crate::specs::Lines::value_text))]

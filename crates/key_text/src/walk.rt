@@ -10,9 +10,9 @@ use crate::line::{
     push_subkey,
 };
 use crate::values::push_values;
-use line_text::ReportForm;
 use nt_bytes::{Units, wide};
 use reg_tree::Key;
+use report_text::line_text::ReportForm;
 use std::alloc::{AllocError, Global};
 
 fn push_title(

@@ -3,7 +3,7 @@ use Rattle.std.proofs.Common.{◌≡◌, ◌++◌, ◌==◌, ℕ, Bool, true, fa
 use Rattle.std.proofs.lemmas.Bool.{eq-eqb}
 use Rattle.std.proofs.Math.Seq.{take-append_seam}
 use Rattle.hive_model.specs.Base.{Base}
-use Rattle.log_parts.specs.Filled.{filled}
+use Rattle.windows_logs.specs.log_parts.Filled.{filled}
 use Rattle.log_replay.specs.declared.line.ReplayLine.{ReplayLine}
 use Rattle.log_replay.specs.declared.line.ReplayLine.TheVariants.{Sequence}
 use Rattle.log_replay.specs.declared.reading.GivenLog.{GivenLog}

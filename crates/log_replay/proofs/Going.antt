@@ -4,8 +4,8 @@ use Rattle.log_replay.specs.declared.line.ReplayLine.{ReplayLine}
 use Rattle.log_replay.specs.declared.line.ReplayLine.TheVariants.{Fault, Apply}
 use Rattle.log_replay.specs.declared.reading.GivenLog.{GivenLog}
 use Rattle.log_replay.specs.declared.entries.HiveNow.{HiveNow}
-use Rattle.log_parts.specs.declared.fault.LogFaultKind.TheVariants.{EntryGrow}
-use Rattle.entry_log.specs.Growing.{grows_whole, page_bytes}
+use Rattle.windows_logs.specs.declared.log_parts.fault.LogFaultKind.TheVariants.{EntryGrow}
+use Rattle.windows_logs.specs.entry_log.Growing.{grows_whole, page_bytes}
 use Rattle.log_replay.specs.Entries.{Chosen, chosen, with_entry, Step, stepped, step_of, Replayed, after, going, replay_by}
 
 module _ (logs : List GivenLog) (hive : HiveNow) (n m : ℕ) (more : n ≡ m + 1) where

@@ -2,11 +2,11 @@
 use Rattle.std.proofs.Common.{◌≡◌, ◌<◌, ◌+◌, ◌-◌, ◌/◌, ◌%◌, ◌^◌, ℕ, zero, suc, true, List, ◌∷◌, length, Some, None, refl, sym, ap, ◌∙◌, arith}
 use Rattle.std.specs.Prelude.{slice_get}
 use Rattle.std.proofs.lemmas.Bool.{eqb-true}
-use Rattle.entry_log.specs.declared.entry.Entry.{Entry}
-use Rattle.entry_log.specs.declared.entry.Found.{Found}
-use Rattle.entry_log.specs.declared.entry.Found.TheVariants.{NoEntry, Broken, Whole}
-use Rattle.entry_log.specs.Runs.{follows, found_at, run_by, run_from, run_of}
-use Rattle.entry_log.proofs.Going.{found_whole}
+use Rattle.windows_logs.specs.declared.entry_log.entry.Entry.{Entry}
+use Rattle.windows_logs.specs.declared.entry_log.entry.Found.{Found}
+use Rattle.windows_logs.specs.declared.entry_log.entry.Found.TheVariants.{NoEntry, Broken, Whole}
+use Rattle.windows_logs.specs.entry_log.Runs.{follows, found_at, run_by, run_from, run_of}
+use Rattle.windows_logs.proofs.Going.{found_whole}
 use Rattle.log_replay.specs.Entries.{numbered}
 use Rattle.log_replay.specs.Laws.{FirstFits}
 

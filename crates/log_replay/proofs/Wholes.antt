@@ -4,20 +4,20 @@ use Rattle.std.specs.Prelude.{slice_get, take}
 use Rattle.std.proofs.lemmas.Bool.{leb-true}
 use Rattle.nt_bytes.specs.declared.fault.HiveFault.{HiveFault}
 use Rattle.hive_model.specs.Base.{Base}
-use Rattle.log_parts.specs.declared.fault.LogFault.{LogFault}
-use Rattle.log_parts.specs.declared.base.FileRole.TheVariants as roles
-use Rattle.log_parts.specs.Filled.{filled}
-use Rattle.log_parts.specs.Wide.{wide_base_of}
-use Rattle.entry_log.specs.declared.entry.Entry.{Entry}
-use Rattle.entry_log.specs.declared.entry.Found.{Found}
-use Rattle.entry_log.specs.declared.entry.Found.TheVariants.{NoEntry, Broken, Whole}
-use Rattle.entry_log.specs.Entries.{IsWhole}
-use Rattle.entry_log.specs.Runs.{found_at, run_by, run_from}
-use Rattle.entry_log.proofs.Going.{found_whole}
-use Rattle.dirt_log.specs.declared.reading.OldReading.{OldReading}
-use Rattle.dirt_log.specs.declared.reading.OldReading.TheVariants as old
-use Rattle.dirt_log.specs.Dirt.{first_failing, dirt_checks, whole_or, old_reading_of, IsLong, fault_at}
-use Rattle.log_parts.specs.declared.fault.LogFaultKind.TheVariants.{LogSequence}
+use Rattle.windows_logs.specs.declared.log_parts.fault.LogFault.{LogFault}
+use Rattle.windows_logs.specs.declared.log_parts.base.FileRole.TheVariants as roles
+use Rattle.windows_logs.specs.log_parts.Filled.{filled}
+use Rattle.windows_logs.specs.log_parts.Wide.{wide_base_of}
+use Rattle.windows_logs.specs.declared.entry_log.entry.Entry.{Entry}
+use Rattle.windows_logs.specs.declared.entry_log.entry.Found.{Found}
+use Rattle.windows_logs.specs.declared.entry_log.entry.Found.TheVariants.{NoEntry, Broken, Whole}
+use Rattle.windows_logs.specs.entry_log.Entries.{IsWhole}
+use Rattle.windows_logs.specs.entry_log.Runs.{found_at, run_by, run_from}
+use Rattle.windows_logs.proofs.Going.{found_whole}
+use Rattle.windows_logs.specs.declared.dirt_log.reading.OldReading.{OldReading}
+use Rattle.windows_logs.specs.declared.dirt_log.reading.OldReading.TheVariants as old
+use Rattle.windows_logs.specs.dirt_log.Dirt.{first_failing, dirt_checks, whole_or, old_reading_of, IsLong, fault_at}
+use Rattle.windows_logs.specs.declared.log_parts.fault.LogFaultKind.TheVariants.{LogSequence}
 use Rattle.log_replay.specs.declared.reading.LogReading.{LogReading}
 use Rattle.log_replay.specs.declared.reading.LogReading.TheVariants as readings
 use Rattle.log_replay.specs.declared.reading.GivenLog.{GivenLog}

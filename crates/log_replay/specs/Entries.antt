@@ -1,12 +1,12 @@
 -- Which entries are applied to a dirty hive, and what do they make of it? (Windows's rule of recovery; that of several entries of
 -- one number the first log's is taken is this project's own)
 use Rattle.std.specs.Prelude.{◌+◌, ◌-◌, ◌%◌, ◌^◌, Bool, true, false, ℕ, zero, suc, if◌then◌else◌, List, [], ◌∷◌, ◌++◌, length, replicate, slice_get, Option, Some, None, ◌*◌}
-use Rattle.log_parts.specs.declared.fault.LogFaultKind.TheVariants.{EntryGrow}
-use Rattle.log_parts.specs.Filled.{filled}
-use Rattle.log_parts.specs.Pages.{put_pages}
-use Rattle.entry_log.specs.declared.entry.Entry.{Entry}
-use Rattle.entry_log.specs.Entries.{pages_of}
-use Rattle.entry_log.specs.Growing.{grows_whole, page_bytes}
+use Rattle.windows_logs.specs.declared.log_parts.fault.LogFaultKind.TheVariants.{EntryGrow}
+use Rattle.windows_logs.specs.log_parts.Filled.{filled}
+use Rattle.windows_logs.specs.log_parts.Pages.{put_pages}
+use Rattle.windows_logs.specs.declared.entry_log.entry.Entry.{Entry}
+use Rattle.windows_logs.specs.entry_log.Entries.{pages_of}
+use Rattle.windows_logs.specs.entry_log.Growing.{grows_whole, page_bytes}
 use Rattle.log_replay.specs.declared.line.ReplayLine.{ReplayLine}
 use Rattle.log_replay.specs.declared.line.ReplayLine.TheVariants.{Fault, Apply}
 use Rattle.log_replay.specs.declared.reading.GivenLog.{GivenLog}

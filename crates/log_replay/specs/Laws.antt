@@ -1,6 +1,6 @@
 -- What do the laws on a run of entries ask?
 use Rattle.std.specs.Prelude.{◌<◌, ◌^◌, List, [], ◌∷◌}
-use Rattle.entry_log.specs.declared.entry.Entry.{Entry}
+use Rattle.windows_logs.specs.declared.entry_log.entry.Entry.{Entry}
 
 -- the number of the first entry, where there is one, fits four bytes
 abbrev pub FirstFits : List Entry → Type 0

@@ -1,10 +1,10 @@
 -- Which old log is applied where no entry was, and what does it make of the hive? (this project's own)
 use Rattle.std.specs.Prelude.{◌==◌, Bool, true, ℕ, if◌then◌else◌, List, [], ◌∷◌, Option, Some, None}
 use Rattle.hive_model.specs.Base.{Base}
-use Rattle.log_parts.specs.Pages.{put_pages}
-use Rattle.dirt_log.specs.declared.reading.OldReading.{OldReading}
-use Rattle.dirt_log.specs.declared.reading.OldReading.TheVariants as old
-use Rattle.dirt_log.specs.Dirt.{old_pages_of}
+use Rattle.windows_logs.specs.log_parts.Pages.{put_pages}
+use Rattle.windows_logs.specs.declared.dirt_log.reading.OldReading.{OldReading}
+use Rattle.windows_logs.specs.declared.dirt_log.reading.OldReading.TheVariants as old
+use Rattle.windows_logs.specs.dirt_log.Dirt.{old_pages_of}
 use Rattle.log_replay.specs.declared.reading.LogReading.{LogReading}
 use Rattle.log_replay.specs.declared.reading.LogReading.TheVariants.{Empty, Broken, New, Old}
 use Rattle.log_replay.specs.declared.reading.GivenLog.{GivenLog}

@@ -2,16 +2,16 @@
 use Rattle.std.specs.Prelude.{◌==◌, ◌-◌, ℕ, if◌then◌else◌, List, [], ◌∷◌, ◌++◌, length, take, slice_index_or, Option, Some, None, Result, Ok, Err}
 use Rattle.nt_bytes.specs.declared.fault.HiveFault.{HiveFault}
 use Rattle.hive_model.specs.Base.{Base}
-use Rattle.log_parts.specs.declared.base.FileRole.TheVariants as roles
-use Rattle.log_parts.specs.declared.fault.LogFault.{LogFault}
-use Rattle.log_parts.specs.declared.fault.LogFaultKind.TheVariants.{LogBase}
-use Rattle.log_parts.specs.Wide.{wide_base_of}
-use Rattle.entry_log.specs.declared.entry.Entry.{Entry}
-use Rattle.entry_log.specs.Entries.{IsWhole}
-use Rattle.entry_log.specs.Runs.{run_of}
-use Rattle.dirt_log.specs.declared.reading.OldReading.{OldReading}
-use Rattle.dirt_log.specs.declared.reading.OldReading.TheVariants as old
-use Rattle.dirt_log.specs.Dirt.{old_reading_of, IsLong}
+use Rattle.windows_logs.specs.declared.log_parts.base.FileRole.TheVariants as roles
+use Rattle.windows_logs.specs.declared.log_parts.fault.LogFault.{LogFault}
+use Rattle.windows_logs.specs.declared.log_parts.fault.LogFaultKind.TheVariants.{LogBase}
+use Rattle.windows_logs.specs.log_parts.Wide.{wide_base_of}
+use Rattle.windows_logs.specs.declared.entry_log.entry.Entry.{Entry}
+use Rattle.windows_logs.specs.entry_log.Entries.{IsWhole}
+use Rattle.windows_logs.specs.entry_log.Runs.{run_of}
+use Rattle.windows_logs.specs.declared.dirt_log.reading.OldReading.{OldReading}
+use Rattle.windows_logs.specs.declared.dirt_log.reading.OldReading.TheVariants as old
+use Rattle.windows_logs.specs.dirt_log.Dirt.{old_reading_of, IsLong}
 use Rattle.log_replay.specs.declared.line.LogName.{LogName}
 use Rattle.log_replay.specs.declared.line.ReplayLine.{ReplayLine}
 use Rattle.log_replay.specs.declared.line.ReplayLine.TheVariants as lines

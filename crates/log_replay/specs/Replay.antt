@@ -6,10 +6,10 @@ use Rattle.std.specs.Prelude.{◌+◌, ◌*◌, ◌==◌, true, false, nat_le, �
 use Rattle.nt_bytes.specs.declared.fault.HiveFault.{HiveFault}
 use Rattle.nt_bytes.specs.declared.fault.HiveFaultKind.TheVariants.{NotRegf, Size}
 use Rattle.hive_model.specs.Base.{Base, base_text, fault_at}
-use Rattle.log_parts.specs.declared.base.FileRole.TheVariants.{Hive}
-use Rattle.log_parts.specs.Wide.{wide_base_of}
-use Rattle.log_parts.specs.Filled.{filled}
-use Rattle.log_parts.specs.Pages.{put_at}
+use Rattle.windows_logs.specs.declared.log_parts.base.FileRole.TheVariants.{Hive}
+use Rattle.windows_logs.specs.log_parts.Wide.{wide_base_of}
+use Rattle.windows_logs.specs.log_parts.Filled.{filled}
+use Rattle.windows_logs.specs.log_parts.Pages.{put_at}
 use Rattle.log_replay.specs.declared.line.ReplayLine.{ReplayLine}
 use Rattle.log_replay.specs.declared.line.ReplayLine.TheVariants as lines
 use Rattle.log_replay.specs.declared.reading.GivenLog.{GivenLog}

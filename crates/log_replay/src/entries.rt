@@ -1,17 +1,17 @@
 //! Applying the entries of logs.
 
 ghost use Rattle.std.specs.Prelude.{◌≡◌, ◌≤◌, ◌<◌, ◌+◌, ◌++◌, Some, IfOk, OnOk, length, option_map};
-ghost use Rattle.entry_log.specs.Entries.{IsWhole};
+ghost use Rattle.windows_logs.specs.entry_log.Entries.{IsWhole};
 ghost use Rattle.log_replay.specs.Entries.{numbered, chosen, roomy, with_entry, stepped, step_of, replayed_by};
 ghost use Rattle.log_replay.specs.Reading.{AreWholeLogs};
 ghost use Rattle.log_replay.specs.Seen.{found_seen};
 
 use crate::line::ReplayLine;
 use crate::reading::{GivenLog, entries_in};
-use entry_log::{Entry, grows_whole, page_bytes, put_entry};
-use log_parts::{LogFaultKind, fill};
 use nt_bytes::{Bytes, Row};
 use std::alloc::{AllocError, Global};
+use windows_logs::entry_log::{Entry, grows_whole, page_bytes, put_entry};
+use windows_logs::log_parts::{LogFaultKind, fill};
 
 /// A hive between two entries.
 #[derive(Drop)]

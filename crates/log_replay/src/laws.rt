@@ -1,11 +1,11 @@
 //! What the definitions mean, in the subject's words.
 
 ghost use Rattle.std.specs.Prelude.{◌≡◌, ◌<◌, ◌^◌, ℕ, List, Some, Ok, IfOk};
-ghost use Rattle.entry_log.specs.declared.entry.Entry.{Entry};
-ghost use Rattle.entry_log.specs.Runs.{run_of};
+ghost use Rattle.windows_logs.specs.declared.entry_log.entry.Entry.{Entry};
+ghost use Rattle.windows_logs.specs.entry_log.Runs.{run_of};
 ghost use Rattle.log_replay.specs.Entries.{numbered};
 ghost use Rattle.hive_model.specs.Base.{Base};
-ghost use Rattle.log_parts.specs.Filled.{filled};
+ghost use Rattle.windows_logs.specs.log_parts.Filled.{filled};
 ghost use Rattle.log_replay.specs.declared.replaying.LogFile.{LogFile};
 ghost use Rattle.log_replay.specs.Replay.{hive_base_of, replay_of};
 ghost use Rattle.log_replay.specs.Laws.{FirstFits};

@@ -1,6 +1,6 @@
 //! The lines of a report on a replay.
 
-use log_parts::LogFaultKind;
+use windows_logs::log_parts::LogFaultKind;
 
 /// Which of the three logs.
 #[derive(Clone, Copy, Debug, PartialEq, Eq)]

@@ -1,16 +1,16 @@
 //! Applying an old log.
 
 ghost use Rattle.std.specs.Prelude.{◌≡◌, ◌≤◌, OnOk, length, option_map};
-ghost use Rattle.dirt_log.specs.Dirt.{IsLong};
+ghost use Rattle.windows_logs.specs.dirt_log.Dirt.{IsLong};
 ghost use Rattle.log_replay.specs.Old.{whole_as, whole_old, is_wanted, wanted_old, first_old, chosen_old, with_old};
 ghost use Rattle.log_replay.specs.Seen.{old_seen};
 
 use crate::entries::make_room;
 use crate::reading::{GivenLog, LogReading};
-use dirt_log::{OldReading, put_old};
 use nt_bytes::Bytes;
 use regf_base::BaseBlock;
 use std::alloc::AllocError;
+use windows_logs::dirt_log::{OldReading, put_old};
 
 /// A whole old log: its base block, and how many sectors it has.
 #[derive(Clone, Copy)]

@@ -1,16 +1,16 @@
 //! What a log is to a dirty hive.
 
 ghost use Rattle.std.specs.Prelude.{◌≡◌, ◌≤◌, ◌*◌, ◌/◌, ◌++◌, length, take, IfOk, OnOk};
-ghost use Rattle.log_parts.specs.Wide.{wide_base_of};
+ghost use Rattle.windows_logs.specs.log_parts.Wide.{wide_base_of};
 ghost use Rattle.log_replay.specs.Reading.{based, reading_of, entries_in, run_line, fault_lines, old_line, reading_lines};
 
 use crate::line::{LogName, ReplayLine};
-use dirt_log::{OldReading, read_old};
-use entry_log::{Entry, Run, read_run};
-use log_parts::{FileRole, LogFault, LogFaultKind, read_wide};
 use nt_bytes::{Bytes, HiveFault, Row};
 use regf_base::BaseBlock;
 use std::alloc::{AllocError, Global};
+use windows_logs::dirt_log::{OldReading, read_old};
+use windows_logs::entry_log::{Entry, Run, read_run};
+use windows_logs::log_parts::{FileRole, LogFault, LogFaultKind, read_wide};
 
 /// What a log is to a dirty hive.
 #[derive(Drop)]

@@ -1,8 +1,8 @@
 //! What the logs of Windows make of a hive.
 
 ghost use Rattle.std.specs.Prelude.{◌≡◌, ◌≤◌, ◌*◌, ◌/◌, ◌++◌, length, take, map, Ok, IsOk, IfOk, OnOk};
-ghost use Rattle.dirt_log.specs.Dirt.{IsLong};
-ghost use Rattle.log_parts.specs.Filled.{filled};
+ghost use Rattle.windows_logs.specs.dirt_log.Dirt.{IsLong};
+ghost use Rattle.windows_logs.specs.log_parts.Filled.{filled};
 ghost use Rattle.log_replay.specs.Reading.{AreWholeLogs, readings_lines};
 ghost use Rattle.log_replay.specs.Old as old;
 ghost use Rattle.log_replay.specs.Replay.{with_bins, hive_base_of, given, with_base, kept, by_entries, after_old, by_old, dirty_of, outcome_of, replayed_as, replay_of};
@@ -13,10 +13,10 @@ use crate::entries::{HiveNow, replay_entries};
 use crate::line::{LogName, ReplayLine};
 use crate::old::{FoundOld, apply_old, chosen_old};
 use crate::reading::{GivenLog, first_base, push_reading, read_log};
-use log_parts::{FileRole, fill};
 use nt_bytes::{Bytes, HiveFault, HiveFaultKind, ReadStop, Row};
 use regf_base::{BaseBlock, base_bytes};
 use std::alloc::{AllocError, Global};
+use windows_logs::log_parts::{FileRole, fill};
 
 /// A log's file.
 #[derive(Drop)]

@@ -3,9 +3,9 @@ use Rattle.std.proofs.Common.{arith, ◌≡◌, inl, inr, ⊎_elim, ◌++◌, �
 use Rattle.std.proofs.lemmas.List.{append-nil}
 use Rattle.nt_edge.specs.Disk.{DiskState, IsBounded}
 use Rattle.nt_edge.specs.Host.{HostState, SaysFront}
-use Rattle.mend_command.specs.declared.status.MendStatus.{MendStatus}
-use Rattle.mend_command.specs.declared.status.MendStatus.TheVariants.{Done, WriteFault, Memory, Device, Cut}
-use Rattle.mend_command.specs.Ends.{Told, DiskGoes}
+use Rattle.mend_command.specs.declared.mend_command.status.MendStatus.{MendStatus}
+use Rattle.mend_command.specs.declared.mend_command.status.MendStatus.TheVariants.{Done, WriteFault, Memory, Device, Cut}
+use Rattle.mend_command.specs.mend_command.Ends.{Told, DiskGoes}
 
 -- ---- what was printed
 

@@ -1,1 +1,3 @@
+pub mod LoadingCalls
+pub mod MendingLemmas
 pub mod EndLemmas

@@ -1,3 +1,2 @@
-pub mod Exits
-pub mod Lines
-pub mod Ends
+pub mod hive_mend
+pub mod mend_command

@@ -23,6 +23,3 @@ pub use strings::{multi_sz, narrow, sz, wide};
 pub use text::{are_digits, first_line, hex_digit, is_named, trim, value_of};
 pub use units::Units;
 pub use version::HiveVersion;
-
-#[cfg(test)]
-mod tests;

@@ -1,6 +1,6 @@
 //! The hive that a disk holds, as one that loads without its log.
 
-use command_parts::MOST_FILE;
+use command_parts::command_parts::MOST_FILE;
 use hive_commit::recover;
 use hive_log::LoadStop;
 use mem_edge::MemDisk;

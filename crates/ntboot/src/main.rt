@@ -11,7 +11,7 @@ use command_words::texts;
 use mem_edge::MemDisk;
 use nt_edge::HostStop;
 use ntboot_cli::{Status, ntboot};
-use refusal_reason::{Noted, explain};
+use refusal_reason::refusal_reason::{Noted, explain};
 use standard_host::{StandardHost, SystemFiles, take_standard_descriptors};
 use std::alloc::Global;
 use std::env;

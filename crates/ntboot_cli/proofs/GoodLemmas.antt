@@ -7,12 +7,12 @@ use Rattle.start_model.specs.Possible.{Woken}
 use Rattle.start_model.specs.Boot.{Choice}
 use Rattle.start_model.specs.Run.{run_of}
 use Rattle.start_model.specs.Fits.{ArePossible, KeepsGood, woke_in, outcomes_of}
-use Rattle.line_text.specs.declared.form.ReportForm.{ReportForm}
-use Rattle.printed_parts.specs.Parts.{Told}
-use Rattle.printed_parts.specs.Reports.{Reports, ReportsFront}
+use Rattle.report_text.specs.declared.line_text.form.ReportForm.{ReportForm}
+use Rattle.run_parts.specs.printed_parts.Parts.{Told}
+use Rattle.run_parts.specs.printed_parts.Reports.{Reports, ReportsFront}
 use Rattle.start_laws.proofs.ReportLemmas.{report-possible, front-possible, front-shorter}
-use Rattle.good_laws.proofs.FitLemmas.{fits_whole, fits_front}
-use Rattle.good_laws.proofs.RunLemmas.{run_of-keeps_good}
+use Rattle.kept_laws.proofs.FitLemmas.{fits_whole, fits_front}
+use Rattle.kept_laws.proofs.RunLemmas.{run_of-keeps_good}
 
 pub whole_good : (choice : Option ℕ → Choice) (script : List Event) (placed : Woken) (told told' : Told)
     (before after : DiskState) (r : Reports (run_of choice script placed) told told' before after)

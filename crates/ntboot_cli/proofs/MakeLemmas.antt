@@ -13,28 +13,28 @@ use Rattle.start_model.specs.Act.{Note}
 use Rattle.start_model.specs.Boot.{Choice}
 use Rattle.start_model.specs.Report.{Going}
 use Rattle.start_model.specs.Summary.{Summary, no_summary, summary_of}
-use Rattle.run_parts.specs.Parts.{Grew, cuts_behind, Told as TextTold}
-use Rattle.run_parts.specs.Reports.{Reports, ReportsFront}
-use Rattle.printed_parts.proofs.ReportLemmas.{text_report, text_front}
+use Rattle.run_parts.specs.run_parts.Parts.{Grew, cuts_behind, Told as TextTold}
+use Rattle.run_parts.specs.run_parts.Reports.{Reports, ReportsFront}
+use Rattle.run_parts.proofs.ReportLemmas.{text_report, text_front}
 use Rattle.boot_run.specs.declared.summary.Summary.{Summary as RunSummary}
 use Rattle.boot_run.specs.Choices.{choices}
 use Rattle.boot_run.specs.Views.{summary_in}
 use Rattle.command_words.specs.Words.{MakeAsked}
-use Rattle.order_laws.specs.Unordered.{AreUnordered}
-use Rattle.order_laws.proofs.QuietLemmas.{reports-summary, reports-loads, reports-uncounted}
-use Rattle.order_laws.proofs.UnorderedLemmas.{AreNoOrders, no_orders, no_cuts, front_notes, run_of-notes}
-use Rattle.command_parts.specs.declared.inputs.HiveFiles.{HiveFiles}
+use Rattle.kept_laws.specs.order_laws.Unordered.{AreUnordered}
+use Rattle.kept_laws.proofs.QuietLemmas.{reports-summary, reports-loads, reports-uncounted}
+use Rattle.kept_laws.proofs.UnorderedLemmas.{AreNoOrders, no_orders, no_cuts, front_notes, run_of-notes}
+use Rattle.command_parts.specs.declared.command_parts.inputs.HiveFiles.{HiveFiles}
 use Rattle.ntboot_cli.specs.declared.making.Usual.{Usual}
-use Rattle.command_parts.specs.declared.status.Status.{Status}
-use Rattle.command_parts.specs.declared.status.Status.TheVariants as statuses
+use Rattle.command_parts.specs.declared.command_parts.status.Status.{Status}
+use Rattle.command_parts.specs.declared.command_parts.status.Status.TheVariants as statuses
 use Rattle.ntboot_cli.specs.Answer.{EndsMade, MakesAlone}
-use Rattle.command_parts.specs.Leaves.{more, named}
+use Rattle.command_parts.specs.command_parts.Leaves.{more, named}
 use Rattle.ntboot_cli.specs.Made.{PlaysMade, make_script, made_state, made_going, made_run, made_text, summary_line, told, IsMade, IsPartMade}
-use Rattle.line_text.specs.declared.form.ReportForm.{ReportForm}
-use Rattle.line_text.specs.declared.form.ReportForm.TheVariants.{Text}
-use Rattle.command_parts.specs.Placed.{placed_disk, IsUntouchedBy}
-use Rattle.command_parts.specs.Refusals.{Answer, Ends, IsToldAs}
-use Rattle.command_parts.specs.Saves.{Saves, saved_count, Settles, FinishesAs}
+use Rattle.report_text.specs.declared.line_text.form.ReportForm.{ReportForm}
+use Rattle.report_text.specs.declared.line_text.form.ReportForm.TheVariants.{Text}
+use Rattle.command_parts.specs.command_parts.Placed.{placed_disk, IsUntouchedBy}
+use Rattle.command_parts.specs.command_parts.Refusals.{Answer, Ends, IsToldAs}
+use Rattle.command_parts.specs.command_parts.Saves.{Saves, saved_count, Settles, FinishesAs}
 use Rattle.command_parts.proofs.DecideLemmas.{memory_decides, told_unused, told_unread}
 use Rattle.command_parts.proofs.LeaveLemmas.{no_front}
 use Rattle.twin_command.proofs.TwinnedLemmas.{was_said}

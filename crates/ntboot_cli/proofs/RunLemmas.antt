@@ -13,22 +13,22 @@ use Rattle.nt_edge.specs.Disk.{DiskState, new_state}
 use Rattle.nt_edge.specs.Host.{HostState, Files}
 use Rattle.nt_edge.specs.declared.host.HostStop.{HostStop}
 use Rattle.nt_edge.specs.declared.host.HostStop.TheVariants.{Read, Write, Memory}
-use Rattle.boot_machine.specs.Views.{event_in}
-use Rattle.boot_script.specs.declared.event.Event.{Event}
+use Rattle.boot_machine.specs.boot_machine.Views.{event_in}
+use Rattle.boot_script.specs.declared.boot_script.event.Event.{Event}
 use Rattle.report_words.specs.declared.line.Line.{Line}
 use Rattle.start_model.specs.Possible.{Woken}
 use Rattle.start_model.specs.Run.{run_of}
 use Rattle.start_model.specs.Summary.{no_summary}
-use Rattle.run_parts.specs.Reports.{LeftOf}
-use Rattle.printed_parts.specs.Reports.{Reports, ReportsFront, ReportsOr}
-use Rattle.printed_parts.proofs.ReportLemmas.{as_text, text_report}
-use Rattle.line_text.specs.declared.form.ReportForm.{ReportForm}
-use Rattle.line_objects.specs.Objects.{printed_lines}
-use Rattle.run_parts.specs.Parts.{tally_now}
+use Rattle.run_parts.specs.run_parts.Reports.{LeftOf}
+use Rattle.run_parts.specs.printed_parts.Reports.{Reports, ReportsFront, ReportsOr}
+use Rattle.run_parts.proofs.ReportLemmas.{as_text, text_report}
+use Rattle.report_text.specs.declared.line_text.form.ReportForm.{ReportForm}
+use Rattle.report_text.specs.line_objects.Objects.{printed_lines}
+use Rattle.run_parts.specs.run_parts.Parts.{tally_now}
 use Rattle.start_model.specs.Causes.{Tally}
 use Rattle.start_laws.proofs.ReportLemmas.{report-quiet}
-use Rattle.order_laws.proofs.QuietLemmas.{reports-finished}
-use Rattle.order_laws.proofs.ToldLemmas.{reports-counted}
+use Rattle.kept_laws.proofs.QuietLemmas.{reports-finished}
+use Rattle.kept_laws.proofs.ToldLemmas.{reports-counted}
 use Rattle.ntboot_cli.proofs.GoodLemmas.{whole_good, front_good}
 use Rattle.boot_run.specs.declared.stop.RunStop.{RunStop}
 use Rattle.boot_run.specs.declared.stop.RunStop.TheVariants as stops
@@ -41,20 +41,20 @@ use Rattle.boot_run.specs.Views.{summary_in}
 use Rattle.boot_run.proofs.DiskLemmas.{still_leaves}
 use Rattle.boot_run.proofs.LoadLemmas.{no_fault}
 use Rattle.command_words.specs.Words.{asks, run, RunAsked}
-use Rattle.command_parts.specs.declared.refusal.Obstacle.TheVariants.{Stopped}
+use Rattle.command_parts.specs.declared.command_parts.refusal.Obstacle.TheVariants.{Stopped}
 use Rattle.ntboot_cli.specs.Inputs.{inputs_in}
-use Rattle.command_parts.specs.declared.inputs.HiveFiles.{HiveFiles}
+use Rattle.command_parts.specs.declared.command_parts.inputs.HiveFiles.{HiveFiles}
 use Rattle.ntboot_cli.specs.declared.inputs.Inputs.{Inputs}
-use Rattle.command_parts.specs.declared.refusal.Refusal.{Refusal}
-use Rattle.command_parts.specs.declared.status.Status.{Status}
-use Rattle.command_parts.specs.declared.status.Status.TheVariants as statuses
-use Rattle.command_parts.specs.Decides.{Decides, DecidesAlone}
+use Rattle.command_parts.specs.declared.command_parts.refusal.Refusal.{Refusal}
+use Rattle.command_parts.specs.declared.command_parts.status.Status.{Status}
+use Rattle.command_parts.specs.declared.command_parts.status.Status.TheVariants as statuses
+use Rattle.command_parts.specs.command_parts.Decides.{Decides, DecidesAlone}
 use Rattle.ntboot_cli.specs.Answer.{IsChecked, saves_of, RunsWhole, RunsFront, EndsRun, EndsHive, EndsInputs, run_in}
-use Rattle.command_parts.specs.Leaves.{Looks, CountsBy, stop_in, stopped_as}
+use Rattle.command_parts.specs.command_parts.Leaves.{Looks, CountsBy, stop_in, stopped_as}
 use Rattle.ntboot_cli.specs.Made.{told}
-use Rattle.command_parts.specs.Placed.{image_in, placed_disk, IsUntouchedBy}
-use Rattle.command_parts.specs.Refusals.{refusal_text}
-use Rattle.command_parts.specs.Saves.{Saves, saved_status, FilesAs, Settles, SavesBoth}
+use Rattle.command_parts.specs.command_parts.Placed.{image_in, placed_disk, IsUntouchedBy}
+use Rattle.command_parts.specs.command_parts.Refusals.{refusal_text}
+use Rattle.command_parts.specs.command_parts.Saves.{Saves, saved_status, FilesAs, Settles, SavesBoth}
 use Rattle.command_parts.proofs.DecideLemmas.{stopped_decides, unrun}
 use Rattle.command_parts.proofs.SaveLemmas.{counts_saved, files_saved, untouched_saved, unused_saved, unread_saved}
 use Rattle.command_parts.proofs.LeaveLemmas.{keeps_then, fault_then, no_front}

@@ -2,25 +2,25 @@
 use Rattle.std.proofs.Common.{◌≡◌, ◌⊎◌, inl, inr, ⊎_elim, ℕ, false, List, [], map, refl, sym, subst, ◌∙◌}
 use Rattle.hive_model.specs.Image.{Image, Primary, Log, IsFileOf, image_of}
 use Rattle.hive_model.specs.Load.{Loads}
-use Rattle.boot_machine.specs.Views.{event_in}
+use Rattle.boot_machine.specs.boot_machine.Views.{event_in}
 use Rattle.boot_run.specs.Choices.{choices}
 use Rattle.start_model.specs.Act.{RunState}
 use Rattle.start_model.specs.Summary.{no_summary}
-use Rattle.run_laws.specs.Quiet.{AllFinished}
-use Rattle.rest_laws.specs.Rest.{IsAtRest}
-use Rattle.rest_laws.proofs.RestLemmas.{run_of-rests, settled_loads}
+use Rattle.run_laws.specs.run_laws.Quiet.{AllFinished}
+use Rattle.run_laws.specs.rest_laws.Rest.{IsAtRest}
+use Rattle.run_laws.proofs.RestLemmas.{run_of-rests, settled_loads}
 use Rattle.start_laws.proofs.ReportLemmas.{report-ended, report-quiet}
-use Rattle.order_laws.proofs.QuietLemmas.{reports-finished}
-use Rattle.saved_laws.proofs.SavedLemmas.{primary_loads}
-use Rattle.line_text.specs.declared.form.ReportForm.{ReportForm}
-use Rattle.printed_parts.proofs.ReportLemmas.{as_text, text_report}
+use Rattle.kept_laws.proofs.QuietLemmas.{reports-finished}
+use Rattle.hive_laws.proofs.SavedLemmas.{primary_loads}
+use Rattle.report_text.specs.declared.line_text.form.ReportForm.{ReportForm}
+use Rattle.run_parts.proofs.ReportLemmas.{as_text, text_report}
 use Rattle.ntboot_cli.specs.Made.{told}
 use Rattle.nt_edge.specs.Disk.{DiskState}
 use Rattle.start_model.specs.Fits.{MayLoad, outcomes_of}
 use Rattle.start_model.specs.Possible.{Woken, Possible, settled_at, loads_as}
-use Rattle.run_parts.specs.Reports.{LeftOf}
-use Rattle.saved_laws.specs.Saved.{HasUntornBlock}
-use Rattle.saved_laws.proofs.SavedLemmas.{files_load}
+use Rattle.run_parts.specs.run_parts.Reports.{LeftOf}
+use Rattle.hive_laws.specs.saved_laws.Saved.{HasUntornBlock}
+use Rattle.hive_laws.proofs.SavedLemmas.{files_load}
 use Rattle.ntboot_cli.specs.declared.inputs.Inputs.{Inputs}
 use Rattle.ntboot_cli.specs.declared.making.Usual.{Usual}
 use Rattle.ntboot_cli.specs.Answer.{RunsWhole, quiet_in, run_in}

@@ -6,22 +6,22 @@ use Rattle.std.proofs.lemmas.Slice.Eq.{bytes_eq-Decides}
 use Rattle.nt_edge.specs.Disk.{DiskState, new_state}
 use Rattle.nt_edge.specs.Host.{Files, HostState, KeepsOthers, Puts}
 use Rattle.command_words.specs.Words.{Reading, ExportAsked, ReplayAsked, SalvageAsked, asks, export, replay, salvage}
-use Rattle.command_parts.specs.declared.inputs.HiveFiles.{HiveFiles}
-use Rattle.command_parts.specs.declared.refusal.Refusal.{Refusal}
-use Rattle.command_parts.specs.declared.status.Status.{Status}
-use Rattle.command_parts.specs.declared.status.Status.TheVariants as statuses
-use Rattle.command_parts.specs.Inputs.{hive_in, AsksSoMany}
-use Rattle.command_parts.specs.declared.reporting.FileReport.{FileReport}
-use Rattle.command_parts.specs.Refusals.{Answer}
-use Rattle.command_parts.specs.Reporting.{DecidesReport, EndsPut, EndsReport, EndsTold, report_answer}
-use Rattle.command_parts.specs.Saves.{KeepsUnsaved}
+use Rattle.command_parts.specs.declared.command_parts.inputs.HiveFiles.{HiveFiles}
+use Rattle.command_parts.specs.declared.command_parts.refusal.Refusal.{Refusal}
+use Rattle.command_parts.specs.declared.command_parts.status.Status.{Status}
+use Rattle.command_parts.specs.declared.command_parts.status.Status.TheVariants as statuses
+use Rattle.command_parts.specs.command_parts.Inputs.{hive_in, AsksSoMany}
+use Rattle.command_parts.specs.declared.command_parts.reporting.FileReport.{FileReport}
+use Rattle.command_parts.specs.command_parts.Refusals.{Answer}
+use Rattle.command_parts.specs.command_parts.Reporting.{DecidesReport, EndsPut, EndsReport, EndsTold, report_answer}
+use Rattle.command_parts.specs.command_parts.Saves.{KeepsUnsaved}
 use Rattle.command_parts.proofs.DecideLemmas.{untouched_by, new_off}
 use Rattle.key_text.specs.Words.{path_in}
 use Rattle.text_commands.specs.Exported.{DecidesExport, EndsExported, PutsAs, asks_export, export_of}
-use Rattle.replay_command.specs.Answer.{report_in}
-use Rattle.replay_command.specs.Inputs.{asks_replay}
-use Rattle.salvage_command.specs.Answer.{asks_salvage, report_in as salvage_report_in}
-use Rattle.line_text.specs.declared.form.ReportForm.{ReportForm}
+use Rattle.repair_commands.specs.replay_command.Answer.{report_in}
+use Rattle.repair_commands.specs.replay_command.Inputs.{asks_replay}
+use Rattle.repair_commands.specs.salvage_command.Answer.{asks_salvage, report_in as salvage_report_in}
+use Rattle.report_text.specs.declared.line_text.form.ReportForm.{ReportForm}
 use Rattle.ntboot_cli.specs.Answer.{TopDecides, form_of}
 
 -- an export changes no file but the one that it puts

@@ -5,31 +5,31 @@ use Rattle.nt_edge.specs.Disk.{DiskState, new_state}
 use Rattle.nt_edge.specs.Host.{Files, HostState}
 use Rattle.command_words.specs.Words.{Reading, asks, help, refused, version, sweep, graph, why, diff, salvage, whatif, check, key, replay, export, import, twin, control, safe, run, show, make}
 use Rattle.command_words.specs.Words.{MakeAsked}
-use Rattle.command_parts.specs.declared.inputs.HiveFiles.{HiveFiles}
-use Rattle.command_parts.specs.declared.refusal.Refusal.{Refusal}
-use Rattle.command_parts.specs.declared.status.Status.TheVariants as statuses
-use Rattle.command_parts.specs.Inputs.{file_in, hive_in}
-use Rattle.command_parts.specs.Leaves.{Leaves, IsPartDone}
-use Rattle.command_parts.specs.OnHive.{EndsOnHive, Question}
-use Rattle.command_parts.specs.declared.reporting.FileReport.{FileReport}
-use Rattle.command_parts.specs.Refusals.{Answer, refusal_text}
-use Rattle.command_parts.specs.Reporting.{EndsReport, EndsTold, report_answer}
-use Rattle.command_parts.specs.Saves.{Saves, no_saves}
+use Rattle.command_parts.specs.declared.command_parts.inputs.HiveFiles.{HiveFiles}
+use Rattle.command_parts.specs.declared.command_parts.refusal.Refusal.{Refusal}
+use Rattle.command_parts.specs.declared.command_parts.status.Status.TheVariants as statuses
+use Rattle.command_parts.specs.command_parts.Inputs.{file_in, hive_in}
+use Rattle.command_parts.specs.command_parts.Leaves.{Leaves, IsPartDone}
+use Rattle.command_parts.specs.command_parts.OnHive.{EndsOnHive, Question}
+use Rattle.command_parts.specs.declared.command_parts.reporting.FileReport.{FileReport}
+use Rattle.command_parts.specs.command_parts.Refusals.{Answer, refusal_text}
+use Rattle.command_parts.specs.command_parts.Reporting.{EndsReport, EndsTold, report_answer}
+use Rattle.command_parts.specs.command_parts.Saves.{Saves, no_saves}
 use Rattle.command_parts.proofs.DecideLemmas.{memory_decides, new_off, unrun}
 use Rattle.command_parts.proofs.LeaveLemmas.{no_front}
 use Rattle.hive_alt.specs.Schemes.{Standing}
-use Rattle.line_text.specs.declared.form.ReportForm.{ReportForm}
+use Rattle.report_text.specs.declared.line_text.form.ReportForm.{ReportForm}
 use Rattle.key_text.specs.Words.{path_in}
-use Rattle.key_command.specs.Answer.{question_in as key_question_in}
-use Rattle.replay_command.specs.Answer.{report_in}
-use Rattle.check_command.specs.Answer.{question_in as check_question_in}
-use Rattle.whatif_command.specs.Answer.{question_in as whatif_question_in}
-use Rattle.why_command.specs.Answer.{question_in as why_question_in}
-use Rattle.graph_command.specs.Answer.{question_in as graph_question_in}
-use Rattle.sweep_command.specs.Answer.{files_asked, EndsSweep}
-use Rattle.sweep_inputs.specs.declared.inputs.SweepInputs.{SweepInputs}
-use Rattle.sweep_inputs.specs.Inputs.{inputs_in as sweep_inputs_in}
-use Rattle.salvage_command.specs.Answer.{report_in as salvage_report_in}
+use Rattle.key_command.specs.key_command.Answer.{question_in as key_question_in}
+use Rattle.repair_commands.specs.replay_command.Answer.{report_in}
+use Rattle.set_commands.specs.check_command.Answer.{question_in as check_question_in}
+use Rattle.start_commands.specs.whatif_command.Answer.{question_in as whatif_question_in}
+use Rattle.start_commands.specs.why_command.Answer.{question_in as why_question_in}
+use Rattle.start_commands.specs.graph_command.Answer.{question_in as graph_question_in}
+use Rattle.sweep_command.specs.sweep_command.Answer.{files_asked, EndsSweep}
+use Rattle.sweep_command.specs.declared.sweep_inputs.inputs.SweepInputs.{SweepInputs}
+use Rattle.sweep_command.specs.sweep_inputs.Inputs.{inputs_in as sweep_inputs_in}
+use Rattle.repair_commands.specs.salvage_command.Answer.{report_in as salvage_report_in}
 use Rattle.safe_command.specs.Answer.{question_in as safe_question_in}
 use Rattle.control_command.specs.Answer.{question_in as control_question_in}
 use Rattle.twin_command.specs.Twinned.{EndsTwin, stands_by, twin_saves}

@@ -5,16 +5,16 @@ use Rattle.nt_edge.specs.Disk.{DiskState, new_state}
 use Rattle.nt_edge.specs.Host.{HostState}
 use Rattle.nt_edge.specs.declared.host.HostStop.{HostStop}
 use Rattle.nt_edge.specs.declared.host.HostStop.TheVariants.{Memory}
-use Rattle.arc_path.specs.Reading.{word_at, number_at, item_at, kind_at, partition_at, numbers_at, directory_at, parts_at, arc_of}
+use Rattle.boot_ini.specs.arc_path.Reading.{word_at, number_at, item_at, kind_at, partition_at, numbers_at, directory_at, parts_at, arc_of}
 use Rattle.command_words.specs.Words.{MakeAsked}
 use Rattle.ntboot_cli.specs.declared.making.Usual.{Usual}
-use Rattle.command_parts.specs.declared.refusal.Refusal.{Refusal}
-use Rattle.command_parts.specs.declared.status.Status.TheVariants as statuses
+use Rattle.command_parts.specs.declared.command_parts.refusal.Refusal.{Refusal}
+use Rattle.command_parts.specs.declared.command_parts.status.Status.TheVariants as statuses
 use Rattle.ntboot_cli.specs.Answer.{EndsMade, MakesAlone}
-use Rattle.command_parts.specs.Leaves.{stopped_as}
-use Rattle.line_text.specs.declared.form.ReportForm.{ReportForm}
+use Rattle.command_parts.specs.command_parts.Leaves.{stopped_as}
+use Rattle.report_text.specs.declared.line_text.form.ReportForm.{ReportForm}
 use Rattle.ntboot_cli.specs.Made.{usual_in}
-use Rattle.command_parts.specs.Refusals.{refusal_text}
+use Rattle.command_parts.specs.command_parts.Refusals.{refusal_text}
 use Rattle.command_parts.proofs.DecideLemmas.{memory_decides, new_off}
 use Rattle.command_parts.proofs.LeaveLemmas.{no_front}
 use Rattle.ntboot_cli.proofs.MakeLemmas.{unmade, new_part}

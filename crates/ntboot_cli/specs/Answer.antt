@@ -10,30 +10,30 @@ use Rattle.nt_edge.specs.Host.{Files, HostState, KeepsOthers}
 use Rattle.hive_model.specs.Image.{Image}
 use Rattle.hive_model.specs.Load.{Loads, LoadFault}
 use Rattle.hive_model.specs.Size.{bulk_of}
-use Rattle.boot_machine.specs.Views.{event_in}
+use Rattle.boot_machine.specs.boot_machine.Views.{event_in}
 use Rattle.start_model.specs.Fits.{outcomes_of, KeepsGood}
 use Rattle.start_model.specs.Report.{Going}
 use Rattle.start_model.specs.Possible.{Woken}
 use Rattle.start_model.specs.Run.{run_of}
 use Rattle.start_model.specs.Quiet.{Quiet, quiet_run_of}
 use Rattle.start_model.specs.Summary.{Summary, no_summary}
-use Rattle.run_laws.specs.Quiet.{AllFinished}
-use Rattle.printed_parts.specs.Logged.{LeavesLogged}
-use Rattle.printed_parts.specs.Reports.{Reports, ReportsFront}
+use Rattle.run_laws.specs.run_laws.Quiet.{AllFinished}
+use Rattle.run_parts.specs.printed_parts.Logged.{LeavesLogged}
+use Rattle.run_parts.specs.printed_parts.Reports.{Reports, ReportsFront}
 use Rattle.boot_run.specs.Agrees.{LoadsAny}
 use Rattle.boot_run.specs.Choices.{choices}
 use Rattle.help_text.specs.Pages.{page_text}
 use Rattle.tree_text.specs.TreeObjects.{shown_in}
 use Rattle.command_words.specs.Words.{Reading, asks, help, refused, version, sweep, graph, why, diff, salvage, whatif, check, key, replay, export, import, twin, control, safe, run, show, make, RunAsked, ShowAsked, MakeAsked}
-use Rattle.command_parts.specs.declared.status.Status.{Status}
-use Rattle.command_parts.specs.declared.status.Status.TheVariants as statuses
-use Rattle.command_parts.specs.declared.refusal.Refusal.{Refusal}
-use Rattle.command_parts.specs.declared.refusal.Refusal.TheVariants.{Usage, HiveFault as BadHive}
-use Rattle.command_parts.specs.declared.inputs.HiveFiles.{HiveFiles}
+use Rattle.command_parts.specs.declared.command_parts.status.Status.{Status}
+use Rattle.command_parts.specs.declared.command_parts.status.Status.TheVariants as statuses
+use Rattle.command_parts.specs.declared.command_parts.refusal.Refusal.{Refusal}
+use Rattle.command_parts.specs.declared.command_parts.refusal.Refusal.TheVariants.{Usage, HiveFault as BadHive}
+use Rattle.command_parts.specs.declared.command_parts.inputs.HiveFiles.{HiveFiles}
 use Rattle.ntboot_cli.specs.declared.inputs.Inputs.{Inputs}
 use Rattle.ntboot_cli.specs.declared.making.Usual.{Usual}
-use Rattle.command_parts.specs.Decides.{Decides, DecidesAlone}
-use Rattle.command_parts.specs.Inputs.{file_in, hive_in, AsksSoMany}
+use Rattle.command_parts.specs.command_parts.Decides.{Decides, DecidesAlone}
+use Rattle.command_parts.specs.command_parts.Inputs.{file_in, hive_in, AsksSoMany}
 use Rattle.ntboot_cli.specs.Inputs.{arguments_in, inputs_in, asks_in}
 use Rattle.safe_command.specs.Answer.{question_in as safe_question_in}
 use Rattle.control_command.specs.Answer.{question_in as control_question_in}
@@ -43,26 +43,26 @@ use Rattle.text_commands.specs.Imported.{EndsImport, import_how, import_saves}
 use Rattle.key_text.specs.Words.{path_in}
 use Rattle.text_commands.specs.Exported.{EndsExported}
 use Rattle.ntboot_cli.specs.Made.{told, usual_in, made_text, IsMade, IsPartMade}
-use Rattle.command_parts.specs.Leaves.{Leaves}
-use Rattle.command_parts.specs.OnHive.{EndsOnHive, Question}
-use Rattle.command_parts.specs.Reporting.{EndsReport}
-use Rattle.line_objects.specs.Objects.{printed_lines}
-use Rattle.line_text.specs.declared.form.ReportForm.{ReportForm}
-use Rattle.line_text.specs.declared.form.ReportForm.TheVariants.{Text, Json}
-use Rattle.key_command.specs.Answer.{question_in as key_question_in}
-use Rattle.replay_command.specs.Answer.{report_in}
-use Rattle.check_command.specs.Answer.{question_in as check_question_in}
-use Rattle.whatif_command.specs.Answer.{question_in as whatif_question_in}
-use Rattle.why_command.specs.Answer.{question_in as why_question_in}
-use Rattle.graph_command.specs.Answer.{question_in as graph_question_in}
-use Rattle.sweep_command.specs.Answer.{files_asked, EndsSweep}
-use Rattle.sweep_inputs.specs.Inputs.{inputs_in as sweep_inputs_in}
-use Rattle.salvage_command.specs.Answer.{report_in as salvage_report_in}
-use Rattle.diff_command.specs.Answer.{EndsDiff}
-use Rattle.diff_command.specs.Asks.{AsksDiff}
-use Rattle.command_parts.specs.Placed.{image_in, placed_disk, IsUnrun, IsUntouchedBy}
-use Rattle.command_parts.specs.Refusals.{Answer, Ends, IsToldAs, refusal}
-use Rattle.command_parts.specs.Saves.{Saves, no_saves, saved_count, FilesAs, KeepsUnsaved, Settles}
+use Rattle.command_parts.specs.command_parts.Leaves.{Leaves}
+use Rattle.command_parts.specs.command_parts.OnHive.{EndsOnHive, Question}
+use Rattle.command_parts.specs.command_parts.Reporting.{EndsReport}
+use Rattle.report_text.specs.line_objects.Objects.{printed_lines}
+use Rattle.report_text.specs.declared.line_text.form.ReportForm.{ReportForm}
+use Rattle.report_text.specs.declared.line_text.form.ReportForm.TheVariants.{Text, Json}
+use Rattle.key_command.specs.key_command.Answer.{question_in as key_question_in}
+use Rattle.repair_commands.specs.replay_command.Answer.{report_in}
+use Rattle.set_commands.specs.check_command.Answer.{question_in as check_question_in}
+use Rattle.start_commands.specs.whatif_command.Answer.{question_in as whatif_question_in}
+use Rattle.start_commands.specs.why_command.Answer.{question_in as why_question_in}
+use Rattle.start_commands.specs.graph_command.Answer.{question_in as graph_question_in}
+use Rattle.sweep_command.specs.sweep_command.Answer.{files_asked, EndsSweep}
+use Rattle.sweep_command.specs.sweep_inputs.Inputs.{inputs_in as sweep_inputs_in}
+use Rattle.repair_commands.specs.salvage_command.Answer.{report_in as salvage_report_in}
+use Rattle.set_commands.specs.diff_command.Answer.{EndsDiff}
+use Rattle.set_commands.specs.diff_command.Asks.{AsksDiff}
+use Rattle.command_parts.specs.command_parts.Placed.{image_in, placed_disk, IsUnrun, IsUntouchedBy}
+use Rattle.command_parts.specs.command_parts.Refusals.{Answer, Ends, IsToldAs, refusal}
+use Rattle.command_parts.specs.command_parts.Saves.{Saves, no_saves, saved_count, FilesAs, KeepsUnsaved, Settles}
 
 -- ---- a run
 

@@ -6,27 +6,27 @@
 use Rattle.std.specs.Prelude.{ℕ, List, Result, Ok, Err}
 use Rattle.nt_bytes.specs.Reading.{◌>>=◌ as ok_then}
 use Rattle.nt_edge.specs.Host.{Files}
-use Rattle.arc_path.specs.Reading.{arc_of}
-use Rattle.boot_script.specs.declared.event.Event.{Event}
-use Rattle.boot_script.specs.declared.stop.ScriptFault.{ScriptFault}
-use Rattle.boot_script.specs.Script.{script_of}
+use Rattle.boot_ini.specs.arc_path.Reading.{arc_of}
+use Rattle.boot_script.specs.declared.boot_script.event.Event.{Event}
+use Rattle.boot_script.specs.declared.boot_script.stop.ScriptFault.{ScriptFault}
+use Rattle.boot_script.specs.boot_script.Script.{script_of}
 use Rattle.command_words.specs.Words.{Reading, asks, help, refused, version, sweep, graph, why, diff, salvage, whatif, check, key, replay, export, import, twin, control, safe, run, show, make, RunAsked, ShowAsked}
-use Rattle.command_parts.specs.declared.refusal.Refusal.{Refusal}
-use Rattle.command_parts.specs.declared.refusal.Refusal.TheVariants.{Usage, ScriptFault as BadScript}
-use Rattle.command_parts.specs.Inputs.{system_in, asks_hive}
-use Rattle.input_search.specs.Search.{Search, ◌>>=◌, reads, finds, file, boot_files}
+use Rattle.command_parts.specs.declared.command_parts.refusal.Refusal.{Refusal}
+use Rattle.command_parts.specs.declared.command_parts.refusal.Refusal.TheVariants.{Usage, ScriptFault as BadScript}
+use Rattle.command_parts.specs.command_parts.Inputs.{system_in, asks_hive}
+use Rattle.command_parts.specs.input_search.Search.{Search, ◌>>=◌, reads, finds, file, boot_files}
 use Rattle.safe_command.specs.Inputs.{asks_safe, arguments_in as safe_arguments_in}
 use Rattle.control_command.specs.Inputs.{asks_control}
 use Rattle.twin_command.specs.Twinned.{asks_twin}
 use Rattle.text_commands.specs.Exported.{asks_export}
-use Rattle.key_command.specs.Answer.{asks_key}
-use Rattle.replay_command.specs.Inputs.{asks_replay}
-use Rattle.check_command.specs.Answer.{asks_check}
-use Rattle.whatif_command.specs.Inputs.{asks_whatif, arguments_in as whatif_arguments_in}
-use Rattle.why_command.specs.Inputs.{asks_why, arguments_in as why_arguments_in}
-use Rattle.graph_command.specs.Inputs.{asks_graph, arguments_in as graph_arguments_in}
-use Rattle.sweep_command.specs.Inputs.{asks_sweep, arguments_in as sweep_arguments_in}
-use Rattle.salvage_command.specs.Answer.{asks_salvage}
+use Rattle.key_command.specs.key_command.Answer.{asks_key}
+use Rattle.repair_commands.specs.replay_command.Inputs.{asks_replay}
+use Rattle.set_commands.specs.check_command.Answer.{asks_check}
+use Rattle.start_commands.specs.whatif_command.Inputs.{asks_whatif, arguments_in as whatif_arguments_in}
+use Rattle.start_commands.specs.why_command.Inputs.{asks_why, arguments_in as why_arguments_in}
+use Rattle.start_commands.specs.graph_command.Inputs.{asks_graph, arguments_in as graph_arguments_in}
+use Rattle.sweep_command.specs.sweep_command.Inputs.{asks_sweep, arguments_in as sweep_arguments_in}
+use Rattle.repair_commands.specs.salvage_command.Answer.{asks_salvage}
 use Rattle.ntboot_cli.specs.declared.inputs.Inputs.{Inputs}
 
 abbrev pub events_in : Result (List Event) ScriptFault → Result (List Event) Refusal

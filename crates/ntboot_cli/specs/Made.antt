@@ -7,7 +7,7 @@ use Rattle.nt_bytes.specs.declared.version.HiveVersion.TheVariants.{V3}
 use Rattle.nt_bytes.specs.Reading.{◌>>=◌}
 use Rattle.hive_model.specs.Image.{Image}
 use Rattle.nt_edge.specs.Disk.{DiskState}
-use Rattle.arc_path.specs.Reading.{arc_of}
+use Rattle.boot_ini.specs.arc_path.Reading.{arc_of}
 use Rattle.start_model.specs.Events.{Event, BootNow, Go, Logon, Off}
 use Rattle.start_model.specs.Fits.{MayLoad}
 use Rattle.report_words.specs.declared.words.Verdict.{Verdict}
@@ -17,20 +17,20 @@ use Rattle.start_model.specs.Possible.{Woken}
 use Rattle.start_model.specs.Run.{run_of}
 use Rattle.start_model.specs.Quiet.{Quiet, quiet_run_of}
 use Rattle.start_model.specs.Summary.{Summary, summary_of, no_summary}
-use Rattle.run_parts.specs.Reports.{LeftOf}
-use Rattle.printed_parts.specs.Parts.{Told}
-use Rattle.printed_parts.specs.Reports.{Reports, ReportsFront}
+use Rattle.run_parts.specs.run_parts.Reports.{LeftOf}
+use Rattle.run_parts.specs.printed_parts.Parts.{Told}
+use Rattle.run_parts.specs.printed_parts.Reports.{Reports, ReportsFront}
 use Rattle.boot_run.specs.declared.summary.Summary.{Summary as RunSummary}
 use Rattle.boot_run.specs.Choices.{choices}
 use Rattle.boot_run.specs.Views.{summary_in}
 use Rattle.command_words.specs.Words.{usual_system}
-use Rattle.line_text.specs.Objects.{Value, Number, Text, object_text}
-use Rattle.line_text.specs.declared.form.ReportForm.{ReportForm}
-use Rattle.line_text.specs.declared.form.ReportForm.TheVariants as forms
+use Rattle.report_text.specs.line_text.Objects.{Value, Number, Text, object_text}
+use Rattle.report_text.specs.declared.line_text.form.ReportForm.{ReportForm}
+use Rattle.report_text.specs.declared.line_text.form.ReportForm.TheVariants as forms
 use Rattle.generated_hive.specs.Generated.{generated}
 use Rattle.ntboot_cli.specs.declared.making.Usual.{Usual}
-use Rattle.command_parts.specs.declared.refusal.Refusal.{Refusal}
-use Rattle.command_parts.specs.Inputs.{system_in, ini_in}
+use Rattle.command_parts.specs.declared.command_parts.refusal.Refusal.{Refusal}
+use Rattle.command_parts.specs.command_parts.Inputs.{system_in, ini_in}
 
 -- the usual system, and a boot.ini without text; both are there
 abbrev pub usual_in : Result Usual Refusal

@@ -2,19 +2,19 @@
 
 ghost use Rattle.std.specs.Prelude.{◌≡◌, false, Err, IfOk};
 ghost use Rattle.std.specs.List.{All};
-ghost use Rattle.boot_script.specs.Script.{script_of, HasCounts};
-ghost use Rattle.command_parts.specs.Leaves.{Looks, Reads, IsBadUsage};
+ghost use Rattle.boot_script.specs.boot_script.Script.{script_of, HasCounts};
+ghost use Rattle.command_parts.specs.command_parts.Leaves.{Looks, Reads, IsBadUsage};
 ghost use Rattle.command_words.specs.Words as book;
 ghost use Rattle.command_words.specs.Views.{run_seen};
-ghost use Rattle.input_search.specs.Search.{AsksFor};
+ghost use Rattle.command_parts.specs.input_search.Search.{AsksFor};
 ghost use Rattle.ntboot_cli.specs.Inputs.{arguments_in, inputs_in, events_in, run_search};
 
-use arc_path::Arc;
-use boot_ini::BootIni;
-use boot_script::{Script, ScriptStop, read_script};
-use command_parts::{HiveFiles, Obstacle, Refusal, file_in, no_memory};
+use boot_ini::arc_path::Arc;
+use boot_ini::boot_ini::BootIni;
+use boot_script::boot_script::{Script, ScriptStop, read_script};
+use command_parts::command_parts::{HiveFiles, Obstacle, Refusal, file_in, no_memory};
+use command_parts::input_search::{boot_files, system_at};
 use command_words::RunWords;
-use input_search::{boot_files, system_at};
 use nt_bytes::Bytes;
 use nt_edge::Host;
 use std::alloc::Global;
@@ -41,7 +41,7 @@ fn events_in(alloc: Global, text: &Bytes) -> Result<Script, Obstacle>
 }
 
 /// What options and files have for a run, or the first obstacle. Nothing is printed.
-#[tactic(auto, unfolding(input_search::specs::Search::searched))]
+#[tactic(auto, unfolding(command_parts::specs::input_search::Search::searched))]
 pub(crate) fn inputs_in<H: Host>(
     alloc: Global,
     words: RunWords<'_>,

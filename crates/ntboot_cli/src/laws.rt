@@ -12,18 +12,18 @@ ghost use Rattle.start_model.specs.Possible.{Woken, loads_as};
 ghost use Rattle.start_model.specs.Boot.{Choice};
 ghost use Rattle.start_model.specs.Run.{run_of};
 ghost use Rattle.start_model.specs.Summary.{Summary, no_summary};
-ghost use Rattle.line_text.specs.declared.form.ReportForm.{ReportForm};
-ghost use Rattle.printed_parts.specs.Reports.{Reports, ReportsFront};
-ghost use Rattle.saved_laws.specs.Saved.{HasUntornBlock};
-ghost use Rattle.command_parts.specs.declared.inputs.HiveFiles.{HiveFiles};
+ghost use Rattle.report_text.specs.declared.line_text.form.ReportForm.{ReportForm};
+ghost use Rattle.run_parts.specs.printed_parts.Reports.{Reports, ReportsFront};
+ghost use Rattle.hive_laws.specs.saved_laws.Saved.{HasUntornBlock};
+ghost use Rattle.command_parts.specs.declared.command_parts.inputs.HiveFiles.{HiveFiles};
 ghost use Rattle.ntboot_cli.specs.declared.inputs.Inputs.{Inputs};
 ghost use Rattle.ntboot_cli.specs.declared.making.Usual.{Usual};
-ghost use Rattle.command_parts.specs.declared.status.Status.{Status};
+ghost use Rattle.command_parts.specs.declared.command_parts.status.Status.{Status};
 ghost use Rattle.ntboot_cli.specs.Answer.{RunsWhole, EndsInputs, quiet_in};
-ghost use Rattle.command_parts.specs.Leaves.{more, named, stop_in};
+ghost use Rattle.command_parts.specs.command_parts.Leaves.{more, named, stop_in};
 ghost use Rattle.ntboot_cli.specs.Made.{told, usual_in, made_run, IsMade};
-ghost use Rattle.command_parts.specs.Placed.{image_in, placed_disk};
-ghost use Rattle.command_parts.specs.Saves.{Saves};
+ghost use Rattle.command_parts.specs.command_parts.Placed.{image_in, placed_disk};
+ghost use Rattle.command_parts.specs.command_parts.Saves.{Saves};
 
 /// Over every script and whatever came of its disk operations, LastKnownGood names a good set in each tree that was loaded or
 /// committed, and in each that the disk may load as afterwards: where the report was printed whole, and where the run was given up.

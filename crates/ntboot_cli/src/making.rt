@@ -9,26 +9,28 @@ ghost use Rattle.boot_run.specs.Agrees.{IsDown};
 ghost use Rattle.boot_run.specs.Views.{summary_in};
 ghost use Rattle.start_model.specs.Possible.{Woken};
 ghost use Rattle.start_model.specs.Summary.{summary_of};
-ghost use Rattle.line_text.specs.Objects.{Number, Text, fields_text, object_text};
+ghost use Rattle.report_text.specs.line_text.Objects.{Number, Text, fields_text, object_text};
 ghost use Rattle.command_words.specs.Views.{make_seen};
 ghost use Rattle.ntboot_cli.specs.Answer.{MakesAlone};
-ghost use Rattle.command_parts.specs.Leaves.{Reads};
+ghost use Rattle.command_parts.specs.command_parts.Leaves.{Reads};
 ghost use Rattle.ntboot_cli.specs.Made.{usual_in, summary_text, summary_fields, summary_line, last_word, made_run, PlaysMade, IsMade, IsPartMade};
 
-use arc_path::Arc;
-use boot_ini::BootIni;
-use boot_report::{Verdict, verdict_text};
+use boot_ini::arc_path::Arc;
+use boot_ini::boot_ini::BootIni;
 use boot_run::Summary;
-use boot_script::Event;
-use command_parts::{
+use boot_script::boot_script::Event;
+use command_parts::command_parts::{
     HiveFiles, Obstacle, Saves, Status, finish, ini_in, place, push_count, refuse, stopped,
     system_in,
 };
 use command_words::{MakeWords, USUAL_SYSTEM};
 use generated_hive::generated_hive;
-use line_text::{ReportForm, close_object, open_object, push_number_field, push_word_field};
 use mem_edge::QuietHost;
 use nt_edge::{Bench, Host};
+use report_text::boot_report::{Verdict, verdict_text};
+use report_text::line_text::{
+    ReportForm, close_object, open_object, push_number_field, push_word_field,
+};
 use std::alloc::{AllocError, Global};
 
 /// The system and the boot.ini of a machine where nothing else is printed.

@@ -2,28 +2,28 @@
 
 ghost use Rattle.std.specs.Prelude.{◌≡◌, false, Err};
 ghost use Rattle.std.specs.List.{All};
-ghost use Rattle.boot_script.specs.Script.{HasCounts};
+ghost use Rattle.boot_script.specs.boot_script.Script.{HasCounts};
 ghost use Rattle.nt_edge.specs.Disk.{new_state};
 ghost use Rattle.boot_run.specs.Agrees.{LoadsAny};
 ghost use Rattle.command_words.specs.Words as book;
 ghost use Rattle.command_words.specs.Views.{run_seen};
 ghost use Rattle.ntboot_cli.specs.Answer.{DecidesHive, DecidesRun, IsChecked};
-ghost use Rattle.command_parts.specs.Inputs.{AsksSoMany};
+ghost use Rattle.command_parts.specs.command_parts.Inputs.{AsksSoMany};
 ghost use Rattle.ntboot_cli.specs.Inputs.{arguments_in, asks_run};
-ghost use Rattle.command_parts.specs.Placed.{image_in, placed_disk};
-ghost use Rattle.command_parts.specs.Refusals.{IsToldAs};
-ghost use Rattle.command_parts.specs.Views.{saves_seen};
+ghost use Rattle.command_parts.specs.command_parts.Placed.{image_in, placed_disk};
+ghost use Rattle.command_parts.specs.command_parts.Refusals.{IsToldAs};
+ghost use Rattle.command_parts.specs.command_parts.Views.{saves_seen};
 
 use crate::inputs::{Inputs, inputs_in};
 use boot_run::RunStop;
-use command_parts::{
+use command_parts::command_parts::{
     HiveFiles, Obstacle, Refusal, Saves, Status, judge_cells, place, refuse, save, saved, stopped,
 };
 use command_words::RunWords;
 use hive_edit::HiveBytes;
-use line_text::ReportForm;
 use nt_bytes::ReadStop;
 use nt_edge::{Bench, Host};
+use report_text::line_text::ReportForm;
 use std::alloc::Global;
 
 /// Checks a whole hive with its log, and keeps its cells.

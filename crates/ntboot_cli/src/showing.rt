@@ -2,16 +2,18 @@
 
 ghost use Rattle.std.specs.Prelude.{◌≡◌, Err};
 ghost use Rattle.command_words.specs.Views.{show_seen};
-ghost use Rattle.command_parts.specs.Inputs.{AsksHive, AsksSoMany};
-ghost use Rattle.command_parts.specs.OnHive.{AnswersOnHive, DecidesOnHive, SeeksAnswer};
+ghost use Rattle.command_parts.specs.command_parts.Inputs.{AsksHive, AsksSoMany};
+ghost use Rattle.command_parts.specs.command_parts.OnHive.{AnswersOnHive, DecidesOnHive, SeeksAnswer};
 ghost use Rattle.ntboot_cli.specs.Answer.{show_question_in, shown_on};
 ghost use Rattle.ntboot_cli.specs.Inputs.{asks_show};
 
-use command_parts::{HiveFiles, Obstacle, Refusal, Status, Told, answer, hive_in, no_memory, read};
+use command_parts::command_parts::{
+    HiveFiles, Obstacle, Refusal, Status, Told, answer, hive_in, no_memory, read,
+};
 use command_words::ShowWords;
-use line_text::ReportForm;
 use nt_bytes::ReadStop;
 use nt_edge::Host;
+use report_text::line_text::ReportForm;
 use std::alloc::Global;
 use std::mem::forget;
 use tree_text::shown_in;

@@ -5,32 +5,32 @@ ghost use Rattle.nt_edge.specs.Disk.{new_state};
 ghost use Rattle.command_words.specs.Reading.{reading_of};
 ghost use Rattle.ntboot_cli.specs.Answer.{AsksAs, EndsWords, LeavesFiles, TopDecides, form_of};
 ghost use Rattle.ntboot_cli.specs.Inputs.{arguments_in};
-ghost use Rattle.command_parts.specs.Leaves.{Leaves};
-ghost use Rattle.command_parts.specs.Placed.{IsUntouchedBy};
-ghost use Rattle.command_parts.specs.Refusals.{IsToldAs};
+ghost use Rattle.command_parts.specs.command_parts.Leaves.{Leaves};
+ghost use Rattle.command_parts.specs.command_parts.Placed.{IsUntouchedBy};
+ghost use Rattle.command_parts.specs.command_parts.Refusals.{IsToldAs};
 
 use crate::making::make;
 use crate::running::run;
 use crate::showing::show;
-use check_command::check;
-use command_parts::{Refusal, Status, refuse, tell};
+use command_parts::command_parts::{Refusal, Status, refuse, tell};
 use command_words::{Command, Reading, read_words, texts};
 use control_command::control;
-use diff_command::diff;
-use graph_command::graph;
 use help_text::{page_of, version_text};
-use key_command::key;
-use line_text::ReportForm;
+use key_command::key_command::key;
 use nt_edge::{Bench, Host};
-use replay_command::replay;
+use repair_commands::replay_command::replay;
+use repair_commands::salvage_command::salvage;
+use report_text::line_text::ReportForm;
 use safe_command::safe;
-use salvage_command::salvage;
+use set_commands::check_command::check;
+use set_commands::diff_command::diff;
+use start_commands::graph_command::graph;
+use start_commands::whatif_command::whatif;
+use start_commands::why_command::why;
 use std::alloc::Global;
-use sweep_command::sweep;
+use sweep_command::sweep_command::sweep;
 use text_commands::{export, import};
 use twin_command::twin;
-use whatif_command::whatif;
-use why_command::why;
 
 /// The form of a report, by whether its lines are to be JSON.
 fn form(json: bool) -> ReportForm

@@ -1,11 +1,15 @@
 //! A hive repaired where it lies: `ntmend HIVE LOG`.
 //!
-//! The program opens both files, holds a lock on each, and makes the top call of `mend_command` over them.
+//! The program opens both files, holds a lock on each, and makes the top call of `mend_command` over them. A lone `--help` or `--version` asks
+//! for a page.
 #![tactic(auto)]
 
+mod pages;
+
 use file_disk::FileDisk;
-use mend_command::mend_hive;
+use mend_command::mend_command::mend_hive;
 use nt_edge::Host;
+use pages::page_of;
 use standard_host::{NoFiles, StandardHost, take_standard_descriptors};
 use std::env;
 use std::fs::{File, OpenOptions};
@@ -21,9 +25,17 @@ const MEMORY: u8 = 9;
 /// A line could not be said.
 const WRITE_FAULT: u8 = 7;
 
-/// Why there are not two words.
+/// What the command line asks for.
+enum Asked {
+    /// That the hive of the first name be repaired, whose log has the second.
+    Mend(String, String),
+    /// That this be printed.
+    Page(&'static [u8]),
+}
+
+/// Why nothing is asked for.
 enum NoWords {
-    /// There are fewer or more, or one is no UTF-8.
+    /// There are not two words, nor one that asks for a page; or one is no UTF-8.
     Usage,
     Memory,
 }
@@ -35,8 +47,16 @@ enum Unopened {
     Memory,
 }
 
-/// The two words of the command line, after the program's name.
-fn words(rt: &HostRuntime) -> Result<(String, String), NoWords> {
+/// What a word asks for that is alone.
+fn alone(word: &str) -> Result<Asked, NoWords> {
+    match page_of(word) {
+        Some(page) => Ok(Asked::Page(page)),
+        None => Err(NoWords::Usage),
+    }
+}
+
+/// What the words after the program's name ask for.
+fn words(rt: &HostRuntime) -> Result<Asked, NoWords> {
     let mut args = match env::args(rt) {
         Ok(args) => args,
         Err(e) if e.kind() == ErrorKind::InvalidData => return Err(NoWords::Usage),
@@ -47,10 +67,10 @@ fn words(rt: &HostRuntime) -> Result<(String, String), NoWords> {
         return Err(NoWords::Usage);
     };
     let Some(log) = args.next() else {
-        return Err(NoWords::Usage);
+        return alone(hive.as_str());
     };
     match args.next() {
-        None => Ok((hive, log)),
+        None => Ok(Asked::Mend(hive, log)),
         Some(_) => Err(NoWords::Usage),
     }
 }
@@ -112,7 +132,8 @@ fn main(rt: HostRuntime) -> ExitCode {
     }
     let mut output = StandardHost::new(&rt, NoFiles);
     let exit = match words(&rt) {
-        Ok((hive, log)) => mend(&rt, &mut output, hive.as_str(), log.as_str()),
+        Ok(Asked::Page(page)) => say(&mut output, page, 0),
+        Ok(Asked::Mend(hive, log)) => mend(&rt, &mut output, hive.as_str(), log.as_str()),
         Err(NoWords::Usage) => say(&mut output, b"bad usage\n", 1),
         Err(NoWords::Memory) => MEMORY,
     };

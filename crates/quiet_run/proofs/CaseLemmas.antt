@@ -5,7 +5,7 @@ use Rattle.std.specs.Option.{option_map_or}
 use Rattle.std.proofs.lemmas.Bool.Decides.{nat_tests}
 use Rattle.start_model.specs.Entries.{Phase, Done}
 use Rattle.hive_model.specs.Tree.{Tree}
-use Rattle.boot_machine.specs.Steps.{on_start}
+use Rattle.boot_machine.specs.boot_machine.Steps.{on_start}
 use Rattle.start_model.specs.Machine.{Start, MachineState, missing_in, after_phase, with_start}
 use Rattle.quiet_run.specs.Play.{IsSetNumber, IsSoundStart, set_in, on_next}
 use Rattle.quiet_run.specs.Watch.{Watched, phase_noted}

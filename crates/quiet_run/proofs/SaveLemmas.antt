@@ -12,7 +12,7 @@ use Rattle.start_model.specs.Machine.{Start, MachineState, save_due, with_start}
 use Rattle.start_model.specs.Act.{RunState, done, with_machine}
 use Rattle.start_model.specs.Commit.{committed_state, saved_by, save, save_where_due}
 use Rattle.start_model.specs.EventActs.{logon_act}
-use Rattle.boot_machine.specs.Steps.{on_start}
+use Rattle.boot_machine.specs.boot_machine.Steps.{on_start}
 use Rattle.quiet_run.specs.declared.last.LastStart.{LastStart}
 use Rattle.quiet_run.specs.Watch.{Watched, watch}
 

@@ -10,11 +10,11 @@ use Rattle.start_model.specs.Machine as machine
 use Rattle.start_model.specs.Machine.{Start, MachineState, next_in, attempt_at, attempt_in, attempt_of, unmet_in, is_done}
 use Rattle.start_model.specs.Act.{RunState, done, with_machine}
 use Rattle.start_model.specs.Starter.{good_is_usable, failed_word, judged, phase_step, starter_step, stepping, enough_steps}
-use Rattle.error_control.specs.Judgement.{judgement_in}
+use Rattle.boot_phases.specs.error_control.Judgement.{judgement_in}
 use Rattle.report_words.specs.declared.words.TryWord.{TryWord}
-use Rattle.boot_machine.specs.declared.tried.Tried.{Tried}
-use Rattle.boot_machine.specs.Views.{tried_in}
-use Rattle.boot_machine.specs.Steps.{is_there, is_at_end}
+use Rattle.boot_machine.specs.declared.boot_machine.tried.Tried.{Tried}
+use Rattle.boot_machine.specs.boot_machine.Views.{tried_in}
+use Rattle.boot_machine.specs.boot_machine.Steps.{is_there, is_at_end}
 use Rattle.quiet_run.specs.declared.last.Attempt.{Attempt}
 use Rattle.quiet_run.specs.declared.last.LastStart.{LastStart}
 use Rattle.quiet_run.specs.Watch.{Watched, watch, noted, stepped, steps_of, phase_noted}

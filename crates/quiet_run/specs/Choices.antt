@@ -1,11 +1,11 @@
 -- What boot.ini has for a start, in the terms of the book of startup. (this project's own)
 use Rattle.std.specs.Prelude.{ℕ, Bool, false, Option}
 use Rattle.std.specs.Option.{option_map_or}
-use Rattle.arc_path.specs.declared.arc.Arc.{Arc}
-use Rattle.boot_ini.specs.declared.ini.BootIni.{BootIni}
-use Rattle.boot_ini.specs.declared.choosing.Chosen.{Chosen}
-use Rattle.boot_ini.specs.declared.choosing.Chosen.TheVariants as chosen
-use Rattle.boot_ini.specs.Choice.{entry_at, path_at, choice_of, asks_for_last_known_good}
+use Rattle.boot_ini.specs.declared.arc_path.arc.Arc.{Arc}
+use Rattle.boot_ini.specs.declared.boot_ini.ini.BootIni.{BootIni}
+use Rattle.boot_ini.specs.declared.boot_ini.choosing.Chosen.{Chosen}
+use Rattle.boot_ini.specs.declared.boot_ini.choosing.Chosen.TheVariants as chosen
+use Rattle.boot_ini.specs.boot_ini.Choice.{entry_at, path_at, choice_of, asks_for_last_known_good}
 use Rattle.start_model.specs.Boot.{Choice, EntryTaken, NoEntry, OtherLoader, NoSystem}
 
 -- whether an entry is on LastKnownGood, by its number

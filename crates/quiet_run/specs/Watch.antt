@@ -19,7 +19,7 @@ use Rattle.start_model.specs.Starter.{live_set, no_set, stepping, enough_steps}
 use Rattle.start_model.specs.EventActs.{act_unless}
 use Rattle.start_model.specs.Quiet.{quiet_wake}
 use Rattle.start_model.specs.Run.{closing_act, first_state}
-use Rattle.boot_machine.specs.Codes.{phase_number}
+use Rattle.boot_machine.specs.boot_machine.Codes.{phase_number}
 use Rattle.select_keys.specs.Sets.{usable_set}
 use Rattle.quiet_run.specs.declared.last.LastStart.{LastStart}
 use Rattle.quiet_run.specs.declared.last.QuietRun.{QuietRun}

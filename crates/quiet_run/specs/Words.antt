@@ -1,7 +1,7 @@
 -- Which phase of the code is each phase of the book?
 use Rattle.start_model.specs.Entries as entries
-use Rattle.boot_phases.specs.declared.phase.Phase.{Phase}
-use Rattle.boot_phases.specs.declared.phase.Phase.TheVariants as phases
+use Rattle.boot_phases.specs.declared.boot_phases.phase.Phase.{Phase}
+use Rattle.boot_phases.specs.declared.boot_phases.phase.Phase.TheVariants as phases
 
 abbrev pub phase_as : entries.Phase → Phase
 phase_as entries.Boot = phases.Boot

@@ -16,7 +16,7 @@ use crate::ending::end;
 use crate::play::Play;
 use crate::sets::set_in;
 use crate::stepping::{parts, step_tree};
-use boot_machine::Verdict;
+use boot_machine::boot_machine::Verdict;
 use select_keys::{SelectStop, SetPlan, plan_begin, select_numbers, sets_in};
 use std::alloc::{AllocError, Global};
 

@@ -11,9 +11,9 @@ use crate::beginning::take_set;
 use crate::ending::end;
 use crate::last::fresh_start;
 use crate::play::Play;
-use arc_path::Arc;
-use boot_ini::{BootIni, Chosen, choose, wants_last_known_good};
-use boot_machine::Verdict;
+use boot_ini::arc_path::Arc;
+use boot_ini::boot_ini::{BootIni, Chosen, choose, wants_last_known_good};
+use boot_machine::boot_machine::Verdict;
 use std::alloc::{AllocError, Global};
 
 /// Whether the entry of a number is on LastKnownGood.

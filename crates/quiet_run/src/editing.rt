@@ -2,7 +2,7 @@
 
 ghost use Rattle.std.specs.Prelude.{◌≡◌, ◌∷◌, [], ◌||◌, true, false, map, not, IfOk, OnOk, Some};
 ghost use Rattle.std.specs.List.{All};
-ghost use Rattle.boot_machine.specs.Steps.{is_there};
+ghost use Rattle.boot_machine.specs.boot_machine.Steps.{is_there};
 ghost use Rattle.hive_model.specs.Tree.{same_tree};
 ghost use Rattle.hive_model.specs.Edit.{edited};
 ghost use Rattle.reg_tree.specs.Fitting.{Fits};

@@ -1,8 +1,8 @@
 //! The end of a start.
 
 ghost use Rattle.std.specs.Prelude.{◌≡◌, true, false, Some};
-ghost use Rattle.boot_machine.specs.Steps.{falls_back, is_there};
-ghost use Rattle.error_control.specs.Judgement.{judgement_in};
+ghost use Rattle.boot_machine.specs.boot_machine.Steps.{falls_back, is_there};
+ghost use Rattle.boot_phases.specs.error_control.Judgement.{judgement_in};
 ghost use Rattle.start_model.specs.Act.{done, end_with};
 ghost use Rattle.start_model.specs.Starter.{judged};
 ghost use Rattle.start_model.specs.Machine.{Start, ending_of};
@@ -10,8 +10,8 @@ ghost use Rattle.quiet_run.specs.Play.{state_in, watched_in, IsSound};
 ghost use Rattle.quiet_run.specs.Watch.{watch};
 
 use crate::play::Play;
-use boot_machine::Verdict;
-use error_control::Judgement;
+use boot_machine::boot_machine::Verdict;
+use boot_phases::error_control::Judgement;
 
 /// A start ends with this verdict. Edits that were not committed are lost.
 pub(crate) fn end(verdict: Verdict, play: &mut Play)

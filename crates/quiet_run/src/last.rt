@@ -3,10 +3,10 @@
 ghost use Rattle.std.specs.Prelude.{◌≡◌};
 ghost use Rattle.quiet_run.specs.Watch.{fresh_start};
 
-use boot_phases::Phase;
-use boot_report::{TryWord, Verdict};
+use boot_phases::boot_phases::Phase;
 use nt_bytes::{Names, Row, Units};
 use reg_tree::Key;
+use report_text::boot_report::{TryWord, Verdict};
 use std::alloc::Global;
 
 /// An attempt of an entry, by its name as the registry spells it.

@@ -1,7 +1,7 @@
 //! A run in its course.
 
 use crate::last::LastStart;
-use boot_machine::Machine;
+use boot_machine::boot_machine::Machine;
 use nt_bytes::HiveVersion;
 use reg_tree::Key;
 

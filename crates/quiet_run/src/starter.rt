@@ -2,8 +2,8 @@
 
 ghost use Rattle.std.specs.Prelude.{◌≡◌, ◌≤◌, ◌+◌, ◌++◌, true, false, length, map, IfOk, IfSome, OnOk, Some, None};
 ghost use Rattle.hive_model.specs.Valid.{IsValid};
-ghost use Rattle.boot_machine.specs.Steps.{is_at_end, on_start};
-ghost use Rattle.boot_machine.specs.Views.{event_in};
+ghost use Rattle.boot_machine.specs.boot_machine.Steps.{is_at_end, on_start};
+ghost use Rattle.boot_machine.specs.boot_machine.Views.{event_in};
 ghost use Rattle.report_words.specs.declared.words.Verdict.TheVariants.{Stopped};
 ghost use Rattle.report_words.specs.declared.line.Line.TheVariants.{Vital as VitalLine};
 ghost use Rattle.start_model.specs.Entries.{services_of};
@@ -13,7 +13,7 @@ ghost use Rattle.start_model.specs.Act.{done, say_all, end_with};
 ghost use Rattle.start_model.specs.Starter.{good_is_usable, starter_step, phase_step, phase_begun, stepping, enough_steps};
 ghost use Rattle.quiet_run.specs.Play.{state_in, watched_in, on_next, set_in, is_under_way, IsSound, IsSoundStart, IsSetNumber};
 ghost use Rattle.quiet_run.specs.Watch.{watch, is_new, phase_noted, noted, stepped, steps_of, gone, gone_unless};
-ghost use Rattle.boot_phases.specs.Phases.{phase_in};
+ghost use Rattle.boot_phases.specs.boot_phases.Phases.{phase_in};
 
 use crate::ending::{end, end_where_judged};
 use crate::last::{Attempt, BegunPhase, LastStart};
@@ -21,12 +21,12 @@ use crate::play::Play;
 use crate::saving::save_where_due;
 use crate::sets::{good_is_usable, set_in};
 use crate::words::{phase_number, try_word};
-use boot_machine::{Machine, Phase, Verdict};
-use boot_script::Event;
+use boot_machine::boot_machine::{Machine, Phase, Verdict};
+use boot_script::boot_script::Event;
 use nt_bytes::{Names, Units};
+use nt_names::startup_names::SERVICES;
 use reg_tree::Key;
 use select_keys::set_of;
-use startup_names::SERVICES;
 use std::alloc::{AllocError, Global};
 
 // ---- an attempt

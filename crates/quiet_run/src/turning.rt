@@ -1,8 +1,8 @@
 //! One event.
 
 ghost use Rattle.std.specs.Prelude.{◌≡◌, true, false, None, OnOk, Some};
-ghost use Rattle.boot_machine.specs.Steps.{is_there};
-ghost use Rattle.boot_machine.specs.Views.{event_in};
+ghost use Rattle.boot_machine.specs.boot_machine.Steps.{is_there};
+ghost use Rattle.boot_machine.specs.boot_machine.Views.{event_in};
 ghost use Rattle.start_model.specs.Machine.{Start, failing, requiring, refusal_of};
 ghost use Rattle.start_model.specs.EventActs.{running_act, idle_act, accepted_act, act_unless};
 ghost use Rattle.start_model.specs.Events as book;
@@ -16,11 +16,11 @@ use crate::ending::end;
 use crate::play::Play;
 use crate::saving::logon;
 use crate::starter::{note, turn_go};
-use arc_path::Arc;
-use boot_ini::BootIni;
-use boot_machine::{Machine, Verdict};
-use boot_script::Event;
-use edit_steps::{delete_step, make_step, remove_step, set_step};
+use boot_ini::arc_path::Arc;
+use boot_ini::boot_ini::BootIni;
+use boot_machine::boot_machine::{Machine, Verdict};
+use boot_machine::edit_steps::{delete_step, make_step, remove_step, set_step};
+use boot_script::boot_script::Event;
 use nt_bytes::Units;
 use std::alloc::{AllocError, Global};
 

@@ -2,7 +2,7 @@
 
 ghost use Rattle.std.specs.Prelude.{◌≡◌, map, IfOk, OnOk};
 ghost use Rattle.hive_model.specs.Valid.{HoldsKeys, IsValid};
-ghost use Rattle.boot_machine.specs.Views.{event_in};
+ghost use Rattle.boot_machine.specs.boot_machine.Views.{event_in};
 ghost use Rattle.start_model.specs.Run.{closing_act};
 ghost use Rattle.quiet_run.specs.Choices.{choices};
 ghost use Rattle.quiet_run.specs.Play.{state_in, watched_in, AreHeld, IsSound};
@@ -12,10 +12,10 @@ use crate::last::{QuietRun, fresh_start};
 use crate::play::Play;
 use crate::sets::{no_set, usable_set};
 use crate::turning::turn;
-use arc_path::Arc;
-use boot_ini::BootIni;
-use boot_machine::Machine;
-use boot_script::Event;
+use boot_ini::arc_path::Arc;
+use boot_ini::boot_ini::BootIni;
+use boot_machine::boot_machine::Machine;
+use boot_script::boot_script::Event;
 use nt_bytes::HiveVersion;
 use reg_tree::Key;
 use std::alloc::{AllocError, Global};

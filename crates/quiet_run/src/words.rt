@@ -1,17 +1,17 @@
 //! Words of the report and numbers of phases.
 
 ghost use Rattle.std.specs.Prelude.{◌≡◌};
-ghost use Rattle.boot_machine.specs.Views.{tried_in};
-ghost use Rattle.boot_machine.specs.Codes.{phase_number};
-ghost use Rattle.boot_phases.specs.Phases.{phase_in};
+ghost use Rattle.boot_machine.specs.boot_machine.Views.{tried_in};
+ghost use Rattle.boot_machine.specs.boot_machine.Codes.{phase_number};
+ghost use Rattle.boot_phases.specs.boot_phases.Phases.{phase_in};
 ghost use Rattle.report_words.specs.declared.words.TryWord.TheVariants as tries;
 ghost use Rattle.start_model.specs.Starter.{failed_word};
 ghost use Rattle.std.specs.Prelude.{if◌then◌else◌};
 
-use boot_machine::Tried;
-use boot_phases::Phase;
-use boot_report::TryWord;
-use error_control::Judgement;
+use boot_machine::boot_machine::Tried;
+use boot_phases::boot_phases::Phase;
+use boot_phases::error_control::Judgement;
+use report_text::boot_report::TryWord;
 
 /// How an attempt went.
 pub(crate) fn try_word(tried: &Tried) -> TryWord

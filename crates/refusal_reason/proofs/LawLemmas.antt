@@ -4,20 +4,20 @@ use Rattle.std.specs.Prelude.{codes}
 use Rattle.std.proofs.lemmas.Bool.{false≢true}
 use Rattle.std.proofs.lemmas.List.{take-take}
 use Rattle.nt_edge.specs.Host.{Files, HostState}
-use Rattle.reason_lines.specs.Texts.{Text}
-use Rattle.reason_lines.specs.Heard.{Heard, nothing, of_script, of_boot_ini, of_reg, of_hive, of_other, heard_of}
-use Rattle.reason_lines.specs.Files.{file_at, place_of, place_for, missing_in, option_for}
-use Rattle.reason_lines.specs.Lines.{absent_for, absent_line, heard_line, memory_line}
-use Rattle.refusal_reason.specs.declared.notes.Notes.{Notes}
-use Rattle.refusal_reason.specs.Laws.{absent_line_of, fault_line_of, is_fault, is_refusal, refusal_line}
-use Rattle.refusal_reason.specs.Notes.{IsNoted}
-use Rattle.refusal_reason.specs.Reasons.{fault_line, is_dirty_at, is_dirty_in, line_on, printed_line}
-use Rattle.command_parts.specs.Refusals.{refusal_text}
-use Rattle.command_parts.specs.declared.status.Status.{Status}
-use Rattle.command_parts.specs.declared.status.Status.TheVariants as statuses
-use Rattle.command_parts.specs.declared.refusal.Refusal.TheVariants as refusals
-use Rattle.reason_lines.proofs.PrintedLemmas.{no_file-heard}
-use Rattle.reason_lines.proofs.FileLemmas.{file_at-place_of}
+use Rattle.refusal_reason.specs.reason_lines.Texts.{Text}
+use Rattle.refusal_reason.specs.reason_lines.Heard.{Heard, nothing, of_script, of_boot_ini, of_reg, of_hive, of_other, heard_of}
+use Rattle.refusal_reason.specs.reason_lines.Files.{file_at, place_of, place_for, missing_in, option_for}
+use Rattle.refusal_reason.specs.reason_lines.Lines.{absent_for, absent_line, heard_line, memory_line}
+use Rattle.refusal_reason.specs.declared.refusal_reason.notes.Notes.{Notes}
+use Rattle.refusal_reason.specs.refusal_reason.Laws.{absent_line_of, fault_line_of, is_fault, is_refusal, refusal_line}
+use Rattle.refusal_reason.specs.refusal_reason.Notes.{IsNoted}
+use Rattle.refusal_reason.specs.refusal_reason.Reasons.{fault_line, is_dirty_at, is_dirty_in, line_on, printed_line}
+use Rattle.command_parts.specs.command_parts.Refusals.{refusal_text}
+use Rattle.command_parts.specs.declared.command_parts.status.Status.{Status}
+use Rattle.command_parts.specs.declared.command_parts.status.Status.TheVariants as statuses
+use Rattle.command_parts.specs.declared.command_parts.refusal.Refusal.TheVariants as refusals
+use Rattle.refusal_reason.proofs.PrintedLemmas.{no_file-heard}
+use Rattle.refusal_reason.proofs.FileLemmas.{file_at-place_of}
 use Rattle.refusal_reason.proofs.RoomLemmas.{missing-front}
 
 -- only for a hive's fault it counts whether a hive is dirty, and then whether that one is

@@ -1,3 +1,5 @@
+pub mod FileLemmas
+pub mod PrintedLemmas
 pub mod NotesLemmas
 pub mod RoomLemmas
 pub mod LawLemmas

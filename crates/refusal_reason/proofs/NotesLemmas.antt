@@ -6,11 +6,11 @@ use Rattle.std.proofs.lemmas.List.{length-take}
 use Rattle.std.specs.declared.alloc.AllocError.{AllocError}
 use Rattle.nt_edge.specs.Host.{Files, HostState, KeepsHost, KeepsFiles, IsUnsaid}
 use Rattle.nt_edge.specs.declared.host.HostStop.{HostStop}
-use Rattle.reason_lines.specs.Texts.{Text}
-use Rattle.reason_lines.specs.Files.{value_of, names, is_dirty}
-use Rattle.reason_lines.proofs.FileLemmas.{names-same}
-use Rattle.refusal_reason.specs.declared.notes.Notes.{Notes}
-use Rattle.refusal_reason.specs.Notes.{IsNoted, IsSaid, judged, with_found, with_got, with_put, with_said, dirty_file}
+use Rattle.refusal_reason.specs.reason_lines.Texts.{Text}
+use Rattle.refusal_reason.specs.reason_lines.Files.{value_of, names, is_dirty}
+use Rattle.refusal_reason.proofs.FileLemmas.{names-same}
+use Rattle.refusal_reason.specs.declared.refusal_reason.notes.Notes.{Notes}
+use Rattle.refusal_reason.specs.refusal_reason.Notes.{IsNoted, IsSaid, judged, with_found, with_got, with_put, with_said, dirty_file}
 
 -- the host shows what it did before
 pub noted-same : (words : List Text) (old new : HostState) (notes : Notes) → IsNoted words old notes

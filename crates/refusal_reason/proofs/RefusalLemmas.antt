@@ -4,15 +4,15 @@ use Rattle.std.proofs.lemmas.Bool.{false≢true}
 use Rattle.nt_bytes.specs.declared.fault.HiveFault.{HiveFault}
 use Rattle.nt_bytes.specs.declared.fault.HiveFaultKind.{HiveFaultKind}
 use Rattle.nt_bytes.specs.declared.fault.HiveFaultKind.TheVariants as hive
-use Rattle.boot_script.specs.declared.stop.ScriptFault.{ScriptFault}
-use Rattle.boot_script.specs.declared.stop.ScriptFaultKind.{ScriptFaultKind}
-use Rattle.boot_script.specs.declared.stop.ScriptFaultKind.TheVariants as script
-use Rattle.command_parts.specs.Kinds.{script_kind_word, hive_kind_word}
-use Rattle.command_parts.specs.Refusals.{refusal_text}
-use Rattle.command_parts.specs.declared.refusal.Refusal.TheVariants as refusals
-use Rattle.reason_lines.specs.Kinds.{part_reason, reason_in, script_rows}
-use Rattle.reason_lines.proofs.PrintedLemmas.{script-heard, hive-heard}
-use Rattle.refusal_reason.specs.Laws.{SaysScript, SaysHive}
+use Rattle.boot_script.specs.declared.boot_script.stop.ScriptFault.{ScriptFault}
+use Rattle.boot_script.specs.declared.boot_script.stop.ScriptFaultKind.{ScriptFaultKind}
+use Rattle.boot_script.specs.declared.boot_script.stop.ScriptFaultKind.TheVariants as script
+use Rattle.command_parts.specs.command_parts.Kinds.{script_kind_word, hive_kind_word}
+use Rattle.command_parts.specs.command_parts.Refusals.{refusal_text}
+use Rattle.command_parts.specs.declared.command_parts.refusal.Refusal.TheVariants as refusals
+use Rattle.refusal_reason.specs.reason_lines.Kinds.{part_reason, reason_in, script_rows}
+use Rattle.refusal_reason.proofs.PrintedLemmas.{script-heard, hive-heard}
+use Rattle.refusal_reason.specs.refusal_reason.Laws.{SaysScript, SaysHive}
 
 script-known : (kind : ScriptFaultKind) → is_some (reason_in script_rows (script_kind_word kind)) ≡ true
 script-known script.TooLong = refl

@@ -5,9 +5,9 @@ use Rattle.std.specs.List.{position_or_len}
 use Rattle.std.proofs.lemmas.Bool.Decides.{nat_tests}
 use Rattle.std.proofs.lemmas.List.{length-take, length-drop, take_all}
 use Rattle.std.proofs.lemmas.Slice.Eq.{bytes_eq-Decides}
-use Rattle.reason_lines.specs.Texts.{Text}
-use Rattle.reason_lines.specs.Files.{file_in, is_equals, is_long, is_named, missing_in, named_by, place_for, place_of}
-use Rattle.refusal_reason.specs.Notes.{longest, room_for}
+use Rattle.refusal_reason.specs.reason_lines.Texts.{Text}
+use Rattle.refusal_reason.specs.reason_lines.Files.{file_in, is_equals, is_long, is_named, missing_in, named_by, place_for, place_of}
+use Rattle.refusal_reason.specs.refusal_reason.Notes.{longest, room_for}
 
 -- the file that a word names is no longer than the word
 part-short : (word : Text) (place : Option ℕ)

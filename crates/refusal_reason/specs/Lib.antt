@@ -1,3 +1,2 @@
-pub mod Notes
-pub mod Reasons
-pub mod Laws
+pub mod reason_lines
+pub mod refusal_reason

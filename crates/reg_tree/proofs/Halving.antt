@@ -18,12 +18,12 @@ use Rattle.std.proofs.lemmas.List.Quantifiers.{all_pairs_push}
 use Rattle.std.proofs.lemmas.Bool.{cases_Bool, cases_lt, both_ways, lt-ltb, le-ltb}
 use Rattle.std.proofs.lemmas.List.Sorted.{ranks_by}
 use Rattle.nt_bytes.specs.Folding.{folded, folds_same, folded_order}
-use Rattle.name_places.proofs.FoldLemmas.{same_from_order}
+use Rattle.nt_names.proofs.FoldLemmas.{same_from_order}
 use Rattle.hive_model.specs.Tree.{Tree, head}
 use Rattle.hive_model.specs.Edit.{placed}
 use Rattle.reg_tree.specs.Places.{folds_greater}
 use Rattle.reg_tree.proofs.Unlike.{Each, each_from, each_all}
-use Rattle.name_places.proofs.OrderLemmas.{less_differs}
+use Rattle.nt_names.proofs.OrderLemmas.{less_differs}
 
 -- ---- the first place that passes a test
 

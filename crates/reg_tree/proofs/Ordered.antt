@@ -16,7 +16,7 @@ use Rattle.std.proofs.lemmas.List.Kept.{AllPairs-filter}
 use Rattle.std.proofs.lemmas.List.Sorted.{All-permutation, Contains-permutation}
 use Rattle.std.proofs.lemmas.List.FromFn.{length-range_with_len, get_or-range_with_len}
 use Rattle.nt_bytes.specs.Folding.{folded, folds_same, folded_order}
-use Rattle.name_places.proofs.FoldLemmas.{same_from_order, alike}
+use Rattle.nt_names.proofs.FoldLemmas.{same_from_order, alike}
 use Rattle.hive_model.specs.Tree.{Item, is_item}
 use Rattle.reg_tree.specs.Order.{no_item, name_at, is_other, lowered, IsOrderOf}
 use Rattle.reg_tree.proofs.Halving.{folds, greater_is_less, greater_left, Rising, EndsAt, less, none_pass, position_found, position_absent, pairs_insert}

@@ -10,8 +10,6 @@ mod base;
 mod fitting;
 mod spelling;
 mod sum;
-#[cfg(test)]
-mod tests;
 
 pub use base::{BaseBlock, read_base};
 pub use fitting::{numbers_fit, texts_fit};

@@ -11,9 +11,9 @@ use Rattle.nt_bytes.specs.Fields.{u32_in, u64_in}
 use Rattle.hive_model.specs.Base.{Base, mixed_words, moved_off, checksum_of, is_minor, first_failing, fields_of, unless_fault, head_text, summed_text, base_text}
 use Rattle.hive_model.proofs.BaseLemmas.{mixed_front}
 use Rattle.regf_base.specs.Fitting.{NumbersFit, TextsFit}
-use Rattle.log_parts.specs.declared.base.FileRole.{FileRole}
-use Rattle.log_parts.specs.declared.base.FileRole.TheVariants.{Hive}
-use Rattle.log_parts.specs.Wide.{is_type, is_wide_size, wide_checks, wide_base_of}
+use Rattle.windows_logs.specs.declared.log_parts.base.FileRole.{FileRole}
+use Rattle.windows_logs.specs.declared.log_parts.base.FileRole.TheVariants.{Hive}
+use Rattle.windows_logs.specs.log_parts.Wide.{is_type, is_wide_size, wide_checks, wide_base_of}
 use Rattle.replay_laws.specs.Results.{AreBytes}
 use Rattle.replay_laws.proofs.Bytes.{append_bytes, low_bytes, word_fits}
 

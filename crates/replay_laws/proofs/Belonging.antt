@@ -14,15 +14,15 @@ use Rattle.hive_model.proofs.BaseLemmas.{IsChecked, base_checked, log_base_back}
 use Rattle.hive_log.proofs.Appending.{IsSized, sized}
 use Rattle.hive_log.proofs.Ranks.{rank_same}
 use Rattle.hive_log.proofs.Runs.{gathered_is}
-use Rattle.log_parts.specs.declared.base.FileRole.TheVariants.{Log}
-use Rattle.log_parts.specs.declared.fault.LogFault.{LogFault}
-use Rattle.log_parts.specs.Filled.{filled}
-use Rattle.log_parts.specs.Wide.{wide_base_of}
-use Rattle.entry_log.specs.Runs.{run_of}
-use Rattle.dirt_log.specs.declared.reading.OldReading.{OldReading}
-use Rattle.dirt_log.specs.declared.reading.OldReading.TheVariants as olds
-use Rattle.dirt_log.specs.Dirt.{bits_of, has_rest, needed, first_failing, dirt_checks, whole_or, old_reading_of, fault_at as log_fault}
-use Rattle.log_parts.specs.declared.fault.LogFaultKind.TheVariants.{LogSequence}
+use Rattle.windows_logs.specs.declared.log_parts.base.FileRole.TheVariants.{Log}
+use Rattle.windows_logs.specs.declared.log_parts.fault.LogFault.{LogFault}
+use Rattle.windows_logs.specs.log_parts.Filled.{filled}
+use Rattle.windows_logs.specs.log_parts.Wide.{wide_base_of}
+use Rattle.windows_logs.specs.entry_log.Runs.{run_of}
+use Rattle.windows_logs.specs.declared.dirt_log.reading.OldReading.{OldReading}
+use Rattle.windows_logs.specs.declared.dirt_log.reading.OldReading.TheVariants as olds
+use Rattle.windows_logs.specs.dirt_log.Dirt.{bits_of, has_rest, needed, first_failing, dirt_checks, whole_or, old_reading_of, fault_at as log_fault}
+use Rattle.windows_logs.specs.declared.log_parts.fault.LogFaultKind.TheVariants.{LogSequence}
 use Rattle.log_replay.specs.declared.reading.LogReading.TheVariants as readings
 use Rattle.log_replay.specs.Reading.{based, reading_of}
 use Rattle.replay_laws.proofs.Hives.{filled_long, filled_whole}

@@ -5,7 +5,7 @@ use Rattle.std.specs.Int.{w32, w64, from_le_bytes, bytes_low_first, byte_at}
 use Rattle.std.proofs.Math.Nat.{mod-lt}
 use Rattle.nt_bytes.specs.Fields.{u32_in, u64_in}
 use Rattle.hive_model.specs.Base.{fields_of}
-use Rattle.log_parts.specs.Filled.{filled}
+use Rattle.windows_logs.specs.log_parts.Filled.{filled}
 use Rattle.regf_base.specs.Fitting.{NumbersFit, TextsFit}
 use Rattle.replay_laws.specs.Results.{AreBytes}
 

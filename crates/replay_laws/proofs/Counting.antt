@@ -2,11 +2,11 @@
 use Rattle.std.proofs.Common.{◌≡◌, ◌⊎◌, ◌<◌, ◌≤◌, ◌+◌, ◌/◌, ◌%◌, ◌^◌, ◌++◌, ℕ, zero, suc, map, List, [], ◌∷◌, length, Option, Some, None, Ok, sym, ◌∙◌, ap, subst, inl, inr, arith, length-append}
 use Rattle.std.proofs.lemmas.List.{length-map}
 use Rattle.hive_model.specs.Base.{Base}
-use Rattle.log_parts.specs.Filled.{filled}
-use Rattle.entry_log.specs.declared.entry.Entry.{Entry}
-use Rattle.entry_log.specs.declared.entry.Found.{Found}
-use Rattle.entry_log.specs.declared.entry.Found.TheVariants.{NoEntry, Broken, Whole}
-use Rattle.entry_log.specs.Runs.{found_at, run_by, run_from, run_of}
+use Rattle.windows_logs.specs.log_parts.Filled.{filled}
+use Rattle.windows_logs.specs.declared.entry_log.entry.Entry.{Entry}
+use Rattle.windows_logs.specs.declared.entry_log.entry.Found.{Found}
+use Rattle.windows_logs.specs.declared.entry_log.entry.Found.TheVariants.{NoEntry, Broken, Whole}
+use Rattle.windows_logs.specs.entry_log.Runs.{found_at, run_by, run_from, run_of}
 use Rattle.log_replay.specs.declared.replaying.LogFile.{LogFile}
 use Rattle.log_replay.specs.Entries.{Chosen, chosen, most}
 use Rattle.log_replay.specs.Replay.{begun, hive_base_of}

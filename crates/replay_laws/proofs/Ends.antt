@@ -4,13 +4,13 @@ use Rattle.std.specs.Prelude.{nat_eq, nat_le, not, codes}
 use Rattle.std.specs.List.{starts_with}
 use Rattle.std.proofs.lemmas.Bool.{and_parts}
 use Rattle.std.proofs.lemmas.List.{drop_all}
-use Rattle.entry_log.specs.declared.entry.Entry.{Entry}
-use Rattle.entry_log.specs.declared.entry.Found.{Found}
-use Rattle.entry_log.specs.declared.entry.Found.TheVariants.{NoEntry, Broken, Whole}
-use Rattle.entry_log.specs.Entries.{entry_in, IsWhole}
-use Rattle.entry_log.specs.Runs.{follows, judged, found_at, run_by, run_from, run_of}
-use Rattle.entry_log.proofs.Going.{found_whole}
-use Rattle.entry_log.proofs.Steps.{known}
+use Rattle.windows_logs.specs.declared.entry_log.entry.Entry.{Entry}
+use Rattle.windows_logs.specs.declared.entry_log.entry.Found.{Found}
+use Rattle.windows_logs.specs.declared.entry_log.entry.Found.TheVariants.{NoEntry, Broken, Whole}
+use Rattle.windows_logs.specs.entry_log.Entries.{entry_in, IsWhole}
+use Rattle.windows_logs.specs.entry_log.Runs.{follows, judged, found_at, run_by, run_from, run_of}
+use Rattle.windows_logs.proofs.Going.{found_whole}
+use Rattle.windows_logs.proofs.Steps.{known}
 use Rattle.replay_laws.specs.Runs.{EndsAs, RunsSo}
 
 -- there is no entry at or past the end

@@ -1,7 +1,7 @@
 -- The fold of the entries, and where it ends.
 use Rattle.std.proofs.Common.{◌≡◌, ◌*◌, ℕ, zero, suc, Option, Some, None, Bool, true, false, cond, List, [], ◌∷◌, refl, inl, inr, arith}
-use Rattle.entry_log.specs.Growing.{grows_whole, page_bytes}
-use Rattle.log_parts.specs.declared.fault.LogFaultKind.TheVariants.{EntryGrow}
+use Rattle.windows_logs.specs.entry_log.Growing.{grows_whole, page_bytes}
+use Rattle.windows_logs.specs.declared.log_parts.fault.LogFaultKind.TheVariants.{EntryGrow}
 use Rattle.log_replay.specs.declared.line.ReplayLine.TheVariants.{Fault, Apply}
 use Rattle.log_replay.specs.declared.entries.HiveNow.{HiveNow}
 use Rattle.log_replay.specs.declared.reading.GivenLog.{GivenLog}

@@ -4,13 +4,13 @@ use Rattle.std.specs.Prelude.{nat_le}
 use Rattle.std.proofs.lemmas.Bool.{and_parts}
 use Rattle.std.proofs.lemmas.List.{get_or_append_left, length-replicate}
 use Rattle.nt_bytes.specs.Fields.{u32_in}
-use Rattle.log_parts.specs.Filled.{filled}
-use Rattle.log_parts.specs.Pages.{Page, put_at, put_pages}
-use Rattle.log_parts.specs.Wide.{is_wide_size}
-use Rattle.log_parts.proofs.Puts.{put_long}
-use Rattle.entry_log.specs.declared.entry.Entry.{Entry}
-use Rattle.entry_log.specs.Entries.{bytes_of, is_page, are_pages, pages_from, pages_of, IsWhole}
-use Rattle.entry_log.proofs.Steps.{page_fits, known}
+use Rattle.windows_logs.specs.log_parts.Filled.{filled}
+use Rattle.windows_logs.specs.log_parts.Pages.{Page, put_at, put_pages}
+use Rattle.windows_logs.specs.log_parts.Wide.{is_wide_size}
+use Rattle.windows_logs.proofs.Puts.{put_long}
+use Rattle.windows_logs.specs.declared.entry_log.entry.Entry.{Entry}
+use Rattle.windows_logs.specs.entry_log.Entries.{bytes_of, is_page, are_pages, pages_from, pages_of, IsWhole}
+use Rattle.windows_logs.proofs.Steps.{page_fits, known}
 use Rattle.log_replay.specs.declared.entries.HiveNow.{HiveNow}
 use Rattle.log_replay.specs.declared.reading.GivenLog.{GivenLog}
 use Rattle.log_replay.specs.Entries.{Chosen, roomy, with_entry}

@@ -7,11 +7,11 @@ use Rattle.nt_bytes.specs.declared.fault.HiveFault.{HiveFault}
 use Rattle.nt_bytes.specs.declared.fault.HiveFaultKind.TheVariants.{NotRegf, Size}
 use Rattle.hive_model.specs.Base.{Base, base_text, fault_at, is_minor}
 use Rattle.regf_base.specs.Fitting.{NumbersFit, TextsFit}
-use Rattle.log_parts.specs.declared.base.FileRole.{FileRole}
-use Rattle.log_parts.specs.declared.base.FileRole.TheVariants.{Hive}
-use Rattle.log_parts.specs.Filled.{filled}
-use Rattle.log_parts.specs.Wide.{is_wide_size, wide_base_of}
-use Rattle.log_parts.proofs.Puts.{put_long}
+use Rattle.windows_logs.specs.declared.log_parts.base.FileRole.{FileRole}
+use Rattle.windows_logs.specs.declared.log_parts.base.FileRole.TheVariants.{Hive}
+use Rattle.windows_logs.specs.log_parts.Filled.{filled}
+use Rattle.windows_logs.specs.log_parts.Wide.{is_wide_size, wide_base_of}
+use Rattle.windows_logs.proofs.Puts.{put_long}
 use Rattle.log_replay.specs.Replay.{with_base, with_bins, hive_base_of}
 use Rattle.replay_laws.specs.Results.{AreBytes}
 use Rattle.replay_laws.proofs.Bytes.{take_bytes, numbers_there, texts_there}

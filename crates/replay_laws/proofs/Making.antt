@@ -6,10 +6,10 @@ use Rattle.nt_bytes.specs.declared.fault.HiveFault.{HiveFault}
 use Rattle.hive_model.specs.Base.{Base, base_text}
 use Rattle.hive_model.specs.Recovery.{sector, first_dirty}
 use Rattle.regf_base.specs.Fitting.{NumbersFit, TextsFit}
-use Rattle.log_parts.specs.declared.base.FileRole.TheVariants.{Hive, Log}
-use Rattle.log_parts.specs.Filled.{filled}
-use Rattle.log_parts.specs.Pages.{put_pages}
-use Rattle.dirt_log.specs.Dirt.{bits_of, marked_pages, old_pages_of, IsLong}
+use Rattle.windows_logs.specs.declared.log_parts.base.FileRole.TheVariants.{Hive, Log}
+use Rattle.windows_logs.specs.log_parts.Filled.{filled}
+use Rattle.windows_logs.specs.log_parts.Pages.{put_pages}
+use Rattle.windows_logs.specs.dirt_log.Dirt.{bits_of, marked_pages, old_pages_of, IsLong}
 use Rattle.log_replay.specs.declared.line.ReplayLine.{ReplayLine}
 use Rattle.log_replay.specs.declared.line.ReplayLine.TheVariants.{Sequence}
 use Rattle.log_replay.specs.declared.replaying.LogFile.{LogFile}

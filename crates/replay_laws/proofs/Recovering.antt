@@ -15,10 +15,10 @@ use Rattle.hive_model.specs.State.{HiveState}
 use Rattle.hive_model.proofs.BaseLemmas.{base_back}
 use Rattle.hive_log.proofs.Finding.{by_clean}
 use Rattle.hive_log.proofs.Runs.{gathered_same, sector_front, sector_back}
-use Rattle.log_parts.specs.Filled.{filled}
-use Rattle.log_parts.specs.Pages.{put_pages}
-use Rattle.dirt_log.specs.declared.reading.OldReading.TheVariants as olds
-use Rattle.dirt_log.specs.Dirt.{bits_of, old_pages_of, IsLong}
+use Rattle.windows_logs.specs.log_parts.Filled.{filled}
+use Rattle.windows_logs.specs.log_parts.Pages.{put_pages}
+use Rattle.windows_logs.specs.declared.dirt_log.reading.OldReading.TheVariants as olds
+use Rattle.windows_logs.specs.dirt_log.Dirt.{bits_of, old_pages_of, IsLong}
 use Rattle.log_replay.specs.declared.line.LogName.{LogName}
 use Rattle.log_replay.specs.declared.line.ReplayLine.{ReplayLine}
 use Rattle.log_replay.specs.declared.line.ReplayLine.TheVariants.{Sequence}

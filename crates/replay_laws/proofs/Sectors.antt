@@ -8,10 +8,10 @@ use Rattle.hive_model.specs.Image.{Bytes, padded, sector_of}
 use Rattle.hive_model.specs.Recovery.{Sectors, bytes_or, sector, rank, joined, gathered}
 use Rattle.hive_log.proofs.Ranks.{rank_on, rank_off, rank_below}
 use Rattle.hive_log.proofs.Runs.{sector_front, sector_back, sector_long, sector_whole}
-use Rattle.log_parts.specs.Filled.{filled}
-use Rattle.log_parts.specs.Pages.{put_at, put_pages}
-use Rattle.log_parts.proofs.Puts.{put_long}
-use Rattle.dirt_log.specs.Dirt.{marked_pages}
+use Rattle.windows_logs.specs.log_parts.Filled.{filled}
+use Rattle.windows_logs.specs.log_parts.Pages.{put_at, put_pages}
+use Rattle.windows_logs.proofs.Puts.{put_long}
+use Rattle.windows_logs.specs.dirt_log.Dirt.{marked_pages}
 
 -- ---- a sector of an image
 

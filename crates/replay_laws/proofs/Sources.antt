@@ -4,18 +4,18 @@ use Rattle.std.specs.Prelude.{slice_get}
 use Rattle.std.proofs.lemmas.Bool.{eqb-true}
 use Rattle.nt_bytes.specs.declared.fault.HiveFault.{HiveFault}
 use Rattle.hive_model.specs.Base.{Base}
-use Rattle.log_parts.specs.declared.base.FileRole.TheVariants as roles
-use Rattle.log_parts.specs.Filled.{filled}
-use Rattle.log_parts.specs.Wide.{wide_base_of}
-use Rattle.entry_log.specs.declared.entry.Entry.{Entry}
-use Rattle.entry_log.specs.declared.entry.Found.{Found}
-use Rattle.entry_log.specs.declared.entry.Found.TheVariants as founds
-use Rattle.entry_log.specs.Entries.{IsWhole}
-use Rattle.entry_log.specs.Runs.{found_at, run_by, run_from, run_of}
-use Rattle.entry_log.proofs.Going.{found_whole}
-use Rattle.dirt_log.specs.declared.reading.OldReading.{OldReading}
-use Rattle.dirt_log.specs.declared.reading.OldReading.TheVariants as olds
-use Rattle.dirt_log.specs.Dirt.{old_reading_of}
+use Rattle.windows_logs.specs.declared.log_parts.base.FileRole.TheVariants as roles
+use Rattle.windows_logs.specs.log_parts.Filled.{filled}
+use Rattle.windows_logs.specs.log_parts.Wide.{wide_base_of}
+use Rattle.windows_logs.specs.declared.entry_log.entry.Entry.{Entry}
+use Rattle.windows_logs.specs.declared.entry_log.entry.Found.{Found}
+use Rattle.windows_logs.specs.declared.entry_log.entry.Found.TheVariants as founds
+use Rattle.windows_logs.specs.entry_log.Entries.{IsWhole}
+use Rattle.windows_logs.specs.entry_log.Runs.{found_at, run_by, run_from, run_of}
+use Rattle.windows_logs.proofs.Going.{found_whole}
+use Rattle.windows_logs.specs.declared.dirt_log.reading.OldReading.{OldReading}
+use Rattle.windows_logs.specs.declared.dirt_log.reading.OldReading.TheVariants as olds
+use Rattle.windows_logs.specs.dirt_log.Dirt.{old_reading_of}
 use Rattle.log_replay.specs.declared.reading.LogReading.TheVariants as readings
 use Rattle.log_replay.specs.declared.entries.HiveNow.{HiveNow}
 use Rattle.log_replay.specs.declared.old.WholeOld.{WholeOld}

@@ -12,9 +12,9 @@ use Rattle.hive_model.specs.Recovery.{Recovered, sector, read_bin, read_log, joi
 use Rattle.hive_log.specs.Found.{bins_by}
 use Rattle.hive_log.proofs.Appending.{sized}
 use Rattle.hive_log.proofs.Finding.{by_bins}
-use Rattle.log_parts.specs.declared.base.FileRole.TheVariants.{Log}
-use Rattle.log_parts.specs.Filled.{filled}
-use Rattle.log_parts.specs.Wide.{is_wide_size, wide_checks, wide_base_of}
+use Rattle.windows_logs.specs.declared.log_parts.base.FileRole.TheVariants.{Log}
+use Rattle.windows_logs.specs.log_parts.Filled.{filled}
+use Rattle.windows_logs.specs.log_parts.Wide.{is_wide_size, wide_checks, wide_base_of}
 use Rattle.log_replay.specs.Replay.{hive_base_of}
 use Rattle.replay_laws.proofs.Bases.{none_fails, none_holds, read_parts}
 use Rattle.replay_laws.proofs.Hives.{hive_is}

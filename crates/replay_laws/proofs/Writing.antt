@@ -1,7 +1,7 @@
 -- A page that is written changes no other byte.
 use Rattle.std.proofs.Common.{◌≡◌, ◌⊎◌, ◌<◌, ◌≤◌, ◌+◌, ◌-◌, ◌++◌, ℕ, List, [], ◌∷◌, length, take, drop, get_or, refl, sym, ◌∙◌, ap, subst, inl, inr, arith, append_assoc}
 use Rattle.std.proofs.lemmas.List.{get_or-take, get_or-drop, get_or_append_left, get_or-append-add, length-append, length-drop, length-take-le}
-use Rattle.log_parts.specs.Pages.{Page, put_at, put_pages}
+use Rattle.windows_logs.specs.log_parts.Pages.{Page, put_at, put_pages}
 use Rattle.replay_laws.specs.Outside.{AreWithin, IsOutside}
 
 module _ (file bytes : List ℕ) (at : ℕ) (fits : at + length bytes ≤ length file) where

@@ -1,6 +1,6 @@
 -- Which entries of the logs were applied, and why did it end there? (this project's own)
 use Rattle.std.specs.Prelude.{◌≡◌, ◌⊎◌, ◌+◌, ℕ, true, false, List, [], ◌∷◌, Some, None}
-use Rattle.entry_log.specs.Growing.{grows_whole}
+use Rattle.windows_logs.specs.entry_log.Growing.{grows_whole}
 use Rattle.log_replay.specs.declared.entries.HiveNow.{HiveNow}
 use Rattle.log_replay.specs.declared.reading.GivenLog.{GivenLog}
 use Rattle.log_replay.specs.Entries.{Chosen, chosen, with_entry}

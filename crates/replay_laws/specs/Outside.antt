@@ -1,6 +1,6 @@
 -- Which bytes of a hive's file do pages leave? (this project's own)
 use Rattle.std.specs.Prelude.{◌⊎◌, ◌<◌, ◌≤◌, ◌+◌, ℕ, List, [], ◌∷◌, length}
-use Rattle.log_parts.specs.Pages.{Page}
+use Rattle.windows_logs.specs.log_parts.Pages.{Page}
 
 -- the byte after a page in the hive's file
 abbrev pub end_of : Page → ℕ

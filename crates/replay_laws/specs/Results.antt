@@ -2,14 +2,14 @@
 use Rattle.std.specs.Prelude.{◌≡◌, ◌⊎◌, ◌<◌, ◌≤◌, ◌+◌, ◌%◌, ◌^◌, false, ℕ, List, [], ◌∷◌, ◌++◌, length, take, map, get_or, slice_index, Result, Ok, Err}
 use Rattle.nt_bytes.specs.declared.fault.HiveFault.{HiveFault}
 use Rattle.hive_model.specs.Base.{Base}
-use Rattle.log_parts.specs.declared.base.FileRole.TheVariants.{Log}
-use Rattle.log_parts.specs.Filled.{filled}
-use Rattle.log_parts.specs.Wide.{wide_base_of}
-use Rattle.log_parts.specs.Pages.{put_pages}
-use Rattle.entry_log.specs.Entries.{pages_of, IsWhole}
-use Rattle.entry_log.specs.Runs.{run_of}
-use Rattle.dirt_log.specs.declared.reading.OldReading.TheVariants.{Whole}
-use Rattle.dirt_log.specs.Dirt.{old_pages_of, old_reading_of}
+use Rattle.windows_logs.specs.declared.log_parts.base.FileRole.TheVariants.{Log}
+use Rattle.windows_logs.specs.log_parts.Filled.{filled}
+use Rattle.windows_logs.specs.log_parts.Wide.{wide_base_of}
+use Rattle.windows_logs.specs.log_parts.Pages.{put_pages}
+use Rattle.windows_logs.specs.entry_log.Entries.{pages_of, IsWhole}
+use Rattle.windows_logs.specs.entry_log.Runs.{run_of}
+use Rattle.windows_logs.specs.declared.dirt_log.reading.OldReading.TheVariants.{Whole}
+use Rattle.windows_logs.specs.dirt_log.Dirt.{old_pages_of, old_reading_of}
 use Rattle.log_replay.specs.declared.line.ReplayLine.{ReplayLine}
 use Rattle.log_replay.specs.declared.line.ReplayLine.TheVariants as lines
 use Rattle.log_replay.specs.declared.entries.HiveNow.{HiveNow}

@@ -1,10 +1,10 @@
 -- Where does the run of a log end? (this project's own)
 use Rattle.std.specs.Prelude.{◌≡◌, ◌+◌, ◌*◌, ◌/◌, ℕ, List, [], ◌∷◌, Option, Some, None}
-use Rattle.log_parts.specs.declared.fault.LogFault.{LogFault}
-use Rattle.entry_log.specs.declared.entry.Entry.{Entry}
-use Rattle.entry_log.specs.declared.entry.Found.{Found}
-use Rattle.entry_log.specs.declared.entry.Found.TheVariants.{NoEntry, Broken, Whole}
-use Rattle.entry_log.specs.Runs.{found_at}
+use Rattle.windows_logs.specs.declared.log_parts.fault.LogFault.{LogFault}
+use Rattle.windows_logs.specs.declared.entry_log.entry.Entry.{Entry}
+use Rattle.windows_logs.specs.declared.entry_log.entry.Found.{Found}
+use Rattle.windows_logs.specs.declared.entry_log.entry.Found.TheVariants.{NoEntry, Broken, Whole}
+use Rattle.windows_logs.specs.entry_log.Runs.{found_at}
 
 -- a run ends where this is found: without a fault where no entry goes on, and with that of an entry that is broken, at its first byte
 abbrev pub EndsAs : ℕ → Found → Option LogFault → Type 0

@@ -1,6 +1,6 @@
 -- How long are the logs?
 use Rattle.std.specs.Prelude.{◌+◌, ◌/◌, ℕ, List, [], ◌∷◌, length}
-use Rattle.log_parts.specs.Filled.{filled}
+use Rattle.windows_logs.specs.log_parts.Filled.{filled}
 use Rattle.log_replay.specs.declared.replaying.LogFile.{LogFile}
 
 -- how many sectors they have

@@ -9,3 +9,6 @@ pub mod ToldLemmas
 pub mod SameLemmas
 pub mod FailureLemmas
 pub mod NoteLemmas
+pub mod RestLemmas
+pub mod LastLemmas
+pub mod CommitLemmas

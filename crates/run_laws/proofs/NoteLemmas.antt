@@ -5,7 +5,7 @@ use Rattle.hive_model.specs.Tree.{Tree}
 use Rattle.start_model.specs.Possible.{Possible, Woken, Outcome}
 use Rattle.start_model.specs.Act.{Note, Woke, Held, Saved, Ordered, Cuts, Ended}
 use Rattle.start_model.specs.Fits.{ArePossible, Fits, woke_in, held_in, saved_in}
-use Rattle.run_laws.specs.Told.{ended_in}
+use Rattle.run_laws.specs.run_laws.Told.{ended_in}
 
 pub woke_in-append : (a b : List Note) → woke_in (a ++ b) ≡ woke_in a ++ woke_in b
 woke_in-append [] b = refl

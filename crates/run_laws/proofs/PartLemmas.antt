@@ -9,7 +9,7 @@ use Rattle.start_model.specs.Act.{RunState, Act, Note, Ended, Woke}
 use Rattle.start_model.specs.Boot.{Choice}
 use Rattle.start_model.specs.EventActs.{event_step_of}
 use Rattle.start_model.specs.Run.{RunResult, play, then_run, behind, reached, run_from}
-use Rattle.run_laws.specs.Parts.{run_until, part_of, ended}
+use Rattle.run_laws.specs.run_laws.Parts.{run_until, part_of, ended}
 
 abbrev Left : Type 0
 Left = RunState × List Woken × List Outcome

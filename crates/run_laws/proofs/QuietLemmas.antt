@@ -14,7 +14,7 @@ use Rattle.start_model.specs.EventActs.{event_step_of}
 use Rattle.start_model.specs.Run.{RunResult, play, then_run, run_from, run_of, first_state, closing_act}
 use Rattle.start_model.specs.Quiet.{quiet_wake, quiet_behind, quiet_play, quiet_from, quiet_run_of}
 use Rattle.start_model.specs.Fits.{IsPossible, ArePossible, woke_in}
-use Rattle.run_laws.specs.Quiet.{AllFinished}
+use Rattle.run_laws.specs.run_laws.Quiet.{AllFinished}
 use Rattle.run_laws.proofs.NoteLemmas.{woke_in-append}
 use Rattle.run_laws.proofs.KeptLemmas.{Law, AtRest, IsMark, IsStop, Keeps, push, with_wake, closing-keeps, event_step_of-keeps}
 

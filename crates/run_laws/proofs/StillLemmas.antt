@@ -13,8 +13,8 @@ use Rattle.start_model.specs.Boot.{Choice}
 use Rattle.start_model.specs.EventActs.{event_step_of}
 use Rattle.start_model.specs.Run.{RunResult, play, then_run, run_from, closing_act}
 use Rattle.start_model.specs.Fits.{MayLoad}
-use Rattle.run_laws.specs.Open.{IsClosed}
-use Rattle.run_laws.specs.Told.{IsStill}
+use Rattle.run_laws.specs.run_laws.Open.{IsClosed}
+use Rattle.run_laws.specs.run_laws.Told.{IsStill}
 use Rattle.run_laws.proofs.KeptLemmas.{Law, AtRest, IsMark, Keeps, Next, push, with_wake, event_step_of-keeps, closing-keeps}
 use Rattle.run_laws.proofs.AlongLemmas.{Along, Waits, wake_split, play-along, run_from-along}
 use Rattle.run_laws.proofs.PartLemmas.{play-disk}

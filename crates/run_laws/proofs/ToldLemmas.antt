@@ -9,7 +9,7 @@ use Rattle.start_model.specs.Act.{RunState, Note, Woke, Held, Saved, Ordered, Cu
 use Rattle.start_model.specs.Boot.{Choice}
 use Rattle.start_model.specs.EventActs.{event_step_of}
 use Rattle.start_model.specs.Run.{RunResult, play, then_run, closing_act, run_from, run_of, first_state}
-use Rattle.run_laws.specs.Told.{last_held, is_stop, stopped_last}
+use Rattle.run_laws.specs.run_laws.Told.{last_held, is_stop, stopped_last}
 use Rattle.run_laws.proofs.KeptLemmas.{Law, AtRest, IsStop, push, with_wake}
 use Rattle.run_laws.proofs.AlongLemmas.{Along, Waits, wake_split, run_from-along}
 use Rattle.run_laws.proofs.PartLemmas.{play-disk}

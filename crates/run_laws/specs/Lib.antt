@@ -1,4 +1,4 @@
-pub mod Quiet
-pub mod Parts
-pub mod Open
-pub mod Told
+pub mod run_laws
+pub mod rest_laws
+pub mod last_laws
+pub mod commit_laws

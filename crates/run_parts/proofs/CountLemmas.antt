@@ -4,12 +4,12 @@ use Rattle.std.proofs.lemmas.List.{map-append}
 use Rattle.hive_model.specs.Image.{Arming}
 use Rattle.nt_edge.specs.Disk.{DiskState, History, Wake, CountsGrow, next}
 use Rattle.start_model.specs.Causes.{Tally, HasCause, next_tally, Caused}
-use Rattle.run_parts.specs.Counted.{AddsUp, with_cut}
+use Rattle.run_parts.specs.run_parts.Counted.{AddsUp, with_cut}
 use Rattle.nt_bytes.specs.Counts.{Rises}
 use Rattle.start_model.specs.Orders.{ordered_in}
 use Rattle.start_model.specs.Possible.{Outcome, Finished, PowerCut, DeviceFault}
 use Rattle.start_model.specs.Act.{Note, Woke, Held, Saved, Ordered, Cuts, Ended}
-use Rattle.run_parts.specs.Parts.{tally_at, tallies, tally_now, last_tally, since_wake, NoLess, NoneFell, Later, cuts_behind, Grew}
+use Rattle.run_parts.specs.run_parts.Parts.{tally_at, tallies, tally_now, last_tally, since_wake, NoLess, NoneFell, Later, cuts_behind, Grew}
 
 -- ---- counts
 

@@ -1,1 +1,5 @@
 pub mod CountLemmas
+pub mod LoggedLemmas
+pub mod GoesLemmas
+pub mod BreakLemmas
+pub mod ReportLemmas

@@ -1,3 +1,2 @@
-pub mod Parts
-pub mod Reports
-pub mod Counted
+pub mod run_parts
+pub mod printed_parts

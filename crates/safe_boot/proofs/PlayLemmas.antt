@@ -12,11 +12,11 @@ use Rattle.report_words.specs.declared.line.Line.TheVariants.{Try as TryLine, Un
 use Rattle.start_model.specs.Machine as machine
 use Rattle.start_model.specs.Machine.{Start, MachineState, off_machine, next_in, after_attempt, attempt_at, attempt_in, attempt_of, unmet_in, after_phase, begun_with, with_start}
 use Rattle.start_model.specs.Starter.{phase_line}
-use Rattle.boot_phases.specs.declared.phase.Phase as code_phase
-use Rattle.boot_phases.specs.declared.phase.Phase.TheVariants as phases
-use Rattle.boot_phases.specs.Lists.{Lists, lists_of}
-use Rattle.boot_phases.specs.Phases.{phase_in}
-use Rattle.boot_machine.specs.Steps.{is_there, is_at_end, on_start, without_clone}
+use Rattle.boot_phases.specs.declared.boot_phases.phase.Phase as code_phase
+use Rattle.boot_phases.specs.declared.boot_phases.phase.Phase.TheVariants as phases
+use Rattle.boot_phases.specs.boot_phases.Lists.{Lists, lists_of}
+use Rattle.boot_phases.specs.boot_phases.Phases.{phase_in}
+use Rattle.boot_machine.specs.boot_machine.Steps.{is_there, is_at_end, on_start, without_clone}
 use Rattle.safe_boot.specs.declared.lines.SafeLine.{SafeLine}
 use Rattle.safe_boot.specs.declared.lines.SafeLine.TheVariants as code
 use Rattle.safe_boot.specs.declared.mode.SafeMode.{SafeMode}

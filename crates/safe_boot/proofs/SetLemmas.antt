@@ -6,7 +6,7 @@ use Rattle.std.proofs.lemmas.List.Elements.{filter-append}
 use Rattle.nt_bytes.specs.Folding.{folds_same}
 use Rattle.hive_model.specs.Tree.{Tree, key, trees, listed, head, children, is_named, find_key}
 use Rattle.hive_model.specs.Edit.{at_first, of_children}
-use Rattle.name_places.proofs.FoldLemmas.{alike}
+use Rattle.nt_names.proofs.FoldLemmas.{alike}
 use Rattle.reg_tree.proofs.Trees.{listed_trees}
 use Rattle.reg_tree.proofs.Unlike.{folds_swap}
 use Rattle.start_model.specs.Entries.{Entry, services_of}

@@ -3,7 +3,7 @@ use Rattle.report_words.specs.declared.words.TryWord.TheVariants as tries
 use Rattle.report_words.specs.declared.line.Line.{Line}
 use Rattle.report_words.specs.declared.line.Line.TheVariants as lines
 use Rattle.start_model.specs.Starter.{phase_line}
-use Rattle.boot_phases.specs.Phases.{phase_in}
+use Rattle.boot_phases.specs.boot_phases.Phases.{phase_in}
 use Rattle.safe_boot.specs.declared.lines.SafeLine.{SafeLine}
 use Rattle.safe_boot.specs.declared.lines.SafeLine.TheVariants as code
 

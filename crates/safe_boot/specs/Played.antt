@@ -10,7 +10,7 @@ use Rattle.report_words.specs.declared.line.Line.{Line}
 use Rattle.report_words.specs.declared.line.Line.TheVariants.{Try as TryLine, Unmet as UnmetLine}
 use Rattle.start_model.specs.Machine.{Start, MachineState, off_machine, next_in, after_attempt, unmet_in, after_phase, begun_with, with_start}
 use Rattle.start_model.specs.Starter.{phase_line}
-use Rattle.boot_machine.specs.Steps.{without_clone}
+use Rattle.boot_machine.specs.boot_machine.Steps.{without_clone}
 use Rattle.safe_boot.specs.declared.mode.SafeMode.{SafeMode}
 use Rattle.safe_boot.specs.declared.lines.SafeLine.{SafeLine}
 use Rattle.safe_boot.specs.Lines.{line_of}

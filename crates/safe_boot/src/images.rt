@@ -7,8 +7,8 @@ ghost use Rattle.start_model.specs.Entries.{is_driver};
 ghost use Rattle.safe_boot.specs.Images.{file_of, image_of};
 
 use nt_bytes::Units;
+use nt_names::startup_names::{IMAGE_PATH, TYPE};
 use reg_tree::Key;
-use startup_names::{IMAGE_PATH, TYPE};
 use std::alloc::{AllocError, Global};
 
 /// Whether this Type is that of a driver.

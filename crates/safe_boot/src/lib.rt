@@ -20,6 +20,3 @@ pub use listing::listed;
 pub use mode::{SafeMode, safe_mode};
 pub use playing::{safe_start, safe_start_by};
 pub use reducing::reduce;
-
-#[cfg(test)]
-mod tests;

@@ -1,6 +1,6 @@
 //! What a start in safe mode says.
 
-use boot_phases::Phase;
+use boot_phases::boot_phases::Phase;
 use nt_bytes::{Row, Units};
 
 /// A line of a start in which each attempt goes well. Names are spelled as in the registry.

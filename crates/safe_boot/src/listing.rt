@@ -7,11 +7,11 @@ ghost use Rattle.std.specs.List.{list_any};
 ghost use Rattle.safe_boot.specs.Listed.{list_name, listed_names, is_listed};
 
 use crate::mode::SafeMode;
-use name_places::NamePlaces;
+use boot_phases::service_entries::Entry;
 use nt_bytes::{Names, Units, same_folded};
+use nt_names::name_places::NamePlaces;
+use nt_names::startup_names::{CONTROL, MINIMAL, NETWORK, SAFE_BOOT};
 use reg_tree::Key;
-use service_entries::Entry;
-use startup_names::{CONTROL, MINIMAL, NETWORK, SAFE_BOOT};
 use std::alloc::{AllocError, Global};
 
 /// Whether the mode's list in the control set has the entry, by its name or by its group. Without the

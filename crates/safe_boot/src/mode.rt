@@ -4,7 +4,7 @@ ghost use Rattle.std.specs.Prelude.{◌≡◌, ◌||◌, codes};
 ghost use Rattle.nt_bytes.specs.Text.{names_same};
 ghost use Rattle.safe_boot.specs.Modes.{mode_of, mode_asked};
 
-use boot_ini::Switches;
+use boot_ini::boot_ini::Switches;
 use nt_bytes::is_named;
 
 /// A safe mode of the machine.

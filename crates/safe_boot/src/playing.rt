@@ -3,8 +3,8 @@
 ghost use Rattle.std.specs.Prelude.{◌≡◌, ◌<◌, ◌++◌, [], false, length, map, Some, IfOk, OnOk};
 ghost use Rattle.hive_model.specs.Tree.{Tree};
 ghost use Rattle.hive_model.specs.Valid.{HoldsKeys};
-ghost use Rattle.boot_phases.specs.Lists.{lists_of};
-ghost use Rattle.boot_machine.specs.Steps.{is_at_end};
+ghost use Rattle.boot_phases.specs.boot_phases.Lists.{lists_of};
+ghost use Rattle.boot_machine.specs.boot_machine.Steps.{is_at_end};
 ghost use Rattle.report_words.specs.declared.line.Line.TheVariants.{Unmet as UnmetLine};
 ghost use Rattle.start_model.specs.Machine.{off_machine};
 ghost use Rattle.safe_boot.specs.Lines.{line_of};
@@ -13,8 +13,8 @@ ghost use Rattle.safe_boot.specs.Played.{Course, attempts_of, phase_ended, phase
 use crate::lines::{SafeLine, SafeLines};
 use crate::mode::SafeMode;
 use crate::reducing::reduce;
-use boot_machine::{Machine, SetLists};
-use boot_phases::Phase;
+use boot_machine::boot_machine::{Machine, SetLists};
+use boot_phases::boot_phases::Phase;
 use nt_bytes::Units;
 use reg_tree::Key;
 use std::alloc::{AllocError, Global};

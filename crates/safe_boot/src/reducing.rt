@@ -11,10 +11,10 @@ ghost use Rattle.safe_boot.specs.Listed.{has_name, has_file, is_among, stays, re
 use crate::images::{image_of, is_driver_key};
 use crate::listing::read_list;
 use crate::mode::SafeMode;
-use name_places::NamePlaces;
 use nt_bytes::{Bytes, Units, same_folded};
+use nt_names::name_places::NamePlaces;
+use nt_names::startup_names::{GROUP, SERVICES, START, TYPE};
 use reg_tree::{Key, Keys, Value, Values};
-use startup_names::{GROUP, SERVICES, START, TYPE};
 use std::alloc::{AllocError, Global};
 
 /// The control set without the services that the mode leaves out: the children of `Services` that are entries with a

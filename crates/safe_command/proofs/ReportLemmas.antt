@@ -4,13 +4,13 @@ use Rattle.std.specs.Option.{option_map_or}
 use Rattle.std.specs.Prelude.{Result, Ok, Err, IfOk, OnOk}
 use Rattle.hive_model.specs.Tree.{Tree}
 use Rattle.safe_command.specs.declared.inputs.SafeInputs.{SafeInputs}
-use Rattle.boot_ini.specs.declared.choosing.Chosen.{Chosen}
-use Rattle.boot_ini.specs.Choice.{choice_of}
-use Rattle.line_text.specs.declared.form.ReportForm.{ReportForm}
+use Rattle.boot_ini.specs.declared.boot_ini.choosing.Chosen.{Chosen}
+use Rattle.boot_ini.specs.boot_ini.Choice.{choice_of}
+use Rattle.report_text.specs.declared.line_text.form.ReportForm.{ReportForm}
 use Rattle.report_words.specs.declared.words.Verdict.TheVariants.{NoControlSet}
 use Rattle.start_model.specs.Sets.{select_numbers_of}
 use Rattle.select_keys.specs.Sets.{usable_set}
-use Rattle.line_objects.specs.Objects.{printed_lines}
+use Rattle.report_text.specs.line_objects.Objects.{printed_lines}
 use Rattle.safe_boot.specs.declared.mode.SafeMode.{SafeMode}
 use Rattle.safe_command.specs.Report.{verdict_lines, set_lines, default_lines, report_by, report_of}
 

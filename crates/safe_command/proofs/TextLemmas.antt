@@ -4,8 +4,8 @@ use Rattle.std.specs.Prelude.{Result, Ok, Err, OnOk}
 use Rattle.std.proofs.lemmas.Grind.{flat_map-append}
 use Rattle.std.proofs.lemmas.List.{map-append, take_more}
 use Rattle.report_words.specs.declared.line.Line.{Line}
-use Rattle.line_objects.specs.Objects.{printed, printed_lines}
-use Rattle.line_text.specs.declared.form.ReportForm.{ReportForm}
+use Rattle.report_text.specs.line_objects.Objects.{printed, printed_lines}
+use Rattle.report_text.specs.declared.line_text.form.ReportForm.{ReportForm}
 
 -- one line, and then others
 pub line_then : (form : ReportForm) (t : List ℕ) (l : Line) (ls : List Line)

@@ -3,12 +3,12 @@ use Rattle.std.specs.Prelude.{Result, Ok, Err}
 use Rattle.nt_edge.specs.Host.{Files}
 use Rattle.start_model.specs.Possible.{Woken}
 use Rattle.command_words.specs.Words.{SafeAsked}
-use Rattle.command_parts.specs.declared.refusal.Refusal.{Refusal}
-use Rattle.command_parts.specs.declared.status.Status.TheVariants as statuses
-use Rattle.command_parts.specs.OnHive.{Question}
-use Rattle.command_parts.specs.Placed.{image_in}
-use Rattle.command_parts.specs.Refusals.{Answer}
-use Rattle.line_text.specs.declared.form.ReportForm.{ReportForm}
+use Rattle.command_parts.specs.declared.command_parts.refusal.Refusal.{Refusal}
+use Rattle.command_parts.specs.declared.command_parts.status.Status.TheVariants as statuses
+use Rattle.command_parts.specs.command_parts.OnHive.{Question}
+use Rattle.command_parts.specs.command_parts.Placed.{image_in}
+use Rattle.command_parts.specs.command_parts.Refusals.{Answer}
+use Rattle.report_text.specs.declared.line_text.form.ReportForm.{ReportForm}
 use Rattle.safe_command.specs.declared.inputs.SafeInputs.{SafeInputs}
 use Rattle.safe_command.specs.Inputs.{inputs_in}
 use Rattle.safe_command.specs.Report.{report_of}

@@ -4,15 +4,15 @@
 use Rattle.std.specs.Prelude.{ℕ, Option, Some, None, Result, Ok}
 use Rattle.nt_bytes.specs.Reading.{◌>>=◌ as ok_then}
 use Rattle.nt_edge.specs.Host.{Files}
-use Rattle.arc_path.specs.Reading.{arc_of}
+use Rattle.boot_ini.specs.arc_path.Reading.{arc_of}
 use Rattle.command_words.specs.Words.{SafeAsked}
 use Rattle.command_words.specs.declared.asked.AskedMode.{AskedMode}
 use Rattle.command_words.specs.declared.asked.AskedMode.TheVariants as asked
 use Rattle.safe_boot.specs.declared.mode.SafeMode.{SafeMode}
 use Rattle.safe_boot.specs.declared.mode.SafeMode.TheVariants.{Minimal, Network}
-use Rattle.command_parts.specs.declared.refusal.Refusal.{Refusal}
-use Rattle.command_parts.specs.Inputs.{system_in}
-use Rattle.input_search.specs.Search.{Search, ◌>>=◌, reads, finds, boot_files}
+use Rattle.command_parts.specs.declared.command_parts.refusal.Refusal.{Refusal}
+use Rattle.command_parts.specs.command_parts.Inputs.{system_in}
+use Rattle.command_parts.specs.input_search.Search.{Search, ◌>>=◌, reads, finds, boot_files}
 use Rattle.safe_command.specs.declared.inputs.SafeInputs.{SafeInputs}
 
 -- the mode that is asked for, if any

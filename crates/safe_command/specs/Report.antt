@@ -1,22 +1,22 @@
 -- What does `safe` say of a hive's tree and of boot.ini? This project's own.
 use Rattle.std.specs.Prelude.{ℕ, Bool, false, List, [], ◌∷◌, ◌++◌, Option, Some, None, codes}
 use Rattle.std.specs.Option.{option_map_or}
-use Rattle.arc_path.specs.declared.arc.Arc.{Arc}
-use Rattle.boot_ini.specs.declared.ini.OsEntry.{OsEntry}
-use Rattle.boot_ini.specs.declared.ini.BootIni.{BootIni}
-use Rattle.boot_ini.specs.declared.choosing.Chosen.{Chosen}
-use Rattle.boot_ini.specs.declared.choosing.Chosen.TheVariants as chosen
-use Rattle.boot_ini.specs.Choice.{entry_at, path_at, choice_of}
+use Rattle.boot_ini.specs.declared.arc_path.arc.Arc.{Arc}
+use Rattle.boot_ini.specs.declared.boot_ini.ini.OsEntry.{OsEntry}
+use Rattle.boot_ini.specs.declared.boot_ini.ini.BootIni.{BootIni}
+use Rattle.boot_ini.specs.declared.boot_ini.choosing.Chosen.{Chosen}
+use Rattle.boot_ini.specs.declared.boot_ini.choosing.Chosen.TheVariants as chosen
+use Rattle.boot_ini.specs.boot_ini.Choice.{entry_at, path_at, choice_of}
 use Rattle.hive_model.specs.Tree.{Tree}
 use Rattle.report_words.specs.declared.words.Verdict.{Verdict}
 use Rattle.report_words.specs.declared.words.Verdict.TheVariants.{NoEntry, OtherLoader, NoSystem, NoControlSet}
 use Rattle.report_words.specs.declared.line.Line.{Line}
 use Rattle.report_words.specs.declared.line.Line.TheVariants.{Entry as EntryLine, Set as SetLine, Verdict as VerdictLine, End as EndLine}
 use Rattle.start_model.specs.Sets.{select_numbers_of}
-use Rattle.line_objects.specs.Objects.{printed_lines}
-use Rattle.line_text.specs.Objects.{Text, object_text}
-use Rattle.line_text.specs.declared.form.ReportForm.{ReportForm}
-use Rattle.line_text.specs.declared.form.ReportForm.TheVariants as forms
+use Rattle.report_text.specs.line_objects.Objects.{printed_lines}
+use Rattle.report_text.specs.line_text.Objects.{Text, object_text}
+use Rattle.report_text.specs.declared.line_text.form.ReportForm.{ReportForm}
+use Rattle.report_text.specs.declared.line_text.form.ReportForm.TheVariants as forms
 use Rattle.select_keys.specs.Sets.{usable_set}
 use Rattle.safe_boot.specs.declared.mode.SafeMode.{SafeMode}
 use Rattle.safe_boot.specs.declared.mode.SafeMode.TheVariants.{Minimal, Network}

@@ -2,22 +2,22 @@
 
 ghost use Rattle.std.specs.Prelude.{◌≡◌, Err};
 ghost use Rattle.command_words.specs.Views.{safe_seen};
-ghost use Rattle.command_parts.specs.Inputs.{AsksSoMany};
-ghost use Rattle.command_parts.specs.Leaves.{IsBadUsage};
-ghost use Rattle.command_parts.specs.OnHive.{AnswersOnHive, DecidesOnHive, SeeksAnswer};
-ghost use Rattle.command_parts.specs.Refusals.{IsToldAs};
+ghost use Rattle.command_parts.specs.command_parts.Inputs.{AsksSoMany};
+ghost use Rattle.command_parts.specs.command_parts.Leaves.{IsBadUsage};
+ghost use Rattle.command_parts.specs.command_parts.OnHive.{AnswersOnHive, DecidesOnHive, SeeksAnswer};
+ghost use Rattle.command_parts.specs.command_parts.Refusals.{IsToldAs};
 ghost use Rattle.safe_command.specs.Answer.{question_in, question_on};
-ghost use Rattle.input_search.specs.Search.{AsksFor};
+ghost use Rattle.command_parts.specs.input_search.Search.{AsksFor};
 ghost use Rattle.safe_command.specs.Inputs.{arguments_in, asks_safe, safe_search};
 
 use crate::inputs::{SafeInputs, inputs_in};
 use crate::report::report_text;
-use command_parts::{Obstacle, Refusal, Status, Told, answer, no_memory, read};
+use command_parts::command_parts::{Obstacle, Refusal, Status, Told, answer, no_memory, read};
 use command_words::SafeWords;
-use line_text::ReportForm;
 use nt_bytes::{HiveVersion, ReadStop};
 use nt_edge::Host;
 use reg_tree::Key;
+use report_text::line_text::ReportForm;
 use std::alloc::Global;
 
 /// The report, or the hive's first fault.

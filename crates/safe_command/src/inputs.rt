@@ -1,16 +1,16 @@
 //! What `safe` reads: one step after the other, up to the first obstacle.
 
 ghost use Rattle.std.specs.Prelude.{◌≡◌, Err};
-ghost use Rattle.command_parts.specs.Leaves.{Looks, IsBadUsage};
+ghost use Rattle.command_parts.specs.command_parts.Leaves.{Looks, IsBadUsage};
 ghost use Rattle.command_words.specs.Views.{safe_seen};
-ghost use Rattle.input_search.specs.Search.{AsksFor};
+ghost use Rattle.command_parts.specs.input_search.Search.{AsksFor};
 ghost use Rattle.safe_command.specs.Inputs.{arguments_in, inputs_in, named_mode, safe_search};
 
-use arc_path::Arc;
-use boot_ini::BootIni;
-use command_parts::{HiveFiles, Obstacle, Refusal};
+use boot_ini::arc_path::Arc;
+use boot_ini::boot_ini::BootIni;
+use command_parts::command_parts::{HiveFiles, Obstacle, Refusal};
+use command_parts::input_search::{boot_files, system_at};
 use command_words::{AskedMode, SafeWords};
-use input_search::{boot_files, system_at};
 use nt_edge::Host;
 use safe_boot::SafeMode;
 use std::alloc::Global;
@@ -37,7 +37,7 @@ fn named_mode(asked: Option<AskedMode>) -> Option<SafeMode>
 }
 
 /// What options and files have, or the first obstacle. Nothing is printed.
-#[tactic(auto, unfolding(input_search::specs::Search::searched))]
+#[tactic(auto, unfolding(command_parts::specs::input_search::Search::searched))]
 pub(crate) fn inputs_in<H: Host>(
     alloc: Global,
     words: SafeWords<'_>,

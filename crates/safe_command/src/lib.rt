@@ -10,6 +10,3 @@ mod report;
 
 pub use command::safe;
 pub use inputs::SafeInputs;
-
-#[cfg(test)]
-mod tests;

@@ -2,24 +2,24 @@
 
 ghost use Rattle.std.specs.Prelude.{◌≡◌, ◌++◌, [], false, map, None, IfOk, OnOk};
 ghost use Rattle.hive_model.specs.Valid.{HoldsKeys};
-ghost use Rattle.boot_ini.specs.Choice.{path_at};
-ghost use Rattle.line_objects.specs.Objects.{line_json, printed, printed_lines};
+ghost use Rattle.boot_ini.specs.boot_ini.Choice.{path_at};
+ghost use Rattle.report_text.specs.line_objects.Objects.{line_json, printed, printed_lines};
 ghost use Rattle.safe_boot.specs.Lines as safe;
 ghost use Rattle.report_words.specs.declared.line.Line.TheVariants.{Entry as EntryLine, Set as SetLine, Verdict as VerdictLine, End as EndLine};
 ghost use Rattle.start_model.specs.Lines.{line_text};
 ghost use Rattle.safe_command.specs.Report.{mode_at, mode_word, mode_text, verdict_lines, set_lines, default_lines, system_text, other_text, report_of};
 
 use crate::inputs::SafeInputs;
-use boot_ini::{BootIni, Chosen, choose};
-use boot_machine::phase_word;
-use boot_report::{Line, TryWord, Verdict, line_bytes};
-use line_objects::{
+use boot_ini::boot_ini::{BootIni, Chosen, choose};
+use boot_machine::boot_machine::phase_word;
+use nt_bytes::Bytes;
+use reg_tree::Key;
+use report_text::boot_report::{Line, TryWord, Verdict, line_bytes};
+use report_text::line_objects::{
     push_end_object, push_entry_object, push_ok_object, push_phase_object, push_set_object,
     push_unmet_object, push_verdict_object, push_word_object,
 };
-use line_text::ReportForm;
-use nt_bytes::Bytes;
-use reg_tree::Key;
+use report_text::line_text::ReportForm;
 use safe_boot::{SafeLine, SafeMode, safe_mode, safe_start_by};
 use select_keys::{select_numbers, set_of};
 use std::alloc::{AllocError, Global};

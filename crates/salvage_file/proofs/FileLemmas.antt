@@ -13,13 +13,13 @@ use Rattle.hive_model.specs.Base.{Base, fields_of}
 use Rattle.hive_model.specs.Bins.{magnitude}
 use Rattle.hive_read.proofs.FormFacts.{IsBytes, bytes-take, bytes-drop}
 use Rattle.hive_read.proofs.ValidTrees.{AreBytes}
-use Rattle.log_parts.specs.declared.fault.LogFault.{LogFault}
-use Rattle.log_parts.specs.declared.fault.LogFaultKind.TheVariants.{LogSequence}
-use Rattle.log_parts.specs.Pages.{put_pages}
-use Rattle.log_parts.specs.Wide.{is_wide_size}
-use Rattle.dirt_log.specs.declared.reading.OldReading.{OldReading}
-use Rattle.dirt_log.specs.declared.reading.OldReading.TheVariants as old
-use Rattle.dirt_log.specs.Dirt.{first_failing, dirt_checks, whole_or, old_reading_of, old_pages_of, IsLong, fault_at}
+use Rattle.windows_logs.specs.declared.log_parts.fault.LogFault.{LogFault}
+use Rattle.windows_logs.specs.declared.log_parts.fault.LogFaultKind.TheVariants.{LogSequence}
+use Rattle.windows_logs.specs.log_parts.Pages.{put_pages}
+use Rattle.windows_logs.specs.log_parts.Wide.{is_wide_size}
+use Rattle.windows_logs.specs.declared.dirt_log.reading.OldReading.{OldReading}
+use Rattle.windows_logs.specs.declared.dirt_log.reading.OldReading.TheVariants as old
+use Rattle.windows_logs.specs.dirt_log.Dirt.{first_failing, dirt_checks, whole_or, old_reading_of, old_pages_of, IsLong, fault_at}
 use Rattle.salvage_bins.specs.declared.layout.Mark.{Mark}
 use Rattle.salvage_walk.specs.declared.lines.WalkLine.{WalkLine}
 use Rattle.salvage_walk.specs.Keys.{answer_of, salvaged}

@@ -5,7 +5,7 @@ use Rattle.nt_bytes.specs.Fields.{u32_in}
 use Rattle.nt_bytes.specs.declared.fault.HiveFault.{HiveFault}
 use Rattle.nt_bytes.specs.declared.fault.HiveFaultKind.TheVariants.{NotRegf, Checksum, Version, FileType, Size}
 use Rattle.hive_model.specs.Base.{checksum_of, is_minor, fault_at}
-use Rattle.log_parts.specs.Wide.{is_wide_size}
+use Rattle.windows_logs.specs.log_parts.Wide.{is_wide_size}
 
 -- sector 0 of a file of whole sectors, or 512 zeros where there is none
 abbrev pub head_of : List ℕ → List ℕ

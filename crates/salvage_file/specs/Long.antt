@@ -1,8 +1,8 @@
 -- A log that was read as whole has all that it needs.
 use Rattle.std.specs.Prelude.{ℕ, List}
-use Rattle.dirt_log.specs.Dirt.{IsLong}
-use Rattle.dirt_log.specs.declared.reading.OldReading.{OldReading}
-use Rattle.dirt_log.specs.declared.reading.OldReading.TheVariants.{Broken, OtherStamp, OtherNumber, Whole}
+use Rattle.windows_logs.specs.dirt_log.Dirt.{IsLong}
+use Rattle.windows_logs.specs.declared.dirt_log.reading.OldReading.{OldReading}
+use Rattle.windows_logs.specs.declared.dirt_log.reading.OldReading.TheVariants.{Broken, OtherStamp, OtherNumber, Whole}
 
 -- the log has all that it needs for bins data of this size, where it was read as whole
 abbrev pub IsLongAs : List ℕ → ℕ → OldReading → Type 0

@@ -7,7 +7,7 @@ use Rattle.nt_bytes.specs.declared.fault.HiveFault.{HiveFault}
 use Rattle.nt_bytes.specs.declared.fault.HiveFaultKind.{HiveFaultKind}
 use Rattle.nt_bytes.specs.declared.fault.HiveFaultKind.TheVariants as kinds
 use Rattle.hive_model.specs.Base.{Base, fault_at, fields_of}
-use Rattle.log_parts.specs.Wide.{is_wide_size}
+use Rattle.windows_logs.specs.log_parts.Wide.{is_wide_size}
 use Rattle.salvage_file.specs.declared.recovery.LogStop.{LogStop}
 use Rattle.salvage_file.specs.declared.recovery.RecoveredHive.{RecoveredHive}
 use Rattle.salvage_file.specs.declared.opening.FileState.{FileState}

@@ -7,12 +7,12 @@ use Rattle.nt_bytes.specs.declared.fault.HiveFault.{HiveFault}
 use Rattle.nt_bytes.specs.declared.fault.HiveFaultKind.{HiveFaultKind}
 use Rattle.nt_bytes.specs.declared.fault.HiveFaultKind.TheVariants as kinds
 use Rattle.hive_model.specs.Base.{Base, fields_of}
-use Rattle.log_parts.specs.declared.fault.LogFaultKind.{LogFaultKind}
-use Rattle.log_parts.specs.declared.fault.LogFaultKind.TheVariants as logs
-use Rattle.log_parts.specs.Pages.{put_pages}
-use Rattle.dirt_log.specs.Dirt.{old_reading_of, old_pages_of}
-use Rattle.dirt_log.specs.declared.reading.OldReading.{OldReading}
-use Rattle.dirt_log.specs.declared.reading.OldReading.TheVariants.{Broken, OtherStamp, OtherNumber, Whole}
+use Rattle.windows_logs.specs.declared.log_parts.fault.LogFaultKind.{LogFaultKind}
+use Rattle.windows_logs.specs.declared.log_parts.fault.LogFaultKind.TheVariants as logs
+use Rattle.windows_logs.specs.log_parts.Pages.{put_pages}
+use Rattle.windows_logs.specs.dirt_log.Dirt.{old_reading_of, old_pages_of}
+use Rattle.windows_logs.specs.declared.dirt_log.reading.OldReading.{OldReading}
+use Rattle.windows_logs.specs.declared.dirt_log.reading.OldReading.TheVariants.{Broken, OtherStamp, OtherNumber, Whole}
 use Rattle.salvage_file.specs.declared.recovery.LogStop.{LogStop}
 use Rattle.salvage_file.specs.declared.recovery.RecoveredHive.{RecoveredHive}
 use Rattle.salvage_file.specs.Faults.{head_of, base_faults, bins_of}

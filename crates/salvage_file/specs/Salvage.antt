@@ -4,7 +4,7 @@ use Rattle.nt_bytes.specs.declared.version.HiveVersion.{HiveVersion}
 use Rattle.nt_bytes.specs.declared.version.HiveVersion.TheVariants.{V3, V5}
 use Rattle.hive_model.specs.Base.{Base, fields_of}
 use Rattle.hive_model.specs.Tree.{Tree}
-use Rattle.log_parts.specs.Filled.{filled}
+use Rattle.windows_logs.specs.log_parts.Filled.{filled}
 use Rattle.salvage_bins.specs.declared.layout.Mark.{Mark}
 use Rattle.salvage_bins.specs.Layout.{Laid, layout_of}
 use Rattle.salvage_bins.specs.Ground.{Ground, mark_at, payload_by, is_loose}

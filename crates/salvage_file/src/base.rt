@@ -4,10 +4,10 @@ ghost use Rattle.std.specs.Prelude.{◌≡◌, ◌++◌, ◌≤◌, take, drop, 
 ghost use Rattle.hive_model.specs.Base.{fields_of, is_minor};
 ghost use Rattle.salvage_file.specs.Faults.{base_faults, bins_length, bins_of, checks_of, failing, has_signature, head_of, unless};
 
-use log_parts::is_wide_size;
 use nt_bytes::{Bytes, HiveFault, HiveFaultKind, Row, u32_at, u64_at};
 use regf_base::{BaseBlock, checksum};
 use std::alloc::{AllocError, Global};
+use windows_logs::log_parts::is_wide_size;
 
 /// Sector 0 of a file of whole sectors, or zeros where there is none.
 pub(crate) fn head_of(file: &[u8]) -> [u8; 512]

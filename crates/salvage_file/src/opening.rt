@@ -5,10 +5,10 @@ ghost use Rattle.salvage_file.specs.Opened.{as_is, dirty_as, is_short, is_size, 
 
 use crate::base::{base_faults, bins_of, fields, head_of, push_unless};
 use crate::recovery::{LogStop, RecoveredHive, recovery};
-use log_parts::is_wide_size;
 use nt_bytes::{Bytes, HiveFault, HiveFaultKind, Row};
 use regf_base::BaseBlock;
 use std::alloc::{AllocError, Global};
+use windows_logs::log_parts::is_wide_size;
 
 /// What was made of a hive's file.
 #[derive(Clone, Copy, Debug, PartialEq, Eq)]

@@ -1,16 +1,16 @@
 //! What a log makes of a dirty hive.
 
 ghost use Rattle.std.specs.Prelude.{◌≡◌, ◌+◌, IfOk};
-ghost use Rattle.dirt_log.specs.Dirt.{IsLong};
+ghost use Rattle.windows_logs.specs.dirt_log.Dirt.{IsLong};
 ghost use Rattle.salvage_file.specs.Long.{IsLongAs};
 ghost use Rattle.salvage_file.specs.Recovery.{beside, by_faults, by_logged, by_reading, kind_of, recovered_bins, recovery};
 
 use crate::base::{base_faults, bins_of, fields, head_of};
-use dirt_log::{OldReading, put_old, read_old};
-use log_parts::LogFaultKind;
 use nt_bytes::{Bytes, HiveFault, HiveFaultKind};
 use regf_base::BaseBlock;
 use std::alloc::{AllocError, Global};
+use windows_logs::dirt_log::{OldReading, put_old, read_old};
+use windows_logs::log_parts::LogFaultKind;
 
 /// A check of the log that fails, at a byte of it.
 #[derive(Clone, Copy, Debug, PartialEq, Eq)]

@@ -11,7 +11,6 @@ use crate::base::{fields, has_signature, head_of};
 use crate::opening::{FileState, Opened, open};
 use crate::recovery::LogStop;
 use crate::saving::{Saving, kept_base, saving_of};
-use log_parts::fill;
 use nt_bytes::{Bytes, HiveFault, HiveVersion, Row};
 use reg_tree::Key;
 use regf_base::BaseBlock;
@@ -19,6 +18,7 @@ use salvage_bins::{BrokenBin, DamagedCells, lay_out};
 use salvage_parents::{ParentLine, salvage_by_parents};
 use salvage_walk::{WalkLine, salvage_tree};
 use std::alloc::{AllocError, Global};
+use windows_logs::log_parts::fill;
 
 /// What is found in bins data: the bins that are not whole, the tree, and the lines on the way.
 #[derive(Drop)]

@@ -11,8 +11,8 @@ use Rattle.nt_bytes.specs.Reading.{◌>>=◌}
 use Rattle.hive_model.specs.Base.{checksum_of, is_minor, version_of, fault_at, is_bins_size, base_checks, first_failing, fields_of, unless_fault, base_of}
 use Rattle.hive_model.specs.Image.{Image, image_of}
 use Rattle.hive_model.specs.Recovery.{base_at, base_in}
-use Rattle.log_parts.specs.Filled.{filled}
-use Rattle.log_parts.specs.Wide.{is_wide_size}
+use Rattle.windows_logs.specs.log_parts.Filled.{filled}
+use Rattle.windows_logs.specs.log_parts.Wide.{is_wide_size}
 use Rattle.salvage_file.specs.Faults.{head_of, has_signature, checks_of, unless, failing, base_faults}
 use Rattle.salvage_file.specs.Salvage.{version_in}
 use Rattle.salvage_laws.specs.Told.{first_base}

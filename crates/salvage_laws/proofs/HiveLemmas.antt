@@ -14,13 +14,13 @@ use Rattle.hive_model.specs.State.{HiveState}
 use Rattle.hive_model.proofs.BaseLemmas.{base_checked}
 use Rattle.hive_cells.proofs.Tools.{IsBytes}
 use Rattle.hive_log.proofs.Finding.{by_unfinished}
-use Rattle.log_parts.specs.declared.fault.LogFaultKind.TheVariants as logs
-use Rattle.log_parts.specs.Filled.{filled}
-use Rattle.log_parts.specs.Pages.{put_pages}
-use Rattle.log_parts.specs.Wide.{is_wide_size}
-use Rattle.dirt_log.specs.Dirt.{bits_of, has_rest, needed, dirt_checks, first_failing, whole_or, old_reading_of, old_pages_of, fault_at as log_fault_at}
-use Rattle.dirt_log.specs.declared.reading.OldReading.{OldReading}
-use Rattle.dirt_log.specs.declared.reading.OldReading.TheVariants.{Broken, OtherStamp, OtherNumber, Whole}
+use Rattle.windows_logs.specs.declared.log_parts.fault.LogFaultKind.TheVariants as logs
+use Rattle.windows_logs.specs.log_parts.Filled.{filled}
+use Rattle.windows_logs.specs.log_parts.Pages.{put_pages}
+use Rattle.windows_logs.specs.log_parts.Wide.{is_wide_size}
+use Rattle.windows_logs.specs.dirt_log.Dirt.{bits_of, has_rest, needed, dirt_checks, first_failing, whole_or, old_reading_of, old_pages_of, fault_at as log_fault_at}
+use Rattle.windows_logs.specs.declared.dirt_log.reading.OldReading.{OldReading}
+use Rattle.windows_logs.specs.declared.dirt_log.reading.OldReading.TheVariants.{Broken, OtherStamp, OtherNumber, Whole}
 use Rattle.salvage_file.specs.declared.opening.FileState.TheVariants.{Clean as CleanState, AsIs}
 use Rattle.salvage_file.specs.declared.recovery.LogStop.{LogStop}
 use Rattle.salvage_file.specs.declared.recovery.RecoveredHive.{RecoveredHive}

@@ -10,9 +10,9 @@ use Rattle.hive_model.specs.Image.{Image, image_of}
 use Rattle.hive_model.specs.Recovery.{Sectors, sector, bytes_or, read_bin, read_log, joined, gathered, bit, one_if, rank, picked}
 use Rattle.hive_log.proofs.Runs.{gathered_is, sector_front, sector_back, sector_long, sector_whole}
 use Rattle.hive_read.proofs.FormFacts.{not-above}
-use Rattle.log_parts.specs.Filled.{filled}
-use Rattle.log_parts.specs.Pages.{put_at, put_pages}
-use Rattle.dirt_log.specs.Dirt.{has_rest, marked_pages}
+use Rattle.windows_logs.specs.log_parts.Filled.{filled}
+use Rattle.windows_logs.specs.log_parts.Pages.{put_at, put_pages}
+use Rattle.windows_logs.specs.dirt_log.Dirt.{has_rest, marked_pages}
 use Rattle.salvage_laws.proofs.SectorLemmas.{filled-whole, log-there, log-absent}
 
 -- ---- the log

@@ -16,8 +16,8 @@ use Rattle.hive_model.proofs.BaseLemmas.{IsChecked, base_in_checked}
 use Rattle.hive_cells.proofs.Tools.{IsBytes, IsBytes-drop, IsBytes-take}
 use Rattle.hive_log.proofs.Appending.{IsSized, sized}
 use Rattle.hive_log.proofs.Finding.{by_fault, by_clean, carries_recovered}
-use Rattle.log_parts.specs.Filled.{filled}
-use Rattle.log_parts.specs.Wide.{is_wide_size}
+use Rattle.windows_logs.specs.log_parts.Filled.{filled}
+use Rattle.windows_logs.specs.log_parts.Wide.{is_wide_size}
 use Rattle.salvage_file.specs.declared.opening.FileState.TheVariants.{Clean}
 use Rattle.salvage_file.specs.declared.opening.Opened.{Opened}
 use Rattle.salvage_file.specs.declared.salvaging.BinsFound.{BinsFound}

@@ -17,14 +17,14 @@ use Rattle.hive_cells.proofs.Tools.{IsBytes, IsBytes-drop, IsBytes-take}
 use Rattle.hive_log.proofs.Appending.{IsSized, sized}
 use Rattle.hive_log.proofs.Finding.{bin_read}
 use Rattle.hive_log.proofs.Runs.{gathered_whole, gathered_same, sector_front}
-use Rattle.log_parts.specs.declared.fault.LogFault.{LogFault}
-use Rattle.log_parts.specs.declared.fault.LogFaultKind.TheVariants as logs
-use Rattle.log_parts.specs.Filled.{filled}
-use Rattle.log_parts.specs.Pages.{put_at, put_pages}
-use Rattle.log_parts.specs.Wide.{is_wide_size}
-use Rattle.dirt_log.specs.Dirt.{bits_of, has_rest, needed, dirt_checks, first_failing, whole_or, old_reading_of, marked_pages, old_pages_of, fault_at as log_fault_at}
-use Rattle.dirt_log.specs.declared.reading.OldReading.{OldReading}
-use Rattle.dirt_log.specs.declared.reading.OldReading.TheVariants.{Broken, OtherStamp, OtherNumber}
+use Rattle.windows_logs.specs.declared.log_parts.fault.LogFault.{LogFault}
+use Rattle.windows_logs.specs.declared.log_parts.fault.LogFaultKind.TheVariants as logs
+use Rattle.windows_logs.specs.log_parts.Filled.{filled}
+use Rattle.windows_logs.specs.log_parts.Pages.{put_at, put_pages}
+use Rattle.windows_logs.specs.log_parts.Wide.{is_wide_size}
+use Rattle.windows_logs.specs.dirt_log.Dirt.{bits_of, has_rest, needed, dirt_checks, first_failing, whole_or, old_reading_of, marked_pages, old_pages_of, fault_at as log_fault_at}
+use Rattle.windows_logs.specs.declared.dirt_log.reading.OldReading.{OldReading}
+use Rattle.windows_logs.specs.declared.dirt_log.reading.OldReading.TheVariants.{Broken, OtherStamp, OtherNumber}
 use Rattle.salvage_file.specs.declared.recovery.LogStop.{LogStop}
 use Rattle.salvage_file.specs.declared.recovery.RecoveredHive.{RecoveredHive}
 use Rattle.salvage_file.specs.Faults.{head_of, base_faults, bins_length}

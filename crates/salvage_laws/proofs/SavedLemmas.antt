@@ -15,7 +15,7 @@ use Rattle.hive_model.proofs.BaseLemmas.{base_back}
 use Rattle.hive_log.proofs.Appending.{sized}
 use Rattle.hive_pack.specs.Numbers.{HasNumbers}
 use Rattle.hive_pack.proofs.Sized.{packed_is_sized}
-use Rattle.log_parts.specs.Filled.{filled}
+use Rattle.windows_logs.specs.log_parts.Filled.{filled}
 use Rattle.regf_base.specs.Fitting.{NumbersFit, TextsFit}
 use Rattle.salvage_file.specs.declared.saving.Saving.TheVariants.{Full, Saved}
 use Rattle.salvage_file.specs.Faults.{head_of}

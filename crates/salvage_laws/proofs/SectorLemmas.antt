@@ -7,7 +7,7 @@ use Rattle.nt_bytes.specs.declared.fault.HiveFaultKind.TheVariants as kinds
 use Rattle.hive_model.specs.Base.{fault_at}
 use Rattle.hive_model.specs.Image.{Bytes, padded, sector_of, image_of}
 use Rattle.hive_model.specs.Recovery.{primary_in, log_in, bytes_or, read_bin, joined, gathered}
-use Rattle.log_parts.specs.Filled.{filled}
+use Rattle.windows_logs.specs.log_parts.Filled.{filled}
 
 -- ---- whole sectors
 

@@ -2,7 +2,7 @@
 use Rattle.std.specs.Prelude.{◌≡◌, ◌≤◌, ℕ, List, []}
 use Rattle.hive_model.specs.Limits.{most_bins}
 use Rattle.hive_model.specs.Base.{fields_of}
-use Rattle.log_parts.specs.Filled.{filled}
+use Rattle.windows_logs.specs.log_parts.Filled.{filled}
 use Rattle.salvage_file.specs.Faults.{head_of, base_faults}
 
 -- A hive's file whose size is at most 16 MiB, and whose two numbers are equal or whose base block has a fault.

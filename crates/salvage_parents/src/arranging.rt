@@ -5,7 +5,7 @@ ghost use Rattle.std.specs.Map.{values_of};
 ghost use Rattle.salvage_parents.specs.Arranged.{arranged, put_by_name};
 ghost use Rattle.salvage_parents.specs.Named.{AreByName};
 
-use name_places::folded;
+use nt_names::name_places::folded;
 use reg_tree::{Key, Keys};
 use std::alloc::{AllocError, Global};
 use std::collections::BTreeMap;

@@ -12,8 +12,8 @@ ghost use Rattle.salvage_parents.specs.Search.{adopted, adopted_at, adopted_none
 
 use crate::arranging::arrange;
 use crate::index::places_of;
-use name_places::NamePlaces;
 use nt_bytes::{Bytes, Names, Row, Units};
+use nt_names::name_places::NamePlaces;
 use reg_tree::{Key, Keys, Values};
 use salvage_bins::DamagedCells;
 use salvage_walk::{Incomplete, Lists, Walk, add_found};

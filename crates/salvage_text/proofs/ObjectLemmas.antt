@@ -1,7 +1,7 @@
 -- An object, appended in three parts.
 use Rattle.std.proofs.Common.{◌≡◌, ℕ, List, ◌++◌, ap, ◌∙◌, append_assoc}
 use Rattle.std.specs.Prelude.{Result, Ok, Err, OnOk, codes}
-use Rattle.line_text.specs.Objects.{Value, opening_text, fields_text, object_text}
+use Rattle.report_text.specs.line_text.Objects.{Value, opening_text, fields_text, object_text}
 
 pub ended : {E : Type 0} (r : Result (Unit {0}) E) (t t1 t2 t3 word : List ℕ) (fields : List (List ℕ × Value))
     → t1 ≡ t ++ opening_text word → t2 ≡ t1 ++ fields_text fields → OnOk r (t3 ≡ t2 ++ codes "}\n")

@@ -6,11 +6,11 @@ use Rattle.nt_bytes.specs.declared.fault.HiveFault.{HiveFault}
 use Rattle.nt_bytes.specs.declared.fault.HiveFaultKind.{HiveFaultKind}
 use Rattle.nt_bytes.specs.declared.fault.HiveFaultKind.TheVariants as kinds
 use Rattle.nt_bytes.specs.declared.version.HiveVersion.{HiveVersion}
-use Rattle.line_text.specs.declared.form.ReportForm.{ReportForm}
-use Rattle.line_text.specs.declared.form.ReportForm.TheVariants as forms
-use Rattle.line_text.specs.Objects.{Value, Number, Text, Texts, object_text}
-use Rattle.line_text.specs.Paths.{written_path}
-use Rattle.line_text.specs.Quoted.{quoted}
+use Rattle.report_text.specs.declared.line_text.form.ReportForm.{ReportForm}
+use Rattle.report_text.specs.declared.line_text.form.ReportForm.TheVariants as forms
+use Rattle.report_text.specs.line_text.Objects.{Value, Number, Text, Texts, object_text}
+use Rattle.report_text.specs.line_text.Paths.{written_path}
+use Rattle.report_text.specs.line_text.Quoted.{quoted}
 use Rattle.salvage_bins.specs.declared.layout.BrokenBin.{BrokenBin}
 use Rattle.salvage_walk.specs.declared.lines.WalkLine.{WalkLine}
 use Rattle.salvage_walk.specs.declared.lines.WalkLine.TheVariants as lines

@@ -1,7 +1,7 @@
 -- What is the report on a damaged hive, with its status and the file to save? (this project's own)
 use Rattle.std.specs.Prelude.{ℕ, ◌+◌, ◌||◌, Bool, true, false, is_some, List, [], ◌∷◌, ◌++◌, length, map, codes, Option, Some, None}
 use Rattle.std.specs.List.{list_any}
-use Rattle.line_text.specs.declared.form.ReportForm.{ReportForm}
+use Rattle.report_text.specs.declared.line_text.form.ReportForm.{ReportForm}
 use Rattle.salvage_parents.specs.declared.search.ParentLine.{ParentLine}
 use Rattle.salvage_parents.specs.declared.search.ParentLine.TheVariants as parents
 use Rattle.salvage_file.specs.declared.recovery.LogStop.{LogStop}

@@ -1,14 +1,16 @@
 //! The lines as objects of JSON.
 
 ghost use Rattle.std.specs.Prelude.{◌≡◌, [], ◌++◌, codes, OnOk};
-ghost use Rattle.line_text.specs.Objects.{fields_text, object_text};
+ghost use Rattle.report_text.specs.line_text.Objects.{fields_text, object_text};
 ghost use Rattle.salvage_text.specs.Lines.{SequenceLine, VersionLine, BaseLine, LogLine, BytesLine, WalkedLine, FoundLine, SalvagedLine, SavedLine, RefusedLine, line_json};
 ghost use Rattle.salvage_text.specs.Lines.{bytes_fields, found_fields, log_fields, salvaged_fields, saved_fields, sequence_fields};
 
 use crate::walk_json::{push_fault_fields, push_walk_fields, walk_word};
 use crate::words::{kind_word, state_word};
-use line_text::{close_object, open_object, push_number_field, push_texts_field, push_word_field};
 use nt_bytes::{HiveFault, HiveVersion, Units};
+use report_text::line_text::{
+    close_object, open_object, push_number_field, push_texts_field, push_word_field,
+};
 use salvage_bins::BrokenBin;
 use salvage_file::{FileState, LogStop, minor_of};
 use salvage_walk::WalkLine;

@@ -7,8 +7,8 @@ ghost use Rattle.salvage_text.specs.Report.{log_lines, parent_line};
 
 use crate::walk_text::push_walk_text;
 use crate::{json, text, walk_text};
-use line_text::ReportForm;
 use nt_bytes::{HiveFault, HiveVersion, Units};
+use report_text::line_text::ReportForm;
 use salvage_bins::BrokenBin;
 use salvage_file::{FileState, LogStop};
 use salvage_parents::ParentLine;

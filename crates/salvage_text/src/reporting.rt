@@ -9,8 +9,8 @@ use crate::printing::{
     push_bases, push_bins, push_end, push_log, push_refused, push_said, push_salvaged, push_saved,
     push_sequence, push_version, push_walk,
 };
-use line_text::ReportForm;
 use nt_bytes::Bytes;
+use report_text::line_text::ReportForm;
 use salvage_file::{SalvagedHive, Saving};
 use std::alloc::{AllocError, Global};
 

@@ -5,8 +5,8 @@ ghost use Rattle.salvage_text.specs.Lines.{SequenceLine, VersionLine, BaseLine, 
 
 use crate::walk_text::{push_fault, push_placed};
 use crate::words::{kind_word, state_word};
-use line_text::push_number;
 use nt_bytes::{HiveFault, HiveVersion};
+use report_text::line_text::push_number;
 use salvage_bins::BrokenBin;
 use salvage_file::{FileState, LogStop, minor_of};
 use std::alloc::AllocError;

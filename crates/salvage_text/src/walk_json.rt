@@ -1,13 +1,15 @@
 //! The lines of the walk as objects of JSON.
 
 ghost use Rattle.std.specs.Prelude.{◌≡◌, [], ◌++◌, OnOk};
-ghost use Rattle.line_text.specs.Objects.{fields_text};
+ghost use Rattle.report_text.specs.line_text.Objects.{fields_text};
 ghost use Rattle.salvage_walk.specs.declared.lines.WalkLine.{WalkLine};
 ghost use Rattle.salvage_text.specs.Lines.{fault_fields, numbered_fields, path_fields, placed_fields, walk_fields, walk_word};
 
 use crate::words::{kind_word, part_word};
-use line_text::{push_number_field, push_text_field, push_texts_field, push_word_field};
 use nt_bytes::{HiveFault, HiveFaultKind, Units};
+use report_text::line_text::{
+    push_number_field, push_text_field, push_texts_field, push_word_field,
+};
 use salvage_walk::WalkLine;
 use std::alloc::AllocError;
 

@@ -5,8 +5,8 @@ ghost use Rattle.salvage_walk.specs.declared.lines.WalkLine.{WalkLine};
 ghost use Rattle.salvage_text.specs.Lines.{FoundLine, line_text, fault_text, numbered_text, path_text, placed_text, walk_text};
 
 use crate::words::{kind_word, part_word};
-use line_text::{push_number, push_path, push_quoted};
 use nt_bytes::{HiveFault, HiveFaultKind, Units};
+use report_text::line_text::{push_number, push_path, push_quoted};
 use salvage_walk::{KeyPart, WalkLine};
 use std::alloc::{AllocError, Global};
 

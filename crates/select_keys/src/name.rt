@@ -5,7 +5,7 @@ ghost use Rattle.start_model.specs.Sets.{set_name};
 ghost use Rattle.select_keys.specs.Names.{IsNumberOf, AreDigitsOf, IsDigitOf};
 
 use nt_bytes::{Names, Units, same_folded};
-use startup_names::CONTROL_SET;
+use nt_names::startup_names::CONTROL_SET;
 use std::alloc::{AllocError, Global};
 
 /// `0`.

@@ -5,8 +5,8 @@ ghost use Rattle.std.specs.Option.{option_copied};
 ghost use Rattle.start_model.specs.Sets.{select_number, numbers_in, four_of, has_number, taken_number, begun};
 ghost use Rattle.select_keys.specs.Plans.{gives_up};
 
+use nt_names::startup_names::{CURRENT, DEFAULT, FAILED, LAST_KNOWN_GOOD};
 use reg_tree::Key;
-use startup_names::{CURRENT, DEFAULT, FAILED, LAST_KNOWN_GOOD};
 use std::marker::Model;
 
 /// The numbers of the sets that `Select` names, each 0 where it names none.

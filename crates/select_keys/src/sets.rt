@@ -8,8 +8,8 @@ ghost use Rattle.select_keys.specs.Sets.{usable_set};
 
 use crate::name::set_units;
 use crate::numbers::{SelectNumbers, read_select};
+use nt_names::startup_names::SELECT;
 use reg_tree::Key;
-use startup_names::SELECT;
 
 /// The four numbers of the tree's key `Select`, each 0 where it is absent or no DWORD.
 pub fn select_numbers(root: &Key) -> SelectNumbers

@@ -6,8 +6,8 @@ ghost use Rattle.start_model.specs.Sets.{written, writes_of};
 
 use crate::numbers::SelectNumbers;
 use nt_bytes::{Bytes, Names, Units};
+use nt_names::startup_names::{CURRENT, DEFAULT, FAILED, LAST_KNOWN_GOOD, SELECT};
 use reg_tree::{Steps, TreeStep};
-use startup_names::{CURRENT, DEFAULT, FAILED, LAST_KNOWN_GOOD, SELECT};
 use std::alloc::{AllocError, Global};
 
 /// The type of a number of 32 bits.

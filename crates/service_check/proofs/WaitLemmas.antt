@@ -9,7 +9,7 @@ use Rattle.std.proofs.lemmas.List.FromFn.{length-map-range_with_len, get_or-map-
 use Rattle.std.proofs.lemmas.List.Elements.{Contains-append_cases}
 use Rattle.nt_bytes.specs.Folding.{folds_same}
 use Rattle.start_model.specs.Order.{first_names}
-use Rattle.name_places.proofs.FoldLemmas.{alike}
+use Rattle.nt_names.proofs.FoldLemmas.{alike}
 use Rattle.boot_phases.proofs.TriedLemmas.{some_place}
 use Rattle.dependencies.proofs.PulledLemmas.{same_bool, filter-range_more}
 use Rattle.dependencies.proofs.KeptLemmas.{range_push}

@@ -5,18 +5,18 @@ use Rattle.std.specs.Prelude.{ℕ, ◌+◌, Bool, true, false, not, ◌&&◌, �
 use Rattle.std.specs.List.{list_any, flat_map, range_with_len}
 use Rattle.std.specs.Option.{is_some, option_map_or}
 use Rattle.nt_bytes.specs.Folding.{folds_same}
-use Rattle.name_places.specs.Places.{places_named}
+use Rattle.nt_names.specs.name_places.Places.{places_named}
 use Rattle.hive_model.specs.Tree.{Tree, head, children, find_key}
 use Rattle.hive_model.specs.Edit.{has_child}
 use Rattle.start_model.specs.Entries.{entry_of}
 use Rattle.start_model.specs.Order.{GroupOrder, first_names, orders_of}
 use Rattle.start_model.specs.Sets.{SelectNumbers, select_numbers_of}
 use Rattle.select_keys.specs.Sets.{usable_set}
-use Rattle.check_lines.specs.declared.lines.Fault.{Fault}
-use Rattle.check_lines.specs.declared.lines.SelectWord.{SelectWord}
-use Rattle.check_lines.specs.declared.lines.SelectWord.TheVariants.{Current, Default, Failed, LastKnownGood}
-use Rattle.check_lines.specs.declared.lines.CheckLine.{CheckLine}
-use Rattle.check_lines.specs.declared.lines.CheckLine.TheVariants.{Select, CurrentSetKey, Set, NoSet, NoServices, NoList, About, GroupUnlisted, Cycle, Found, End}
+use Rattle.answer_lines.specs.declared.check_lines.lines.Fault.{Fault}
+use Rattle.answer_lines.specs.declared.check_lines.lines.SelectWord.{SelectWord}
+use Rattle.answer_lines.specs.declared.check_lines.lines.SelectWord.TheVariants.{Current, Default, Failed, LastKnownGood}
+use Rattle.answer_lines.specs.declared.check_lines.lines.CheckLine.{CheckLine}
+use Rattle.answer_lines.specs.declared.check_lines.lines.CheckLine.TheVariants.{Select, CurrentSetKey, Set, NoSet, NoServices, NoList, About, GroupUnlisted, Cycle, Found, End}
 use Rattle.service_check.specs.declared.stage.Stage.TheVariants.{Automatic}
 use Rattle.service_check.specs.declared.stage.Staged.{Staged}
 use Rattle.service_check.specs.Stages.{rows_of}

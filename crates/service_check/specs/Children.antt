@@ -10,10 +10,10 @@ use Rattle.nt_bytes.specs.Text.{wide_of, is_zero, is_filled}
 use Rattle.hive_model.specs.Tree.{Tree, Item, head, find_item, find_dword, find_string}
 use Rattle.start_model.specs.Entries.{Entry, is_driver, is_service}
 use Rattle.start_model.specs.Order.{GroupOrder}
-use Rattle.check_lines.specs.declared.lines.Field.{Field}
-use Rattle.check_lines.specs.declared.lines.Field.TheVariants as fields
-use Rattle.check_lines.specs.declared.lines.Fault.{Fault}
-use Rattle.check_lines.specs.declared.lines.Fault.TheVariants as faults
+use Rattle.answer_lines.specs.declared.check_lines.lines.Field.{Field}
+use Rattle.answer_lines.specs.declared.check_lines.lines.Field.TheVariants as fields
+use Rattle.answer_lines.specs.declared.check_lines.lines.Fault.{Fault}
+use Rattle.answer_lines.specs.declared.check_lines.lines.Fault.TheVariants as faults
 use Rattle.service_check.specs.declared.stage.Stage.TheVariants.{System}
 use Rattle.service_check.specs.declared.stage.Staged.{Staged}
 use Rattle.service_check.specs.Stages.{is_taken, is_upto}

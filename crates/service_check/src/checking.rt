@@ -13,12 +13,12 @@ use crate::cycles::put_cycles;
 use crate::groups::put_groups;
 use crate::stage::Stage;
 use crate::table::Table;
-use check_lines::{CheckLine, CheckLines, Fault, SelectWord};
-use group_order::read_orders;
+use answer_lines::check_lines::{CheckLine, CheckLines, Fault, SelectWord};
+use boot_phases::group_order::read_orders;
 use nt_bytes::Units;
+use nt_names::startup_names::{CURRENT_CONTROL_SET, SERVICES, START, TYPE};
 use reg_tree::Key;
 use select_keys::{SelectNumbers, select_numbers, set_of};
-use startup_names::{CURRENT_CONTROL_SET, SERVICES, START, TYPE};
 use std::alloc::{AllocError, Global};
 use std::marker::Model;
 

@@ -8,12 +8,12 @@ use crate::malformed::put_malformed;
 use crate::needs::put_needs;
 use crate::stage::{Stage, Staged, is_driver, is_service, is_taken, is_upto};
 use crate::table::Table;
-use check_lines::{Fault, Faults};
-use group_order::{GroupOrder, Orders};
+use answer_lines::check_lines::{Fault, Faults};
+use boot_phases::group_order::{GroupOrder, Orders};
+use boot_phases::service_entries::Entry;
 use nt_bytes::Units;
+use nt_names::startup_names::{ERROR_CONTROL, IMAGE_PATH, START, TYPE};
 use reg_tree::Key;
-use service_entries::Entry;
-use startup_names::{ERROR_CONTROL, IMAGE_PATH, START, TYPE};
 use std::alloc::{AllocError, Global};
 use std::marker::Model;
 

@@ -8,7 +8,7 @@ ghost use Rattle.service_check.specs.Check.{name_at, cycle_line, numbered_lines,
 use crate::child::Scope;
 use crate::table::Table;
 use crate::waits::waits;
-use check_lines::{CheckLine, CheckLines};
+use answer_lines::check_lines::{CheckLine, CheckLines};
 use nt_bytes::{Row, Units};
 use std::alloc::{AllocError, Global};
 

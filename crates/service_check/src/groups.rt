@@ -7,10 +7,10 @@ ghost use Rattle.service_check.specs.Check.{is_unlisted, unlisted_in, group_line
 use crate::child::Scope;
 use crate::names::firsts;
 use crate::stage::Stage;
-use check_lines::{CheckLine, CheckLines};
-use group_order::Orders;
-use name_places::NamePlaces;
+use answer_lines::check_lines::{CheckLine, CheckLines};
+use boot_phases::group_order::Orders;
 use nt_bytes::{Names, Units};
+use nt_names::name_places::NamePlaces;
 use std::alloc::{AllocError, Global};
 
 /// Appends a line for each group that isn't listed, where the order is asked for.

@@ -4,10 +4,12 @@ ghost use Rattle.std.specs.Prelude.{◌≡◌, ◌++◌, true, map, filter, OnOk
 ghost use Rattle.std.specs.List.{list_any};
 ghost use Rattle.service_check.specs.Children.{field_name, is_some_unit, has_rest, is_no_dword, is_no_string, is_no_list, is_malformed, has_malformed, malformed, malformed_faults};
 
-use check_lines::{Fault, Faults, Field};
+use answer_lines::check_lines::{Fault, Faults, Field};
 use nt_bytes::wide;
+use nt_names::startup_names::{
+    DEPEND_ON_GROUP, DEPEND_ON_SERVICE, ERROR_CONTROL, GROUP, START, TAG, TYPE,
+};
 use reg_tree::{Key, Value};
-use startup_names::{DEPEND_ON_GROUP, DEPEND_ON_SERVICE, ERROR_CONTROL, GROUP, START, TAG, TYPE};
 use std::alloc::{AllocError, Global};
 
 /// Appends a fault for each value that isn't of its form.

@@ -5,8 +5,8 @@ ghost use Rattle.std.specs.List.{list_any};
 ghost use Rattle.nt_bytes.specs.Folding.{folds_same};
 ghost use Rattle.start_model.specs.Order.{first_names};
 
-use name_places::NamePlaces;
 use nt_bytes::{Names, Units};
+use nt_names::name_places::NamePlaces;
 use std::alloc::{AllocError, Global};
 
 /// Whether one of the names is this one.

@@ -9,7 +9,7 @@ ghost use Rattle.service_check.specs.Needs.{stage_fault, name_fault, service_fau
 use crate::names::first_names;
 use crate::stage::{Stage, Staged};
 use crate::table::Table;
-use check_lines::{Fault, Faults};
+use answer_lines::check_lines::{Fault, Faults};
 use nt_bytes::Units;
 use std::alloc::{AllocError, Global};
 

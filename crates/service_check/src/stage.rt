@@ -3,15 +3,15 @@
 ghost use Rattle.std.specs.Prelude.{◌≡◌, ◌<◌, ◌||◌, map, IfOk};
 ghost use Rattle.hive_model.specs.Valid.{HoldsKeys};
 ghost use Rattle.start_model.specs.Entries.{Boot, System, Automatic, is_driver, is_service};
-ghost use Rattle.boot_phases.specs.Phases.{phase_in};
+ghost use Rattle.boot_phases.specs.boot_phases.Phases.{phase_in};
 ghost use Rattle.service_check.specs.Stages.{names_taken, takes, taken_names, stage_in, stage_rank, is_taken, is_upto};
 
 use crate::names::has_name;
-use boot_phases::{Phase, plan};
-use name_places::NamePlaces;
+use boot_phases::boot_phases::{Phase, plan};
+use boot_phases::service_entries::Entry;
 use nt_bytes::Names;
+use nt_names::name_places::NamePlaces;
 use reg_tree::Key;
-use service_entries::Entry;
 use std::alloc::{AllocError, Global};
 use std::marker::Model;
 

@@ -11,10 +11,10 @@ ghost use Rattle.service_check.specs.Needs.{names_of, named, group_upto, groups_
 
 use crate::names::has_name;
 use crate::stage::{Stage, Staged, TakenNames, is_upto};
-use name_places::NamePlaces;
+use boot_phases::service_entries::{Entry, entries};
 use nt_bytes::{Names, Units};
+use nt_names::name_places::NamePlaces;
 use reg_tree::Key;
-use service_entries::{Entry, entries};
 use std::alloc::{AllocError, Global};
 use std::marker::Model;
 

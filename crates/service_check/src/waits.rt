@@ -13,8 +13,8 @@ use crate::names::first_names;
 use crate::needs::is_demand;
 use crate::stage::{Stage, Staged, is_upto};
 use crate::table::Table;
-use name_places::NamePlaces;
 use nt_bytes::{Row, Units};
+use nt_names::name_places::NamePlaces;
 use std::alloc::{AllocError, Global};
 
 /// Where the needs of the groups of each stage begin.

@@ -9,9 +9,9 @@ use Rattle.std.proofs.lemmas.List.Folds.{Any-from_list_any, list_any_at}
 use Rattle.std.proofs.lemmas.List.FromFn.{get_or-range_with_len, length-range_with_len}
 use Rattle.std.proofs.lemmas.Option.{slice_get-get_or, slice_get_within}
 use Rattle.nt_bytes.specs.Folding.{folded, folded_unit, folds_same}
-use Rattle.name_places.specs.Places.{places_named}
-use Rattle.name_places.proofs.FoldLemmas.{alike}
-use Rattle.name_places.proofs.PlaceLemmas.{all_named, each_named}
+use Rattle.nt_names.specs.name_places.Places.{places_named}
+use Rattle.nt_names.proofs.FoldLemmas.{alike}
+use Rattle.nt_names.proofs.PlaceLemmas.{all_named, each_named}
 use Rattle.reg_tree.proofs.Unlike.{folds_swap}
 use Rattle.start_model.specs.Demand.{Need}
 use Rattle.start_model.specs.Ready.{Label, has_name, has_group}

@@ -11,8 +11,8 @@ use Rattle.std.proofs.lemmas.List.FromFn.{get_or-map-range_with_len, length-map-
 use Rattle.std.proofs.lemmas.List.Quantifiers.{position-Some}
 use Rattle.std.proofs.lemmas.Option.{slice_get-get_or}
 use Rattle.nt_bytes.specs.Folding.{folded, folds_same}
-use Rattle.name_places.specs.Places.{places_named}
-use Rattle.name_places.proofs.FoldLemmas.{alike}
+use Rattle.nt_names.specs.name_places.Places.{places_named}
+use Rattle.nt_names.proofs.FoldLemmas.{alike}
 use Rattle.start_model.specs.Demand.{Need, member, all_sets}
 use Rattle.start_model.specs.Ready.{Label, has_name, has_group, is_ready}
 use Rattle.dependencies.specs.Waiting.{WaitingState, label_of, labels_at, next_place_in, after_trying}

@@ -6,7 +6,7 @@ use Rattle.std.specs.Prelude.{◌≡◌, ℕ, ◌+◌, ◌<◌, ◌==◌, Bool, 
 use Rattle.std.specs.Option.{option_map, option_map_or, option_and_then, option_to_list}
 use Rattle.std.specs.List.{filter_map}
 use Rattle.nt_bytes.specs.Folding.{folds_same}
-use Rattle.name_places.specs.Places.{places_named}
+use Rattle.nt_names.specs.name_places.Places.{places_named}
 use Rattle.start_model.specs.Demand.{Need}
 
 -- what is ready once these services and groups are there, and is then a member of this group itself

@@ -7,8 +7,8 @@ ghost use Rattle.service_control.specs.Causes.{AreCauses, causes_at, causes_of, 
 
 use crate::lists::copied;
 use dependencies::{Need, Needs};
-use name_places::NamePlaces;
 use nt_bytes::{Names, Units};
+use nt_names::name_places::NamePlaces;
 use std::alloc::{AllocError, Global};
 use std::slice::from_ref;
 

@@ -4,15 +4,15 @@ ghost use Rattle.std.specs.Prelude.{◌≡◌, map, option_and_then, slice_get, 
 ghost use Rattle.std.specs.List.{filter_map};
 ghost use Rattle.hive_model.specs.Valid.{HoldsKeys};
 ghost use Rattle.start_model.specs.Entries.{is_service, need_of};
-ghost use Rattle.boot_phases.specs.Phases.{phase_in};
+ghost use Rattle.boot_phases.specs.boot_phases.Phases.{phase_in};
 ghost use Rattle.service_control.specs.First.{is_controlled, controlled, table_of, after_phase, first_running};
 
 use crate::lists::{append, names, started};
 use crate::turns::starts;
-use boot_phases::{Phase, need_of, plan};
+use boot_phases::boot_phases::{Phase, need_of, plan};
+use boot_phases::service_entries::{Entry, ServiceTable, entries};
 use dependencies::{Need, Needs};
 use reg_tree::Key;
-use service_entries::{Entry, ServiceTable, entries};
 use std::alloc::{AllocError, Global};
 
 /// The drivers and services of a set, in the order of the registry.

@@ -14,8 +14,8 @@ use crate::needed::{disabled, is_started, missing};
 use crate::stop::ControlStop;
 use crate::turns::starts;
 use dependencies::{Need, Needs, Started};
-use name_places::NamePlaces;
 use nt_bytes::same_folded;
+use nt_names::name_places::NamePlaces;
 use std::alloc::Global;
 
 /// An entry that is to be started is not disabled, and not started yet.

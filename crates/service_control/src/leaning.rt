@@ -13,7 +13,7 @@ ghost use Rattle.service_control.specs.Causes.{AreCauses};
 use crate::causes::{CauseList, causes};
 use crate::turns::{few, waiting};
 use dependencies::{Need, Needs, Started, TestCount};
-use name_places::folded;
+use nt_names::name_places::folded;
 use std::alloc::{AllocError, Global};
 
 /// For each started service whether it leans on the one of this name, which is started too. Takes n log n time in

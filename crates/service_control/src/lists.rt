@@ -8,8 +8,8 @@ ghost use Rattle.service_control.specs.State.{labels_of};
 
 use crate::turns::few;
 use dependencies::{Need, Needs, Places, Started, folded_group};
-use name_places::folded;
 use nt_bytes::{Names, Units, same_folded};
+use nt_names::name_places::folded;
 use std::alloc::{AllocError, Global};
 
 /// The same entry in memory of its own.

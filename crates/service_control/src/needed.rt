@@ -10,8 +10,8 @@ ghost use Rattle.service_control.specs.Needed.{asks, is_off, members_of, is_abse
 
 use crate::lists::{copied, picked};
 use dependencies::{Need, Needs, Started, automatic, services_met};
-use name_places::NamePlaces;
 use nt_bytes::{Names, Units, compare_folded, same_folded};
+use nt_names::name_places::NamePlaces;
 use std::alloc::{AllocError, Global};
 use std::slice::from_ref;
 

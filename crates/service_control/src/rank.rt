@@ -5,8 +5,8 @@ ghost use Rattle.start_model.specs.Order.{group_place, ordered_of};
 ghost use Rattle.service_control.specs.First.{by_group_of, group_rank, ranks_of};
 
 use crate::lists::picked;
+use boot_phases::group_order::{Orders, rank};
 use dependencies::{Need, Needs};
-use group_order::{Orders, rank};
 use std::alloc::{AllocError, Global};
 use std::marker::Model;
 

@@ -1,9 +1,9 @@
 -- What a line of a boot adds.
 use Rattle.std.proofs.Common.{◌≡◌, refl}
 use Rattle.start_model.specs.Starter.{phase_line}
-use Rattle.boot_phases.specs.Phases.{phase_in}
-use Rattle.boot_phases.specs.declared.phase.Phase.{Phase}
-use Rattle.boot_phases.specs.declared.phase.Phase.TheVariants.{Boot, System, Automatic, Done}
+use Rattle.boot_phases.specs.boot_phases.Phases.{phase_in}
+use Rattle.boot_phases.specs.declared.boot_phases.phase.Phase.{Phase}
+use Rattle.boot_phases.specs.declared.boot_phases.phase.Phase.TheVariants.{Boot, System, Automatic, Done}
 use Rattle.set_diff.specs.declared.boot.QuietBoot.{QuietBoot}
 use Rattle.set_diff.specs.Boots.{boot_step}
 

@@ -8,13 +8,13 @@ use Rattle.report_words.specs.declared.words.PhaseWord.{PhaseWord}
 use Rattle.report_words.specs.declared.words.PhaseWord.TheVariants as phases
 use Rattle.report_words.specs.declared.line.Line.{Line}
 use Rattle.report_words.specs.declared.line.Line.TheVariants.{Phase as PhaseLine, Try as TryLine, Unmet as UnmetLine}
-use Rattle.boot_phases.specs.declared.phase.Phase.{Phase}
-use Rattle.boot_phases.specs.declared.phase.Phase.TheVariants.{Boot, System, Automatic, Done}
+use Rattle.boot_phases.specs.declared.boot_phases.phase.Phase.{Phase}
+use Rattle.boot_phases.specs.declared.boot_phases.phase.Phase.TheVariants.{Boot, System, Automatic, Done}
 use Rattle.safe_boot.specs.Played.{safe_lines_of}
-use Rattle.diff_lines.specs.declared.lines.DiffLine.{DiffLine}
-use Rattle.diff_lines.specs.declared.lines.DiffLine.TheVariants.{StartPhase, StartsSame}
-use Rattle.diff_lines.specs.declared.lines.Part.TheVariants.{Start, Unmet}
-use Rattle.diff_lines.specs.declared.lines.Sequence.TheVariants.{Starts}
+use Rattle.answer_lines.specs.declared.diff_lines.lines.DiffLine.{DiffLine}
+use Rattle.answer_lines.specs.declared.diff_lines.lines.DiffLine.TheVariants.{StartPhase, StartsSame}
+use Rattle.answer_lines.specs.declared.diff_lines.lines.Part.TheVariants.{Start, Unmet}
+use Rattle.answer_lines.specs.declared.diff_lines.lines.Sequence.TheVariants.{Starts}
 use Rattle.set_diff.specs.declared.boot.Attempt.{Attempt}
 use Rattle.set_diff.specs.declared.boot.QuietBoot.{QuietBoot}
 use Rattle.set_diff.specs.Listed.{both_lone, shared_parts}

@@ -2,13 +2,13 @@
 use Rattle.std.specs.Prelude.{ℕ, ◌+◌, Bool, not, List, [], ◌∷◌, ◌++◌, map, filter, position, if◌then◌else◌}
 use Rattle.std.specs.Option.{is_some}
 use Rattle.nt_bytes.specs.Folding.{folds_same}
-use Rattle.diff_lines.specs.declared.lines.DiffLine.{DiffLine}
-use Rattle.diff_lines.specs.declared.lines.DiffLine.TheVariants.{Lone, Parts}
-use Rattle.diff_lines.specs.declared.lines.Part.{Part}
-use Rattle.diff_lines.specs.declared.lines.Sequence.{Sequence}
-use Rattle.diff_lines.specs.declared.lines.Side.{Side}
-use Rattle.diff_lines.specs.declared.lines.Side.TheVariants.{First, Second}
-use Rattle.diff_lines.specs.declared.lines.Shown.TheVariants.{Nothing, Text}
+use Rattle.answer_lines.specs.declared.diff_lines.lines.DiffLine.{DiffLine}
+use Rattle.answer_lines.specs.declared.diff_lines.lines.DiffLine.TheVariants.{Lone, Parts}
+use Rattle.answer_lines.specs.declared.diff_lines.lines.Part.{Part}
+use Rattle.answer_lines.specs.declared.diff_lines.lines.Sequence.{Sequence}
+use Rattle.answer_lines.specs.declared.diff_lines.lines.Side.{Side}
+use Rattle.answer_lines.specs.declared.diff_lines.lines.Side.TheVariants.{First, Second}
+use Rattle.answer_lines.specs.declared.diff_lines.lines.Shown.TheVariants.{Nothing, Text}
 
 -- one of the names is this one
 abbrev pub has : List (List ℕ) → List ℕ → Bool

@@ -8,15 +8,15 @@ use Rattle.std.specs.Option.{option_map, option_map_or}
 use Rattle.nt_bytes.specs.Folding.{folds_same}
 use Rattle.hive_model.specs.Tree.{Tree, find_string}
 use Rattle.start_model.specs.Entries.{Entry, entry_of, services_of}
-use Rattle.diff_lines.specs.declared.lines.DiffField.{DiffField}
-use Rattle.diff_lines.specs.declared.lines.DiffField.TheVariants as fields
-use Rattle.diff_lines.specs.declared.lines.DiffLine.{DiffLine}
-use Rattle.diff_lines.specs.declared.lines.DiffLine.TheVariants.{Only, Differs}
-use Rattle.diff_lines.specs.declared.lines.Shown.{Shown}
-use Rattle.diff_lines.specs.declared.lines.Shown.TheVariants.{Number, Texts}
-use Rattle.diff_lines.specs.declared.lines.Sequence.TheVariants.{Registry}
-use Rattle.diff_lines.specs.declared.lines.Side.{Side}
-use Rattle.diff_lines.specs.declared.lines.Side.TheVariants.{First, Second}
+use Rattle.answer_lines.specs.declared.diff_lines.lines.DiffField.{DiffField}
+use Rattle.answer_lines.specs.declared.diff_lines.lines.DiffField.TheVariants as fields
+use Rattle.answer_lines.specs.declared.diff_lines.lines.DiffLine.{DiffLine}
+use Rattle.answer_lines.specs.declared.diff_lines.lines.DiffLine.TheVariants.{Only, Differs}
+use Rattle.answer_lines.specs.declared.diff_lines.lines.Shown.{Shown}
+use Rattle.answer_lines.specs.declared.diff_lines.lines.Shown.TheVariants.{Number, Texts}
+use Rattle.answer_lines.specs.declared.diff_lines.lines.Sequence.TheVariants.{Registry}
+use Rattle.answer_lines.specs.declared.diff_lines.lines.Side.{Side}
+use Rattle.answer_lines.specs.declared.diff_lines.lines.Side.TheVariants.{First, Second}
 use Rattle.set_diff.specs.declared.service.Service.{Service}
 use Rattle.set_diff.specs.Listed.{lacks, shared_parts}
 use Rattle.set_diff.specs.Shown.{line_when, shown_same, number_shown, text_shown}

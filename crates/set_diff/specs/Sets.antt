@@ -5,13 +5,13 @@ use Rattle.std.specs.Option.{option_map_or}
 use Rattle.nt_bytes.specs.Folding.{folds_same}
 use Rattle.hive_model.specs.Tree.{Tree}
 use Rattle.start_model.specs.Order.{GroupOrder, listed_groups, order_of, orders_of}
-use Rattle.diff_lines.specs.declared.lines.DiffLine.{DiffLine}
-use Rattle.diff_lines.specs.declared.lines.DiffLine.TheVariants as lines
-use Rattle.diff_lines.specs.declared.lines.Part.TheVariants.{Group}
-use Rattle.diff_lines.specs.declared.lines.Sequence.TheVariants.{Groups}
-use Rattle.diff_lines.specs.declared.lines.Side.{Side}
-use Rattle.diff_lines.specs.declared.lines.Side.TheVariants.{First, Second}
-use Rattle.diff_lines.specs.declared.lines.Shown.TheVariants.{Numbers}
+use Rattle.answer_lines.specs.declared.diff_lines.lines.DiffLine.{DiffLine}
+use Rattle.answer_lines.specs.declared.diff_lines.lines.DiffLine.TheVariants as lines
+use Rattle.answer_lines.specs.declared.diff_lines.lines.Part.TheVariants.{Group}
+use Rattle.answer_lines.specs.declared.diff_lines.lines.Sequence.TheVariants.{Groups}
+use Rattle.answer_lines.specs.declared.diff_lines.lines.Side.{Side}
+use Rattle.answer_lines.specs.declared.diff_lines.lines.Side.TheVariants.{First, Second}
+use Rattle.answer_lines.specs.declared.diff_lines.lines.Shown.TheVariants.{Numbers}
 use Rattle.set_diff.specs.declared.boot.QuietBoot.{QuietBoot}
 use Rattle.set_diff.specs.declared.service.Service.{Service}
 use Rattle.set_diff.specs.Boots.{boot_of, boots_lines, or_same}

@@ -1,9 +1,9 @@
 -- When is what two sets have there the same? Texts and names are compared folded, numbers as they are. (this project's own)
 use Rattle.std.specs.Prelude.{ℕ, Bool, true, false, ◌&&◌, ◌==◌, List, [], ◌∷◌, Option, Some, None, if◌then◌else◌}
 use Rattle.nt_bytes.specs.Folding.{folds_same}
-use Rattle.diff_lines.specs.declared.lines.DiffLine.{DiffLine}
-use Rattle.diff_lines.specs.declared.lines.Shown.{Shown}
-use Rattle.diff_lines.specs.declared.lines.Shown.TheVariants.{Nothing, Number, Text, Texts, Numbers}
+use Rattle.answer_lines.specs.declared.diff_lines.lines.DiffLine.{DiffLine}
+use Rattle.answer_lines.specs.declared.diff_lines.lines.Shown.{Shown}
+use Rattle.answer_lines.specs.declared.diff_lines.lines.Shown.TheVariants.{Nothing, Number, Text, Texts, Numbers}
 
 -- a line where it is found
 abbrev pub line_when : Bool → DiffLine → List DiffLine

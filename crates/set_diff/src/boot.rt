@@ -6,10 +6,10 @@ ghost use Rattle.hive_model.specs.Valid.{HoldsKeys};
 ghost use Rattle.safe_boot.specs.Lines.{line_of};
 ghost use Rattle.set_diff.specs.Boots.{boot_step, boot_from, no_boot, started, boot_of, attempt_names, attempt_named, phase_rank, phase_lines, phases_lines};
 
-use boot_phases::Phase;
-use diff_lines::{DiffLine, DiffLines};
-use name_places::NamePlaces;
+use answer_lines::diff_lines::{DiffLine, DiffLines};
+use boot_phases::boot_phases::Phase;
 use nt_bytes::{Names, Row, Units};
+use nt_names::name_places::NamePlaces;
 use reg_tree::Key;
 use safe_boot::{SafeLine, safe_start};
 use std::alloc::{AllocError, Global};

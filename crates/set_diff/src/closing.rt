@@ -3,7 +3,7 @@
 ghost use Rattle.std.specs.Prelude.{◌≡◌, IfOk};
 ghost use Rattle.set_diff.specs.Sets.{is_difference, difference_count, verdict, closed};
 
-use diff_lines::{DiffLine, DiffLines};
+use answer_lines::diff_lines::{DiffLine, DiffLines};
 use std::alloc::AllocError;
 
 /// All lines, and how many of them tell of a difference.

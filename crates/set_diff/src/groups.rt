@@ -10,12 +10,12 @@ ghost use Rattle.start_model.specs.Order.{listed_groups, tag_bytes, tags_of, ord
 ghost use Rattle.set_diff.specs.Sets.{order_again, group_names, group_named, tag_lines, tags_lines};
 
 use crate::shown::shown_same;
-use diff_lines::{DiffLine, DiffLines, Shown};
-use group_order::{GroupOrder, read_orders};
-use name_places::NamePlaces;
+use answer_lines::diff_lines::{DiffLine, DiffLines, Shown};
+use boot_phases::group_order::{GroupOrder, read_orders};
 use nt_bytes::{Names, Row, Units, u32_at};
+use nt_names::name_places::NamePlaces;
+use nt_names::startup_names::{CONTROL, GROUP_ORDER_LIST, LIST, SERVICE_GROUP_ORDER};
 use reg_tree::Key;
-use startup_names::{CONTROL, GROUP_ORDER_LIST, LIST, SERVICE_GROUP_ORDER};
 use std::alloc::{AllocError, Global};
 use std::marker::Model;
 

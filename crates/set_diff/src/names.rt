@@ -6,9 +6,9 @@ ghost use Rattle.set_diff.specs.Listed.{has, lacks, lone_lines, both_lone, share
 ghost use Rattle.set_diff.specs.Shown.{text_shown};
 
 use crate::shown::text_shown;
-use diff_lines::{DiffLine, DiffLines, Part, Sequence, Side};
-use name_places::NamePlaces;
+use answer_lines::diff_lines::{DiffLine, DiffLines, Part, Sequence, Side};
 use nt_bytes::{Names, Units, same_folded};
+use nt_names::name_places::NamePlaces;
 use std::alloc::{AllocError, Global};
 
 /// Whether one of the names is this one.

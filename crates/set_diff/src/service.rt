@@ -10,12 +10,12 @@ ghost use Rattle.set_diff.specs.Services.{services_in, service_names, service_na
 
 use crate::names::lacks;
 use crate::shown::{number_shown, shown_same, text_shown};
-use diff_lines::{DiffField, DiffLine, DiffLines, Shown, Side};
-use name_places::NamePlaces;
+use answer_lines::diff_lines::{DiffField, DiffLine, DiffLines, Shown, Side};
+use boot_phases::service_entries::{Entry, entries};
 use nt_bytes::{Names, Units};
+use nt_names::name_places::NamePlaces;
+use nt_names::startup_names::{IMAGE_PATH, OBJECT_NAME, SERVICES, START, TYPE};
 use reg_tree::Key;
-use service_entries::{Entry, entries};
-use startup_names::{IMAGE_PATH, OBJECT_NAME, SERVICES, START, TYPE};
 use std::alloc::{AllocError, Global};
 
 /// An entry with the texts of its key.

@@ -4,7 +4,7 @@ ghost use Rattle.std.specs.Prelude.{◌≡◌, IfOk};
 ghost use Rattle.std.specs.Option.{option_copied};
 ghost use Rattle.set_diff.specs.Shown.{names_same, numbers_same, shown_same, number_shown, text_shown};
 
-use diff_lines::Shown;
+use answer_lines::diff_lines::Shown;
 use nt_bytes::{Units, same_folded};
 use std::alloc::{AllocError, Global};
 

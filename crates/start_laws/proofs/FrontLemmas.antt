@@ -10,7 +10,7 @@ use Rattle.start_model.specs.Act.{RunState, Act, Note}
 use Rattle.start_model.specs.Boot.{Choice}
 use Rattle.start_model.specs.EventActs.{event_step_of}
 use Rattle.start_model.specs.Run.{RunResult, play, then_run, behind, closing_act, run_from, run_of, first_state}
-use Rattle.run_laws.specs.Parts.{run_until, part_of, ended}
+use Rattle.run_laws.specs.run_laws.Parts.{run_until, part_of, ended}
 use Rattle.run_laws.proofs.PartLemmas.{with_rest, play-more, run_from-until, run_until-append}
 use Rattle.start_laws.specs.Fronts.{IsFrontOfRun}
 

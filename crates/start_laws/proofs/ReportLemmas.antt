@@ -11,8 +11,8 @@ use Rattle.start_model.specs.Run.{RunResult, run_of}
 use Rattle.start_model.specs.Quiet.{quiet_run_of}
 use Rattle.start_model.specs.Fits.{outcomes_of, ArePossible, Fits, MayLoad, woke_in}
 use Rattle.start_model.specs.Report.{Report, ReportFront}
-use Rattle.run_laws.specs.Quiet.{AllFinished}
-use Rattle.run_laws.specs.Told.{ended_in}
+use Rattle.run_laws.specs.run_laws.Quiet.{AllFinished}
+use Rattle.run_laws.specs.run_laws.Told.{ended_in}
 use Rattle.run_laws.proofs.NoteLemmas.{fits_possible, woke_in-append}
 use Rattle.run_laws.proofs.QuietLemmas.{IsQuiet, run_of-quiet}
 use Rattle.start_laws.proofs.TakeLemmas.{run_of-takes, run_of-few}

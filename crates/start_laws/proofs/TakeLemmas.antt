@@ -9,7 +9,7 @@ use Rattle.start_model.specs.Boot.{Choice}
 use Rattle.start_model.specs.EventActs.{event_step_of}
 use Rattle.start_model.specs.Run.{RunResult, play, then_run, behind, closing_act, run_from, run_of, first_state}
 use Rattle.start_model.specs.Fits.{woke_in}
-use Rattle.run_laws.specs.Told.{ended_in}
+use Rattle.run_laws.specs.run_laws.Told.{ended_in}
 use Rattle.run_laws.proofs.KeptLemmas.{Keeps, IsMark, nothing, push, event_step_of-marks, closing-marks}
 use Rattle.run_laws.proofs.NoteLemmas.{woke_in-append, ended_in-append}
 use Rattle.run_laws.proofs.PartLemmas.{with_rest, play-more}

@@ -5,7 +5,7 @@ use Rattle.start_model.specs.Possible.{Woken, Outcome}
 use Rattle.start_model.specs.Act.{RunState}
 use Rattle.start_model.specs.Run.{RunResult}
 use Rattle.start_model.specs.Fits.{woke_in}
-use Rattle.run_laws.specs.Told.{ended_in}
+use Rattle.run_laws.specs.run_laws.Told.{ended_in}
 
 -- a run says and notes first what this one did
 pub record IsFrontOfRun (first whole : RunResult) : Type 0 where

@@ -8,7 +8,7 @@ ghost use Rattle.start_model.specs.Act.{RunState};
 ghost use Rattle.start_model.specs.Boot.{Choice};
 ghost use Rattle.start_model.specs.Run.{first_state, run_of};
 ghost use Rattle.start_model.specs.Fits.{IsGoodSet, held_in, saved_in};
-ghost use Rattle.run_laws.specs.Parts.{part_of};
+ghost use Rattle.run_laws.specs.run_laws.Parts.{part_of};
 ghost use Rattle.start_laws.specs.Fronts.{IsFrontOfRun, TakesInOrder};
 
 /// Wakes and outcomes are taken in their order, the first ones first. What a run says when they run out is a front

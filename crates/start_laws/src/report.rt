@@ -10,8 +10,8 @@ ghost use Rattle.start_model.specs.Run.{run_of};
 ghost use Rattle.start_model.specs.Quiet.{quiet_run_of};
 ghost use Rattle.start_model.specs.Fits.{outcomes_of, MayLoad};
 ghost use Rattle.start_model.specs.Report.{Report};
-ghost use Rattle.run_laws.specs.Quiet.{AllFinished};
-ghost use Rattle.run_laws.specs.Told.{ended_in};
+ghost use Rattle.run_laws.specs.run_laws.Quiet.{AllFinished};
+ghost use Rattle.run_laws.specs.run_laws.Told.{ended_in};
 
 /// The operations of the disk ended as the text reports. Where all were done, the text is that of the quiet run, and each
 /// image that a cut may then leave loads as the state that this amounts to.

@@ -12,11 +12,11 @@ use Rattle.quiet_run.specs.declared.last.LastStart.{LastStart}
 use Rattle.quiet_run.specs.declared.last.QuietRun.{QuietRun}
 use Rattle.wait_cycles.proofs.InverseLemmas.{none_in}
 use Rattle.service_control.proofs.LeanLemmas.{mapped_from}
-use Rattle.why_state.specs.declared.views.PhaseView.{PhaseView}
-use Rattle.why_state.specs.Views.{names_of, view_of, viewed_of}
-use Rattle.course_laws.proofs.MadeLemmas.{Made, labels, Past, none, next, Known, sight}
-use Rattle.course_laws.proofs.PastLemmas.{slice_left, slice_right, AtPast, at_more}
-use Rattle.course_laws.proofs.StandsLemmas.{Stands, stands_by, view_at, views_are}
+use Rattle.why_needs.specs.declared.why_state.views.PhaseView.{PhaseView}
+use Rattle.why_needs.specs.why_state.Views.{names_of, view_of, viewed_of}
+use Rattle.why_laws.proofs.MadeLemmas.{Made, labels, Past, none, next, Known, sight}
+use Rattle.why_laws.proofs.PastLemmas.{slice_left, slice_right, AtPast, at_more}
+use Rattle.why_laws.proofs.StandsLemmas.{Stands, stands_by, view_at, views_are}
 
 -- ---- phases, one after another
 

@@ -7,3 +7,9 @@ pub mod LeftLemmas
 pub mod SaidLemmas
 pub mod StartedLemmas
 pub mod MomentLemmas
+pub mod PlanLemmas
+pub mod ActLemmas
+pub mod WatchLemmas
+pub mod LoadLemmas
+pub mod PlaceLemmas
+pub mod EnoughLemmas

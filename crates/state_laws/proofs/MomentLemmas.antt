@@ -9,7 +9,7 @@ use Rattle.std.proofs.lemmas.List.{length-append, length-map}
 use Rattle.std.proofs.lemmas.List.Quantifiers.{position-Some}
 use Rattle.std.proofs.lemmas.Option.{same_Some, slice_get-map, slice_get_within, get_or_from_slice_get}
 use Rattle.nt_bytes.specs.Folding.{folded, folds_same}
-use Rattle.name_places.proofs.FoldLemmas.{alike}
+use Rattle.nt_names.proofs.FoldLemmas.{alike}
 use Rattle.start_model.specs.Demand.{Need}
 use Rattle.start_model.specs.Entries.{Entry, need_of}
 use Rattle.start_model.specs.Machine.{label_of}
@@ -26,21 +26,21 @@ use Rattle.wait_cycles.proofs.MetLemmas.{any_from, any_gives, all_from, all_give
 use Rattle.service_control.proofs.LeanLemmas.{folds_itself, folded_last}
 use Rattle.check_laws.proofs.RowLemmas.{stands_at as item_at}
 use Rattle.check_laws.proofs.TakenLemmas.{item_here, item_place}
-use Rattle.why_lines.specs.declared.lines.WhyLine.TheVariants as lines
-use Rattle.why_state.specs.declared.views.PhaseView.{PhaseView}
-use Rattle.why_state.specs.declared.views.ViewedRun.{ViewedRun}
-use Rattle.why_state.specs.Views.{names_of, names_tried, viewed_of}
-use Rattle.why_state.specs.States.{place_in, attempt_upto, placed_of}
-use Rattle.why_needs.specs.Met.{is_ok, group_of, starts_of, service_met, group_met, is_met}
-use Rattle.why_needs.specs.Ready.{later, latest, ready_at, ready_line}
-use Rattle.course_laws.proofs.MadeLemmas.{Made, attempt_as, labels, Known, sight}
-use Rattle.course_laws.proofs.ActLemmas.{hear}
-use Rattle.course_laws.proofs.PlacedLemmas.{placed_known}
-use Rattle.course_laws.proofs.PastLemmas.{slice_left, runs_made}
-use Rattle.course_laws.proofs.StandsLemmas.{Stands, stands_at, first_place, attempt_at, tried_at, tried_is, made_at}
-use Rattle.course_laws.proofs.MetLemmas.{Placed, placed_in, made_placed, names_are, slice_front, group_is, run_is}
-use Rattle.course_laws.proofs.UnmetLemmas.{placed_name}
-use Rattle.state_laws.specs.Moment.{is_ready_by, TellsOf, IsExplained, AttemptsAreExplained}
+use Rattle.answer_lines.specs.declared.why_lines.lines.WhyLine.TheVariants as lines
+use Rattle.why_needs.specs.declared.why_state.views.PhaseView.{PhaseView}
+use Rattle.why_needs.specs.declared.why_state.views.ViewedRun.{ViewedRun}
+use Rattle.why_needs.specs.why_state.Views.{names_of, names_tried, viewed_of}
+use Rattle.why_needs.specs.why_state.States.{place_in, attempt_upto, placed_of}
+use Rattle.why_needs.specs.why_needs.Met.{is_ok, group_of, starts_of, service_met, group_met, is_met}
+use Rattle.why_needs.specs.why_needs.Ready.{later, latest, ready_at, ready_line}
+use Rattle.why_laws.proofs.MadeLemmas.{Made, attempt_as, labels, Known, sight}
+use Rattle.why_laws.proofs.ActLemmas.{hear}
+use Rattle.why_laws.proofs.PlacedLemmas.{placed_known}
+use Rattle.why_laws.proofs.PastLemmas.{slice_left, runs_made}
+use Rattle.why_laws.proofs.StandsLemmas.{Stands, stands_at, first_place, attempt_at, tried_at, tried_is, made_at}
+use Rattle.why_laws.proofs.MetLemmas.{Placed, placed_in, made_placed, names_are, slice_front, group_is, run_is}
+use Rattle.why_laws.proofs.UnmetLemmas.{placed_name}
+use Rattle.state_laws.specs.state_laws.Moment.{is_ready_by, TellsOf, IsExplained, AttemptsAreExplained}
 use Rattle.state_laws.proofs.TurnLemmas.{over, over_off, removed_at, runs_within, Turn, turn_at}
 use Rattle.state_laws.proofs.OnceLemmas.{later_there, in_phase, view_own}
 use Rattle.state_laws.proofs.StartedLemmas.{early_test, group_back, group_there, name_there, name_back}

@@ -8,22 +8,22 @@ use Rattle.std.proofs.lemmas.List.{length-append}
 use Rattle.std.proofs.lemmas.List.Quantifiers.{position-Some}
 use Rattle.std.proofs.lemmas.Option.{same_Some, slice_get_within, get_or_from_slice_get}
 use Rattle.nt_bytes.specs.Folding.{folds_same}
-use Rattle.name_places.proofs.FoldLemmas.{alike}
-use Rattle.boot_phases.specs.Phases.{phase_in}
+use Rattle.nt_names.proofs.FoldLemmas.{alike}
+use Rattle.boot_phases.specs.boot_phases.Phases.{phase_in}
 use Rattle.start_model.specs.Entries.{Entry}
 use Rattle.quiet_run.specs.declared.last.QuietRun.{QuietRun}
 use Rattle.quiet_run.specs.Play.{AreHeld}
 use Rattle.service_control.proofs.LeanLemmas.{folds_itself}
 use Rattle.check_laws.proofs.RowLemmas.{stands_at as item_at}
 use Rattle.check_laws.proofs.TakenLemmas.{item_here, item_place}
-use Rattle.why_state.specs.declared.views.PhaseView.{PhaseView}
-use Rattle.why_state.specs.declared.views.ViewedRun.{ViewedRun}
-use Rattle.why_state.specs.Views.{names_tried, viewed_of}
-use Rattle.why_state.specs.States.{place_in, attempt_upto}
-use Rattle.course_laws.proofs.MadeLemmas.{Made, attempt_as, made_names, Known, sight}
-use Rattle.course_laws.proofs.PastLemmas.{slice_cases, runs_waiting}
-use Rattle.course_laws.proofs.StandsLemmas.{Stands, made_here, first_place, tried_at, tried_is}
-use Rattle.course_laws.proofs.MetLemmas.{Placed, placed_in, made_placed, none_later, slice_front, set_held, untried_in, was_there}
+use Rattle.why_needs.specs.declared.why_state.views.PhaseView.{PhaseView}
+use Rattle.why_needs.specs.declared.why_state.views.ViewedRun.{ViewedRun}
+use Rattle.why_needs.specs.why_state.Views.{names_tried, viewed_of}
+use Rattle.why_needs.specs.why_state.States.{place_in, attempt_upto}
+use Rattle.why_laws.proofs.MadeLemmas.{Made, attempt_as, made_names, Known, sight}
+use Rattle.why_laws.proofs.PastLemmas.{slice_cases, runs_waiting}
+use Rattle.why_laws.proofs.StandsLemmas.{Stands, made_here, first_place, tried_at, tried_is}
+use Rattle.why_laws.proofs.MetLemmas.{Placed, placed_in, made_placed, none_later, slice_front, set_held, untried_in, was_there}
 use Rattle.state_laws.proofs.ApartLemmas.{AreOwn, plan_own}
 use Rattle.state_laws.proofs.TurnLemmas.{over, over_off, removed_at, Within, runs_within, Turn, turn_at}
 

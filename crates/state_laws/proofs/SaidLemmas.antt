@@ -5,11 +5,11 @@ use Rattle.std.specs.Option.{option_map, option_map_or, option_and_then, option_
 use Rattle.std.proofs.lemmas.Bool.Decides.{nat_tests}
 use Rattle.std.proofs.lemmas.Option.{slice_get-map, slice_get_within}
 use Rattle.nt_bytes.specs.Folding.{folds_same}
-use Rattle.name_places.proofs.FoldLemmas.{alike}
+use Rattle.nt_names.proofs.FoldLemmas.{alike}
 use Rattle.hive_model.specs.Tree.{Tree}
 use Rattle.hive_model.specs.Valid.{HoldsKeys}
-use Rattle.boot_machine.specs.Codes.{phase_number}
-use Rattle.boot_phases.specs.Phases.{phase_in}
+use Rattle.boot_machine.specs.boot_machine.Codes.{phase_number}
+use Rattle.boot_phases.specs.boot_phases.Phases.{phase_in}
 use Rattle.start_model.specs.Entries.{Entry, Phase, Boot, System, Automatic, Done, entries_of}
 use Rattle.report_words.specs.declared.line.Line.{Line}
 use Rattle.start_model.specs.Order.{plan_of}
@@ -20,19 +20,19 @@ use Rattle.quiet_run.specs.Watch.{quiet_run_of}
 use Rattle.wait_cycles.proofs.InverseLemmas.{none_in}
 use Rattle.check_laws.proofs.SetLemmas.{entries_apart, plan_entry, boot_start, system_start, late_above}
 use Rattle.check_laws.proofs.TakenLemmas.{item_here, item_place, is_late, plan_from, auto_from, auto_late}
-use Rattle.why_lines.specs.declared.lines.NameState.TheVariants as states
-use Rattle.why_state.specs.declared.views.PhaseView.{PhaseView}
-use Rattle.why_state.specs.declared.views.ViewedRun.{ViewedRun}
-use Rattle.why_state.specs.Views.{names_of, viewed_of}
-use Rattle.why_state.specs.States.{place_in, placed_at, placed_below, attempt_upto, outcome_at, tried_as, waited, placed_state, unplaced_state, state_by, placed_of, state_of}
-use Rattle.course_laws.proofs.MadeLemmas.{made_names, Known, sight}
-use Rattle.course_laws.proofs.ActLemmas.{hear}
-use Rattle.course_laws.proofs.PlacedLemmas.{placed_known}
-use Rattle.course_laws.proofs.PastLemmas.{runs_waiting}
-use Rattle.course_laws.proofs.StandsLemmas.{Stands, stands_at, first_place}
-use Rattle.course_laws.proofs.MetLemmas.{entry_named, names_are, set_held}
-use Rattle.course_laws.proofs.UnmetLemmas.{heard_unmet, unmet_is_reported}
-use Rattle.state_laws.specs.Unmet.{ReadOneSet, UnmetWhereReported}
+use Rattle.answer_lines.specs.declared.why_lines.lines.NameState.TheVariants as states
+use Rattle.why_needs.specs.declared.why_state.views.PhaseView.{PhaseView}
+use Rattle.why_needs.specs.declared.why_state.views.ViewedRun.{ViewedRun}
+use Rattle.why_needs.specs.why_state.Views.{names_of, viewed_of}
+use Rattle.why_needs.specs.why_state.States.{place_in, placed_at, placed_below, attempt_upto, outcome_at, tried_as, waited, placed_state, unplaced_state, state_by, placed_of, state_of}
+use Rattle.why_laws.proofs.MadeLemmas.{made_names, Known, sight}
+use Rattle.why_laws.proofs.ActLemmas.{hear}
+use Rattle.why_laws.proofs.PlacedLemmas.{placed_known}
+use Rattle.why_laws.proofs.PastLemmas.{runs_waiting}
+use Rattle.why_laws.proofs.StandsLemmas.{Stands, stands_at, first_place}
+use Rattle.why_laws.proofs.MetLemmas.{entry_named, names_are, set_held}
+use Rattle.why_laws.proofs.UnmetLemmas.{heard_unmet, unmet_is_reported}
+use Rattle.state_laws.specs.state_laws.Unmet.{ReadOneSet, UnmetWhereReported}
 use Rattle.state_laws.proofs.OnceLemmas.{left_never}
 use Rattle.state_laws.proofs.LeftLemmas.{LeftIn, left_in}
 

@@ -23,14 +23,14 @@ use Rattle.start_model.specs.Run.{verdict_first}
 use Rattle.start_model.specs.Sets as sets
 use Rattle.start_model.specs.Sets.{SetChange, SelectNumbers, ChangeStop, NoPlan, NoControlSet, NoLastKnownGood, NoFreeNumber, begin_of, save_of, set_of}
 use Rattle.start_model.specs.Starter.{live_set, good_is_usable, no_set, phase_line, judged, phase_begun, phase_passed, phase_step, starter_step, stepping, enough_steps, try_line}
-use Rattle.boot_machine.specs.Codes.{phase_number}
+use Rattle.boot_machine.specs.boot_machine.Codes.{phase_number}
 use Rattle.quiet_run.specs.declared.last.BegunPhase.{BegunPhase}
 use Rattle.quiet_run.specs.declared.last.LastStart.{LastStart}
 use Rattle.quiet_run.specs.Words.{phase_as}
 use Rattle.quiet_run.specs.Watch.{Watched, fresh_start, seen, watch, with_phase, phase_noted, noted, stepped, steps_of, gone_unless, turned, watched_from, unplayed, quiet_run_of}
 use Rattle.wait_cycles.proofs.InverseLemmas.{none_in}
 use Rattle.check_laws.proofs.ProperLaws.{only_in}
-use Rattle.state_laws.specs.Unmet.{is_edit, EditsNothing, ReadOneSet, PhasesReadOneSet}
+use Rattle.state_laws.specs.state_laws.Unmet.{is_edit, EditsNothing, ReadOneSet, PhasesReadOneSet}
 
 -- ---- what the phases read
 

@@ -15,16 +15,16 @@ use Rattle.wait_cycles.proofs.InverseLemmas.{none_in}
 use Rattle.wait_cycles.proofs.CycleLemmas.{in_cons}
 use Rattle.wait_cycles.proofs.MetLemmas.{in_range}
 use Rattle.check_laws.proofs.RowLemmas.{stands_at as item_at}
-use Rattle.why_state.specs.declared.views.ViewedRun.{ViewedRun}
-use Rattle.why_state.specs.Views.{viewed_of}
-use Rattle.why_needs.specs.declared.met.GroupStarts.{GroupStarts}
-use Rattle.why_needs.specs.Met.{is_ok, group_of, group_by, group_at, starts_of, service_met, group_met, is_met}
-use Rattle.course_laws.proofs.MadeLemmas.{Known, sight}
-use Rattle.course_laws.proofs.ActLemmas.{hear}
-use Rattle.course_laws.proofs.PlacedLemmas.{placed_known}
-use Rattle.course_laws.proofs.StandsLemmas.{first_place, made_at}
-use Rattle.course_laws.proofs.MetLemmas.{run_is, service_well, group_well}
-use Rattle.state_laws.specs.Met.{NameWasStarted, GroupWasStarted, NameIsMetWhereStarted, GroupIsMetWhereStarted}
+use Rattle.why_needs.specs.declared.why_state.views.ViewedRun.{ViewedRun}
+use Rattle.why_needs.specs.why_state.Views.{viewed_of}
+use Rattle.why_needs.specs.declared.why_needs.met.GroupStarts.{GroupStarts}
+use Rattle.why_needs.specs.why_needs.Met.{is_ok, group_of, group_by, group_at, starts_of, service_met, group_met, is_met}
+use Rattle.why_laws.proofs.MadeLemmas.{Known, sight}
+use Rattle.why_laws.proofs.ActLemmas.{hear}
+use Rattle.why_laws.proofs.PlacedLemmas.{placed_known}
+use Rattle.why_laws.proofs.StandsLemmas.{first_place, made_at}
+use Rattle.why_laws.proofs.MetLemmas.{run_is, service_well, group_well}
+use Rattle.state_laws.specs.state_laws.Met.{NameWasStarted, GroupWasStarted, NameIsMetWhereStarted, GroupIsMetWhereStarted}
 use Rattle.state_laws.proofs.OnceLemmas.{tried_once}
 
 pub early_test : (k n : ℕ) → k < n → nat_lt k n ≡ true

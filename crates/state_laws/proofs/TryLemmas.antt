@@ -12,18 +12,18 @@ use Rattle.start_model.specs.Quiet as book
 use Rattle.quiet_run.specs.declared.last.Attempt.{Attempt}
 use Rattle.quiet_run.specs.declared.last.QuietRun.{QuietRun}
 use Rattle.quiet_run.specs.Watch.{quiet_run_of}
-use Rattle.why_state.specs.Views.{names_tried}
-use Rattle.why_state.specs.States.{place_in, state_of}
-use Rattle.why_laws.specs.Reports.{last_start_in, Reported, IsReported}
-use Rattle.why_laws.specs.States.{attempt_in, tries_in, TriedAt, view_from}
+use Rattle.why_needs.specs.why_state.Views.{names_tried}
+use Rattle.why_needs.specs.why_state.States.{place_in, state_of}
+use Rattle.why_laws.specs.why_laws.Reports.{last_start_in, Reported, IsReported}
+use Rattle.why_laws.specs.why_laws.States.{attempt_in, tries_in, TriedAt, view_from}
 use Rattle.why_laws.proofs.RunLemmas.{last_start_reported}
 use Rattle.why_laws.proofs.StateLemmas.{reported_said}
-use Rattle.course_laws.proofs.MadeLemmas.{Made, attempt_as}
-use Rattle.course_laws.proofs.ActLemmas.{hear}
-use Rattle.course_laws.proofs.PlacedLemmas.{placed_known}
-use Rattle.course_laws.proofs.StandsLemmas.{made_at, made_here, tried_is}
-use Rattle.course_laws.proofs.MetLemmas.{placed_in, made_placed}
-use Rattle.state_laws.specs.Tries.{SetsAreHeld, NamesAreTriedOnce, TriesAreStates}
+use Rattle.why_laws.proofs.MadeLemmas.{Made, attempt_as}
+use Rattle.why_laws.proofs.ActLemmas.{hear}
+use Rattle.why_laws.proofs.PlacedLemmas.{placed_known}
+use Rattle.why_laws.proofs.StandsLemmas.{made_at, made_here, tried_is}
+use Rattle.why_laws.proofs.MetLemmas.{placed_in, made_placed}
+use Rattle.state_laws.specs.state_laws.Tries.{SetsAreHeld, NamesAreTriedOnce, TriesAreStates}
 use Rattle.state_laws.proofs.OnceLemmas.{made_once, tried_once}
 
 module _ (choice : Option ℕ → Choice) (script : List Event) (placed : Woken) (last : ℕ × List Line)

@@ -8,8 +8,8 @@ use Rattle.wait_cycles.proofs.InverseLemmas.{none_in}
 use Rattle.check_laws.proofs.ProperLaws.{only_in}
 use Rattle.check_laws.proofs.TakenLemmas.{item_here}
 use Rattle.check_laws.proofs.TurnLemmas.{removed_from}
-use Rattle.course_laws.proofs.MadeLemmas.{Made, labels, Runs, begun, more}
-use Rattle.course_laws.proofs.PastLemmas.{slice_cases, alone_at}
+use Rattle.why_laws.proofs.MadeLemmas.{Made, labels, Runs, begun, more}
+use Rattle.why_laws.proofs.PastLemmas.{slice_cases, alone_at}
 
 -- ---- places in a list of which an item was removed
 

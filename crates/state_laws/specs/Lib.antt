@@ -1,4 +1,3 @@
-pub mod Tries
-pub mod Unmet
-pub mod Met
-pub mod Moment
+pub mod state_laws
+pub mod held_laws
+pub mod enough_laws

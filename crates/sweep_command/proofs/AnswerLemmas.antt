@@ -9,20 +9,20 @@ use Rattle.nt_edge.specs.Disk.{new_state}
 use Rattle.nt_edge.specs.Host.{HostState}
 use Rattle.nt_edge.specs.declared.host.HostStop.{HostStop}
 use Rattle.nt_edge.specs.declared.host.HostStop.TheVariants.{Read, Write, Memory}
-use Rattle.command_parts.specs.declared.refusal.Refusal.{Refusal}
-use Rattle.command_parts.specs.declared.refusal.Obstacle.TheVariants.{Stopped}
-use Rattle.command_parts.specs.declared.status.Status.{Status}
-use Rattle.command_parts.specs.Decides.{Decides}
-use Rattle.command_parts.specs.Leaves.{Looks, stopped_as}
-use Rattle.command_parts.specs.Refusals.{refusal_text}
-use Rattle.command_parts.specs.Saves.{no_saves}
+use Rattle.command_parts.specs.declared.command_parts.refusal.Refusal.{Refusal}
+use Rattle.command_parts.specs.declared.command_parts.refusal.Obstacle.TheVariants.{Stopped}
+use Rattle.command_parts.specs.declared.command_parts.status.Status.{Status}
+use Rattle.command_parts.specs.command_parts.Decides.{Decides}
+use Rattle.command_parts.specs.command_parts.Leaves.{Looks, stopped_as}
+use Rattle.command_parts.specs.command_parts.Refusals.{refusal_text}
+use Rattle.command_parts.specs.command_parts.Saves.{no_saves}
 use Rattle.command_parts.proofs.DecideLemmas.{stopped_decides}
 use Rattle.command_parts.proofs.LeaveLemmas.{no_front}
 use Rattle.command_words.specs.Words.{SweepAsked}
-use Rattle.line_text.specs.declared.form.ReportForm.{ReportForm}
-use Rattle.sweep_inputs.specs.declared.inputs.SweepInputs.{SweepInputs}
-use Rattle.sweep_inputs.specs.Inputs.{inputs_in}
-use Rattle.sweep_command.specs.Answer.{files_asked, EndsSweep, IsChecked}
+use Rattle.report_text.specs.declared.line_text.form.ReportForm.{ReportForm}
+use Rattle.sweep_command.specs.declared.sweep_inputs.inputs.SweepInputs.{SweepInputs}
+use Rattle.sweep_command.specs.sweep_inputs.Inputs.{inputs_in}
+use Rattle.sweep_command.specs.sweep_command.Answer.{files_asked, EndsSweep, IsChecked}
 
 -- the image loads
 pub checked : (image : Image) (x : ℕ × HiveVersion) → JudgesAs image (Ok x) → IsChecked image (Ok tt)

@@ -4,16 +4,16 @@ use Rattle.std.specs.Prelude.{Option, take}
 use Rattle.std.specs.List.{All}
 use Rattle.std.proofs.Math.Seq.{take-append_seam}
 use Rattle.std.proofs.lemmas.List.Elements.{All-head, All-tail, All-push, All-take, All-same}
-use Rattle.boot_script.specs.declared.event.Event.{Event}
-use Rattle.boot_script.specs.declared.event.Event.TheVariants as events
-use Rattle.boot_machine.specs.Views.{event_in}
-use Rattle.command_parts.specs.declared.inputs.HiveFiles.{HiveFiles}
+use Rattle.boot_script.specs.declared.boot_script.event.Event.{Event}
+use Rattle.boot_script.specs.declared.boot_script.event.Event.TheVariants as events
+use Rattle.boot_machine.specs.boot_machine.Views.{event_in}
+use Rattle.command_parts.specs.declared.command_parts.inputs.HiveFiles.{HiveFiles}
 use Rattle.start_model.specs.Boot.{Choice}
-use Rattle.order_laws.specs.Unordered.{AreUnordered, IsUnordered as OrdersNone}
-use Rattle.sweep_script.specs.Sweep.{events_of, IsUnordered}
-use Rattle.sweep_run.specs.declared.playing.Played.{Played}
-use Rattle.sweep_script.specs.declared.reading.SweepScript.{SweepScript}
-use Rattle.sweep_command.specs.Answer.{probe_event, PlaysProbed, ArePlayed, PlaysAll}
+use Rattle.kept_laws.specs.order_laws.Unordered.{AreUnordered, IsUnordered as OrdersNone}
+use Rattle.boot_script.specs.sweep_script.Sweep.{events_of, IsUnordered}
+use Rattle.sweep_command.specs.declared.sweep_run.playing.Played.{Played}
+use Rattle.boot_script.specs.declared.sweep_script.reading.SweepScript.{SweepScript}
+use Rattle.sweep_command.specs.sweep_command.Answer.{probe_event, PlaysProbed, ArePlayed, PlaysAll}
 
 orders_none : (e : Event) → IsUnordered e → OrdersNone (event_in e)
 orders_none (events.Boot entry good) is = tt

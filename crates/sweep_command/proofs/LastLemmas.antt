@@ -9,9 +9,9 @@ use Rattle.start_model.specs.Machine.{Start, refusal_in}
 use Rattle.start_model.specs.Possible.{Possible, Woken}
 use Rattle.start_model.specs.Quiet.{quiet_wake}
 use Rattle.start_model.specs.Run.{first_state}
-use Rattle.last_laws.specs.Last.{last_in, last_from, last_of}
-use Rattle.sweep_lines.specs.Probe.{probe}
-use Rattle.sweep_lines.specs.Swept.{turn_of, state_after}
+use Rattle.run_laws.specs.last_laws.Last.{last_in, last_from, last_of}
+use Rattle.sweep_text.specs.sweep_lines.Probe.{probe}
+use Rattle.sweep_text.specs.sweep_lines.Swept.{turn_of, state_after}
 
 -- an act that has an operation has the same last one, whatever there was before
 with_one : (act : Act) (x : Option Possible) (p : Possible) → last_in None act ≡ Some p → last_in x act ≡ Some p

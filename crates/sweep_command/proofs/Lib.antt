@@ -1,3 +1,5 @@
+pub mod EndLemmas
+pub mod PlayLemmas
 pub mod AnswerLemmas
 pub mod EventLemmas
 pub mod LastLemmas

@@ -2,31 +2,31 @@
 use Rattle.std.proofs.Common.{◌≡◌, ℕ, List, [], ◌∷◌, ◌++◌, map, Option, ap, subst, ◌∙◌}
 use Rattle.std.specs.Prelude.{Result, Ok, Err, IfOk, unwrap_or}
 use Rattle.std.proofs.lemmas.List.{append_assoc, map-append}
-use Rattle.boot_script.specs.declared.event.Event.{Event}
-use Rattle.boot_machine.specs.Views.{event_in}
+use Rattle.boot_script.specs.declared.boot_script.event.Event.{Event}
+use Rattle.boot_machine.specs.boot_machine.Views.{event_in}
 use Rattle.boot_run.specs.Choices.{choices}
-use Rattle.line_text.specs.declared.form.ReportForm.{ReportForm}
+use Rattle.report_text.specs.declared.line_text.form.ReportForm.{ReportForm}
 use Rattle.start_model.specs.Boot.{Choice}
 use Rattle.start_model.specs.Events.{Event as Happening}
 use Rattle.report_words.specs.declared.line.Line.{Line}
 use Rattle.start_model.specs.Lines.{text_of}
 use Rattle.start_model.specs.Possible.{Possible, Woken, open_between}
 use Rattle.start_model.specs.Quiet.{Quiet, quiet_run_of}
-use Rattle.sweep_inputs.specs.declared.inputs.SweepInputs.{SweepInputs}
-use Rattle.sweep_lines.specs.Pieces.{lines_between, pieces_of}
-use Rattle.sweep_lines.specs.Probe.{probe, tail_of}
-use Rattle.sweep_lines.specs.Swept.{state_after, lines_after}
-use Rattle.sweep_lines.proofs.PieceLemmas.{found}
-use Rattle.sweep_lines.proofs.SweptLemmas.{before_said, whole_said, whole_state}
-use Rattle.sweep_run.specs.declared.playing.Played.{Played}
-use Rattle.sweep_run.specs.Played.{IsPlayed}
-use Rattle.sweep_run.specs.Swept.{IsLogOf}
-use Rattle.sweep_script.specs.Names.{first_word}
-use Rattle.sweep_text.specs.Logged.{logged_of}
-use Rattle.sweep_text.specs.Report.{sweep_report, AreTexts}
+use Rattle.sweep_command.specs.declared.sweep_inputs.inputs.SweepInputs.{SweepInputs}
+use Rattle.sweep_text.specs.sweep_lines.Pieces.{lines_between, pieces_of}
+use Rattle.sweep_text.specs.sweep_lines.Probe.{probe, tail_of}
+use Rattle.sweep_text.specs.sweep_lines.Swept.{state_after, lines_after}
+use Rattle.sweep_text.proofs.PieceLemmas.{found}
+use Rattle.sweep_text.proofs.SweptLemmas.{before_said, whole_said, whole_state}
+use Rattle.sweep_command.specs.declared.sweep_run.playing.Played.{Played}
+use Rattle.sweep_command.specs.sweep_run.Played.{IsPlayed}
+use Rattle.sweep_command.specs.sweep_run.Swept.{IsLogOf}
+use Rattle.boot_script.specs.sweep_script.Names.{first_word}
+use Rattle.sweep_text.specs.sweep_text.Logged.{logged_of}
+use Rattle.sweep_text.specs.sweep_text.Report.{sweep_report, AreTexts}
 use Rattle.start_model.specs.Run.{first_state}
-use Rattle.last_laws.specs.Last.{last_of}
-use Rattle.sweep_command.specs.Answer.{probe_event, swept, ArePlayed, IsItsLog, IsSweptAs}
+use Rattle.run_laws.specs.last_laws.Last.{last_of}
+use Rattle.sweep_command.specs.sweep_command.Answer.{probe_event, swept, ArePlayed, IsItsLog, IsSweptAs}
 use Rattle.sweep_command.proofs.LastLemmas.{whole_last}
 
 -- ---- the events as the book has them

@@ -1,2 +1,3 @@
-pub mod Answer
-pub mod Inputs
+pub mod sweep_inputs
+pub mod sweep_run
+pub mod sweep_command

@@ -18,10 +18,10 @@ use Rattle.regf_base.specs.Fitting.{NumbersFit, TextsFit}
 use Rattle.hive_commit.specs.Calls.{change_calls, closing_calls, block_calls, log_writes}
 use Rattle.hive_commit.specs.Cuts.{IsChange}
 use Rattle.hive_commit.specs.Stages.{opened_of, closed_of}
-use Rattle.sweep_text.specs.declared.logged.Logged.{Logged}
-use Rattle.sweep_text.specs.Logged.{logged_of}
-use Rattle.sweep_text.specs.Report.{stages_by}
-use Rattle.sweep_text.specs.Stages.{Stage, calls_in}
+use Rattle.sweep_text.specs.declared.sweep_text.logged.Logged.{Logged}
+use Rattle.sweep_text.specs.sweep_text.Logged.{logged_of}
+use Rattle.sweep_text.specs.sweep_text.Report.{stages_by}
+use Rattle.sweep_text.specs.sweep_text.Stages.{Stage, calls_in}
 use Rattle.sweep_laws.specs.Columns.{column, made, after_calls, left_of, EachWordIsTrue}
 use Rattle.sweep_laws.specs.Leaving.{sync_word, word_at, commit_writes, recovery_writes, calls_of, held_after, EachCallLeaves, IsRecoveredBy, IsRecoveredBefore}
 use Rattle.sweep_laws.specs.Listing.{listed_in, written_in}

@@ -5,9 +5,9 @@ use Rattle.std.proofs.lemmas.List.Sums.{sum_by-append, sum_by-cons}
 use Rattle.hive_model.specs.Recovery.{one_if}
 use Rattle.std.specs.Prelude.{◌↔◌}
 use Rattle.std.proofs.lemmas.Bool.{false≢true}
-use Rattle.sweep_text.specs.declared.logged.Logged.{Logged}
-use Rattle.sweep_text.specs.Report.{stages_by}
-use Rattle.sweep_text.specs.Stages.{Stage, calls_in, afters_in}
+use Rattle.sweep_text.specs.declared.sweep_text.logged.Logged.{Logged}
+use Rattle.sweep_text.specs.sweep_text.Report.{stages_by}
+use Rattle.sweep_text.specs.sweep_text.Stages.{Stage, calls_in, afters_in}
 use Rattle.sweep_laws.specs.Counted.{four, words_of_writes, words_in}
 
 -- ---- all words

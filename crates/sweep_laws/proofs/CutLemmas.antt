@@ -20,7 +20,7 @@ use Rattle.hive_commit.specs.Cuts.{IsChange, HasNewLog}
 use Rattle.hive_commit.specs.Stages.{in_log, is_base, is_marked, opened_of, closed_of}
 use Rattle.hive_commit.proofs.Four.{change_asked, closed_logged, logged_fits, in_log_stage, bins_stage, closed_stage, no_base, log_along, IsAsked}
 use Rattle.hive_commit.proofs.LogSectors.{log_long}
-use Rattle.sweep_text.specs.Stages.{commit_stages}
+use Rattle.sweep_text.specs.sweep_text.Stages.{commit_stages}
 use Rattle.sweep_laws.specs.Leaving.{commit_writes, held_after, EachCallLeaves, IsRecoveredBy}
 use Rattle.sweep_laws.proofs.WriteLemmas.{left_outside, all_in_log, log_written, all_marked, marked_written}
 use Rattle.sweep_laws.proofs.StageLemmas.{always_leaves, either_leaves}

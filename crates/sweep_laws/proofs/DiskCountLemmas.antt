@@ -17,10 +17,10 @@ use Rattle.hive_log.specs.Found.{Found}
 use Rattle.regf_base.specs.Fitting.{NumbersFit, TextsFit}
 use Rattle.hive_commit.specs.Calls.{change_calls, closing_calls}
 use Rattle.hive_commit.specs.Cuts.{IsChange}
-use Rattle.sweep_text.specs.declared.logged.Logged.{Logged}
-use Rattle.sweep_text.specs.Logged.{logged_of}
-use Rattle.sweep_text.specs.Report.{stages_by}
-use Rattle.sweep_text.specs.Stages.{Stage, calls_in}
+use Rattle.sweep_text.specs.declared.sweep_text.logged.Logged.{Logged}
+use Rattle.sweep_text.specs.sweep_text.Logged.{logged_of}
+use Rattle.sweep_text.specs.sweep_text.Report.{stages_by}
+use Rattle.sweep_text.specs.sweep_text.Stages.{Stage, calls_in}
 use Rattle.sweep_laws.specs.Columns.{after_calls}
 use Rattle.sweep_laws.specs.Counting.{WereMade, CountsMore}
 use Rattle.sweep_laws.specs.Leaving.{commit_writes, recovery_writes, calls_of}

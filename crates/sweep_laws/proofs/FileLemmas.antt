@@ -18,8 +18,8 @@ use Rattle.hive_log.specs.Found.{Found}
 use Rattle.hive_log.proofs.Appending.{sized}
 use Rattle.hive_commit.specs.Cuts.{IsChange}
 use Rattle.hive_commit.specs.Stages.{closed_of}
-use Rattle.sweep_text.specs.Logged.{size_in, listed, logged_of}
-use Rattle.sweep_text.specs.Stages.{recovery_stages, commit_stages}
+use Rattle.sweep_text.specs.sweep_text.Logged.{size_in, listed, logged_of}
+use Rattle.sweep_text.specs.sweep_text.Stages.{recovery_stages, commit_stages}
 use Rattle.sweep_laws.specs.Leaving.{recovery_writes, commit_writes}
 use Rattle.sweep_laws.specs.Listing.{listed_in, written_in}
 use Rattle.sweep_laws.proofs.CutLemmas.{long}

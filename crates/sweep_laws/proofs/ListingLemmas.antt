@@ -10,8 +10,8 @@ use Rattle.hive_log.proofs.Ranks.{rank_on, rank_off}
 use Rattle.hive_commit.specs.Calls.{log_writes, bins_writes}
 use Rattle.hive_commit.specs.Cuts.{IsChange}
 use Rattle.hive_commit.specs.Stages.{closed_of}
-use Rattle.sweep_text.specs.Logged.{listed}
-use Rattle.sweep_text.specs.Stages.{recovery_stages, commit_stages}
+use Rattle.sweep_text.specs.sweep_text.Logged.{listed}
+use Rattle.sweep_text.specs.sweep_text.Stages.{recovery_stages, commit_stages}
 use Rattle.sweep_laws.specs.Leaving.{recovery_writes, commit_writes}
 use Rattle.sweep_laws.specs.Listing.{listed_in, written_in}
 use Rattle.sweep_laws.proofs.CutLemmas.{log_size}

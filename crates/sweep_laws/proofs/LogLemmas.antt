@@ -14,7 +14,7 @@ use Rattle.hive_model.proofs.BaseLemmas.{text_long, base_back}
 use Rattle.hive_log.proofs.Bits.{bit_back}
 use Rattle.hive_commit.specs.Cuts.{IsChange}
 use Rattle.hive_commit.specs.Stages.{closed_of}
-use Rattle.sweep_text.specs.Logged.{size_in, listed, logged_of}
+use Rattle.sweep_text.specs.sweep_text.Logged.{size_in, listed, logged_of}
 use Rattle.sweep_laws.proofs.CutLemmas.{block_fits, pages}
 
 -- ---- the size

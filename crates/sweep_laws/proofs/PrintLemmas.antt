@@ -1,7 +1,7 @@
 -- What a line prints.
 use Rattle.std.proofs.Common.{◌≡◌, Bool, true, false, refl}
 use Rattle.nt_edge.specs.declared.disk.Keep.{Keep}
-use Rattle.sweep_text.specs.Calls.{four_text}
+use Rattle.sweep_text.specs.sweep_text.Calls.{four_text}
 use Rattle.sweep_laws.specs.Columns.{printed}
 use Rattle.sweep_laws.specs.Leaving.{sync_word}
 

@@ -18,7 +18,7 @@ use Rattle.hive_commit.specs.Calls.{bins_writes}
 use Rattle.hive_commit.specs.Cuts.{IsChange}
 use Rattle.hive_commit.specs.Stages.{is_base, is_marked, closed_of}
 use Rattle.hive_commit.proofs.Restored.{kept_in_bins, kept_in_block, closed_again}
-use Rattle.sweep_text.specs.Stages.{recovery_stages, commit_stages}
+use Rattle.sweep_text.specs.sweep_text.Stages.{recovery_stages, commit_stages}
 use Rattle.sweep_laws.specs.Leaving.{EachCallLeaves, IsRecoveredBy, IsRecoveredBefore, recovery_writes, commit_writes}
 use Rattle.sweep_laws.proofs.WriteLemmas.{left_outside, all_marked, marked_written}
 use Rattle.sweep_laws.proofs.StageLemmas.{always_leaves}

@@ -5,8 +5,8 @@ use Rattle.nt_edge.specs.Crash.{unreadable_at}
 use Rattle.nt_edge.specs.declared.disk.Keep.{Keep}
 use Rattle.nt_edge.specs.declared.disk.Keep.TheVariants.{Nothing, Everything, OddOnes, Torn}
 use Rattle.mem_edge.specs.Views.{left}
-use Rattle.sweep_text.specs.declared.stages.Leaves.{Leaves}
-use Rattle.sweep_text.specs.Stages.{Stage, leaves_either}
+use Rattle.sweep_text.specs.declared.sweep_text.stages.Leaves.{Leaves}
+use Rattle.sweep_text.specs.sweep_text.Stages.{Stage, leaves_either}
 use Rattle.sweep_laws.specs.Leaving.{sync_word, word_at, StageLeaves, EachCallLeaves}
 
 abbrev always : Bool → Leaves

@@ -5,7 +5,7 @@ use Rattle.hive_model.specs.Carries.{IsRecoveredAs}
 use Rattle.hive_model.specs.Image.{Image}
 use Rattle.hive_model.specs.Load.{Loads, LoadsAs}
 use Rattle.hive_model.specs.State.{HiveState}
-use Rattle.hive_laws.specs.Cuts.{HoldsIn}
+use Rattle.hive_laws.specs.hive_laws.Cuts.{HoldsIn}
 use Rattle.hive_laws.proofs.CutLemmas.{loads_as_either, loads_as_no_third}
 use Rattle.sweep_laws.specs.Leaving.{IsRecoveredBy, IsRecoveredBefore, LoadsBy, LoadsNoOther, LoadsBefore}
 

@@ -7,9 +7,9 @@ use Rattle.regf_base.specs.Fitting.{NumbersFit, TextsFit}
 use Rattle.hive_log.specs.Found.{Found}
 use Rattle.hive_commit.specs.Cuts.{IsChange}
 use Rattle.hive_commit.specs.Stages.{closed_of}
-use Rattle.sweep_text.specs.declared.logged.Logged.{Logged}
-use Rattle.sweep_text.specs.Logged.{logged_of}
-use Rattle.sweep_text.specs.Report.{stages_by}
+use Rattle.sweep_text.specs.declared.sweep_text.logged.Logged.{Logged}
+use Rattle.sweep_text.specs.sweep_text.Logged.{logged_of}
+use Rattle.sweep_text.specs.sweep_text.Report.{stages_by}
 use Rattle.sweep_laws.specs.Leaving.{recovery_writes, commit_writes, held_after, IsRecoveredBy, IsRecoveredBefore}
 use Rattle.sweep_laws.specs.Truth.{IsTrueOf}
 use Rattle.sweep_laws.proofs.CutLemmas.{commit_leaves, log_left}

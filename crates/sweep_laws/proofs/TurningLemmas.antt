@@ -3,9 +3,9 @@ use Rattle.std.proofs.Common.{◌≡◌, ◌+◌, ℕ, zero, suc, Bool, true, fa
 use Rattle.std.specs.List.{range_with_len}
 use Rattle.nt_edge.specs.declared.disk.Keep.{Keep}
 use Rattle.nt_edge.specs.declared.disk.Keep.TheVariants.{Nothing, Everything, OddOnes, Torn}
-use Rattle.sweep_text.specs.declared.logged.Logged.{Logged}
-use Rattle.sweep_text.specs.Report.{stages_by}
-use Rattle.sweep_text.specs.Stages.{Stage, recovery_stages, commit_stages}
+use Rattle.sweep_text.specs.declared.sweep_text.logged.Logged.{Logged}
+use Rattle.sweep_text.specs.sweep_text.Report.{stages_by}
+use Rattle.sweep_text.specs.sweep_text.Stages.{Stage, recovery_stages, commit_stages}
 use Rattle.sweep_laws.specs.Columns.{column}
 use Rattle.sweep_laws.specs.Turning.{TurnsOnce}
 

@@ -1,7 +1,7 @@
 -- Which word of the table is that of the n-th call, and what does a cut there leave? (This project's own.)
 use Rattle.std.specs.Prelude.{◌<◌, Bool, false, ℕ, List, [], ◌∷◌, ◌++◌, length, take, replicate, get_or, codes}
 use Rattle.std.specs.List.{flat_map}
-use Rattle.line_text.specs.Objects.{Value, Text}
+use Rattle.report_text.specs.line_text.Objects.{Value, Text}
 use Rattle.hive_model.specs.Image.{Image}
 use Rattle.nt_edge.specs.Calls.{Made, ReadAt, Wrote, Synced}
 use Rattle.nt_edge.specs.Disk.{DiskState}
@@ -9,8 +9,8 @@ use Rattle.nt_edge.specs.declared.disk.Keep.{Keep}
 use Rattle.nt_edge.specs.declared.disk.Keep.TheVariants.{Nothing, Everything, OddOnes, Torn}
 use Rattle.mem_edge.specs.Seen.{written, synced}
 use Rattle.mem_edge.specs.Views.{left}
-use Rattle.sweep_text.specs.Calls.{state_word}
-use Rattle.sweep_text.specs.Stages.{Stage}
+use Rattle.sweep_text.specs.sweep_text.Calls.{state_word}
+use Rattle.sweep_text.specs.sweep_text.Stages.{Stage}
 use Rattle.sweep_laws.specs.Leaving.{sync_word}
 
 -- the column of one way: a word for each write and each sync

@@ -1,6 +1,6 @@
 -- Which words does the table print, call by call? (This project's own.)
 use Rattle.std.specs.Prelude.{ℕ, Bool, List, [], ◌∷◌, ◌++◌}
-use Rattle.sweep_text.specs.Stages.{Stage}
+use Rattle.sweep_text.specs.sweep_text.Stages.{Stage}
 
 -- the four words of a call: of the way that keeps nothing, and of the others; `true` is `after`
 abbrev pub four : Bool → Bool → List Bool

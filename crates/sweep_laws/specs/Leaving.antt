@@ -13,8 +13,8 @@ use Rattle.nt_edge.specs.declared.disk.Keep.TheVariants.{Nothing, Everything, Od
 use Rattle.mem_edge.specs.Views.{left}
 use Rattle.hive_commit.specs.Stages.{opened_of, closed_of}
 use Rattle.hive_commit.specs.Calls.{log_writes, bins_writes}
-use Rattle.sweep_text.specs.declared.stages.Leaves.{Leaves}
-use Rattle.sweep_text.specs.Stages.{Stage}
+use Rattle.sweep_text.specs.declared.sweep_text.stages.Leaves.{Leaves}
+use Rattle.sweep_text.specs.sweep_text.Stages.{Stage}
 
 -- ---- the writes of each stage; a sync ends it
 

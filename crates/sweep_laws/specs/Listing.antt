@@ -2,7 +2,7 @@
 use Rattle.std.specs.Prelude.{ℕ, List, map, codes, if◌then◌else◌}
 use Rattle.std.specs.Str.{bytes_eq}
 use Rattle.hive_model.specs.Image.{File, Primary, Log, Address, Write}
-use Rattle.sweep_text.specs.Stages.{Stage}
+use Rattle.sweep_text.specs.sweep_text.Stages.{Stage}
 
 -- the file of this word: `log`, or `hive`
 abbrev pub file_of : List ℕ → File

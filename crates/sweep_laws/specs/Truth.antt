@@ -1,7 +1,7 @@
 -- When is a table true of the writes of an event? (This project's own.)
 use Rattle.std.specs.Prelude.{◌≡◌, Bool, List}
 use Rattle.hive_model.specs.Image.{Image, Write}
-use Rattle.sweep_text.specs.Stages.{Stage}
+use Rattle.sweep_text.specs.sweep_text.Stages.{Stage}
 use Rattle.sweep_laws.specs.Leaving.{EachCallLeaves}
 use Rattle.sweep_laws.specs.Listing.{listed_in, written_in}
 

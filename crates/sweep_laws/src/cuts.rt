@@ -12,8 +12,8 @@ ghost use Rattle.nt_edge.specs.Crash.{AgreeOutside};
 ghost use Rattle.hive_commit.specs.Calls.{change_calls, closing_calls};
 ghost use Rattle.hive_commit.specs.Cuts.{IsChange, HasNewLog};
 ghost use Rattle.hive_commit.specs.Stages.{is_base, opened_of, closed_of};
-ghost use Rattle.hive_laws.specs.Cuts.{HoldsIn};
-ghost use Rattle.sweep_text.specs.Stages.{commit_stages};
+ghost use Rattle.hive_laws.specs.hive_laws.Cuts.{HoldsIn};
+ghost use Rattle.sweep_text.specs.sweep_text.Stages.{commit_stages};
 ghost use Rattle.sweep_laws.specs.Leaving.{recovery_writes, commit_writes, calls_of, EachCallLeaves, IsRecoveredBy, LoadsBy, LoadsNoOther};
 
 /// The writes of these stages, with a sync after those of each, are the calls of a commit, and of a recovery.

@@ -9,8 +9,8 @@ ghost use Rattle.hive_model.specs.Recovery.{bit, bitmap_sectors};
 ghost use Rattle.hive_log.specs.Found.{Found};
 ghost use Rattle.hive_commit.specs.Cuts.{IsChange};
 ghost use Rattle.hive_commit.specs.Stages.{closed_of};
-ghost use Rattle.sweep_text.specs.Logged.{listed, logged_of};
-ghost use Rattle.sweep_text.specs.Stages.{recovery_stages, commit_stages};
+ghost use Rattle.sweep_text.specs.sweep_text.Logged.{listed, logged_of};
+ghost use Rattle.sweep_text.specs.sweep_text.Stages.{recovery_stages, commit_stages};
 ghost use Rattle.sweep_laws.specs.Leaving.{recovery_writes, commit_writes, held_after};
 ghost use Rattle.sweep_laws.specs.Listing.{listed_in, written_in};
 

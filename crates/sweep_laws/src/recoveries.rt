@@ -8,8 +8,8 @@ ghost use Rattle.hive_model.specs.State.{HiveState};
 ghost use Rattle.hive_log.specs.Found.{Found};
 ghost use Rattle.regf_base.specs.Fitting.{NumbersFit, TextsFit};
 ghost use Rattle.hive_commit.specs.Stages.{closed_of};
-ghost use Rattle.hive_laws.specs.Cuts.{HoldsIn};
-ghost use Rattle.sweep_text.specs.Stages.{recovery_stages, commit_stages};
+ghost use Rattle.hive_laws.specs.hive_laws.Cuts.{HoldsIn};
+ghost use Rattle.sweep_text.specs.sweep_text.Stages.{recovery_stages, commit_stages};
 ghost use Rattle.sweep_laws.specs.Leaving.{recovery_writes, commit_writes, EachCallLeaves, IsRecoveredBy, IsRecoveredBefore, LoadsBefore};
 
 /// At each call of a recovery, and in each of the four ways, the table's word is `before`, and what a cut leaves is recovered as what the

@@ -8,9 +8,9 @@ ghost use Rattle.regf_base.specs.Fitting.{NumbersFit, TextsFit};
 ghost use Rattle.hive_log.specs.Found.{Found};
 ghost use Rattle.hive_commit.specs.Cuts.{IsChange};
 ghost use Rattle.hive_commit.specs.Stages.{closed_of};
-ghost use Rattle.sweep_text.specs.declared.logged.Logged.{Logged as LoggedModel};
-ghost use Rattle.sweep_text.specs.Logged.{logged_of};
-ghost use Rattle.sweep_text.specs.Report.{stages_by};
+ghost use Rattle.sweep_text.specs.declared.sweep_text.logged.Logged.{Logged as LoggedModel};
+ghost use Rattle.sweep_text.specs.sweep_text.Logged.{logged_of};
+ghost use Rattle.sweep_text.specs.sweep_text.Report.{stages_by};
 ghost use Rattle.sweep_laws.specs.Leaving.{recovery_writes, commit_writes, held_after, IsRecoveredBy, IsRecoveredBefore};
 ghost use Rattle.sweep_laws.specs.Truth.{IsTrueOf};
 

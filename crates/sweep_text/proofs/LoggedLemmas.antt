@@ -3,7 +3,7 @@ use Rattle.std.proofs.Common.{◌≡◌, ℕ, zero, suc, ◌+◌, ◌-◌, ◌<�
 use Rattle.std.proofs.lemmas.List.{length-append}
 use Rattle.std.proofs.Math.ListN.{drop_of_length-le}
 use Rattle.std.specs.List.{range_with_len}
-use Rattle.sweep_text.specs.Logged.{listed}
+use Rattle.sweep_text.specs.sweep_text.Logged.{listed}
 
 pub one_more : (bits : ℕ → Bool) (i count : ℕ) (old new total : List ℕ) → i < count
     → new ≡ old ++ cond (bits i) ((8 + i) ∷ []) [] → old ++ listed bits i (count - i) ≡ total

@@ -1,7 +1,7 @@
 -- An object and its fields, appended in sequence.
 use Rattle.std.proofs.Common.{◌≡◌, ℕ, List, [], ◌∷◌, ◌++◌, ap, sym, ◌∙◌, append_assoc, append-nil}
 use Rattle.std.specs.Prelude.{codes, Result, Ok, Err, OnOk}
-use Rattle.line_text.specs.Objects.{Value, field_text, fields_text, opening_text, object_text}
+use Rattle.report_text.specs.line_text.Objects.{Value, field_text, fields_text, opening_text, object_text}
 
 -- an object by its word and the text of its fields
 pub object_with : {E : Type 0} (r : Result (Unit {0}) E) (t t1 t2 t3 word fields : List ℕ)

@@ -7,7 +7,7 @@ use Rattle.std.specs.Fmt.{decimal, digits, digits_onto, digit_glyph}
 use Rattle.std.proofs.lemmas.Bool.{and_parts, and_from}
 use Rattle.std.proofs.lemmas.Bool.Decides.{nat_tests}
 use Rattle.std.proofs.lemmas.List.{append_cancel_right}
-use Rattle.boot_report.proofs.TextLemmas.{body, text-body}
+use Rattle.report_text.proofs.TextLemmas.{body, text-body}
 use Rattle.report_words.specs.declared.words.RefusedWord.{RefusedWord}
 use Rattle.report_words.specs.declared.words.EventWord.{EventWord}
 use Rattle.report_words.specs.declared.words.CommitWord.{CommitWord}
@@ -16,14 +16,14 @@ use Rattle.report_words.specs.declared.words.EventWord.TheVariants as events
 use Rattle.report_words.specs.declared.line.Line.{Line}
 use Rattle.report_words.specs.declared.line.Line.TheVariants as lines
 use Rattle.start_model.specs.Lines.{line_text, load_word, commit_word}
-use Rattle.line_text.specs.declared.form.ReportForm.{ReportForm}
-use Rattle.line_text.specs.declared.form.ReportForm.TheVariants as forms
-use Rattle.line_text.specs.Objects.{Number, Text, field_text, opening_text}
-use Rattle.line_objects.specs.Objects.{line_json}
-use Rattle.sweep_text.specs.declared.logged.Logged.{Logged}
-use Rattle.sweep_text.specs.Words.{in_word, word_of, after_word, digits_field, load_object, commit_object, told_text, recovers_text, commits_text}
-use Rattle.sweep_text.specs.Said.{told, is_recovery, is_commit, told_in, recovers, commits}
-use Rattle.sweep_text.specs.Report.{stages_by, report_by, sweep_report, AreTexts}
+use Rattle.report_text.specs.declared.line_text.form.ReportForm.{ReportForm}
+use Rattle.report_text.specs.declared.line_text.form.ReportForm.TheVariants as forms
+use Rattle.report_text.specs.line_text.Objects.{Number, Text, field_text, opening_text}
+use Rattle.report_text.specs.line_objects.Objects.{line_json}
+use Rattle.sweep_text.specs.declared.sweep_text.logged.Logged.{Logged}
+use Rattle.sweep_text.specs.sweep_text.Words.{in_word, word_of, after_word, digits_field, load_object, commit_object, told_text, recovers_text, commits_text}
+use Rattle.sweep_text.specs.sweep_text.Said.{told, is_recovery, is_commit, told_in, recovers, commits}
+use Rattle.sweep_text.specs.sweep_text.Report.{stages_by, report_by, sweep_report, AreTexts}
 
 -- ---- words
 

@@ -1,6 +1,2 @@
-pub mod Logged
-pub mod Stages
-pub mod Calls
-pub mod Said
-pub mod Words
-pub mod Report
+pub mod sweep_text
+pub mod sweep_lines

@@ -27,9 +27,9 @@ use Rattle.start_model.specs.Sets.{is_usable}
 use Rattle.reg_tree.specs.declared.stop.EditStop.{EditStop}
 use Rattle.reg_tree.specs.declared.stop.EditStop.TheVariants as stops
 use Rattle.reg_tree.specs.Makes.{IsRefused}
-use Rattle.command_parts.specs.declared.inputs.HiveFiles.{HiveFiles}
-use Rattle.command_parts.specs.Leaves.{named}
-use Rattle.command_parts.specs.Placed.{image_in, placed_disk}
+use Rattle.command_parts.specs.declared.command_parts.inputs.HiveFiles.{HiveFiles}
+use Rattle.command_parts.specs.command_parts.Leaves.{named}
+use Rattle.command_parts.specs.command_parts.Placed.{image_in, placed_disk}
 use Rattle.import_steps.specs.Current.{SetSteps, set_steps}
 use Rattle.import_steps.specs.Left.{LeftSteps, left_of}
 use Rattle.command_words.specs.declared.asked.AskedSet.{AskedSet}

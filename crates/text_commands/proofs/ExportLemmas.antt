@@ -11,17 +11,17 @@ use Rattle.nt_edge.specs.Host.{HostState, Files}
 use Rattle.nt_edge.specs.declared.host.HostStop.{HostStop}
 use Rattle.nt_edge.specs.declared.host.HostStop.TheVariants.{Read, Write, Memory}
 use Rattle.command_words.specs.Words.{ExportAsked}
-use Rattle.command_parts.specs.declared.inputs.HiveFiles.{HiveFiles}
-use Rattle.command_parts.specs.declared.refusal.Refusal.{Refusal}
-use Rattle.command_parts.specs.declared.refusal.Obstacle.{Obstacle}
-use Rattle.command_parts.specs.declared.refusal.Obstacle.TheVariants.{Refused, Stopped}
-use Rattle.command_parts.specs.Inputs.{hive_in}
-use Rattle.command_parts.specs.Leaves.{Looks, stopped_as}
-use Rattle.command_parts.specs.Refusals.{refusal_text}
+use Rattle.command_parts.specs.declared.command_parts.inputs.HiveFiles.{HiveFiles}
+use Rattle.command_parts.specs.declared.command_parts.refusal.Refusal.{Refusal}
+use Rattle.command_parts.specs.declared.command_parts.refusal.Obstacle.{Obstacle}
+use Rattle.command_parts.specs.declared.command_parts.refusal.Obstacle.TheVariants.{Refused, Stopped}
+use Rattle.command_parts.specs.command_parts.Inputs.{hive_in}
+use Rattle.command_parts.specs.command_parts.Leaves.{Looks, stopped_as}
+use Rattle.command_parts.specs.command_parts.Refusals.{refusal_text}
 use Rattle.command_parts.proofs.LeaveLemmas.{stop_counts, no_front}
 use Rattle.key_text.specs.Words.{path_in}
 use Rattle.text_commands.specs.Exported.{EndsExported, DecidesExport}
-use Rattle.line_text.specs.declared.form.ReportForm.{ReportForm}
+use Rattle.report_text.specs.declared.line_text.form.ReportForm.{ReportForm}
 use Rattle.text_commands.specs.Exports.{TreeExports, ExportsAs}
 use Rattle.text_commands.specs.declared.exporting.Outcome.{Outcome}
 

@@ -5,13 +5,13 @@ use Rattle.nt_edge.specs.Host.{HostState}
 use Rattle.nt_edge.specs.declared.host.HostStop.{HostStop}
 use Rattle.nt_edge.specs.declared.host.HostStop.TheVariants.{Read, Write, Memory}
 use Rattle.command_words.specs.Words.{ImportAsked}
-use Rattle.command_parts.specs.declared.inputs.HiveFiles.{HiveFiles}
-use Rattle.command_parts.specs.declared.refusal.Refusal.{Refusal}
-use Rattle.command_parts.specs.declared.refusal.Obstacle.TheVariants.{Stopped}
-use Rattle.command_parts.specs.declared.status.Status.{Status}
-use Rattle.command_parts.specs.declared.status.Status.TheVariants as statuses
-use Rattle.command_parts.specs.Inputs.{hive_in, asks_hive, AsksHive}
-use Rattle.command_parts.specs.Leaves.{Looks, AsksBy, more, stop_in, stopped_as}
+use Rattle.command_parts.specs.declared.command_parts.inputs.HiveFiles.{HiveFiles}
+use Rattle.command_parts.specs.declared.command_parts.refusal.Refusal.{Refusal}
+use Rattle.command_parts.specs.declared.command_parts.refusal.Obstacle.TheVariants.{Stopped}
+use Rattle.command_parts.specs.declared.command_parts.status.Status.{Status}
+use Rattle.command_parts.specs.declared.command_parts.status.Status.TheVariants as statuses
+use Rattle.command_parts.specs.command_parts.Inputs.{hive_in, asks_hive, AsksHive}
+use Rattle.command_parts.specs.command_parts.Leaves.{Looks, AsksBy, more, stop_in, stopped_as}
 use Rattle.command_parts.proofs.AskLemmas.{asks_on, asks_stop, more_behind, some_behind}
 use Rattle.command_parts.proofs.DecideLemmas.{not_read}
 use Rattle.text_commands.specs.Asks.{AsksBehind, AsksText, AsksImport}

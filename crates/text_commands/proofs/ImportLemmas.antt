@@ -13,21 +13,21 @@ use Rattle.nt_edge.specs.declared.host.HostStop.{HostStop}
 use Rattle.nt_edge.specs.declared.host.HostStop.TheVariants.{Read, Write, Memory}
 use Rattle.reg_text.specs.declared.stop.RegFault.{RegFault}
 use Rattle.command_words.specs.Words.{ImportAsked}
-use Rattle.command_parts.specs.declared.inputs.HiveFiles.{HiveFiles}
-use Rattle.command_parts.specs.declared.refusal.Refusal.{Refusal}
-use Rattle.command_parts.specs.declared.refusal.Refusal.TheVariants as refusals
-use Rattle.command_parts.specs.declared.refusal.Obstacle.TheVariants.{Refused, Stopped}
-use Rattle.command_parts.specs.declared.status.Status.{Status}
-use Rattle.command_parts.specs.declared.status.Status.TheVariants as statuses
-use Rattle.command_parts.specs.Inputs.{hive_in, file_in}
-use Rattle.command_parts.specs.Leaves.{Leaves, Looks, more, named, stop_in, stopped_as, IsPartDone}
-use Rattle.command_parts.specs.Placed.{IsUntouchedBy}
-use Rattle.command_parts.specs.Refusals.{Answer, Ends, IsToldAs, refusal, refusal_status, refusal_text}
-use Rattle.command_parts.specs.Saves.{Saves, saved_count, Settles, FinishesAs, FilesAs}
+use Rattle.command_parts.specs.declared.command_parts.inputs.HiveFiles.{HiveFiles}
+use Rattle.command_parts.specs.declared.command_parts.refusal.Refusal.{Refusal}
+use Rattle.command_parts.specs.declared.command_parts.refusal.Refusal.TheVariants as refusals
+use Rattle.command_parts.specs.declared.command_parts.refusal.Obstacle.TheVariants.{Refused, Stopped}
+use Rattle.command_parts.specs.declared.command_parts.status.Status.{Status}
+use Rattle.command_parts.specs.declared.command_parts.status.Status.TheVariants as statuses
+use Rattle.command_parts.specs.command_parts.Inputs.{hive_in, file_in}
+use Rattle.command_parts.specs.command_parts.Leaves.{Leaves, Looks, more, named, stop_in, stopped_as, IsPartDone}
+use Rattle.command_parts.specs.command_parts.Placed.{IsUntouchedBy}
+use Rattle.command_parts.specs.command_parts.Refusals.{Answer, Ends, IsToldAs, refusal, refusal_status, refusal_text}
+use Rattle.command_parts.specs.command_parts.Saves.{Saves, saved_count, Settles, FinishesAs, FilesAs}
 use Rattle.command_parts.proofs.DecideLemmas.{told_unused, told_unread, refused_unread, found_decides, refused_decides, stopped_decides}
 use Rattle.command_parts.proofs.LeaveLemmas.{no_front, keeps_then, counts_by}
 use Rattle.text_commands.proofs.ImportAskLemmas.{text_asked}
-use Rattle.line_text.specs.declared.form.ReportForm.{ReportForm}
+use Rattle.report_text.specs.declared.line_text.form.ReportForm.{ReportForm}
 use Rattle.text_commands.specs.declared.said.How.{How}
 use Rattle.text_commands.specs.declared.said.Said.{Said}
 use Rattle.text_commands.specs.Changed.{Change, steps_in, change_of}

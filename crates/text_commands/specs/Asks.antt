@@ -7,13 +7,13 @@ use Rattle.hive_model.specs.Load.{Loads, LoadFault}
 use Rattle.nt_edge.specs.Host.{HostState}
 use Rattle.start_model.specs.Possible.{Woken}
 use Rattle.command_words.specs.Words.{ImportAsked}
-use Rattle.command_parts.specs.declared.inputs.HiveFiles.{HiveFiles}
-use Rattle.command_parts.specs.declared.refusal.Refusal.{Refusal as Why}
-use Rattle.command_parts.specs.declared.status.Status.{Status}
-use Rattle.command_parts.specs.declared.status.Status.TheVariants as statuses
-use Rattle.command_parts.specs.Inputs.{hive_in, asks_hive}
-use Rattle.command_parts.specs.Leaves.{AsksBy, stop_in}
-use Rattle.command_parts.specs.Placed.{image_in}
+use Rattle.command_parts.specs.declared.command_parts.inputs.HiveFiles.{HiveFiles}
+use Rattle.command_parts.specs.declared.command_parts.refusal.Refusal.{Refusal as Why}
+use Rattle.command_parts.specs.declared.command_parts.status.Status.{Status}
+use Rattle.command_parts.specs.declared.command_parts.status.Status.TheVariants as statuses
+use Rattle.command_parts.specs.command_parts.Inputs.{hive_in, asks_hive}
+use Rattle.command_parts.specs.command_parts.Leaves.{AsksBy, stop_in}
+use Rattle.command_parts.specs.command_parts.Placed.{image_in}
 
 -- After that many files: the hive has a first fault, and no more is asked for; or it loads as a state, and the text is asked for too;
 -- or the environment stopped while the hive was got or checked. Each up to the stop that the status says.

@@ -8,7 +8,7 @@ use Rattle.hive_model.specs.State.{HiveState}
 use Rattle.hive_edit.specs.Edits.{IsEditedInPlace, IsPackedForRoom}
 use Rattle.hive_edit.specs.Hive.{HiveCells}
 use Rattle.hive_store.specs.Session.{AreCarried}
-use Rattle.printed_parts.specs.Logged.{IsLogged}
+use Rattle.run_parts.specs.printed_parts.Logged.{IsLogged}
 use Rattle.text_commands.specs.declared.said.Done.{Done}
 use Rattle.text_commands.specs.declared.said.Done.TheVariants as dones
 

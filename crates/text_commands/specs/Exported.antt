@@ -14,20 +14,20 @@ use Rattle.reg_text.specs.declared.stop.RegFaultKind.{RegFaultKind}
 use Rattle.reg_text.specs.declared.stop.RegFaultKind.TheVariants.{Mark, Header, Root, Line, NotText}
 use Rattle.reg_text.specs.Writing.{reg_text_of}
 use Rattle.command_words.specs.Words.{ExportAsked}
-use Rattle.command_parts.specs.declared.status.Status.{Status}
-use Rattle.command_parts.specs.declared.status.Status.TheVariants as statuses
-use Rattle.command_parts.specs.declared.refusal.Refusal.{Refusal}
-use Rattle.command_parts.specs.declared.refusal.Refusal.TheVariants.{HiveFault as BadHive}
-use Rattle.command_parts.specs.declared.inputs.HiveFiles.{HiveFiles}
-use Rattle.command_parts.specs.Inputs.{hive_in, asks_hive}
-use Rattle.command_parts.specs.Leaves.{Leaves}
-use Rattle.command_parts.specs.Placed.{image_in}
-use Rattle.command_parts.specs.Refusals.{Answer, Ends, refusal}
+use Rattle.command_parts.specs.declared.command_parts.status.Status.{Status}
+use Rattle.command_parts.specs.declared.command_parts.status.Status.TheVariants as statuses
+use Rattle.command_parts.specs.declared.command_parts.refusal.Refusal.{Refusal}
+use Rattle.command_parts.specs.declared.command_parts.refusal.Refusal.TheVariants.{HiveFault as BadHive}
+use Rattle.command_parts.specs.declared.command_parts.inputs.HiveFiles.{HiveFiles}
+use Rattle.command_parts.specs.command_parts.Inputs.{hive_in, asks_hive}
+use Rattle.command_parts.specs.command_parts.Leaves.{Leaves}
+use Rattle.command_parts.specs.command_parts.Placed.{image_in}
+use Rattle.command_parts.specs.command_parts.Refusals.{Answer, Ends, refusal}
 use Rattle.nt_bytes.specs.Counts.{capped}
 use Rattle.key_text.specs.Words.{path_in}
-use Rattle.line_text.specs.Objects.{Value, Number, Text, object_text}
-use Rattle.line_text.specs.declared.form.ReportForm.{ReportForm}
-use Rattle.line_text.specs.declared.form.ReportForm.TheVariants as forms
+use Rattle.report_text.specs.line_text.Objects.{Value, Number, Text, object_text}
+use Rattle.report_text.specs.declared.line_text.form.ReportForm.{ReportForm}
+use Rattle.report_text.specs.declared.line_text.form.ReportForm.TheVariants as forms
 
 -- ---- answers
 

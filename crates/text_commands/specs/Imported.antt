@@ -11,21 +11,21 @@ use Rattle.hive_model.specs.Image.{Image}
 use Rattle.hive_model.specs.Load.{Loads, LoadFault}
 use Rattle.hive_model.specs.State.{HiveState}
 use Rattle.start_model.specs.Possible.{Woken}
-use Rattle.run_parts.specs.Reports.{LeftOf}
-use Rattle.line_text.specs.declared.form.ReportForm.{ReportForm}
+use Rattle.run_parts.specs.run_parts.Reports.{LeftOf}
+use Rattle.report_text.specs.declared.line_text.form.ReportForm.{ReportForm}
 use Rattle.reg_text.specs.declared.stop.RegFault.{RegFault}
 use Rattle.command_words.specs.Words.{ImportAsked}
-use Rattle.command_parts.specs.declared.inputs.HiveFiles.{HiveFiles}
-use Rattle.command_parts.specs.declared.refusal.Refusal.{Refusal as Why}
-use Rattle.command_parts.specs.declared.refusal.Refusal.TheVariants.{HiveFault as BadHive}
-use Rattle.command_parts.specs.declared.status.Status.{Status}
-use Rattle.command_parts.specs.declared.status.Status.TheVariants as statuses
-use Rattle.command_parts.specs.Decides.{Decides}
-use Rattle.command_parts.specs.Inputs.{hive_in, file_in}
-use Rattle.command_parts.specs.Leaves.{named, IsPartDone}
-use Rattle.command_parts.specs.Placed.{image_in}
-use Rattle.command_parts.specs.Refusals.{Answer, Ends, refusal}
-use Rattle.command_parts.specs.Saves.{Saves, saved_count}
+use Rattle.command_parts.specs.declared.command_parts.inputs.HiveFiles.{HiveFiles}
+use Rattle.command_parts.specs.declared.command_parts.refusal.Refusal.{Refusal as Why}
+use Rattle.command_parts.specs.declared.command_parts.refusal.Refusal.TheVariants.{HiveFault as BadHive}
+use Rattle.command_parts.specs.declared.command_parts.status.Status.{Status}
+use Rattle.command_parts.specs.declared.command_parts.status.Status.TheVariants as statuses
+use Rattle.command_parts.specs.command_parts.Decides.{Decides}
+use Rattle.command_parts.specs.command_parts.Inputs.{hive_in, file_in}
+use Rattle.command_parts.specs.command_parts.Leaves.{named, IsPartDone}
+use Rattle.command_parts.specs.command_parts.Placed.{image_in}
+use Rattle.command_parts.specs.command_parts.Refusals.{Answer, Ends, refusal}
+use Rattle.command_parts.specs.command_parts.Saves.{Saves, saved_count}
 use Rattle.text_commands.specs.declared.said.How.{How}
 use Rattle.text_commands.specs.Changed.{Change, steps_in, change_of}
 use Rattle.text_commands.specs.Committed.{IsCommitWhere}

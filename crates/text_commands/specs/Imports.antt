@@ -24,15 +24,15 @@ use Rattle.reg_text.specs.declared.stop.RegFault.{RegFault}
 use Rattle.reg_text.specs.declared.stop.RegStop.{RegStop}
 use Rattle.reg_text.specs.Gives.{GivesSteps}
 use Rattle.reg_tree.specs.declared.steps.TreeStep.{TreeStep}
-use Rattle.command_parts.specs.declared.inputs.HiveFiles.{HiveFiles}
-use Rattle.command_parts.specs.Placed.{image_in}
-use Rattle.command_parts.specs.declared.status.Status.{Status}
-use Rattle.command_parts.specs.declared.status.Status.TheVariants as statuses
-use Rattle.command_parts.specs.Decides.{Decides, DecidesAlone}
-use Rattle.command_parts.specs.Inputs.{file_in}
-use Rattle.command_parts.specs.Leaves.{Leaves, IsPartDone}
-use Rattle.command_parts.specs.Refusals.{Ends, IsToldAs}
-use Rattle.command_parts.specs.Saves.{Saves}
+use Rattle.command_parts.specs.declared.command_parts.inputs.HiveFiles.{HiveFiles}
+use Rattle.command_parts.specs.command_parts.Placed.{image_in}
+use Rattle.command_parts.specs.declared.command_parts.status.Status.{Status}
+use Rattle.command_parts.specs.declared.command_parts.status.Status.TheVariants as statuses
+use Rattle.command_parts.specs.command_parts.Decides.{Decides, DecidesAlone}
+use Rattle.command_parts.specs.command_parts.Inputs.{file_in}
+use Rattle.command_parts.specs.command_parts.Leaves.{Leaves, IsPartDone}
+use Rattle.command_parts.specs.command_parts.Refusals.{Ends, IsToldAs}
+use Rattle.command_parts.specs.command_parts.Saves.{Saves}
 use Rattle.hive_commit.specs.Stages.{next_number}
 use Rattle.hive_store.specs.Commits.{committed_state, next_base, session_log}
 use Rattle.hive_store.specs.Loading.{loaded_state}

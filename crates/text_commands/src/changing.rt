@@ -5,13 +5,13 @@ ghost use Rattle.std.specs.List.{All};
 ghost use Rattle.nt_edge.specs.Disk.{new_state};
 ghost use Rattle.reg_tree.specs.Fitting.{Fits};
 ghost use Rattle.reg_tree.specs.Makes.{step_of};
-ghost use Rattle.command_parts.specs.declared.inputs.HiveFiles.{HiveFiles as FilesModel};
-ghost use Rattle.command_parts.specs.Placed.{placed_disk};
+ghost use Rattle.command_parts.specs.declared.command_parts.inputs.HiveFiles.{HiveFiles as FilesModel};
+ghost use Rattle.command_parts.specs.command_parts.Placed.{placed_disk};
 ghost use Rattle.text_commands.specs.Imports.{ChangesHeld, ChangesAwake, ImportsOn, Unmoved};
 
 use crate::making::change_loaded;
 use crate::said::{How, Said};
-use command_parts::{HiveFiles, place};
+use command_parts::command_parts::{HiveFiles, place};
 use hive_edit::HiveBytes;
 use hive_store::Hive;
 use nt_edge::{Bench, Disk};

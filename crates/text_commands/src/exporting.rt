@@ -3,28 +3,30 @@
 ghost use Rattle.std.specs.Prelude.{◌≡◌, ◌++◌, [], ◌∷◌, codes, option_map, IfOk, OnOk};
 ghost use Rattle.std.specs.Fmt.{decimal};
 ghost use Rattle.command_words.specs.Views.{export_seen};
-ghost use Rattle.command_parts.specs.Inputs.{AsksSoMany};
-ghost use Rattle.command_parts.specs.Leaves.{stop_in};
-ghost use Rattle.command_parts.specs.Placed.{image_in};
+ghost use Rattle.command_parts.specs.command_parts.Inputs.{AsksSoMany};
+ghost use Rattle.command_parts.specs.command_parts.Leaves.{stop_in};
+ghost use Rattle.command_parts.specs.command_parts.Placed.{image_in};
 ghost use Rattle.key_text.specs.Words.{path_in};
-ghost use Rattle.line_text.specs.Objects.{Number, fields_text, object_text};
+ghost use Rattle.report_text.specs.line_text.Objects.{Number, fields_text, object_text};
 ghost use Rattle.text_commands.specs.Exported.{exported_text, exported_json, exported_in, no_key_fields, no_key_in, export_of, found_export, text_export, asks_export, DecidesExport};
 ghost use Rattle.text_commands.specs.Exports.{export_with, TreeExports, ExportsAs, PutsExport, DecidesHive};
 
 use crate::counts::{item_count, key_count};
 use crate::fault::fault_line;
-use command_parts::{
+use command_parts::command_parts::{
     HiveFiles, Obstacle, Refusal, Status, hive_in, judge_cells, no_memory, read, refuse, stopped,
     tell,
 };
 use command_words::ExportWords;
 use hive_edit::HiveBytes;
 use key_text::path_in;
-use line_text::{ReportForm, close_object, open_object, push_number_field, push_word_field};
 use nt_bytes::{Bytes, Names, ReadStop};
 use nt_edge::Host;
 use reg_text::{RegFault, RegStop, reg_text};
 use reg_tree::Key;
+use report_text::line_text::{
+    ReportForm, close_object, open_object, push_number_field, push_word_field,
+};
 use std::alloc::{AllocError, Global};
 
 /// What is put into the file, if anything, and what is printed with which status.

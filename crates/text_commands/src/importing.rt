@@ -6,8 +6,8 @@ ghost use Rattle.nt_edge.specs.Disk.{new_state};
 ghost use Rattle.reg_tree.specs.Fitting.{Fits};
 ghost use Rattle.reg_tree.specs.Makes.{step_of};
 ghost use Rattle.command_words.specs.Views.{import_seen};
-ghost use Rattle.command_parts.specs.Placed.{image_in};
-ghost use Rattle.command_parts.specs.Views.{saves_seen};
+ghost use Rattle.command_parts.specs.command_parts.Placed.{image_in};
+ghost use Rattle.command_parts.specs.command_parts.Views.{saves_seen};
 ghost use Rattle.text_commands.specs.Asks.{AsksImport};
 ghost use Rattle.text_commands.specs.Imported.{DecidesImport};
 ghost use Rattle.text_commands.specs.Imports.{GivesText, IsChecked, IsLoadable, TellsFault, DecidesEdits, DecidesText, DecidesFile};
@@ -16,18 +16,18 @@ use crate::changing::import_into;
 use crate::fault::fault_line;
 use crate::printing::said_lines;
 use crate::said::How;
-use command_parts::{
+use command_parts::command_parts::{
     HiveFiles, Obstacle, Refusal, Saves, Status, file_in, finish, hive_in, judge_cells, refuse,
     stopped, tell,
 };
 use command_words::{AskedEncoding, ImportWords};
 use hive_edit::HiveBytes;
 use import_steps::utf16_of;
-use line_text::ReportForm;
 use nt_bytes::ReadStop;
 use nt_edge::{Bench, Host};
 use reg_text::{RegFault, RegFaultKind, RegStop, read_reg};
 use reg_tree::Steps;
+use report_text::line_text::ReportForm;
 use std::alloc::{AllocError, Global};
 
 /// Makes the edits, prints what was done, and saves the files.

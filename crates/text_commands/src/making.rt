@@ -18,9 +18,9 @@ use hive_store::Hive;
 use import_steps::{SetSteps, left_steps, set_steps};
 use nt_bytes::Names;
 use nt_edge::Disk;
+use nt_names::startup_names::DEFAULT;
 use reg_tree::{EditStop, Key, Steps};
 use select_keys::{select_path, set_path};
-use startup_names::DEFAULT;
 use std::alloc::{AllocError, Global};
 
 /// Commits the hive, where an edit gave another tree.

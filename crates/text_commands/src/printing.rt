@@ -1,14 +1,14 @@
 //! The lines of an import, as texts or as objects of JSON.
 
 ghost use Rattle.std.specs.Prelude.{◌≡◌, ◌++◌, [], codes, IfOk, OnOk};
-ghost use Rattle.line_text.specs.Objects.{fields_text};
+ghost use Rattle.report_text.specs.line_text.Objects.{fields_text};
 ghost use Rattle.text_commands.specs.ImportLines.{edit_word, stop_word, number_line, option_line, refused_fields, refused_line, nothing_line, commit_fields, commit_line, done_line, said_text};
 
 use crate::said::{Done, ImportStop, Said};
-use line_text::{
+use reg_tree::EditStop;
+use report_text::line_text::{
     ReportForm, close_object, open_object, push_number, push_number_field, push_word_field,
 };
-use reg_tree::EditStop;
 use std::alloc::{AllocError, Global};
 
 fn edit_word(stop: EditStop) -> &'static [u8]

@@ -1,8 +1,8 @@
 //! What is asked of an import, and what is printed for it.
 
 use command_words::{AskedEncoding, AskedSet};
-use line_text::ReportForm;
 use reg_tree::EditStop;
+use report_text::line_text::ReportForm;
 
 /// How a text is imported: in which form the lines are printed, how the text is encoded, the set that `CurrentControlSet` stands for
 /// where one is named, and whether steps that delete what isn't there are passed over.

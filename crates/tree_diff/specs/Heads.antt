@@ -6,12 +6,12 @@ use Rattle.std.specs.Option.{option_map_or}
 use Rattle.nt_bytes.specs.Counts.{capped}
 use Rattle.nt_bytes.specs.Folding.{folds_same}
 use Rattle.hive_model.specs.Tree.{Head, Item, Tree, head, key_count}
-use Rattle.diff_lines.specs.declared.lines.DiffLine.{DiffLine}
-use Rattle.diff_lines.specs.declared.lines.DiffLine.TheVariants.{KeyDiffers, ValueDiffers, ValueOnly, Data, KeyOnly}
-use Rattle.diff_lines.specs.declared.lines.KeyField.{KeyField}
-use Rattle.diff_lines.specs.declared.lines.KeyField.TheVariants.{Name, Class, Security, Values, Keys}
-use Rattle.diff_lines.specs.declared.lines.Side.{Side}
-use Rattle.diff_lines.specs.declared.lines.Side.TheVariants.{First, Second}
+use Rattle.answer_lines.specs.declared.diff_lines.lines.DiffLine.{DiffLine}
+use Rattle.answer_lines.specs.declared.diff_lines.lines.DiffLine.TheVariants.{KeyDiffers, ValueDiffers, ValueOnly, Data, KeyOnly}
+use Rattle.answer_lines.specs.declared.diff_lines.lines.KeyField.{KeyField}
+use Rattle.answer_lines.specs.declared.diff_lines.lines.KeyField.TheVariants.{Name, Class, Security, Values, Keys}
+use Rattle.answer_lines.specs.declared.diff_lines.lines.Side.{Side}
+use Rattle.answer_lines.specs.declared.diff_lines.lines.Side.TheVariants.{First, Second}
 use Rattle.set_diff.specs.Listed.{lacks, shared}
 use Rattle.set_diff.specs.Shown.{line_when, names_same}
 

@@ -5,9 +5,9 @@ ghost use Rattle.hive_model.specs.Tree.{head};
 ghost use Rattle.set_diff.specs.Shown.{line_when};
 ghost use Rattle.tree_diff.specs.Heads.{name_lines, order_lines, heads_lines};
 
-use diff_lines::{DiffLine, DiffLines, KeyField};
-use name_places::NamePlaces;
+use answer_lines::diff_lines::{DiffLine, DiffLines, KeyField};
 use nt_bytes::{Names, Units};
+use nt_names::name_places::NamePlaces;
 use reg_tree::Key;
 use set_diff::{names_same, shared};
 use std::alloc::{AllocError, Global};

@@ -6,9 +6,9 @@ ghost use Rattle.std.specs.Option.{option_copied, option_map_or};
 ghost use Rattle.tree_diff.specs.Heads.{item_names, item_named, same_item, data_line, item_lines, paired_items, lone_item, lone_items, items_lines};
 
 use crate::heads::{same_bytes, same_units};
-use diff_lines::{DiffLine, DiffLines, Side};
-use name_places::NamePlaces;
+use answer_lines::diff_lines::{DiffLine, DiffLines, Side};
 use nt_bytes::{Bytes, Names, Units};
+use nt_names::name_places::NamePlaces;
 use reg_tree::Value;
 use set_diff::lacks;
 use std::alloc::{AllocError, Global};

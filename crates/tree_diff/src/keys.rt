@@ -6,9 +6,9 @@ ghost use Rattle.hive_model.specs.Tree.{head};
 ghost use Rattle.tree_diff.specs.Heads.{key_names, tree_named, lone_key, lone_keys, both_lone_keys};
 
 use crate::counting::key_count;
-use diff_lines::{DiffLine, DiffLines, Side};
-use name_places::NamePlaces;
+use answer_lines::diff_lines::{DiffLine, DiffLines, Side};
 use nt_bytes::{Names, Units};
+use nt_names::name_places::NamePlaces;
 use reg_tree::Key;
 use set_diff::lacks;
 use std::alloc::{AllocError, Global};

@@ -9,9 +9,9 @@ ghost use Rattle.tree_diff.specs.Trees.{key_lines, keys_lines};
 use crate::heads::{put_heads, put_order};
 use crate::items::{item_names, put_items};
 use crate::keys::{key_names, put_both_lone, tree_named};
-use diff_lines::{DiffLines, KeyField};
-use name_places::NamePlaces;
+use answer_lines::diff_lines::{DiffLines, KeyField};
 use nt_bytes::Units;
+use nt_names::name_places::NamePlaces;
 use reg_tree::{Key, Value};
 use std::alloc::{AllocError, Global};
 

@@ -7,7 +7,7 @@ ghost use Rattle.tree_diff.specs.Trees.{marks_of, key_marks, keys_marks, stamps_
 
 use crate::keys::tree_named;
 use crate::walk::{by_key, put_key};
-use diff_lines::{DiffLine, DiffLines};
+use answer_lines::diff_lines::{DiffLine, DiffLines};
 use nt_bytes::Row;
 use reg_tree::Key;
 use std::alloc::{AllocError, Global};

@@ -11,7 +11,7 @@ use Rattle.std.specs.Cmp.Lexicographic.{slice_cmp, nat_list_cmp_total}
 use Rattle.std.specs.declared.cmp.Ordering.{Ordering}
 use Rattle.std.specs.declared.cmp.Ordering.TheVariants.{Less, Equal, Greater}
 use Rattle.nt_bytes.specs.Folding.{folded, folds_same, folded_order}
-use Rattle.name_places.proofs.FoldLemmas.{same_from_order, reversed_eq}
+use Rattle.nt_names.proofs.FoldLemmas.{same_from_order, reversed_eq}
 use Rattle.hive_model.specs.Tree.{Tree, head, is_named}
 use Rattle.hive_model.specs.Edit.{at_first, without_first, placed}
 use Rattle.reg_tree.proofs.Unlike.{Each, each_from, each_all}

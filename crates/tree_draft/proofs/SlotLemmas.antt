@@ -14,7 +14,7 @@ use Rattle.std.proofs.lemmas.Bool.{cases_Bool, cases_eq, cases_lt, both_ways, fa
 use Rattle.std.proofs.lemmas.List.{length_push, get_or_append_left, get_or_push, get_or-set_same, get_or-set_other}
 use Rattle.std.proofs.lemmas.Map.Text.{is_eq-slice_cmp}
 use Rattle.nt_bytes.specs.Folding.{folded, folds_same}
-use Rattle.name_places.proofs.FoldLemmas.{same_from_order}
+use Rattle.nt_names.proofs.FoldLemmas.{same_from_order}
 use Rattle.hive_model.specs.Tree.{Item, is_item}
 use Rattle.hive_model.specs.Edit.{at_first, without_first, with_item}
 use Rattle.tree_draft.specs.Slots.{held, place_in, IsNamed, IsIndexOf, given}

@@ -9,8 +9,8 @@ ghost use Rattle.tree_draft.specs.Slots.{given};
 ghost use Rattle.tree_draft.specs.Stops.{RefusesNothing};
 
 use crate::stop::DraftStop;
-use name_places::folded;
 use nt_bytes::{Bytes, Units};
+use nt_names::name_places::folded;
 use reg_tree::{Value, Values};
 use std::alloc::{AllocError, Global};
 use std::collections::BTreeMap;

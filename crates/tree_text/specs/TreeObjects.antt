@@ -6,9 +6,9 @@ use Rattle.std.specs.List.{flat_map}
 use Rattle.hex.specs.Hex.{encode_lower}
 use Rattle.nt_bytes.specs.Counts.{capped}
 use Rattle.hive_model.specs.Tree.{Item, Tree, Trees, key, none, more}
-use Rattle.line_text.specs.Objects.{Value, Number, Text, object_text}
-use Rattle.line_text.specs.declared.form.ReportForm.{ReportForm}
-use Rattle.line_text.specs.declared.form.ReportForm.TheVariants as forms
+use Rattle.report_text.specs.line_text.Objects.{Value, Number, Text, object_text}
+use Rattle.report_text.specs.declared.line_text.form.ReportForm.{ReportForm}
+use Rattle.report_text.specs.declared.line_text.form.ReportForm.TheVariants as forms
 use Rattle.tree_text.specs.TreeText.{shown_text}
 
 -- ---- lines

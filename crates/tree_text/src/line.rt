@@ -118,7 +118,7 @@ fn push_four_units(out: &mut Vec<u8>, a: u16, b: u16, c: u16, d: u16) -> Result<
     if is_plain(a) && is_plain(b) && is_plain(c) && is_plain(d) {
         return out.extend_from_slice(&[a as u8, b as u8, c as u8, d as u8]);
     }
-    boot_report::push_name(out, &[a, b, c, d])
+    report_text::boot_report::push_name(out, &[a, b, c, d])
 }
 
 fn push_name(out: &mut Vec<u8>, name: &[u16]) -> Result<(), AllocError>
@@ -127,7 +127,7 @@ fn push_name(out: &mut Vec<u8>, name: &[u16]) -> Result<(), AllocError>
     let mut rest = name;
     'fours: loop {
         let [a, b, c, d, more @ ..] = rest else {
-            return boot_report::push_name(out, rest);
+            return report_text::boot_report::push_name(out, rest);
         };
         push_four_units(out, *a, *b, *c, *d)?;
         rest = more;

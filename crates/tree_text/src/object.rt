@@ -1,11 +1,13 @@
 //! One line as an object of JSON.
 
 ghost use Rattle.std.specs.Prelude.{◌≡◌, [], ◌∷◌, ◌++◌, codes, OnOk};
-ghost use Rattle.line_text.specs.Objects.{Number, Text, fields_text};
+ghost use Rattle.report_text.specs.line_text.Objects.{Number, Text, fields_text};
 ghost use Rattle.tree_text.specs.TreeObjects.{HiveLine, KeyLine, ValueLine, data_fields, value_fields, line_json};
 
-use line_text::{close_object, open_object, push_number_field, push_text_field, push_word_field};
 use reg_tree::Value;
+use report_text::line_text::{
+    close_object, open_object, push_number_field, push_text_field, push_word_field,
+};
 use std::alloc::{AllocError, Global};
 
 fn push_hive_fields(out: &mut Vec<u8>, sequence: u32, bulk: u64) -> Result<(), AllocError>

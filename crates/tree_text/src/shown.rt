@@ -1,25 +1,16 @@
-//! A tree as a text, alone and after a line on its hive.
+//! A tree as a text after a line on its hive.
 
 ghost use Rattle.std.specs.Prelude.{◌≡◌, IfOk};
 ghost use Rattle.tree_text.specs.TreeObjects.{lines_json, shown_lines, shown_in};
-ghost use Rattle.tree_text.specs.TreeText.{tree_text, shown_text};
+ghost use Rattle.tree_text.specs.TreeText.{shown_text};
 
 use crate::object::push_hive;
 use crate::objects;
 use crate::walk::push_key;
-use line_text::ReportForm;
 use nt_bytes::Bytes;
 use reg_tree::Key;
+use report_text::line_text::ReportForm;
 use std::alloc::{AllocError, Global};
-
-/// The lines of the tree: each key, below it its values and then its children, two spaces further in.
-pub fn tree_text(alloc: Global, root: &Key) -> Result<Bytes, AllocError>
-    ensures exact { IfOk result (λ b. b ≡ tree_text root.now) }
-{
-    let mut out = Vec::new(alloc);
-    push_key(&mut out, &mut Vec::new(alloc), root)?;
-    Ok(Bytes::from_vec(out))
-}
 
 /// What `show` prints of a hive as text: a line with its sequence number and the bulk of its tree in bytes, and
 /// the lines of the tree.

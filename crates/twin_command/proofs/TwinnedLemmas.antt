@@ -12,22 +12,22 @@ use Rattle.nt_edge.specs.declared.host.HostStop.{HostStop}
 use Rattle.nt_edge.specs.declared.host.HostStop.TheVariants.{Read, Write, Memory}
 use Rattle.nt_edge.proofs.Images.{still_crash}
 use Rattle.hive_alt.specs.Schemes.{Standing, StandFault}
-use Rattle.command_parts.specs.declared.inputs.HiveFiles.{HiveFiles}
-use Rattle.command_parts.specs.declared.refusal.Refusal.{Refusal}
-use Rattle.command_parts.specs.declared.refusal.Refusal.TheVariants as refusals
-use Rattle.command_parts.specs.declared.refusal.Obstacle.TheVariants.{Stopped}
-use Rattle.command_parts.specs.declared.status.Status.{Status}
-use Rattle.command_parts.specs.declared.status.Status.TheVariants as statuses
-use Rattle.command_parts.specs.Decides.{Decides, DecidesAlone}
-use Rattle.command_parts.specs.Leaves.{Leaves, Looks, more, named, stopped_as, IsPartDone}
-use Rattle.command_parts.specs.Placed.{image_in, placed_disk, IsUnrun, IsUntouchedBy}
-use Rattle.command_parts.specs.Refusals.{Answer, Ends, IsToldAs, refusal, refusal_text}
-use Rattle.command_parts.specs.Saves.{Saves, saved_count, Settles, FinishesAs}
+use Rattle.command_parts.specs.declared.command_parts.inputs.HiveFiles.{HiveFiles}
+use Rattle.command_parts.specs.declared.command_parts.refusal.Refusal.{Refusal}
+use Rattle.command_parts.specs.declared.command_parts.refusal.Refusal.TheVariants as refusals
+use Rattle.command_parts.specs.declared.command_parts.refusal.Obstacle.TheVariants.{Stopped}
+use Rattle.command_parts.specs.declared.command_parts.status.Status.{Status}
+use Rattle.command_parts.specs.declared.command_parts.status.Status.TheVariants as statuses
+use Rattle.command_parts.specs.command_parts.Decides.{Decides, DecidesAlone}
+use Rattle.command_parts.specs.command_parts.Leaves.{Leaves, Looks, more, named, stopped_as, IsPartDone}
+use Rattle.command_parts.specs.command_parts.Placed.{image_in, placed_disk, IsUnrun, IsUntouchedBy}
+use Rattle.command_parts.specs.command_parts.Refusals.{Answer, Ends, IsToldAs, refusal, refusal_text}
+use Rattle.command_parts.specs.command_parts.Saves.{Saves, saved_count, Settles, FinishesAs}
 use Rattle.command_parts.proofs.DecideLemmas.{memory_decides, refusal_decides, stopped_decides, told_unused, told_unread, refused_unread, unrun}
 use Rattle.command_parts.proofs.LeaveLemmas.{no_front}
 use Rattle.twin_command.specs.Awake.{IsAwake, ToldOf}
 use Rattle.twin_command.specs.declared.report.Told.{Told}
-use Rattle.line_text.specs.declared.form.ReportForm.{ReportForm}
+use Rattle.report_text.specs.declared.line_text.form.ReportForm.{ReportForm}
 use Rattle.twin_command.specs.Told.{told_in, told_of}
 use Rattle.twin_command.specs.Twinned.{SomeFound, IsTwinned, TwinnedAs, EndsTwinned, EndsFiles, EndsTwin}
 

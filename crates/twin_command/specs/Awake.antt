@@ -6,7 +6,7 @@ use Rattle.hive_model.specs.Image.{Image}
 use Rattle.hive_model.specs.Recovery.{Recovered}
 use Rattle.hive_model.specs.Tree.{Tree}
 use Rattle.nt_edge.specs.Disk.{DiskState}
-use Rattle.run_parts.specs.Reports.{LeftOf}
+use Rattle.run_parts.specs.run_parts.Reports.{LeftOf}
 use Rattle.hive_alt.specs.Changes.{StandsAfter}
 use Rattle.hive_alt.specs.Plans.{IsFound}
 use Rattle.hive_alt.specs.declared.change.Changed.{Changed}

@@ -7,10 +7,10 @@ use Rattle.hive_model.specs.Tree.{Tree}
 use Rattle.hive_commit.specs.Stages.{next_number}
 use Rattle.hive_alt.specs.Changes.{Change, nothing, no_select, too_large, changed, change_of}
 use Rattle.report_words.specs.declared.line.Line.TheVariants.{Load as LoadLine, End as EndLine}
-use Rattle.line_text.specs.Objects.{Value, Number, Text, object_text}
-use Rattle.line_text.specs.declared.form.ReportForm.{ReportForm}
-use Rattle.line_text.specs.declared.form.ReportForm.TheVariants as forms
-use Rattle.line_objects.specs.Objects.{line_json}
+use Rattle.report_text.specs.line_text.Objects.{Value, Number, Text, object_text}
+use Rattle.report_text.specs.declared.line_text.form.ReportForm.{ReportForm}
+use Rattle.report_text.specs.declared.line_text.form.ReportForm.TheVariants as forms
+use Rattle.report_text.specs.line_objects.Objects.{line_json}
 use Rattle.twin_command.specs.declared.report.Word.{Word}
 use Rattle.twin_command.specs.declared.report.Word.TheVariants as words
 use Rattle.twin_command.specs.declared.report.Told.{Told}

@@ -9,7 +9,7 @@ use Rattle.hive_model.specs.Recovery.{Recovered, recovered_of}
 use Rattle.hive_model.specs.Tree.{Tree}
 use Rattle.nt_edge.specs.Disk.{DiskState, new_state}
 use Rattle.nt_edge.specs.Host.{Files, HostState}
-use Rattle.run_parts.specs.Reports.{LeftOf}
+use Rattle.run_parts.specs.run_parts.Reports.{LeftOf}
 use Rattle.hive_alt.specs.Changes.{StandsAfter}
 use Rattle.hive_alt.specs.Plans.{IsFound}
 use Rattle.hive_alt.specs.Schemes.{Standing, StandFault}
@@ -17,19 +17,19 @@ use Rattle.hive_alt.specs.Twin.{twin_of}
 use Rattle.command_words.specs.Words.{TwinAsked}
 use Rattle.command_words.specs.declared.asked.AskedScheme.{AskedScheme}
 use Rattle.command_words.specs.declared.asked.AskedScheme.TheVariants.{Alt, Log}
-use Rattle.command_parts.specs.declared.inputs.HiveFiles.{HiveFiles}
-use Rattle.command_parts.specs.declared.refusal.Refusal.{Refusal}
-use Rattle.command_parts.specs.declared.refusal.Refusal.TheVariants.{HiveFault as BadHive}
-use Rattle.command_parts.specs.declared.status.Status.{Status}
-use Rattle.command_parts.specs.declared.status.Status.TheVariants as statuses
-use Rattle.command_parts.specs.Decides.{Decides}
-use Rattle.command_parts.specs.Inputs.{hive_in, asks_hive}
-use Rattle.command_parts.specs.Leaves.{named, IsPartDone}
-use Rattle.command_parts.specs.Placed.{image_in, IsUnrun}
-use Rattle.command_parts.specs.Refusals.{Answer, Ends, refusal}
-use Rattle.command_parts.specs.Saves.{Saves, saved_count}
+use Rattle.command_parts.specs.declared.command_parts.inputs.HiveFiles.{HiveFiles}
+use Rattle.command_parts.specs.declared.command_parts.refusal.Refusal.{Refusal}
+use Rattle.command_parts.specs.declared.command_parts.refusal.Refusal.TheVariants.{HiveFault as BadHive}
+use Rattle.command_parts.specs.declared.command_parts.status.Status.{Status}
+use Rattle.command_parts.specs.declared.command_parts.status.Status.TheVariants as statuses
+use Rattle.command_parts.specs.command_parts.Decides.{Decides}
+use Rattle.command_parts.specs.command_parts.Inputs.{hive_in, asks_hive}
+use Rattle.command_parts.specs.command_parts.Leaves.{named, IsPartDone}
+use Rattle.command_parts.specs.command_parts.Placed.{image_in, IsUnrun}
+use Rattle.command_parts.specs.command_parts.Refusals.{Answer, Ends, refusal}
+use Rattle.command_parts.specs.command_parts.Saves.{Saves, saved_count}
 use Rattle.twin_command.specs.declared.report.Told.{Told}
-use Rattle.line_text.specs.declared.form.ReportForm.{ReportForm}
+use Rattle.report_text.specs.declared.line_text.form.ReportForm.{ReportForm}
 use Rattle.twin_command.specs.Told.{told_in, told_of}
 
 -- what the command line's way to keep a hive makes of an image

@@ -1,12 +1,14 @@
 //! What `twin` says, in one of the two forms.
 
 ghost use Rattle.std.specs.Prelude.{◌≡◌, [], ◌∷◌, ◌++◌, codes, IfOk, OnOk};
-ghost use Rattle.line_text.specs.Objects.{Number, Text, fields_text, object_text};
+ghost use Rattle.report_text.specs.line_text.Objects.{Number, Text, fields_text, object_text};
 ghost use Rattle.twin_command.specs.Told.{load_end, load_text, word_text, told_text, refused_fields, word_json, told_json, told_in};
 
-use command_parts::push_count;
-use line_objects::{push_end_object, push_load_object};
-use line_text::{ReportForm, close_object, open_object, push_number_field, push_word_field};
+use command_parts::command_parts::push_count;
+use report_text::line_objects::{push_end_object, push_load_object};
+use report_text::line_text::{
+    ReportForm, close_object, open_object, push_number_field, push_word_field,
+};
 use std::alloc::{AllocError, Global};
 
 /// What is printed for the default set.

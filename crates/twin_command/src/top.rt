@@ -3,17 +3,17 @@
 ghost use Rattle.std.specs.Prelude.{◌≡◌};
 ghost use Rattle.nt_edge.specs.Disk.{new_state};
 ghost use Rattle.command_words.specs.Views.{twin_seen};
-ghost use Rattle.command_parts.specs.Decides.{DecidesAlone};
-ghost use Rattle.command_parts.specs.Inputs.{AsksSoMany};
-ghost use Rattle.command_parts.specs.Views.{saves_seen};
+ghost use Rattle.command_parts.specs.command_parts.Decides.{DecidesAlone};
+ghost use Rattle.command_parts.specs.command_parts.Inputs.{AsksSoMany};
+ghost use Rattle.command_parts.specs.command_parts.Views.{saves_seen};
 ghost use Rattle.twin_command.specs.Twinned.{stands_by, EndsFiles, DecidesTwin, asks_twin};
 
 use crate::twinning::begin;
-use command_parts::{HiveFiles, Obstacle, Saves, Status, hive_in, refuse, stopped};
+use command_parts::command_parts::{HiveFiles, Obstacle, Saves, Status, hive_in, refuse, stopped};
 use command_words::{AskedScheme as Kept, TwinWords};
 use hive_alt::{LogScheme, TwinScheme};
-use line_text::ReportForm;
 use nt_edge::{Bench, Host};
+use report_text::line_text::ReportForm;
 use std::alloc::Global;
 
 /// Goes on by the way that keeps the hive.

@@ -5,20 +5,20 @@ ghost use Rattle.nt_bytes.specs.declared.fault.HiveFault.{HiveFault};
 ghost use Rattle.hive_alt.specs.Changes.{IsLost, IsFailed};
 ghost use Rattle.hive_alt.specs.declared.change.ChangeStop.TheVariants as stops;
 ghost use Rattle.nt_edge.specs.Disk.{new_state};
-ghost use Rattle.command_parts.specs.Placed.{image_in, placed_disk};
-ghost use Rattle.command_parts.specs.Views.{saves_seen};
-ghost use Rattle.command_parts.specs.Decides.{DecidesAlone};
+ghost use Rattle.command_parts.specs.command_parts.Placed.{image_in, placed_disk};
+ghost use Rattle.command_parts.specs.command_parts.Views.{saves_seen};
+ghost use Rattle.command_parts.specs.command_parts.Decides.{DecidesAlone};
 ghost use Rattle.hive_alt.specs.Plans.{ChecksFor};
 ghost use Rattle.twin_command.specs.Awake.{IsAwake, ToldOf, ToldBy, done_word};
 ghost use Rattle.twin_command.specs.Twinned.{SomeFound, TwinnedAs, EndsFiles};
-ghost use Rattle.command_parts.specs.Leaves.{IsPartDone};
+ghost use Rattle.command_parts.specs.command_parts.Leaves.{IsPartDone};
 
 use crate::report::{Told, Word, report};
-use command_parts::{HiveFiles, Refusal, Saves, Status, finish, place, refuse};
+use command_parts::command_parts::{HiveFiles, Refusal, Saves, Status, finish, place, refuse};
 use hive_alt::{ChangeStop, Changed, Scheme, change_default, check_kept};
-use line_text::ReportForm;
 use nt_bytes::{Bytes, ReadStop};
 use nt_edge::{Bench, Host};
+use report_text::line_text::ReportForm;
 use std::alloc::{AllocError, Global};
 
 /// The bytes of a second file, none where there is none.

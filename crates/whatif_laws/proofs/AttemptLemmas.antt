@@ -23,7 +23,7 @@ use Rattle.service_control.proofs.SpreadState.{none}
 use Rattle.wait_cycles.proofs.InverseLemmas.{none_in}
 use Rattle.wait_cycles.proofs.MetLemmas.{first_in, later_in, any_from}
 use Rattle.wait_cycles.proofs.CycleLemmas.{in_cons}
-use Rattle.error_control.specs.declared.outcome.Judgement.{Judgement}
+use Rattle.boot_phases.specs.declared.error_control.outcome.Judgement.{Judgement}
 use Rattle.failure_effects.specs.declared.told.Fate.TheVariants.{Started, Failed}
 use Rattle.failure_effects.specs.declared.told.Told.{Told}
 use Rattle.failure_effects.specs.declared.course.Course.{Course}

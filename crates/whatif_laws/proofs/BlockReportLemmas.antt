@@ -7,8 +7,8 @@ use Rattle.nt_bytes.specs.Folding.{folds_same}
 use Rattle.report_words.specs.declared.words.TryWord.{TryWord}
 use Rattle.report_words.specs.declared.line.Line.{Line}
 use Rattle.report_words.specs.declared.line.Line.TheVariants as lines
-use Rattle.error_control.specs.declared.outcome.Judgement.{Judgement}
-use Rattle.error_control.specs.declared.outcome.Judgement.TheVariants as judgements
+use Rattle.boot_phases.specs.declared.error_control.outcome.Judgement.{Judgement}
+use Rattle.boot_phases.specs.declared.error_control.outcome.Judgement.TheVariants as judgements
 use Rattle.failure_effects.specs.declared.told.Fate.{Fate}
 use Rattle.failure_effects.specs.declared.told.Fate.TheVariants as fates
 use Rattle.failure_effects.specs.declared.told.Told.{Told}

@@ -31,7 +31,7 @@ use Rattle.check_laws.proofs.TurnLemmas.{one_removed, past}
 use Rattle.std.proofs.lemmas.List.Quantifiers.{position-Some}
 use Rattle.start_model.specs.Ready.{is_ready}
 use Rattle.service_control.proofs.SpreadState.{none}
-use Rattle.boot_machine.specs.Steps.{is_there}
+use Rattle.boot_machine.specs.boot_machine.Steps.{is_there}
 use Rattle.whatif_laws.specs.Reports.{is_entry_line, word_of, told_line}
 use Rattle.whatif_laws.proofs.AttemptLemmas.{mach, at, stepped_by, over_stays}
 

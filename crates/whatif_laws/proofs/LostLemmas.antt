@@ -7,7 +7,7 @@ use Rattle.std.proofs.lemmas.Bool.{false≢true, cases_Bool, and_parts, and_case
 use Rattle.std.proofs.lemmas.List.Elements.{Contains-append_left, Contains-append_right, Contains-append_cases}
 use Rattle.std.proofs.lemmas.Option.{same_Some}
 use Rattle.nt_bytes.specs.Folding.{folds_same}
-use Rattle.name_places.proofs.FoldLemmas.{alike}
+use Rattle.nt_names.proofs.FoldLemmas.{alike}
 use Rattle.dependencies.proofs.MeetLemmas.{names_flip}
 use Rattle.hive_model.specs.Tree.{Tree}
 use Rattle.hive_model.specs.Valid.{HoldsKeys}
@@ -21,7 +21,7 @@ use Rattle.service_control.proofs.LeanLemmas.{folds_itself, mapped_from, mapped_
 use Rattle.wait_cycles.proofs.InverseLemmas.{none_in}
 use Rattle.wait_cycles.proofs.MetLemmas.{first_in, later_in, any_from, any_gives, all_gives}
 use Rattle.wait_cycles.proofs.CycleLemmas.{in_cons, filter_in, filter_out, not_all}
-use Rattle.error_control.specs.declared.outcome.Judgement.{Judgement}
+use Rattle.boot_phases.specs.declared.error_control.outcome.Judgement.{Judgement}
 use Rattle.failure_effects.specs.declared.told.Told.{Told}
 use Rattle.failure_effects.specs.declared.told.Fate.{Fate}
 use Rattle.failure_effects.specs.declared.told.Fate.TheVariants as fates

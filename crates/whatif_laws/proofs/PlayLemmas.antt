@@ -14,11 +14,11 @@ use Rattle.start_model.specs.Machine as machine
 use Rattle.start_model.specs.Machine.{Start, after_phase, phase_after, begun_with}
 use Rattle.start_model.specs.Order.{plan_of}
 use Rattle.start_model.specs.Ready.{is_ready}
-use Rattle.boot_machine.specs.Steps.{on_start}
+use Rattle.boot_machine.specs.boot_machine.Steps.{on_start}
 use Rattle.service_control.specs.State.{labels_of}
 use Rattle.service_control.proofs.LeanLemmas.{mapped_from}
 use Rattle.wait_cycles.proofs.InverseLemmas.{none_in}
-use Rattle.error_control.specs.declared.outcome.Judgement.{Judgement}
+use Rattle.boot_phases.specs.declared.error_control.outcome.Judgement.{Judgement}
 use Rattle.failure_effects.specs.declared.told.Told.{Told}
 use Rattle.failure_effects.specs.declared.course.Course.{Course}
 use Rattle.failure_effects.specs.declared.opening.Taken.{Taken}

@@ -4,7 +4,7 @@ use Rattle.std.specs.Prelude.{Contains, find, slice_get, codes, option_map, opti
 use Rattle.std.specs.Option.{option_map_or}
 use Rattle.std.proofs.lemmas.Bool.{false≢true, cases_Bool, or_cases, eqb-true}
 use Rattle.nt_bytes.specs.Folding.{folds_same}
-use Rattle.name_places.proofs.FoldLemmas.{alike}
+use Rattle.nt_names.proofs.FoldLemmas.{alike}
 use Rattle.hive_model.specs.Tree.{Item, Tree, key, head, children, is_named, is_item, find_item, find_dword, find_key, dword_in}
 use Rattle.hive_model.specs.Edit.{at_first, of_children}
 use Rattle.hive_model.specs.Valid.{HoldsKeys}

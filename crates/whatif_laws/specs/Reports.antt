@@ -17,8 +17,8 @@ use Rattle.report_words.specs.declared.line.Line.{Line}
 use Rattle.report_words.specs.declared.line.Line.TheVariants.{Try as TryLine, Unmet as UnmetLine}
 use Rattle.start_model.specs.Possible.{Woken}
 use Rattle.start_model.specs.Quiet.{quiet_run_of}
-use Rattle.error_control.specs.declared.outcome.Judgement.{Judgement}
-use Rattle.error_control.specs.declared.outcome.Judgement.TheVariants as judgements
+use Rattle.boot_phases.specs.declared.error_control.outcome.Judgement.{Judgement}
+use Rattle.boot_phases.specs.declared.error_control.outcome.Judgement.TheVariants as judgements
 use Rattle.failure_effects.specs.declared.opening.Opening.TheVariants.{Begun}
 use Rattle.failure_effects.specs.declared.opening.StartChoice.TheVariants.{OnSet}
 use Rattle.failure_effects.specs.declared.opening.Taken.{Taken}

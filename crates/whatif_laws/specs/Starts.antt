@@ -4,7 +4,7 @@ use Rattle.std.specs.List.{Contains, list_any, flat_map}
 use Rattle.nt_bytes.specs.Folding.{folds_same}
 use Rattle.hive_model.specs.Valid.{HoldsKeys}
 use Rattle.start_model.specs.Entries.{Entry, entries_of}
-use Rattle.error_control.specs.declared.outcome.Judgement.{Judgement}
+use Rattle.boot_phases.specs.declared.error_control.outcome.Judgement.{Judgement}
 use Rattle.failure_effects.specs.declared.lines.EffectLine.{EffectLine}
 use Rattle.failure_effects.specs.declared.lines.EffectLine.TheVariants as lines
 use Rattle.failure_effects.specs.declared.told.Told.{Told}

@@ -2,10 +2,10 @@
 use Rattle.std.proofs.Common.{◌≡◌, sym, subst}
 use Rattle.quiet_run.specs.declared.last.QuietRun.{QuietRun}
 use Rattle.quiet_run.specs.Play.{AreHeld}
-use Rattle.why_state.specs.declared.views.ViewedRun.{ViewedRun}
-use Rattle.why_state.specs.Views.{viewed_of}
-use Rattle.why_items.specs.declared.needs.NeedsRun.{NeedsRun}
-use Rattle.why_items.specs.Items.{needs_run_of}
+use Rattle.why_needs.specs.declared.why_state.views.ViewedRun.{ViewedRun}
+use Rattle.why_needs.specs.why_state.Views.{viewed_of}
+use Rattle.why_lacks.specs.declared.why_items.needs.NeedsRun.{NeedsRun}
+use Rattle.why_lacks.specs.why_items.Items.{needs_run_of}
 
 pub held_viewed : (run : QuietRun) (r : ViewedRun) → r ≡ viewed_of run → AreHeld run.start.phases → AreHeld r.run.start.phases
 unfolding viewed_of

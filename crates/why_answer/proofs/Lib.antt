@@ -1,1 +1,2 @@
+pub mod PulledLemmas
 pub mod AnswerLemmas

@@ -1,1 +1,3 @@
-pub mod Answer
+pub mod why_place
+pub mod why_pulled
+pub mod why_answer

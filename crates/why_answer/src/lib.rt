@@ -1,11 +1,6 @@
-//! All that is said of a name in the last start of a script.
-//!
-//! `why_lines` says where a name's entry is in the start, what became of it, and what it lacked, down to the root. Rules: Windows
-//! Internals, 4th edition, startup; docs/startup.md. Definition: `specs/Answer.antt`.
+//! The whole answer of `why`: the place in a start, by which rule, and what was lacking.
 #![tactic(auto)]
 
-mod answer;
-mod placed;
-mod unplaced;
-
-pub use answer::why_lines;
+pub mod why_answer;
+pub mod why_place;
+pub mod why_pulled;

@@ -1,1 +1,3 @@
-pub mod Lacks
+pub mod why_items
+pub mod why_lacks
+pub mod why_cycle

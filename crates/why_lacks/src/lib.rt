@@ -1,11 +1,6 @@
-//! The lines of entries that were unmet, and of what they lacked.
-//!
-//! `push_lacks` says of each entry its lacking names and groups with their states, and the members of each group once a phase.
-//! Definition: `specs/Lacks.antt`.
+//! What a service that did not start lacked, down to the roots.
 #![tactic(auto)]
 
-mod entries;
-mod groups;
-mod names;
-
-pub use entries::push_lacks;
+pub mod why_cycle;
+pub mod why_items;
+pub mod why_lacks;

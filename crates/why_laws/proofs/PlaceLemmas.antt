@@ -7,7 +7,7 @@ use Rattle.boot_phases.proofs.PlaceLemmas.{each_before_the_later}
 use Rattle.boot_phases.proofs.RankLemmas.{rank_weak}
 use Rattle.boot_phases.proofs.RisingLemmas.{ranks_rise}
 use Rattle.reg_tree.proofs.Unlike.{Each, each_from}
-use Rattle.why_laws.specs.Places.{ranks_in, RanksAreInOrder, IsAt, PlaceIsCount}
+use Rattle.why_laws.specs.why_laws.Places.{ranks_in, RanksAreInOrder, IsAt, PlaceIsCount}
 
 abbrev Strict : List Rank → Type 0
 Strict [] = Unit {0}

@@ -29,7 +29,7 @@ use Rattle.start_model.specs.Sets.{SelectNumbers, SetChange, ChangeStop, NoPlan,
 use Rattle.start_model.specs.Starter.{live_set, good_is_usable, phase_line, try_line, judged, phase_passed, starter_step, stepping, go_steps, go_act, enough_steps}
 use Rattle.quiet_run.specs.declared.last.LastStart.{LastStart}
 use Rattle.quiet_run.specs.Watch.{Watched, fresh_start, seen, watch, is_new, with_phase, phase_noted, noted, steps_of, gone, gone_unless, turned, watched_from, placed_as, unplayed, quiet_run_of}
-use Rattle.why_laws.specs.Reports.{last_start_in, LastStartIsReported}
+use Rattle.why_laws.specs.why_laws.Reports.{last_start_in, LastStartIsReported}
 use Rattle.why_laws.proofs.SeenLemmas.{heard, heard_more, told, heard_alike, heard_reported, reported_told}
 
 -- ---- states alike but for what the log and the sequence numbers leave

@@ -7,7 +7,7 @@ use Rattle.report_words.specs.declared.line.Line.TheVariants as lines
 use Rattle.quiet_run.specs.declared.last.Attempt.{Attempt}
 use Rattle.quiet_run.specs.declared.last.LastStart.{LastStart}
 use Rattle.quiet_run.specs.Watch.{fresh_start, seen}
-use Rattle.why_laws.specs.Reports.{started_by, set_by, tried_by, missed_by, judged_by, last_in, last_start_in, Reported, IsReported}
+use Rattle.why_laws.specs.why_laws.Reports.{started_by, set_by, tried_by, missed_by, judged_by, last_in, last_start_in, Reported, IsReported}
 
 -- after these lines
 abbrev pub heard : LastStart → List Line → LastStart

@@ -5,9 +5,9 @@ use Rattle.std.proofs.lemmas.Bool.Decides.{nat_tests}
 use Rattle.std.proofs.lemmas.Option.{same_Some}
 use Rattle.report_words.specs.declared.words.TryWord.{TryWord}
 use Rattle.report_words.specs.declared.words.TryWord.TheVariants as tries
-use Rattle.boot_phases.specs.declared.phase.Phase.{Phase}
-use Rattle.boot_phases.specs.Phases.{phase_in}
-use Rattle.boot_machine.specs.Codes.{phase_number}
+use Rattle.boot_phases.specs.declared.boot_phases.phase.Phase.{Phase}
+use Rattle.boot_phases.specs.boot_phases.Phases.{phase_in}
+use Rattle.boot_machine.specs.boot_machine.Codes.{phase_number}
 use Rattle.start_model.specs.Events.{Event}
 use Rattle.start_model.specs.Possible.{Woken}
 use Rattle.start_model.specs.Boot.{Choice}
@@ -15,14 +15,14 @@ use Rattle.report_words.specs.declared.line.Line.{Line}
 use Rattle.start_model.specs.Quiet as book
 use Rattle.quiet_run.specs.declared.last.Attempt.{Attempt}
 use Rattle.quiet_run.specs.Watch.{quiet_run_of}
-use Rattle.why_lines.specs.declared.lines.NameState.{NameState}
-use Rattle.why_lines.specs.declared.lines.NameState.TheVariants as states
-use Rattle.why_state.specs.declared.views.PhaseView.{PhaseView}
-use Rattle.why_state.specs.declared.views.ViewedRun.{ViewedRun}
-use Rattle.why_state.specs.Views.{names_tried, viewed_of}
-use Rattle.why_state.specs.States.{place_in, reason_of, first_coming, outcome_at, tried_as, waited, placed_state, coming_state, unplaced_state, state_by, placed_of, state_of}
-use Rattle.why_laws.specs.Reports.{last_start_in, Reported, IsReported}
-use Rattle.why_laws.specs.States.{attempt_in, tries_in, view_from, AttemptIsReported, ReportedIsSaid}
+use Rattle.answer_lines.specs.declared.why_lines.lines.NameState.{NameState}
+use Rattle.answer_lines.specs.declared.why_lines.lines.NameState.TheVariants as states
+use Rattle.why_needs.specs.declared.why_state.views.PhaseView.{PhaseView}
+use Rattle.why_needs.specs.declared.why_state.views.ViewedRun.{ViewedRun}
+use Rattle.why_needs.specs.why_state.Views.{names_tried, viewed_of}
+use Rattle.why_needs.specs.why_state.States.{place_in, reason_of, first_coming, outcome_at, tried_as, waited, placed_state, coming_state, unplaced_state, state_by, placed_of, state_of}
+use Rattle.why_laws.specs.why_laws.Reports.{last_start_in, Reported, IsReported}
+use Rattle.why_laws.specs.why_laws.States.{attempt_in, tries_in, view_from, AttemptIsReported, ReportedIsSaid}
 use Rattle.why_laws.proofs.RunLemmas.{last_start_reported}
 
 as_tried : (n : ℕ) (w : TryWord) → attempt_in (tried_as n w) ≡ Some (n, w)

@@ -1,4 +1,3 @@
-pub mod Reports
-pub mod States
-pub mod Lacks
-pub mod Places
+pub mod why_laws
+pub mod cycle_laws
+pub mod course_laws

@@ -1,1 +1,3 @@
+pub mod RangeLemmas
+pub mod PlaceLemmas
 pub mod TakeLemmas

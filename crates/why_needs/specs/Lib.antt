@@ -1,4 +1,2 @@
-pub mod Met
-pub mod Lacking
-pub mod Ready
-pub mod Members
+pub mod why_state
+pub mod why_needs

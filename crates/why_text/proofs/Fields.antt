@@ -1,7 +1,7 @@
 -- Fields of an object, appended in sequence.
 use Rattle.std.proofs.Common.{◌≡◌, ℕ, List, [], ◌∷◌, ◌++◌, ap, ◌∙◌, sym, append_assoc, refl}
 use Rattle.std.specs.Prelude.{Result, Ok, Err, OnOk}
-use Rattle.line_text.specs.Objects.{Value, field_text, fields_text}
+use Rattle.report_text.specs.line_text.Objects.{Value, field_text, fields_text}
 
 joined : (fs gs : List (List ℕ × Value)) → fields_text (fs ++ gs) ≡ fields_text fs ++ fields_text gs
 joined [] gs = refl

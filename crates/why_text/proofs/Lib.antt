@@ -1,1 +1,4 @@
 pub mod Fields
+pub mod PartLemmas
+pub mod EndLemmas
+pub mod ObjectLemmas

@@ -1,11 +1,5 @@
-//! Where an entry is in a start, and why it was started or not: the lines as texts or as objects of JSON.
-//!
-//! `lines_text` prints the lines in one of the two forms. Definitions: `specs/Lines.antt`.
+//! The answers of `why` and `graph` as text and as JSON.
 #![tactic(auto)]
 
-mod json;
-mod printing;
-mod text;
-mod words;
-
-pub use printing::lines_text;
+pub mod graph_text;
+pub mod why_text;

@@ -1,6 +1,6 @@
 use Rattle.std.proofs.Common.{rules, ◌≡◌, ◌+◌, ◌∙◌, [], Bool, false, refl, sym, ap}
 use Rattle.std.specs.Prelude.{◌||◌}
-use Rattle.boot_ini.specs.declared.choosing.Chosen.{Chosen}
+use Rattle.boot_ini.specs.declared.boot_ini.choosing.Chosen.{Chosen}
 use Rattle.report_words.specs.declared.line.Line.TheVariants.{Start as StartLine}
 use Rattle.start_model.specs.Machine.{MachineState}
 use Rattle.nt_edge.specs.Crash.{EachCrash}

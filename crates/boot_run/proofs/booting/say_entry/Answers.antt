@@ -1,9 +1,9 @@
 use Rattle.std.proofs.Common.{◌∙◌, [], Option, ap, subst}
 use Rattle.std.specs.Option.{option_map_or}
-use Rattle.boot_ini.specs.declared.ini.OsEntry.{OsEntry}
+use Rattle.boot_ini.specs.declared.boot_ini.ini.OsEntry.{OsEntry}
 use Rattle.report_words.specs.declared.line.Line.{Line}
 use Rattle.report_words.specs.declared.line.Line.TheVariants.{Entry as EntryLine}
-use Rattle.printed_parts.specs.Parts.{TellsOr}
+use Rattle.run_parts.specs.printed_parts.Parts.{TellsOr}
 use Rattle.boot_run.specs.Views.{told_by}
 use Rattle.boot_run.proofs.booting.say_entry.Goals as goal
 

@@ -3,7 +3,7 @@ use Rattle.std.specs.Prelude.{IsErrOf}
 use Rattle.hive_model.specs.Image.{Image}
 use Rattle.hive_model.specs.Load.{Loads}
 use Rattle.nt_edge.specs.Disk.{DiskState}
-use Rattle.run_parts.specs.Parts.{IsMarked}
+use Rattle.run_parts.specs.run_parts.Parts.{IsMarked}
 use Rattle.hive_log.specs.declared.stops.LoadStop.{LoadStop}
 use Rattle.hive_log.specs.declared.stops.LoadStop.TheVariants as stops
 use Rattle.hive_store.specs.Loading.{StopsFrom}

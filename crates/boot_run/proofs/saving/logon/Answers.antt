@@ -1,6 +1,6 @@
 use Rattle.std.proofs.Common.{◌∙◌, refl, sym, ap, rules}
 use Rattle.start_model.specs.Act.{done}
-use Rattle.boot_machine.specs.Steps.{on_start}
+use Rattle.boot_machine.specs.boot_machine.Steps.{on_start}
 use Rattle.boot_run.proofs.PlayLemmas.{plays-as, plays-left, plays-line, rests-front, stays_done, turns}
 use Rattle.boot_run.proofs.SaveLemmas.{live_machine}
 use Rattle.boot_run.proofs.DueLemmas.{due_may, logged, logged_on, logged_state, logon_is, done_left, start_by}

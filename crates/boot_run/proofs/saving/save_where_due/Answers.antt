@@ -2,7 +2,7 @@ use Rattle.std.proofs.Common.{◌≡◌, ◌∙◌, false, sym, refl, ap, Option
 use Rattle.std.specs.Prelude.{option_and_then}
 use Rattle.std.specs.Option.{option_map_or}
 use Rattle.start_model.specs.Machine.{MachineState, Start, save_due}
-use Rattle.boot_machine.specs.Steps.{on_start}
+use Rattle.boot_machine.specs.boot_machine.Steps.{on_start}
 use Rattle.start_model.specs.Act.{RunState}
 use Rattle.boot_run.specs.Agrees.{IsSound, Counts}
 use Rattle.boot_run.proofs.PlayLemmas.{plays-as, plays-here, on_left}

@@ -1,6 +1,6 @@
 use Rattle.std.proofs.Common.{◌∙◌, ap, sym}
 use Rattle.start_model.specs.Starter.{good_is_usable, starter_step}
-use Rattle.boot_machine.specs.Steps.{is_at_end}
+use Rattle.boot_machine.specs.boot_machine.Steps.{is_at_end}
 use Rattle.boot_run.specs.Starts.{is_under_way}
 use Rattle.boot_run.proofs.PlayLemmas.{plays-as, counted}
 use Rattle.boot_run.proofs.StepLemmas.{steps, attempt_none}

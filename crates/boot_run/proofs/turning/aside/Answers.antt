@@ -1,5 +1,5 @@
 use Rattle.std.proofs.Common.{refl}
-use Rattle.boot_machine.specs.Views.{event_in}
+use Rattle.boot_machine.specs.boot_machine.Views.{event_in}
 use Rattle.start_model.specs.Events.{Fail, Vital}
 use Rattle.boot_run.proofs.TurnLemmas.{aside_goes, aside_breaks, other_does_nothing}
 use Rattle.boot_run.proofs.turning.aside.Goals as goal

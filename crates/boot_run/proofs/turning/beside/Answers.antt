@@ -1,5 +1,5 @@
 use Rattle.std.proofs.Common.{refl}
-use Rattle.boot_machine.specs.Views.{event_in}
+use Rattle.boot_machine.specs.boot_machine.Views.{event_in}
 use Rattle.boot_run.specs.Views.{told_in}
 use Rattle.boot_run.proofs.HostLemmas.{still-host}
 use Rattle.boot_run.proofs.PlayLemmas.{agrees_left}

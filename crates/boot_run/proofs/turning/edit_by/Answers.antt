@@ -2,7 +2,7 @@ use Rattle.std.proofs.Common.{◌≡◌, ℕ, [], ◌∷◌, refl, sym, ap, ◌�
 use Rattle.std.specs.Prelude.{Option}
 use Rattle.hive_model.specs.Edit.{edited}
 use Rattle.reg_tree.specs.Makes.{step_of}
-use Rattle.boot_machine.specs.Views.{event_in}
+use Rattle.boot_machine.specs.boot_machine.Views.{event_in}
 use Rattle.start_model.specs.Events as book
 use Rattle.start_model.specs.Act.{RunState}
 use Rattle.start_model.specs.Boot.{Choice}

@@ -1,5 +1,5 @@
 use Rattle.std.proofs.Common.{◌≡◌, Option, Some, refl, sym, ap, ◌∙◌, rules}
-use Rattle.boot_machine.specs.Views.{event_in}
+use Rattle.boot_machine.specs.boot_machine.Views.{event_in}
 use Rattle.start_model.specs.EventActs.{accepted_act}
 use Rattle.start_model.specs.Machine as machine
 use Rattle.start_model.specs.Act.{RunState}

@@ -1,6 +1,6 @@
 use Rattle.std.proofs.Common.{ap, sym, subst}
 use Rattle.std.specs.Prelude.{IfOk}
-use Rattle.boot_machine.specs.Views.{event_in}
+use Rattle.boot_machine.specs.boot_machine.Views.{event_in}
 use Rattle.start_model.specs.Events.{Event}
 use Rattle.boot_run.specs.Begins.{IsStepOf}
 use Rattle.boot_run.proofs.turning.step_in.Goals as goal

@@ -1,5 +1,5 @@
 use Rattle.std.proofs.Common.{refl, rules}
-use Rattle.boot_machine.specs.Views.{event_in, word_of_refusal}
+use Rattle.boot_machine.specs.boot_machine.Views.{event_in, word_of_refusal}
 use Rattle.boot_run.specs.Choices.{choices}
 use Rattle.boot_run.proofs.PlayLemmas.{plays-as, plays-line, plays-front, plays-here, here_turn, agrees_left, turns}
 use Rattle.boot_run.proofs.TurnLemmas.{event_accepted, event_refused}

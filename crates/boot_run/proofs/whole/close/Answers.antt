@@ -1,7 +1,7 @@
 use Rattle.std.proofs.Common.{◌∙◌, sym, refl}
 use Rattle.report_words.specs.declared.line.Line.TheVariants as lines
 use Rattle.start_model.specs.Act.{done, say}
-use Rattle.printed_parts.proofs.GoesLemmas.{idle}
+use Rattle.run_parts.proofs.GoesLemmas.{idle}
 use Rattle.boot_run.proofs.PlayLemmas.{plays-as, plays-err, plays-on, plays-said}
 use Rattle.boot_run.proofs.whole.close.Goals as goal
 

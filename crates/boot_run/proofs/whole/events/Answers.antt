@@ -2,8 +2,8 @@ use Rattle.std.proofs.Common.{◌≡◌, ◌∙◌, true, ◌∷◌, map, length
 use Rattle.std.specs.Prelude.{Result, Err}
 use Rattle.std.proofs.lemmas.List.Elements.{All-take, All-drop}
 use Rattle.nt_edge.specs.Crash.{EachCrash}
-use Rattle.boot_machine.specs.Views.{event_in}
-use Rattle.boot_script.specs.Script.{HasCounts}
+use Rattle.boot_machine.specs.boot_machine.Views.{event_in}
+use Rattle.boot_script.specs.boot_script.Script.{HasCounts}
 use Rattle.start_model.specs.Act.{RunState}
 use Rattle.start_model.specs.Fits.{MayLoad}
 use Rattle.start_model.specs.Run.{run_from}

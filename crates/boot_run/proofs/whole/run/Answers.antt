@@ -1,6 +1,6 @@
 use Rattle.std.proofs.Common.{map, sym, refl}
 use Rattle.start_model.specs.Run.{first_state}
-use Rattle.boot_machine.specs.Views.{event_in}
+use Rattle.boot_machine.specs.boot_machine.Views.{event_in}
 use Rattle.boot_run.specs.Choices.{choices}
 use Rattle.boot_run.proofs.RunLemmas.{placed_loads, whole_report, whole_front}
 use Rattle.boot_run.proofs.whole.run.Goals as goal

@@ -1,6 +1,6 @@
 use Rattle.std.proofs.Common.{◌∙◌, sym, refl, ap}
-use Rattle.boot_machine.specs.Steps.{is_there}
-use Rattle.printed_parts.proofs.GoesLemmas.{idle}
+use Rattle.boot_machine.specs.boot_machine.Steps.{is_there}
+use Rattle.run_parts.proofs.GoesLemmas.{idle}
 use Rattle.boot_run.proofs.PlayLemmas.{plays-as, plays-said, plays-here, counted}
 use Rattle.boot_run.proofs.CloseLemmas.{ending, word_at}
 use Rattle.boot_run.proofs.RunLemmas.{verdict_on, verdict_off}

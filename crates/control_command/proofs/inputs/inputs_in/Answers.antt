@@ -1,5 +1,5 @@
 use Rattle.command_words.specs.Views.{control_seen}
-use Rattle.input_search.proofs.SearchLemmas.{then, stops, reads_so, finds_so, file_so, hive_so, asks_of}
+use Rattle.command_parts.proofs.SearchLemmas.{then, stops, reads_so, finds_so, file_so, hive_so, asks_of}
 use Rattle.control_command.specs.Inputs.{control_search}
 use Rattle.control_command.proofs.inputs.inputs_in.Goals as goal
 

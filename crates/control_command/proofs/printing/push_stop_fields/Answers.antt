@@ -1,6 +1,6 @@
 use Rattle.std.specs.Prelude.{[], ◌∷◌, codes}
 use Rattle.std.proofs.Common.{refl}
-use Rattle.line_text.specs.Objects.{Text}
+use Rattle.report_text.specs.line_text.Objects.{Text}
 use Rattle.control_command.proofs.ReportLemmas.{fields_on}
 use Rattle.control_command.proofs.printing.push_stop_fields.Goals as goal
 

@@ -1,7 +1,7 @@
 use Rattle.std.proofs.Common.{◌≡◌, ◌+◌, ◌≤◌, length}
 use Rattle.std.specs.Str.Lines.{lines}
 use Rattle.control_command.specs.Commands.{commands_from}
-use Rattle.boot_script.specs.Script.{put_before}
+use Rattle.boot_script.specs.boot_script.Script.{put_before}
 use Rattle.control_command.proofs.reading.commands.Given as goal
 
 abbrev pub invariant-loop-rest : goal.invariant-loop-rest

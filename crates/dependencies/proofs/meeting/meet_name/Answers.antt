@@ -3,7 +3,7 @@ use Rattle.std.specs.Prelude.{slice_get}
 use Rattle.std.specs.List.{list_any}
 use Rattle.std.specs.Option.{option_map_or}
 use Rattle.start_model.specs.Demand.{member}
-use Rattle.name_places.specs.Places.{places_named}
+use Rattle.nt_names.specs.name_places.Places.{places_named}
 use Rattle.dependencies.proofs.MeetLemmas.{places_below, spared, is_place_named}
 use Rattle.dependencies.proofs.meeting.meet_name.Goals as goal
 

@@ -1,5 +1,5 @@
 use Rattle.std.proofs.Common.{◌≡◌, true, arith, rules, sym, ◌∙◌}
-use Rattle.boot_machine.specs.Steps.{is_at_end}
+use Rattle.boot_machine.specs.boot_machine.Steps.{is_at_end}
 use Rattle.failure_effects.proofs.PlayLemmas.{one_tried, all_tried}
 use Rattle.failure_effects.proofs.course.attempt_all.Goals as goal
 

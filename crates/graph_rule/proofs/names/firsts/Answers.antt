@@ -1,7 +1,7 @@
 use Rattle.std.proofs.Common.{ℕ, Bool, List, [], ◌∷◌, ◌++◌, cond, take, sym, ap, ◌∙◌}
 use Rattle.std.proofs.lemmas.List.{append-nil}
 use Rattle.start_model.specs.Order.{first_names}
-use Rattle.group_order.proofs.NameLemmas.{next_name}
+use Rattle.boot_phases.proofs.NameLemmas.{next_name}
 use Rattle.graph_rule.proofs.names.firsts.Goals as goal
 use Rattle.graph_rule.proofs.names.firsts.Goals.{then-is_first+in_ok-copy+in_ok-push, else-is_first}
 

@@ -1,5 +1,5 @@
 use Rattle.std.proofs.Common.{◌≡◌, take}
-use Rattle.why_state.specs.Views.{names_of}
+use Rattle.why_needs.specs.why_state.Views.{names_of}
 use Rattle.graph_rule.proofs.names.names_of.Given as goal
 
 abbrev pub invariant-loop-entry : goal.invariant-loop-entry

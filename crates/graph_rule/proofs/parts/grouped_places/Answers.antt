@@ -1,4 +1,4 @@
-use Rattle.why_state.proofs.RangeLemmas.{gathered_more}
+use Rattle.why_needs.proofs.RangeLemmas.{gathered_more}
 use Rattle.graph_rule.specs.Rows.{grouped_at}
 use Rattle.graph_rule.proofs.parts.grouped_places.Goals as goal
 

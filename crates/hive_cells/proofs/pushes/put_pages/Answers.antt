@@ -1,6 +1,6 @@
 use Rattle.std.proofs.Common.{◌≡◌, ◌*◌, length, drop, ap, ◌∙◌, arith}
-use Rattle.saved_pages.specs.Overlay.{before}
-use Rattle.saved_pages.proofs.OverlayLemmas.{all_of, before_front}
+use Rattle.cell_tables.specs.saved_pages.Overlay.{before}
+use Rattle.cell_tables.proofs.OverlayLemmas.{all_of, before_front}
 use Rattle.hive_cells.proofs.pushes.put_pages.Goals as goal
 
 pub returns-clause-exact : goal.returns-clause-exact

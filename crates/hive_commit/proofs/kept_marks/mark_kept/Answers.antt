@@ -2,7 +2,7 @@ use Rattle.std.proofs.Common.{arith, length, ◌/◌}
 use Rattle.hive_model.specs.Log.{dirty}
 use Rattle.hive_log.proofs.Appending.{sized}
 use Rattle.hive_log.proofs.Dirty.{bits_there}
-use Rattle.saved_pages.specs.Overlay.{before}
+use Rattle.cell_tables.specs.saved_pages.Overlay.{before}
 use Rattle.hive_commit.proofs.kept_marks.mark_kept.Goals as goal
 
 pub returns : goal.returns

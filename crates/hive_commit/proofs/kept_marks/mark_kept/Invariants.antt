@@ -1,6 +1,6 @@
 use Rattle.std.proofs.Common.{◌≡◌, ℕ, ◌<◌, ◌*◌, length, get_or}
 use Rattle.hive_model.specs.Log.{byte_of, dirty}
-use Rattle.saved_pages.specs.Overlay.{before}
+use Rattle.cell_tables.specs.saved_pages.Overlay.{before}
 use Rattle.hive_commit.proofs.kept_marks.mark_kept.Given as goal
 
 abbrev pub invariant-loop-k : goal.invariant-loop-k

@@ -1,4 +1,4 @@
-use Rattle.saved_pages.specs.Overlay.{before}
+use Rattle.cell_tables.specs.saved_pages.Overlay.{before}
 use Rattle.hive_commit.proofs.paged.commit_kept.Goals as goal
 
 pub write_change-requires-clause-change : goal.write_change-requires-clause-change

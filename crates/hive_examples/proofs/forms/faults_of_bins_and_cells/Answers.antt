@@ -1,6 +1,6 @@
 use Rattle.std.proofs.Common.{refl}
 use Rattle.hive_model.specs.Bins.{header_at, size_at}
-use Rattle.hive_laws.specs.Samples.{root_alone}
+use Rattle.hive_laws.specs.hive_laws.Samples.{root_alone}
 use Rattle.hive_examples.proofs.forms.faults_of_bins_and_cells.Goals as goal
 
 pub returns-clause-sound : goal.returns-clause-sound

@@ -3,7 +3,7 @@ use Rattle.nt_bytes.specs.declared.fault.HiveFaultKind.TheVariants.{BinOffset, B
 use Rattle.hive_model.specs.Base.{mixed_words, head_text, summed_text, base_text, base_of, fields_of}
 use Rattle.hive_model.specs.Recovery.{sector, recovered_of}
 use Rattle.hive_model.specs.Bins.{cell_bytes, head_bytes, header_at, size_at}
-use Rattle.hive_laws.specs.Samples.{file_of}
+use Rattle.hive_laws.specs.hive_laws.Samples.{file_of}
 use Rattle.hive_examples.specs.OneDriver.{driver_words, driver_bin, driver_with}
 use Rattle.hive_examples.proofs.Faults.{header_fault, cell_fault}
 use Rattle.hive_examples.proofs.loads.bins_of_one_driver.Goals as goal

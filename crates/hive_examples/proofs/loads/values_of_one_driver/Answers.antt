@@ -10,7 +10,7 @@ use Rattle.hive_model.specs.Security.{security_at}
 use Rattle.hive_model.specs.Lists.{offsets_in, list_of, list_at}
 use Rattle.hive_model.specs.Bins.{cell_bytes, head_bytes}
 use Rattle.hive_model.specs.Walk.{node_at, leaf_at, entries_at, all_checks, key_checks, class_checks, security_checks, data_checks, value_checks, values_checks, entries_checks, children_checks}
-use Rattle.hive_laws.specs.Samples.{file_of}
+use Rattle.hive_laws.specs.hive_laws.Samples.{file_of}
 use Rattle.hive_examples.specs.OneDriver.{driver_words, driver_bin, driver_with}
 use Rattle.hive_examples.proofs.Driver.{is_cell, cells_in}
 use Rattle.hive_examples.proofs.Faults.{walk_fault}

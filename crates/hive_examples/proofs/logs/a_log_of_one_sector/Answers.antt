@@ -2,7 +2,7 @@ use Rattle.std.proofs.Common.{refl}
 use Rattle.hive_model.specs.Base.{mixed_words, head_text, summed_text, base_text, base_of, fields_of}
 use Rattle.hive_model.specs.Log.{bitmap_text, log_of}
 use Rattle.hive_model.specs.Recovery.{sector}
-use Rattle.hive_laws.specs.Samples.{before, after}
+use Rattle.hive_laws.specs.hive_laws.Samples.{before, after}
 use Rattle.hive_examples.proofs.logs.a_log_of_one_sector.Goals as goal
 
 pub returns-clause-bits : goal.returns-clause-bits

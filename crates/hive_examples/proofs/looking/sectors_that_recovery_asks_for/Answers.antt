@@ -3,7 +3,7 @@ use Rattle.hive_model.specs.Base.{mixed_words, head_text, summed_text, base_text
 use Rattle.hive_model.specs.Log.{bitmap_text, log_of}
 use Rattle.hive_model.specs.Recovery.{sector, bit}
 use Rattle.hive_model.specs.Asked.{asked_of}
-use Rattle.hive_laws.specs.Samples.{before, after, file_of}
+use Rattle.hive_laws.specs.hive_laws.Samples.{before, after, file_of}
 use Rattle.hive_examples.specs.OneDriver.{driver_words, driver_bin, driver_with}
 use Rattle.hive_examples.proofs.looking.sectors_that_recovery_asks_for.Goals as goal
 

@@ -6,7 +6,7 @@ use Rattle.hive_model.specs.Security.{security_text}
 use Rattle.hive_model.specs.Lists.{lf_text, lh_text, ri_text}
 use Rattle.hive_model.specs.Packed.{filled, cell_text, item_cells, items_cells, class_cells, security_cells, head_cells, list_cells, packed_bins, packed}
 use Rattle.hive_model.specs.Bins.{cell_bytes, head_bytes}
-use Rattle.hive_laws.specs.Samples.{root_alone}
+use Rattle.hive_laws.specs.hive_laws.Samples.{root_alone}
 use Rattle.hive_examples.specs.OneDriver.{driver_words, driver_bin}
 use Rattle.hive_examples.proofs.packing.one_driver_is_packed.Goals as goal
 

@@ -2,7 +2,7 @@ use Rattle.std.proofs.Common.{refl}
 use Rattle.hive_model.specs.Base.{mixed_words, head_text, summed_text, base_text, base_of, fields_of}
 use Rattle.hive_model.specs.Log.{bitmap_text, log_of}
 use Rattle.hive_model.specs.Recovery.{sector, bit, recovered_of}
-use Rattle.hive_laws.specs.Samples.{before, after, file_of}
+use Rattle.hive_laws.specs.hive_laws.Samples.{before, after, file_of}
 use Rattle.hive_examples.proofs.recovery.faults_of_a_log.Goals as goal
 
 pub returns-clause-absent : goal.returns-clause-absent

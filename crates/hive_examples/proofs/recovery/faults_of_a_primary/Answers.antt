@@ -1,7 +1,7 @@
 use Rattle.std.proofs.Common.{refl}
 use Rattle.hive_model.specs.Base.{mixed_words, head_text, summed_text, base_text, base_of, fields_of}
 use Rattle.hive_model.specs.Recovery.{sector, bit, recovered_of}
-use Rattle.hive_laws.specs.Samples.{before, file_of}
+use Rattle.hive_laws.specs.hive_laws.Samples.{before, file_of}
 use Rattle.hive_examples.proofs.recovery.faults_of_a_primary.Goals as goal
 
 pub returns-clause-empty : goal.returns-clause-empty

@@ -1,5 +1,5 @@
 use Rattle.std.specs.Prelude.{codes}
-use Rattle.line_text.specs.Objects.{Text}
+use Rattle.report_text.specs.line_text.Objects.{Text}
 use Rattle.key_text.specs.Stamps.{stamp_text}
 use Rattle.key_text.proofs.ObjectLemmas.{object_of_one}
 use Rattle.key_text.proofs.line.push_stamp_object.Goals as goal

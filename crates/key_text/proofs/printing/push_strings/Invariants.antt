@@ -1,7 +1,7 @@
 use Rattle.std.proofs.Common.{◌≡◌, ◌++◌, take}
 use Rattle.std.specs.Prelude.{codes}
 use Rattle.std.specs.List.{flat_map}
-use Rattle.line_text.specs.Quoted.{quoted}
+use Rattle.report_text.specs.line_text.Quoted.{quoted}
 use Rattle.key_text.proofs.printing.push_strings.Given as goal
 
 abbrev pub invariant-loop-string : goal.invariant-loop-string

@@ -1,5 +1,5 @@
 use Rattle.std.proofs.Common.{◌≡◌, ◌++◌, List, ℕ, [], ◌∷◌, take, true, IfOk, sym, ap, ◌∙◌, subst}
-use Rattle.log_parts.specs.Filled.{filled}
+use Rattle.windows_logs.specs.log_parts.Filled.{filled}
 use Rattle.hive_model.specs.Base.{Base}
 use Rattle.log_replay.specs.declared.line.ReplayLine.{ReplayLine}
 use Rattle.log_replay.specs.declared.line.ReplayLine.TheVariants.{Sequence}

@@ -1,5 +1,5 @@
 use Rattle.std.proofs.Common.{◌≡◌, List, ℕ, length, take, sym, ap, ◌∙◌, subst}
-use Rattle.log_parts.specs.Filled.{filled}
+use Rattle.windows_logs.specs.log_parts.Filled.{filled}
 use Rattle.log_replay.specs.Replay.{hive_base_of, replayed_as, replay_of}
 use Rattle.log_replay.specs.Stops.{ReadsAs}
 use Rattle.log_replay.proofs.Ending.{cut_filled}

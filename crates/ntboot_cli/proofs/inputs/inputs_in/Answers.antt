@@ -1,5 +1,5 @@
 use Rattle.command_words.specs.Views.{run_seen}
-use Rattle.input_search.proofs.SearchLemmas.{then, stops, reads_so, finds_so, file_so, asks_of}
+use Rattle.command_parts.proofs.SearchLemmas.{then, stops, reads_so, finds_so, file_so, asks_of}
 use Rattle.ntboot_cli.specs.Inputs.{run_search}
 use Rattle.ntboot_cli.proofs.inputs.inputs_in.Goals as goal
 

@@ -1,5 +1,5 @@
 use Rattle.std.proofs.Common.{◌∙◌, ap}
-use Rattle.command_parts.specs.Leaves.{more}
+use Rattle.command_parts.specs.command_parts.Leaves.{more}
 use Rattle.ntboot_cli.proofs.laws.a_run_places_and_takes_the_named_files.Goals as goal
 
 pub returns-clause-placed : goal.returns-clause-placed

@@ -1,9 +1,9 @@
 use Rattle.std.proofs.Common.{ap, sym, subst, ◌∙◌}
 use Rattle.std.specs.Prelude.{Err}
 use Rattle.command_words.specs.Views.{make_seen}
-use Rattle.command_parts.specs.declared.refusal.Obstacle.{Obstacle}
-use Rattle.command_parts.specs.declared.status.Status.{Status}
-use Rattle.command_parts.specs.Leaves.{Reads, stopped_as}
+use Rattle.command_parts.specs.declared.command_parts.refusal.Obstacle.{Obstacle}
+use Rattle.command_parts.specs.declared.command_parts.status.Status.{Status}
+use Rattle.command_parts.specs.command_parts.Leaves.{Reads, stopped_as}
 use Rattle.ntboot_cli.specs.Answer.{MakesAlone}
 use Rattle.ntboot_cli.specs.Made.{usual_in}
 use Rattle.ntboot_cli.proofs.UsualLemmas.{never_refused, unread_usual}

@@ -1,6 +1,6 @@
 use Rattle.std.specs.Prelude.{[], ◌∷◌, codes}
-use Rattle.line_text.specs.Objects.{Number}
-use Rattle.line_objects.proofs.ObjectLemmas.{fields_then}
+use Rattle.report_text.specs.line_text.Objects.{Number}
+use Rattle.report_text.proofs.ObjectLemmas.{fields_then}
 use Rattle.ntboot_cli.proofs.making.push_counts.Goals as goal
 
 pub returns : goal.returns

@@ -1,6 +1,6 @@
 use Rattle.std.specs.Prelude.{codes}
 use Rattle.boot_run.specs.Views.{summary_in}
-use Rattle.line_objects.proofs.ObjectLemmas.{object_parts}
+use Rattle.report_text.proofs.ObjectLemmas.{object_parts}
 use Rattle.ntboot_cli.specs.Made.{summary_fields}
 use Rattle.ntboot_cli.proofs.making.push_summary.Goals as goal
 

@@ -1,4 +1,4 @@
-use Rattle.command_parts.specs.Placed.{image_in}
+use Rattle.command_parts.specs.command_parts.Placed.{image_in}
 use Rattle.ntboot_cli.proofs.RunLemmas.{checked}
 use Rattle.ntboot_cli.proofs.running.check.Goals as goal
 

@@ -1,6 +1,6 @@
 use Rattle.std.proofs.Common.{ap, sym}
-use Rattle.command_parts.specs.declared.status.Status.TheVariants as statuses
-use Rattle.command_parts.specs.Views.{saves_seen}
+use Rattle.command_parts.specs.declared.command_parts.status.Status.TheVariants as statuses
+use Rattle.command_parts.specs.command_parts.Views.{saves_seen}
 use Rattle.ntboot_cli.proofs.RunLemmas.{saved_decides, stopped_run, stop_status}
 use Rattle.ntboot_cli.proofs.running.play.Goals as goal
 

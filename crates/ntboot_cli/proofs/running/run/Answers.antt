@@ -1,9 +1,9 @@
 use Rattle.std.proofs.Common.{ap, subst, ◌∙◌}
 use Rattle.std.specs.Prelude.{Err}
 use Rattle.command_words.specs.Views.{run_seen}
-use Rattle.command_parts.specs.declared.refusal.Obstacle.{Obstacle}
+use Rattle.command_parts.specs.declared.command_parts.refusal.Obstacle.{Obstacle}
 use Rattle.ntboot_cli.specs.Inputs.{inputs_in}
-use Rattle.command_parts.specs.Leaves.{Looks, stopped_as}
+use Rattle.command_parts.specs.command_parts.Leaves.{Looks, stopped_as}
 use Rattle.ntboot_cli.proofs.RunLemmas.{unread_run}
 use Rattle.ntboot_cli.proofs.running.run.Goals as goal
 

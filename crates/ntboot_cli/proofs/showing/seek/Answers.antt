@@ -1,5 +1,5 @@
 use Rattle.std.proofs.Common.{ap}
-use Rattle.command_parts.specs.Inputs.{hive_in}
+use Rattle.command_parts.specs.command_parts.Inputs.{hive_in}
 use Rattle.command_parts.proofs.SeekLemmas.{seeks_after}
 use Rattle.command_words.specs.Views.{show_seen}
 use Rattle.ntboot_cli.specs.Answer.{shown_by, shown_on}

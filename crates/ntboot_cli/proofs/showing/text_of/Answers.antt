@@ -1,6 +1,6 @@
 use Rattle.std.proofs.Common.{ap, ◌∙◌, List, ℕ}
-use Rattle.command_parts.specs.declared.status.Status.TheVariants as statuses
-use Rattle.command_parts.specs.Placed.{image_in}
+use Rattle.command_parts.specs.declared.command_parts.status.Status.TheVariants as statuses
+use Rattle.command_parts.specs.command_parts.Placed.{image_in}
 use Rattle.command_parts.proofs.SeekLemmas.{told_at}
 use Rattle.tree_text.specs.TreeObjects.{shown_in}
 use Rattle.ntboot_cli.specs.Answer.{shown}

@@ -3,10 +3,10 @@ use Rattle.command_words.specs.Views.{command_seen, export_seen, replay_seen, sa
 use Rattle.command_words.specs.Words.{asks}
 use Rattle.command_words.specs.Reading.{reading_of}
 use Rattle.command_words.specs.declared.asked.Command.{Command}
-use Rattle.line_text.specs.declared.form.ReportForm.{ReportForm}
-use Rattle.command_parts.specs.Reporting.{DecidesReport}
-use Rattle.replay_command.specs.Answer.{report_in}
-use Rattle.salvage_command.specs.Answer.{report_in as salvage_report_in}
+use Rattle.report_text.specs.declared.line_text.form.ReportForm.{ReportForm}
+use Rattle.command_parts.specs.command_parts.Reporting.{DecidesReport}
+use Rattle.repair_commands.specs.replay_command.Answer.{report_in}
+use Rattle.repair_commands.specs.salvage_command.Answer.{report_in as salvage_report_in}
 use Rattle.text_commands.specs.Exported.{DecidesExport}
 use Rattle.ntboot_cli.proofs.CountedLemmas.{counted}
 use Rattle.ntboot_cli.proofs.TopLemmas.{by_export, by_replay, by_salvage}

@@ -1,6 +1,6 @@
 use Rattle.std.proofs.Common.{◌∙◌}
 use Rattle.reg_tree.proofs.Outcomes.{on_ok}
-use Rattle.boot_phases.specs.Phases.{phase_in}
+use Rattle.boot_phases.specs.boot_phases.Phases.{phase_in}
 use Rattle.quiet_run.specs.Play.{watched_in}
 use Rattle.quiet_run.proofs.CaseLemmas.{noted_by}
 use Rattle.quiet_run.proofs.starter.note.Goals as goal

@@ -1,4 +1,4 @@
-use Rattle.boot_machine.specs.Views.{tried_in}
+use Rattle.boot_machine.specs.boot_machine.Views.{tried_in}
 use Rattle.quiet_run.specs.Play.{state_in, watched_in}
 use Rattle.quiet_run.proofs.TryLemmas.{tried_so, attempt_sound}
 use Rattle.quiet_run.proofs.starter.try_next.Goals as goal

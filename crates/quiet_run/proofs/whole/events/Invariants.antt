@@ -1,5 +1,5 @@
 use Rattle.std.proofs.Common.{◌≡◌, length, map}
-use Rattle.boot_machine.specs.Views.{event_in}
+use Rattle.boot_machine.specs.boot_machine.Views.{event_in}
 use Rattle.quiet_run.specs.Choices.{choices}
 use Rattle.quiet_run.specs.Play.{watched_in, IsSound}
 use Rattle.quiet_run.specs.Watch.{watched_from}

@@ -1,5 +1,5 @@
 use Rattle.std.proofs.Common.{◌≡◌, true, length, refl, arith, rules}
-use Rattle.boot_machine.specs.Steps.{is_at_end}
+use Rattle.boot_machine.specs.boot_machine.Steps.{is_at_end}
 use Rattle.safe_boot.specs.Played.{attempts_of}
 use Rattle.safe_boot.proofs.PlayLemmas.{one_tried, all_tried}
 use Rattle.safe_boot.proofs.playing.attempt_all.Goals as goal

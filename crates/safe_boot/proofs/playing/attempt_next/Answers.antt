@@ -1,4 +1,4 @@
-use Rattle.boot_machine.specs.Views.{tried_in}
+use Rattle.boot_machine.specs.boot_machine.Views.{tried_in}
 use Rattle.safe_boot.proofs.PlayLemmas.{goes_on_by, fewer_by_push}
 use Rattle.safe_boot.proofs.playing.attempt_next.Goals as goal
 

@@ -1,8 +1,8 @@
 use Rattle.std.proofs.Common.{◌≡◌, ap}
 use Rattle.hive_model.specs.Tree.{Tree}
 use Rattle.start_model.specs.Machine.{MachineState}
-use Rattle.boot_machine.specs.Steps.{is_there}
-use Rattle.boot_phases.specs.Lists.{lists_of}
+use Rattle.boot_machine.specs.boot_machine.Steps.{is_there}
+use Rattle.boot_phases.specs.boot_phases.Lists.{lists_of}
 use Rattle.safe_boot.specs.Played.{IsAt, phase_played, course_begun}
 use Rattle.safe_boot.proofs.PlayLemmas.{begun_at, lines_by}
 use Rattle.safe_boot.proofs.playing.play_start.Goals as goal

@@ -1,5 +1,5 @@
 use Rattle.command_words.specs.Views.{safe_seen}
-use Rattle.input_search.proofs.SearchLemmas.{then, stops, reads_so, finds_so, asks_of}
+use Rattle.command_parts.proofs.SearchLemmas.{then, stops, reads_so, finds_so, asks_of}
 use Rattle.safe_command.specs.Inputs.{safe_search}
 use Rattle.safe_command.proofs.inputs.inputs_in.Goals as goal
 

@@ -1,6 +1,6 @@
 use Rattle.std.proofs.Common.{◌∙◌}
 use Rattle.report_words.specs.declared.line.Line.TheVariants.{Entry as EntryLine}
-use Rattle.boot_ini.specs.Choice.{path_at}
+use Rattle.boot_ini.specs.boot_ini.Choice.{path_at}
 use Rattle.safe_command.specs.Report.{verdict_lines}
 use Rattle.safe_command.proofs.TextLemmas.{two_parts}
 use Rattle.safe_command.proofs.report.other_text.Goals as goal

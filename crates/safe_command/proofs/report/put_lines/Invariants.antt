@@ -1,6 +1,6 @@
 use Rattle.std.proofs.Common.{◌≡◌, ◌++◌, map, take}
 use Rattle.safe_boot.specs.Lines.{line_of}
-use Rattle.line_objects.specs.Objects.{printed_lines}
+use Rattle.report_text.specs.line_objects.Objects.{printed_lines}
 use Rattle.safe_command.proofs.report.put_lines.Given as goal
 
 abbrev pub invariant-loop-line : goal.invariant-loop-line

@@ -1,4 +1,4 @@
-use Rattle.boot_ini.specs.declared.choosing.Chosen.TheVariants as chosen
+use Rattle.boot_ini.specs.declared.boot_ini.choosing.Chosen.TheVariants as chosen
 use Rattle.safe_command.proofs.ReportLemmas.{reports}
 use Rattle.safe_command.proofs.report.report_text.Goals as goal
 

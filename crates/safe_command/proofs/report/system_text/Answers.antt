@@ -1,7 +1,7 @@
 use Rattle.std.proofs.Common.{[], ◌∷◌, ◌++◌, ◌∙◌}
 use Rattle.report_words.specs.declared.line.Line.TheVariants.{Entry as EntryLine}
-use Rattle.boot_ini.specs.Choice.{path_at}
-use Rattle.line_objects.specs.Objects.{printed_lines}
+use Rattle.boot_ini.specs.boot_ini.Choice.{path_at}
+use Rattle.report_text.specs.line_objects.Objects.{printed_lines}
 use Rattle.safe_command.specs.Report.{mode_text, default_lines}
 use Rattle.safe_command.proofs.TextLemmas.{three_parts}
 use Rattle.safe_command.proofs.report.system_text.Goals as goal

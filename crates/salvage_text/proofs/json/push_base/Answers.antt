@@ -1,6 +1,6 @@
 use Rattle.std.proofs.Common.{ℕ, [], ◌++◌, ap, ◌∙◌}
 use Rattle.std.specs.Prelude.{codes}
-use Rattle.line_text.specs.Objects.{fields_text}
+use Rattle.report_text.specs.line_text.Objects.{fields_text}
 use Rattle.salvage_text.specs.Lines.{fault_fields}
 use Rattle.salvage_text.proofs.ObjectLemmas.{ended}
 use Rattle.salvage_text.proofs.json.push_base.Goals as goal

@@ -1,6 +1,6 @@
 use Rattle.std.proofs.Common.{ℕ, List, [], ◌∷◌, ◌++◌, sym, ap, ◌∙◌, append-nil}
 use Rattle.std.specs.Prelude.{codes}
-use Rattle.line_text.specs.Objects.{Text, field_text}
+use Rattle.report_text.specs.line_text.Objects.{Text, field_text}
 use Rattle.salvage_text.proofs.ObjectLemmas.{ended}
 use Rattle.salvage_text.proofs.json.push_refused.Goals as goal
 

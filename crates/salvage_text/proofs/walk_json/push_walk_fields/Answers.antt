@@ -1,6 +1,6 @@
 use Rattle.std.proofs.Common.{◌≡◌, ◌++◌, List, ℕ, sym, subst}
 use Rattle.std.specs.Prelude.{OnOk, codes}
-use Rattle.line_text.specs.Objects.{fields_text}
+use Rattle.report_text.specs.line_text.Objects.{fields_text}
 use Rattle.salvage_walk.specs.declared.lines.WalkLine.{WalkLine}
 use Rattle.salvage_text.specs.Lines.{numbered_fields, placed_fields, walk_fields}
 use Rattle.salvage_text.proofs.walk_json.push_walk_fields.Goals as goal

@@ -1,5 +1,5 @@
 use Rattle.std.proofs.Common.{◌≡◌, ◌++◌, take, map, filter}
-use Rattle.diff_lines.specs.declared.lines.DiffLine.TheVariants.{Lone}
+use Rattle.answer_lines.specs.declared.diff_lines.lines.DiffLine.TheVariants.{Lone}
 use Rattle.set_diff.specs.Listed.{lacks}
 use Rattle.set_diff.proofs.names.put_lone.Given as goal
 

@@ -1,5 +1,5 @@
 use Rattle.hive_commit.specs.Stages.{closed_of}
-use Rattle.sweep_text.specs.Stages.{commit_stages}
+use Rattle.sweep_text.specs.sweep_text.Stages.{commit_stages}
 use Rattle.sweep_laws.specs.Leaving.{IsRecoveredBy, LoadsBy, LoadsNoOther, commit_writes}
 use Rattle.sweep_laws.proofs.CutLemmas.{commit_leaves}
 use Rattle.sweep_laws.proofs.StageLemmas.{calls_along}

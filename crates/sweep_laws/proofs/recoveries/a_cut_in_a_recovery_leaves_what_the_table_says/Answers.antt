@@ -1,5 +1,5 @@
 use Rattle.hive_model.specs.Recovery.{bit}
-use Rattle.sweep_text.specs.Stages.{recovery_stages}
+use Rattle.sweep_text.specs.sweep_text.Stages.{recovery_stages}
 use Rattle.sweep_laws.specs.Leaving.{IsRecoveredBefore, LoadsBefore, recovery_writes}
 use Rattle.sweep_laws.proofs.RecoveryLemmas.{recovery_leaves}
 use Rattle.sweep_laws.proofs.StageLemmas.{calls_along}

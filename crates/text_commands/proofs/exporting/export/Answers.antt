@@ -1,11 +1,11 @@
 use Rattle.std.proofs.Common.{◌≡◌, sym, subst, rules, arith}
 use Rattle.std.specs.Prelude.{Err}
 use Rattle.command_words.specs.Views.{export_seen}
-use Rattle.command_parts.specs.declared.inputs.HiveFiles.{HiveFiles}
-use Rattle.command_parts.specs.declared.refusal.Obstacle.{Obstacle}
-use Rattle.command_parts.specs.Inputs.{hive_in}
-use Rattle.command_parts.specs.declared.status.Status.{Status}
-use Rattle.command_parts.specs.Leaves.{Looks, stopped_as}
+use Rattle.command_parts.specs.declared.command_parts.inputs.HiveFiles.{HiveFiles}
+use Rattle.command_parts.specs.declared.command_parts.refusal.Obstacle.{Obstacle}
+use Rattle.command_parts.specs.command_parts.Inputs.{hive_in}
+use Rattle.command_parts.specs.declared.command_parts.status.Status.{Status}
+use Rattle.command_parts.specs.command_parts.Leaves.{Looks, stopped_as}
 use Rattle.text_commands.specs.Exported.{DecidesExport}
 use Rattle.text_commands.proofs.ExportLemmas.{stopped_exports}
 use Rattle.text_commands.proofs.exporting.export.Goals as goal

@@ -1,4 +1,4 @@
-use Rattle.command_parts.specs.Placed.{image_in}
+use Rattle.command_parts.specs.command_parts.Placed.{image_in}
 use Rattle.text_commands.proofs.ExportLemmas.{exported_by_cells}
 use Rattle.text_commands.proofs.exporting.export_one.Goals as goal
 

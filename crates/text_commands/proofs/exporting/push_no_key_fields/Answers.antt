@@ -1,6 +1,6 @@
 use Rattle.std.specs.Prelude.{codes}
-use Rattle.line_text.specs.Objects.{Text}
-use Rattle.line_objects.proofs.ObjectLemmas.{fields_of_two}
+use Rattle.report_text.specs.line_text.Objects.{Text}
+use Rattle.report_text.proofs.ObjectLemmas.{fields_of_two}
 use Rattle.text_commands.proofs.exporting.push_no_key_fields.Goals as goal
 
 pub returns : goal.returns

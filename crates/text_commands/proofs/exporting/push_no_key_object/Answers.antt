@@ -1,5 +1,5 @@
 use Rattle.std.specs.Prelude.{codes}
-use Rattle.line_objects.proofs.ObjectLemmas.{object_parts}
+use Rattle.report_text.proofs.ObjectLemmas.{object_parts}
 use Rattle.text_commands.specs.Exported.{no_key_fields}
 use Rattle.text_commands.proofs.exporting.push_no_key_object.Goals as goal
 

@@ -1,4 +1,4 @@
-use Rattle.command_parts.specs.Placed.{image_in}
+use Rattle.command_parts.specs.command_parts.Placed.{image_in}
 use Rattle.text_commands.proofs.ImportLemmas.{checked}
 use Rattle.text_commands.proofs.importing.check.Goals as goal
 

@@ -1,11 +1,11 @@
 use Rattle.std.proofs.Common.{ℕ, List, ap, subst, ◌∙◌}
 use Rattle.std.specs.Prelude.{Err}
-use Rattle.command_parts.specs.declared.refusal.Refusal.{Refusal}
-use Rattle.command_parts.specs.declared.refusal.Obstacle.{Obstacle}
-use Rattle.command_parts.specs.declared.refusal.Obstacle.TheVariants.{Refused}
-use Rattle.command_parts.specs.Inputs.{file_in}
-use Rattle.command_parts.specs.Leaves.{Looks}
-use Rattle.command_parts.specs.Views.{saves_seen}
+use Rattle.command_parts.specs.declared.command_parts.refusal.Refusal.{Refusal}
+use Rattle.command_parts.specs.declared.command_parts.refusal.Obstacle.{Obstacle}
+use Rattle.command_parts.specs.declared.command_parts.refusal.Obstacle.TheVariants.{Refused}
+use Rattle.command_parts.specs.command_parts.Inputs.{file_in}
+use Rattle.command_parts.specs.command_parts.Leaves.{Looks}
+use Rattle.command_parts.specs.command_parts.Views.{saves_seen}
 use Rattle.text_commands.proofs.ImportLemmas.{found_file, absent_file}
 use Rattle.text_commands.proofs.importing.import_file.Goals as goal
 

@@ -1,6 +1,6 @@
 use Rattle.std.proofs.Common.{map, ◌∙◌}
 use Rattle.reg_tree.specs.Makes.{step_of}
-use Rattle.command_parts.specs.Views.{saves_seen}
+use Rattle.command_parts.specs.command_parts.Views.{saves_seen}
 use Rattle.text_commands.proofs.ImportLemmas.{finished_imports}
 use Rattle.text_commands.proofs.importing.import_steps.Goals as goal
 

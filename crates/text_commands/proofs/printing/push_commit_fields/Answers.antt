@@ -1,5 +1,5 @@
 use Rattle.std.specs.Prelude.{codes}
-use Rattle.line_text.specs.Objects.{Text, field_text}
+use Rattle.report_text.specs.line_text.Objects.{Text, field_text}
 use Rattle.text_commands.proofs.LineLemmas.{two_fields}
 use Rattle.text_commands.proofs.printing.push_commit_fields.Goals as goal
 

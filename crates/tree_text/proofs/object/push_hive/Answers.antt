@@ -1,6 +1,6 @@
 use Rattle.std.specs.Prelude.{[], ◌∷◌, codes}
-use Rattle.line_text.specs.Objects.{Number}
-use Rattle.line_objects.proofs.ObjectLemmas.{object_parts}
+use Rattle.report_text.specs.line_text.Objects.{Number}
+use Rattle.report_text.proofs.ObjectLemmas.{object_parts}
 use Rattle.tree_text.proofs.object.push_hive.Goals as goal
 
 pub returns : goal.returns

@@ -1,5 +1,5 @@
 use Rattle.std.specs.Prelude.{codes}
-use Rattle.line_objects.proofs.ObjectLemmas.{object_parts}
+use Rattle.report_text.proofs.ObjectLemmas.{object_parts}
 use Rattle.tree_text.specs.TreeObjects.{value_fields}
 use Rattle.tree_text.proofs.object.push_value.Goals as goal
 

@@ -1,5 +1,5 @@
 use Rattle.std.specs.Prelude.{codes}
-use Rattle.line_objects.proofs.ObjectLemmas.{object_parts}
+use Rattle.report_text.proofs.ObjectLemmas.{object_parts}
 use Rattle.twin_command.specs.Told.{commit_fields}
 use Rattle.twin_command.proofs.report.push_commit_object.Goals as goal
 

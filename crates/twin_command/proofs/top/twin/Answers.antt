@@ -1,9 +1,9 @@
 use Rattle.std.proofs.Common.{ap, subst, ◌∙◌}
 use Rattle.std.specs.Prelude.{Err}
 use Rattle.command_words.specs.Views.{twin_seen}
-use Rattle.command_parts.specs.declared.refusal.Obstacle.{Obstacle}
-use Rattle.command_parts.specs.Inputs.{hive_in}
-use Rattle.command_parts.specs.Leaves.{Looks, stopped_as}
+use Rattle.command_parts.specs.declared.command_parts.refusal.Obstacle.{Obstacle}
+use Rattle.command_parts.specs.command_parts.Inputs.{hive_in}
+use Rattle.command_parts.specs.command_parts.Leaves.{Looks, stopped_as}
 use Rattle.twin_command.specs.Twinned.{stands_by, twin_saves}
 use Rattle.twin_command.proofs.TwinnedLemmas.{unread_twin}
 use Rattle.twin_command.proofs.top.twin.Goals as goal

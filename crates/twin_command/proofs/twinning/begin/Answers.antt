@@ -3,11 +3,11 @@ use Rattle.std.specs.Prelude.{Err}
 use Rattle.nt_bytes.specs.declared.fault.ReadStop.{ReadStop}
 use Rattle.hive_alt.specs.Plans.{ChecksFor}
 use Rattle.nt_bytes.specs.declared.fault.HiveFault.{HiveFault}
-use Rattle.command_parts.specs.declared.refusal.Refusal.TheVariants as refusals
-use Rattle.command_parts.specs.Leaves.{Leaves}
-use Rattle.command_parts.specs.Placed.{image_in}
-use Rattle.command_parts.specs.Refusals.{Ends, refusal}
-use Rattle.command_parts.specs.Views.{saves_seen}
+use Rattle.command_parts.specs.declared.command_parts.refusal.Refusal.TheVariants as refusals
+use Rattle.command_parts.specs.command_parts.Leaves.{Leaves}
+use Rattle.command_parts.specs.command_parts.Placed.{image_in}
+use Rattle.command_parts.specs.command_parts.Refusals.{Ends, refusal}
+use Rattle.command_parts.specs.command_parts.Views.{saves_seen}
 use Rattle.twin_command.proofs.TwinnedLemmas.{fault_twins, unchecked}
 use Rattle.twin_command.proofs.twinning.begin.Goals as goal
 

@@ -1,5 +1,5 @@
 use Rattle.std.proofs.Common.{◌∙◌, arith}
-use Rattle.command_parts.specs.Views.{saves_seen}
+use Rattle.command_parts.specs.command_parts.Views.{saves_seen}
 use Rattle.twin_command.proofs.TwinnedLemmas.{finished_twins, untold, part_of}
 use Rattle.twin_command.proofs.twinning.tell_and_save.Goals as goal
 

@@ -1,4 +1,4 @@
-use Rattle.command_parts.specs.Views.{saves_seen}
+use Rattle.command_parts.specs.command_parts.Views.{saves_seen}
 use Rattle.twin_command.proofs.TwinnedLemmas.{untold}
 use Rattle.twin_command.proofs.twinning.tell_change.Goals as goal
 

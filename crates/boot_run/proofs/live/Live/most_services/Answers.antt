@@ -2,7 +2,7 @@ use Rattle.std.proofs.Common.{ℕ, ◌≤◌, length, sym, subst, Option, arith}
 use Rattle.std.specs.Prelude.{IfSome}
 use Rattle.std.specs.Option.{unwrap_or}
 use Rattle.hive_store.specs.Session.{Session}
-use Rattle.boot_phases.specs.Lists.{Lists}
+use Rattle.boot_phases.specs.boot_phases.Lists.{Lists}
 use Rattle.start_model.specs.Entries.{services_of}
 use Rattle.start_model.specs.Sets.{set_of}
 use Rattle.start_model.specs.Starter.{no_set}

@@ -1,7 +1,7 @@
 use Rattle.std.proofs.Common.{◌∙◌, sym, subst, Option}
 use Rattle.std.specs.Prelude.{IfOk, IfSome}
 use Rattle.hive_store.specs.Session.{Session}
-use Rattle.boot_phases.specs.Lists.{Lists}
+use Rattle.boot_phases.specs.boot_phases.Lists.{Lists}
 use Rattle.boot_run.specs.Kept.{current_set, AreRead}
 use Rattle.boot_run.proofs.live.Live.take_lists.Goals as goal
 

@@ -9,9 +9,9 @@ use Rattle.hive_cells.proofs.FillLemmas.{Filling, filling, filled_whole, filled_
 use Rattle.hive_cells.proofs.Indexed.{indexed}
 use Rattle.std.specs.Int.{w32, to_le_bytes}
 use Rattle.hive_cells.proofs.KeptLemmas.{seen_long, base_seen}
-use Rattle.saved_pages.specs.Overlay.{before}
-use Rattle.saved_pages.proofs.OverlayLemmas.{before_written}
-use Rattle.saved_pages.proofs.CoveredLemmas.{covered_more}
+use Rattle.cell_tables.specs.saved_pages.Overlay.{before}
+use Rattle.cell_tables.proofs.OverlayLemmas.{before_written}
+use Rattle.cell_tables.proofs.CoveredLemmas.{covered_more}
 use Rattle.hive_cells.specs.Holes.{free_sizes}
 use Rattle.hive_cells.proofs.IndexLemmas.{IsGone, within_none, index_gone, index_moved, gone_alone, gone_moved}
 use Rattle.hive_cells.proofs.heap.CellHeap.fill.Goals as goal

@@ -7,8 +7,8 @@ use Rattle.hive_cells.proofs.FreeLemmas.{Here, here_is, Merged, merging, room_mo
 use Rattle.hive_cells.proofs.Indexed.{IsIndexed, indexed}
 use Rattle.std.specs.Int.{w32, to_le_bytes}
 use Rattle.hive_cells.proofs.KeptLemmas.{seen_long, base_seen}
-use Rattle.saved_pages.proofs.OverlayLemmas.{before_written}
-use Rattle.saved_pages.proofs.CoveredLemmas.{covered_more}
+use Rattle.cell_tables.proofs.OverlayLemmas.{before_written}
+use Rattle.cell_tables.proofs.CoveredLemmas.{covered_more}
 use Rattle.hive_cells.specs.Holes.{free_sizes}
 use Rattle.hive_cells.proofs.IndexLemmas.{IsGone, index_moved, gone_moved}
 use Rattle.hive_cells.proofs.heap.CellHeap.merge.Goals as goal

@@ -9,8 +9,8 @@ use Rattle.hive_cells.proofs.Indexed.{alone}
 use Rattle.hive_cells.proofs.FreeLemmas.{Here, here_is}
 use Rattle.hive_cells.proofs.PatchLemmas.{Patching, part_cell, patching}
 use Rattle.hive_cells.proofs.KeptLemmas.{seen_long, base_seen}
-use Rattle.saved_pages.proofs.OverlayLemmas.{before_written}
-use Rattle.saved_pages.proofs.CoveredLemmas.{covered_more}
+use Rattle.cell_tables.proofs.OverlayLemmas.{before_written}
+use Rattle.cell_tables.proofs.CoveredLemmas.{covered_more}
 use Rattle.hive_cells.proofs.heap.CellHeap.patch.Goals as goal
 use Rattle.hive_cells.proofs.heap.CellHeap.patch.Goals.{After-self, After-put}
 

@@ -3,7 +3,7 @@ use Rattle.hive_model.specs.Bins.{bins_size}
 use Rattle.hive_cells.specs.Holes.{new_bin_size}
 use Rattle.hive_cells.proofs.KeptLemmas.{lengths}
 use Rattle.hive_cells.proofs.RoomLemmas.{room_stays, room_grown}
-use Rattle.saved_pages.proofs.CoveredLemmas.{covered_more}
+use Rattle.cell_tables.proofs.CoveredLemmas.{covered_more}
 use Rattle.hive_cells.proofs.open.OpenHeap.grow.Goals as goal
 
 pub invariant_of-self : goal.invariant_of-self

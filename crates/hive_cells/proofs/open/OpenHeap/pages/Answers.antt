@@ -1,8 +1,8 @@
 use Rattle.std.proofs.Common.{length, subst, arith}
 use Rattle.hive_model.specs.Bins.{bins_size, spelled}
 use Rattle.hive_cells.specs.Opened.{Opened}
-use Rattle.saved_pages.specs.Overlay.{IsCovered}
-use Rattle.saved_pages.proofs.CoveredLemmas.{covered_more}
+use Rattle.cell_tables.specs.saved_pages.Overlay.{IsCovered}
+use Rattle.cell_tables.proofs.CoveredLemmas.{covered_more}
 use Rattle.hive_cells.proofs.KeptLemmas.{lengths}
 use Rattle.hive_cells.proofs.open.OpenHeap.pages.Goals as goal
 

@@ -1,7 +1,7 @@
 use Rattle.std.proofs.Common.{List, ℕ, length, sym, ap, subst, ◌∙◌, arith}
 use Rattle.hive_model.specs.Bins.{bins_size, spelled}
-use Rattle.saved_pages.specs.Overlay.{before, IsCovered}
-use Rattle.saved_pages.proofs.CoveredLemmas.{covered_more}
+use Rattle.cell_tables.specs.saved_pages.Overlay.{before, IsCovered}
+use Rattle.cell_tables.proofs.CoveredLemmas.{covered_more}
 use Rattle.hive_cells.specs.Opened.{Opened}
 use Rattle.hive_cells.proofs.KeptLemmas.{lengths}
 use Rattle.hive_cells.proofs.RoomLemmas.{room_longer}

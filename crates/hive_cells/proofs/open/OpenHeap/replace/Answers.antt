@@ -2,8 +2,8 @@ use Rattle.std.proofs.Common.{length, ap, ◌∙◌, arith}
 use Rattle.hive_model.specs.Bins.{bins_size, spelled}
 use Rattle.hive_cells.specs.Opened.{Opened}
 use Rattle.hive_cells.proofs.KeptLemmas.{lengths}
-use Rattle.saved_pages.specs.Overlay.{before}
-use Rattle.saved_pages.proofs.CoveredLemmas.{all_kept, covered_more}
+use Rattle.cell_tables.specs.saved_pages.Overlay.{before}
+use Rattle.cell_tables.proofs.CoveredLemmas.{all_kept, covered_more}
 use Rattle.hive_cells.proofs.RoomLemmas.{room_longer}
 use Rattle.hive_cells.proofs.open.OpenHeap.replace.Goals as goal
 

@@ -1,7 +1,7 @@
 use Rattle.std.proofs.Common.{◌≡◌, List, ℕ, length, map, sym, ap, subst, ◌∙◌}
 use Rattle.hive_model.specs.Bins.{spelled}
 use Rattle.reg_tree.specs.Makes.{step_of}
-use Rattle.saved_pages.specs.Overlay.{before, IsCovered}
+use Rattle.cell_tables.specs.saved_pages.Overlay.{before, IsCovered}
 use Rattle.hive_edit.specs.Hive.{HiveCells, settled_as}
 use Rattle.hive_edit.specs.Steps.{AreMadeOrNone}
 use Rattle.hive_edit.proofs.SettledLemmas.{all_as}

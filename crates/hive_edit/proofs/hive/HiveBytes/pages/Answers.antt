@@ -1,6 +1,6 @@
 use Rattle.std.proofs.Common.{◌≡◌, length, subst}
 use Rattle.hive_model.specs.Bins.{spelled}
-use Rattle.saved_pages.specs.Overlay.{before, IsCovered}
+use Rattle.cell_tables.specs.saved_pages.Overlay.{before, IsCovered}
 use Rattle.hive_edit.specs.Hive.{HiveCells}
 use Rattle.hive_edit.proofs.hive.HiveBytes.pages.Goals as goal
 

@@ -1,6 +1,6 @@
 use Rattle.std.proofs.Common.{List, length, sym, ap, subst, ◌∙◌}
 use Rattle.hive_model.specs.Bins.{Bin}
-use Rattle.saved_pages.specs.Overlay.{before, IsCovered}
+use Rattle.cell_tables.specs.saved_pages.Overlay.{before, IsCovered}
 use Rattle.hive_edit.specs.Hive.{HiveCells, hive_of, settled_as, IsHive}
 use Rattle.hive_edit.proofs.hive.HiveBytes.rejoin.Goals as goal
 

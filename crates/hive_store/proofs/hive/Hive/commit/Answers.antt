@@ -8,7 +8,7 @@ use Rattle.nt_edge.specs.Crash.{EachCrash}
 use Rattle.hive_commit.specs.Calls.{change_calls}
 use Rattle.hive_commit.specs.Commits.{IsCleanWith, IsCommitted}
 use Rattle.hive_commit.specs.Stages.{closed_of, IsBeforeOrAfter, LoadsAsEither}
-use Rattle.saved_pages.specs.Overlay.{before}
+use Rattle.cell_tables.specs.saved_pages.Overlay.{before}
 use Rattle.hive_store.specs.Session.{Session, HasTree, session_of, next_bins, next_root}
 use Rattle.hive_store.specs.Commits.{committed, committed_state}
 use Rattle.hive_store.proofs.CommittingLemmas.{IsReady, is_ready, stood, commit_loads, commit_crash, next_session, next_is, old_is, as_written, ends_again}

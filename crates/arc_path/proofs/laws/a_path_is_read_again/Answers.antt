@@ -1,7 +1,0 @@
-use Rattle.arc_path.proofs.Found.{read_is_path}
-use Rattle.arc_path.proofs.Meant.{text_spells, spelled_is_read}
-use Rattle.arc_path.specs.Spelling.{text_of}
-use Rattle.arc_path.proofs.laws.a_path_is_read_again.Goals as goal
-
-pub returns : goal.returns
-returns c = λ a text e. spelled_is_read (text_of a) a (text_spells a (read_is_path text a e))

@@ -1,9 +1,0 @@
-pub mod FoldLemmas
-pub mod PlainLemmas
-pub mod PlanLemmas
-pub mod CourseLemmas
-pub mod LineLemmas
-pub mod SteadyLemmas
-pub mod ApartLemmas
-pub mod PairLemmas
-pub mod FollowLemmas

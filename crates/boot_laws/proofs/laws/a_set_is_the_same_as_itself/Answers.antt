@@ -1,8 +1,0 @@
-use Rattle.boot_laws.proofs.FollowLemmas.{own_boot, own_answer}
-use Rattle.boot_laws.proofs.laws.a_set_is_the_same_as_itself.Goals as goal
-
-pub returns-clause-boot : goal.returns-clause-boot
-returns-clause-boot c = own_boot
-
-pub returns-clause-answer : goal.returns-clause-answer
-returns-clause-answer c = own_answer

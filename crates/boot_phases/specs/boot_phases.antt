@@ -1,0 +1,4 @@
+pub mod Apart
+pub mod Lists
+pub mod Phases
+pub mod Untried

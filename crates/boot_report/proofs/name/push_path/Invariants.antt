@@ -1,6 +1,0 @@
-use Rattle.std.proofs.Common.{◌≡◌, ◌++◌, take}
-use Rattle.start_model.specs.Lines.{path_text}
-use Rattle.boot_report.proofs.name.push_path.Given as goal
-
-abbrev pub invariant-loop-c : goal.invariant-loop-c
-invariant-loop-c l = l.out.items ≡ l.fn.out.items ++ path_text (take l.c-index l.path)

@@ -1,0 +1,4 @@
+pub mod TopLemmas
+pub mod OverlayLemmas
+pub mod TableLemmas
+pub mod CoveredLemmas

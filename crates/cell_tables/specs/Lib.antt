@@ -1,0 +1,2 @@
+pub mod free_index
+pub mod saved_pages

@@ -1,9 +1,0 @@
-mod ControlLines
-mod ExportLines
-mod ImportLines
-mod MakeLines
-mod OneLine
-mod SafeLines
-mod StartTexts
-mod TextParts
-mod TwinLines

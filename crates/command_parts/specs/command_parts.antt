@@ -1,0 +1,11 @@
+pub mod Views
+pub mod Kinds
+pub mod Exits
+pub mod Inputs
+pub mod Leaves
+pub mod Refusals
+pub mod Placed
+pub mod Saves
+pub mod Decides
+pub mod OnHive
+pub mod Reporting

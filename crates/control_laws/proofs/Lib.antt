@@ -1,5 +1,0 @@
-pub mod CallLemmas
-pub mod AlikeLemmas
-pub mod BackLemmas
-pub mod DifferLemmas
-pub mod PartLemmas

@@ -1,6 +1,0 @@
-use Rattle.service_control.proofs.MetLemmas.{always_met}
-use Rattle.control_laws.specs.Called.{all_calls_by}
-use Rattle.control_laws.proofs.order.what_is_listed_has_its_needs.Goals as goal
-
-pub returns : goal.returns
-returns c = λ set commands. always_met set (all_calls_by commands)

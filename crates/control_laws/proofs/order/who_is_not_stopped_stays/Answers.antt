@@ -1,5 +1,0 @@
-use Rattle.control_laws.proofs.PartLemmas.{stays}
-use Rattle.control_laws.proofs.order.who_is_not_stopped_stays.Goals as goal
-
-pub returns : goal.returns
-returns c = λ set commands name. stays set commands name

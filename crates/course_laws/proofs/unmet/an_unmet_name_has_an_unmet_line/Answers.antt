@@ -1,5 +1,0 @@
-use Rattle.course_laws.proofs.UnmetLemmas.{unmet_is_reported}
-use Rattle.course_laws.proofs.unmet.an_unmet_name_has_an_unmet_line.Goals as goal
-
-pub returns : goal.returns
-returns c = unmet_is_reported

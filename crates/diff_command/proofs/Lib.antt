@@ -1,3 +1,0 @@
-pub mod SeekLemmas
-pub mod DiffAsks
-pub mod PartLemmas

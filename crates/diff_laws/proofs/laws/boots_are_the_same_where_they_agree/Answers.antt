@@ -1,5 +1,0 @@
-use Rattle.diff_laws.proofs.AgreeLemmas.{boots_agree_so}
-use Rattle.diff_laws.proofs.laws.boots_are_the_same_where_they_agree.Goals as goal
-
-pub returns : goal.returns
-returns c = record { boots = boots_agree_so }

@@ -1,5 +1,0 @@
-use Rattle.diff_laws.proofs.AgreeLemmas.{sets_agree_so}
-use Rattle.diff_laws.proofs.laws.sets_that_agree_are_the_same.Goals as goal
-
-pub returns : goal.returns
-returns c = record { same = sets_agree_so }

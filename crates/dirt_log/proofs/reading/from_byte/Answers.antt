@@ -1,6 +1,0 @@
-use Rattle.std.proofs.Common.{length, arith}
-use Rattle.std.proofs.lemmas.Slice.{between_to_end}
-use Rattle.dirt_log.proofs.reading.from_byte.Goals as goal
-
-pub returns : goal.returns
-returns c = between_to_end c.args.log.now c.args.at (length c.args.log.now) (omega arith)

@@ -1,6 +1,0 @@
-use Rattle.std.proofs.Common.{◌∙◌}
-use Rattle.edit_steps.proofs.PathLemmas.{last_of-item}
-use Rattle.edit_steps.proofs.paths.parted.Goals as goal
-
-pub returns-clause-last : goal.returns-clause-last
-returns-clause-last c = c.in_ok-copy.ensures ∙ c.last-item.is ∙ last_of-item c.args.path.now _ c.in-len1-up.len_at_least

@@ -1,5 +1,0 @@
-use Rattle.enough_laws.proofs.EnoughLemmas.{attempted_where_no_cycle}
-use Rattle.enough_laws.proofs.enough.an_entry_would_be_attempted_where_there_is_no_cycle.Goals as goal
-
-pub returns : goal.returns
-returns c = attempted_where_no_cycle

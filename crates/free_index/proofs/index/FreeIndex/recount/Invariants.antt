@@ -1,5 +1,0 @@
-use Rattle.free_index.proofs.TopLemmas.{TopsSoFar}
-use Rattle.free_index.proofs.index.FreeIndex.recount.Given as goal
-
-abbrev pub invariant-loop-page : goal.invariant-loop-page
-invariant-loop-page g l = TopsSoFar (g.N.Numbers.numbers l.sizes) l.self l.pages l.page

@@ -1,5 +1,0 @@
-use Rattle.graph_laws.proofs.NeedLemmas.{are_needs}
-use Rattle.graph_laws.proofs.needs.edges_are_needs.Goals as goal
-
-pub returns : goal.returns
-returns c = are_needs

@@ -1,5 +1,0 @@
-use Rattle.graph_laws.proofs.ToldLemmas.{is_of_start}
-use Rattle.graph_laws.proofs.told.the_graph_of_a_start_is_told_by_its_text.Goals as goal
-
-pub returns : goal.returns
-returns c = is_of_start

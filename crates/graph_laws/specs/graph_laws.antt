@@ -1,0 +1,4 @@
+pub mod Needs
+pub mod Attempts
+pub mod Shown
+pub mod Told

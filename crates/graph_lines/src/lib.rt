@@ -1,8 +1,0 @@
-//! The needs and the order of a start, as a graph.
-//!
-//! The types alone: `graph_rule` says which nodes and edges there are, and `graph_text` how they are printed.
-#![tactic(auto)]
-
-mod graph;
-
-pub use graph::{Graph, GraphEdge, GraphEdges, GraphNode, GraphNodes, NodeKind, NodeState};

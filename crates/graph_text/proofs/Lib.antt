@@ -1,3 +1,0 @@
-pub mod PartLemmas
-pub mod EndLemmas
-pub mod ObjectLemmas

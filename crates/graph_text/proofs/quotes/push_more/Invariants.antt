@@ -1,9 +1,0 @@
-use Rattle.std.proofs.Common.{◌≡◌, ◌++◌, take}
-use Rattle.std.specs.Prelude.{codes}
-use Rattle.std.specs.List.{flat_map}
-use Rattle.why_lines.specs.declared.lines.WhyLine.{WhyLine}
-use Rattle.graph_text.specs.Dot.{head_part}
-use Rattle.graph_text.proofs.quotes.push_more.Given as goal
-
-abbrev pub invariant-loop-line : goal.invariant-loop-line
-invariant-loop-line l = l.out.items ≡ l.initial.out.items ++ flat_map (λ (line : WhyLine). codes ", " ++ head_part line) (take l.line-index l.lines)

@@ -1,4 +1,0 @@
-pub mod PlanLemmas
-pub mod ActLemmas
-pub mod WatchLemmas
-pub mod LoadLemmas

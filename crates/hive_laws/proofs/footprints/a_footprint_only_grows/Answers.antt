@@ -1,5 +1,0 @@
-use Rattle.hive_laws.proofs.Room.{footprint_grows}
-use Rattle.hive_laws.proofs.footprints.a_footprint_only_grows.Goals as goal
-
-pub returns : goal.returns
-returns c = footprint_grows

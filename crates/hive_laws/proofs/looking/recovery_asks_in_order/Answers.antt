@@ -1,5 +1,0 @@
-use Rattle.hive_laws.proofs.AskedInOrder.{asked_in_order}
-use Rattle.hive_laws.proofs.looking.recovery_asks_in_order.Goals as goal
-
-pub returns : goal.returns
-returns c = asked_in_order

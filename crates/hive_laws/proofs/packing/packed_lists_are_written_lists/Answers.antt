@@ -1,5 +1,0 @@
-use Rattle.hive_laws.proofs.WrittenLists.{packed_list}
-use Rattle.hive_laws.proofs.packing.packed_lists_are_written_lists.Goals as goal
-
-pub returns : goal.returns
-returns c = packed_list

@@ -1,5 +1,0 @@
-use Rattle.hive_laws.proofs.ReadBack.{carried_recovered}
-use Rattle.hive_laws.proofs.recovery.what_is_carried_is_recovered.Goals as goal
-
-pub returns : goal.returns
-returns c = carried_recovered

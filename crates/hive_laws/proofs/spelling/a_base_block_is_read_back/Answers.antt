@@ -1,5 +1,0 @@
-use Rattle.hive_model.proofs.BaseLemmas.{base_back}
-use Rattle.hive_laws.proofs.spelling.a_base_block_is_read_back.Goals as goal
-
-pub returns : goal.returns
-returns c = base_back

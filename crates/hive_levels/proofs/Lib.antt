@@ -1,3 +1,0 @@
-pub mod ReadingLemmas
-pub mod CutLemmas
-pub mod AlongLemmas

@@ -1,8 +1,0 @@
-use Rattle.std.proofs.Common.{◌+◌, ◌*◌, length}
-use Rattle.hive_levels.proofs.along.+along.Given as goal
-
-abbrev pub decreases-read_path : goal.decreases-read_path
-decreases-read_path l = 2 * length l.path.now
-
-abbrev pub decreases-read_place : goal.decreases-read_place
-decreases-read_place l = 2 * length l.path.now + 1

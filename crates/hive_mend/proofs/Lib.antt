@@ -1,2 +1,0 @@
-pub mod LoadingCalls
-pub mod MendingLemmas

@@ -1,4 +1,0 @@
-pub mod ToldLemmas
-pub mod OptionLemmas
-pub mod KeyLemmas
-pub mod ItemLemmas

@@ -1,5 +1,0 @@
-use Rattle.key_cells.proofs.LineLemmas.{same_lines}
-use Rattle.key_cells.proofs.laws.the_way_to_a_key_prints_alike.Goals as goal
-
-pub returns : goal.returns
-returns c = same_lines

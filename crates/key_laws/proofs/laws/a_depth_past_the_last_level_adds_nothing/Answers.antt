@@ -1,5 +1,0 @@
-use Rattle.key_laws.proofs.PlaceLemmas.{same_deeper}
-use Rattle.key_laws.proofs.laws.a_depth_past_the_last_level_adds_nothing.Goals as goal
-
-pub returns : goal.returns
-returns c = same_deeper

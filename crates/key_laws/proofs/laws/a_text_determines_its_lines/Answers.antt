@@ -1,5 +1,0 @@
-use Rattle.key_laws.proofs.ReportLemmas.{same_report}
-use Rattle.key_laws.proofs.laws.a_text_determines_its_lines.Goals as goal
-
-pub returns : goal.returns
-returns c = same_report

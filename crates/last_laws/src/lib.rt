@@ -1,6 +1,0 @@
-//! The last operation of a run without stops.
-#![tactic(auto)]
-
-mod last;
-
-pub use last::the_last_operation_of_a_quiet_run_is_known;

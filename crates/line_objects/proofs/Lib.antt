@@ -1,2 +1,0 @@
-pub mod LineFeedLemmas
-pub mod ObjectLemmas

@@ -1,2 +1,0 @@
-pub mod SaveLemmas
-pub mod CloneLemmas

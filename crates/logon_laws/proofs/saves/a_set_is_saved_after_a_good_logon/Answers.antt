@@ -1,5 +1,0 @@
-use Rattle.logon_laws.proofs.SaveLemmas.{event_saves}
-use Rattle.logon_laws.proofs.saves.a_set_is_saved_after_a_good_logon.Goals as goal
-
-pub returns : goal.returns
-returns c = event_saves

@@ -1,5 +1,0 @@
-use Rattle.made_laws.proofs.MadeLemmas.{quiet_rests}
-use Rattle.made_laws.proofs.saved.a_quiet_run_leaves_nothing_open.Goals as goal
-
-pub returns : goal.returns
-returns c = λ choice script placed. quiet_rests choice script placed

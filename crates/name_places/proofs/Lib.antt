@@ -1,4 +1,0 @@
-mod FilterLemmas
-pub mod FoldLemmas
-pub mod PlaceLemmas
-pub mod OrderLemmas

@@ -1,9 +1,0 @@
-pub mod EntryLemmas
-pub mod NodeLemmas
-pub mod EdgeLemmas
-pub mod GroupLemmas
-pub mod MissingLemmas
-pub mod VertexLemmas
-pub mod SameLemmas
-pub mod SharedLemmas
-pub mod PartLemmas

@@ -1,5 +1,0 @@
-use Rattle.node_laws.proofs.NodeLemmas.{each_try_has_one_node}
-use Rattle.node_laws.proofs.attempts.each_try_has_one_node.Goals as goal
-
-pub returns : goal.returns
-returns c = each_try_has_one_node

@@ -1,5 +1,0 @@
-use Rattle.node_laws.proofs.EdgeLemmas.{edges_stand_once}
-use Rattle.node_laws.proofs.edges.no_edge_stands_twice.Goals as goal
-
-pub returns : goal.returns
-returns c = edges_stand_once

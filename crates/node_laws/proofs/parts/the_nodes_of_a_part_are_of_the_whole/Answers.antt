@@ -1,5 +1,0 @@
-use Rattle.node_laws.proofs.PartLemmas.{part_is_of_whole}
-use Rattle.node_laws.proofs.parts.the_nodes_of_a_part_are_of_the_whole.Goals as goal
-
-pub returns : goal.returns
-returns c = part_is_of_whole

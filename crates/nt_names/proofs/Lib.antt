@@ -1,0 +1,4 @@
+pub mod FilterLemmas
+pub mod FoldLemmas
+pub mod PlaceLemmas
+pub mod OrderLemmas

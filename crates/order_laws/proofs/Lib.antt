@@ -1,3 +1,0 @@
-pub mod UnorderedLemmas
-pub mod QuietLemmas
-pub mod ToldLemmas

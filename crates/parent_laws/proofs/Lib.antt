@@ -1,6 +1,0 @@
-pub mod Apart
-pub mod Reaching
-pub mod Arranging
-pub mod Searching
-pub mod Withins
-pub mod Files

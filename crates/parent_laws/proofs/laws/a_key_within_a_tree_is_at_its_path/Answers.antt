@@ -1,5 +1,0 @@
-use Rattle.parent_laws.proofs.Withins.{at-path}
-use Rattle.parent_laws.proofs.laws.a_key_within_a_tree_is_at_its_path.Goals as goal
-
-pub returns : goal.returns
-returns c = at-path

@@ -1,4 +1,0 @@
-pub mod LoggedLemmas
-pub mod GoesLemmas
-pub mod BreakLemmas
-pub mod ReportLemmas

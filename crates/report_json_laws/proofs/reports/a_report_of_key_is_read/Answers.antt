@@ -1,5 +1,0 @@
-use Rattle.report_json_laws.proofs.KeyLines.{key_report}
-use Rattle.report_json_laws.proofs.reports.a_report_of_key_is_read.Goals as goal
-
-pub returns : goal.returns
-returns c = key_report

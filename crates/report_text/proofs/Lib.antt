@@ -1,0 +1,5 @@
+pub mod TextLemmas
+pub mod PathLemmas
+pub mod QuoteLemmas
+pub mod LineFeedLemmas
+pub mod ObjectLemmas

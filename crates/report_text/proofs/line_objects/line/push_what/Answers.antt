@@ -1,0 +1,11 @@
+use Rattle.std.specs.Prelude.{[], ◌∷◌, codes}
+use Rattle.report_text.specs.line_text.Objects.{Number, Text}
+use Rattle.report_text.proofs.ObjectLemmas.{object_parts}
+use Rattle.report_text.proofs.line_objects.line.push_what.Goals as goal
+
+pub returns : goal.returns
+returns c =
+    object_parts c.close_object.result c.args.out.now.items c.open_object.new.out.items
+    c.push_commit_fields.new.out.items c.close_object.new.out.items (codes "commit")
+    ((codes "what", Text c.args.what.now) ∷ (codes "sequence", Number c.args.sequence) ∷ [])
+    c.in_ok-open_object.ensures c.in_ok-push_commit_fields.ensures c.close_object.ensures

@@ -1,0 +1,7 @@
+use Rattle.std.proofs.Common.{◌≡◌, ◌++◌, take}
+use Rattle.std.specs.List.{flat_map}
+use Rattle.report_text.specs.line_text.Quoted.{quoted_unit}
+use Rattle.report_text.proofs.line_text.quoted.push_bytes.Given as goal
+
+abbrev pub invariant-loop-byte : goal.invariant-loop-byte
+invariant-loop-byte l = l.out.items ≡ l.fn.out.items ++ flat_map quoted_unit (take l.byte-index l.bytes)

@@ -1,0 +1,2 @@
+pub mod line_text
+pub mod line_objects

@@ -1,5 +1,0 @@
-use Rattle.std.proofs.Common.{◌≡◌, map, take, string_bytes}
-use Rattle.run_examples.proofs.calling.owned.Given as goal
-
-abbrev pub invariant-loop-word : goal.invariant-loop-word
-invariant-loop-word l = map string_bytes l.owned.items ≡ map (λ w. w.now) (take l.word-index l.words)

@@ -1,5 +1,0 @@
-use Rattle.run_laws.proofs.GoLemmas.{enough}
-use Rattle.run_laws.proofs.going.more_steps_change_nothing.Goals as goal
-
-pub returns : goal.returns
-returns c = λ n m le. enough n m le

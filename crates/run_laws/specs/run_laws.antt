@@ -1,0 +1,4 @@
+pub mod Quiet
+pub mod Parts
+pub mod Open
+pub mod Told

@@ -1,4 +1,0 @@
-pub mod LineLemmas
-pub mod TakenLemmas
-pub mod StartedLemmas
-pub mod ModeLemmas

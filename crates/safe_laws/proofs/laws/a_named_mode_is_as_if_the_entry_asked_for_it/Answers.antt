@@ -1,5 +1,0 @@
-use Rattle.safe_laws.proofs.ModeLemmas.{switches_ask, named_is_asked, named_ends_as_asked}
-use Rattle.safe_laws.proofs.laws.a_named_mode_is_as_if_the_entry_asked_for_it.Goals as goal
-
-pub returns : goal.returns
-returns c = record { asked = switches_ask; report = named_is_asked; answer = named_ends_as_asked }

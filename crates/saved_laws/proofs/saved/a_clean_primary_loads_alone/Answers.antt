@@ -1,5 +1,0 @@
-use Rattle.saved_laws.proofs.SavedLemmas.{primary_loads}
-use Rattle.saved_laws.proofs.saved.a_clean_primary_loads_alone.Goals as goal
-
-pub returns : goal.returns
-returns c = primary_loads

@@ -1,6 +1,0 @@
-use Rattle.std.proofs.Common.{inl}
-use Rattle.saved_laws.proofs.SavedLemmas.{torn_block}
-use Rattle.saved_laws.proofs.saved.a_torn_block_is_not_saved.Goals as goal
-
-pub returns : goal.returns
-returns c = λ image primary log is torn. inl (torn_block image primary log is torn)

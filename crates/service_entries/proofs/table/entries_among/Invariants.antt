@@ -1,7 +1,0 @@
-use Rattle.std.proofs.Common.{◌≡◌, take}
-use Rattle.std.specs.List.{filter_map}
-use Rattle.start_model.specs.Entries.{entry_of}
-use Rattle.service_entries.proofs.table.entries_among.Given as goal
-
-abbrev pub invariant-loop-key : goal.invariant-loop-key
-invariant-loop-key l = l.table ≡ filter_map entry_of (take l.key-index l.keys)

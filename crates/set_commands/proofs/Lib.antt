@@ -1,0 +1,10 @@
+pub mod NameLemmas
+pub mod TwoLemmas
+pub mod SetLemmas
+pub mod HiveSetsPartLemmas
+pub mod ReadLemmas
+pub mod StartLemmas
+pub mod CheckCommandPartLemmas
+pub mod SeekLemmas
+pub mod DiffAsks
+pub mod DiffCommandPartLemmas

@@ -1,0 +1,3 @@
+pub mod hive_sets
+pub mod check_command
+pub mod diff_command

@@ -1,0 +1,4 @@
+pub mod Tries
+pub mod Unmet
+pub mod Met
+pub mod Moment

@@ -1,6 +1,0 @@
-use Rattle.command_parts.specs.Placed.{image_in}
-use Rattle.sweep_command.proofs.AnswerLemmas.{checked}
-use Rattle.sweep_command.proofs.command.check.Goals as goal
-
-pub returns : goal.returns
-returns c = checked (image_in c.args.files.now) c.in_ok-_judged._judged c.in_ok-_judged.ensures

@@ -1,0 +1,5 @@
+//! An event played after others, on a disk of its own: what it says, and the log that the disk then holds.
+
+mod playing;
+
+pub use playing::{Played, play};

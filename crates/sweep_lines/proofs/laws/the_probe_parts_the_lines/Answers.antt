@@ -1,5 +1,0 @@
-use Rattle.sweep_lines.proofs.SweptLemmas.{before_said, whole_said, whole_state}
-use Rattle.sweep_lines.proofs.laws.the_probe_parts_the_lines.Goals as goal
-
-pub returns : goal.returns
-returns c = record { before = before_said; whole = whole_said; state = whole_state }

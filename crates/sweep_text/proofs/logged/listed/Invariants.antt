@@ -1,7 +1,0 @@
-use Rattle.std.proofs.Common.{◌≡◌, ◌++◌, ◌-◌}
-use Rattle.hive_model.specs.Recovery.{bit}
-use Rattle.sweep_text.specs.Logged.{listed}
-use Rattle.sweep_text.proofs.logged.listed.Given as goal
-
-abbrev pub invariant-loop-i : goal.invariant-loop-i
-invariant-loop-i l = l.sectors ++ listed (bit l.bits) l.i (l.count - l.i) ≡ listed (bit l.bits) 0 l.count

@@ -1,0 +1,10 @@
+use Rattle.std.proofs.Common.{◌≡◌, map, length}
+use Rattle.std.specs.List.{list_any}
+use Rattle.sweep_text.specs.sweep_text.Words.{commits_text}
+use Rattle.sweep_text.proofs.sweep_text.said.committed.Given as goal
+
+abbrev pub invariant-lines : goal.invariant-lines
+invariant-lines l = list_any commits_text (map (λ t. t.now) l.waiting) ≡ list_any commits_text (map (λ t. t.now) l.said)
+
+abbrev pub decreases-lines : goal.decreases-lines
+decreases-lines l = length l.waiting

@@ -1,8 +1,0 @@
-use Rattle.std.proofs.Common.{◌≡◌, ◌+◌, drop}
-use Rattle.std.specs.List.{prefix_len}
-use Rattle.sweep_text.specs.Words.{in_word}
-use Rattle.sweep_text.proofs.words.word_len.Given as goal
-
-abbrev pub invariant-loop-c : goal.invariant-loop-c
-invariant-loop-c l = (l.count ≡ l.c-index)
-    × (l.c-index + prefix_len in_word (drop l.c-index l.text) ≡ prefix_len in_word l.text)

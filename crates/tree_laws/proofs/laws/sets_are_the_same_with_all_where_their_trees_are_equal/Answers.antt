@@ -1,5 +1,0 @@
-use Rattle.tree_laws.proofs.SameLemmas.{same_with_all}
-use Rattle.tree_laws.proofs.laws.sets_are_the_same_with_all_where_their_trees_are_equal.Goals as goal
-
-pub returns : goal.returns
-returns c = same_with_all

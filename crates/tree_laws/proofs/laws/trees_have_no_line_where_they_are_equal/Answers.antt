@@ -1,5 +1,0 @@
-use Rattle.tree_laws.proofs.EqualLemmas.{no_line_where_equal}
-use Rattle.tree_laws.proofs.laws.trees_have_no_line_where_they_are_equal.Goals as goal
-
-pub returns : goal.returns
-returns c = no_line_where_equal

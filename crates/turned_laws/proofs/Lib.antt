@@ -1,5 +1,0 @@
-pub mod AboutLemmas
-pub mod SetLemmas
-pub mod PairLemmas
-pub mod TreeLemmas
-pub mod ExitLemmas

@@ -1,8 +1,0 @@
-//! Laws of comparisons of two control sets, with the sets exchanged.
-//!
-//! What is said of the one set is said of the other, and the exit stays. Definitions: `specs/Turned.antt`. This project's own.
-#![tactic(auto)]
-
-mod laws;
-
-pub use laws::{exchanged_sets_have_the_same_exit, exchanged_sets_have_their_sides_exchanged};

@@ -1,2 +1,0 @@
-pub mod AgainLemmas
-pub mod ToldLemmas

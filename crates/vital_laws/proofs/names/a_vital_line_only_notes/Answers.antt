@@ -1,5 +1,0 @@
-use Rattle.vital_laws.proofs.ActLemmas.{vital_noted}
-use Rattle.vital_laws.proofs.names.a_vital_line_only_notes.Goals as goal
-
-pub returns : goal.returns
-returns c = vital_noted

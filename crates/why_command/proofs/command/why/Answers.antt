@@ -1,8 +1,0 @@
-use Rattle.command_words.specs.Views.{why_seen}
-use Rattle.why_command.specs.Answer.{question_in}
-use Rattle.why_command.proofs.command.why.Goals as goal
-
-pub returns-clause-decides : goal.returns-clause-decides
-returns-clause-decides g c =
-    let old = g.H.Host.state c.args.host.now in
-    c.answer.ensures.decides (question_in c.args.form (why_seen c.args.words) old.files) old c.seek-told.ensures.seeks

@@ -1,4 +1,0 @@
-pub mod RowsLemmas
-pub mod FreedLemmas
-pub mod RoundLemmas
-pub mod WaitsLemmas

@@ -1,0 +1,5 @@
+pub mod GrowLemmas
+pub mod RowsLemmas
+pub mod FreedLemmas
+pub mod RoundLemmas
+pub mod WaitsLemmas

@@ -1,6 +1,0 @@
-use Rattle.std.proofs.Common.{◌≡◌, ◌++◌, map, take}
-use Rattle.why_lacks.specs.Lacks.{service_line}
-use Rattle.why_lacks.proofs.names.push_services.Given as goal
-
-abbrev pub invariant-loop-name : goal.invariant-loop-name
-invariant-loop-name l = l.lines ≡ l.initial.lines ++ map (service_line l.needs l.at l.view) (take l.name-index l.names)

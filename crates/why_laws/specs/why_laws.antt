@@ -1,0 +1,4 @@
+pub mod Reports
+pub mod States
+pub mod Lacks
+pub mod Places

@@ -1,7 +1,0 @@
-use Rattle.std.proofs.Common.{◌≡◌, take}
-use Rattle.std.specs.List.{filter_map}
-use Rattle.why_needs.specs.Members.{grouped_name}
-use Rattle.why_needs.proofs.members.grouped_names.Given as goal
-
-abbrev pub invariant-loop-entry : goal.invariant-loop-entry
-invariant-loop-entry l = l.names ≡ filter_map grouped_name (take l.entry-index l.entries)

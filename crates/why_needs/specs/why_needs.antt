@@ -1,0 +1,4 @@
+pub mod Met
+pub mod Lacking
+pub mod Ready
+pub mod Members

@@ -1,6 +1,0 @@
-use Rattle.std.proofs.Common.{◌≡◌, take}
-use Rattle.why_state.specs.Views.{names_of}
-use Rattle.why_place.proofs.orders.names_of.Given as goal
-
-abbrev pub invariant-loop-entry : goal.invariant-loop-entry
-invariant-loop-entry l = l.names ≡ names_of (take l.entry-index l.entries)

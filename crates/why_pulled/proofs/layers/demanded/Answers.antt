@@ -1,8 +1,0 @@
-use Rattle.why_needs.proofs.TakeLemmas.{taken_more}
-use Rattle.why_pulled.specs.Layers.{demand_place}
-use Rattle.why_pulled.proofs.layers.demanded.Goals as goal
-
-pub loop-name-preserved : goal.loop-name-preserved
-loop-name-preserved c =
-    taken_more (demand_place c.args.view.now) c.args.names.now c.loop-name.name-index c.name-item.result c.loop-name.out
-    c.push_demand.new.out c.loop-name-test.true c.name-item.is c.loop-name.invariant c.in_ok-push_demand.ensures

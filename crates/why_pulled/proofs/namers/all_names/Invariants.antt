@@ -1,7 +1,0 @@
-use Rattle.std.proofs.Common.{◌≡◌, take}
-use Rattle.std.specs.List.{flat_map}
-use Rattle.why_pulled.specs.Namers.{services_at}
-use Rattle.why_pulled.proofs.namers.all_names.Given as goal
-
-abbrev pub invariant-loop-place : goal.invariant-loop-place
-invariant-loop-place l = l.names ≡ flat_map (services_at l.plan) (take l.place-index l.places)

@@ -1,7 +1,0 @@
-use Rattle.std.proofs.Common.{◌≡◌, take}
-use Rattle.std.specs.List.{filter_map}
-use Rattle.why_state.specs.States.{place_in}
-use Rattle.why_pulled.proofs.namers.registry_places.Given as goal
-
-abbrev pub invariant-loop-name : goal.invariant-loop-name
-invariant-loop-name l = l.places ≡ filter_map (place_in l.names) (take l.name-index l.order)

@@ -1,6 +1,0 @@
-use Rattle.std.proofs.Common.{◌≡◌, ◌++◌, map, take}
-use Rattle.why_lines.specs.declared.lines.WhyLine.TheVariants.{Vital}
-use Rattle.why_state.proofs.heads.push_vital.Given as goal
-
-abbrev pub invariant-loop-name : goal.invariant-loop-name
-invariant-loop-name l = l.lines ≡ l.initial.lines ++ map Vital (take l.name-index l.names)

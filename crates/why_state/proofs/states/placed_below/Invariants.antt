@@ -1,9 +1,0 @@
-use Rattle.std.proofs.Common.{◌≡◌}
-use Rattle.why_state.specs.States.{placed_below}
-use Rattle.why_state.proofs.states.placed_below.Given as goal
-
-abbrev pub invariant-plan : goal.invariant-plan
-invariant-plan l = placed_below l.run.views l.left l.name ≡ placed_below l.run.views l.count l.name
-
-abbrev pub decreases-plan : goal.decreases-plan
-decreases-plan l = l.left
