@@ -7,7 +7,7 @@ import sys
 sys.path.insert(0, os.path.dirname(os.path.abspath(__file__)))
 import trial
 
-USES = ["nt_bytes", "hive_model", "hive_cells", "free_index"]
+USES = ["nt_bytes", "hive_model", "hive_cells", "cell_tables"]
 
 PROGRAM = """#![tactic(auto)]
 

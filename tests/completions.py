@@ -1,6 +1,7 @@
 #!/usr/bin/env python3
-"""Makes the completions of ntboot's words for bash, zsh and fish, in docs/completions, out of the table that the program reads its words by:
-crates/command_words/src/table.rt. tests/completions.py checks that the files are those; with --write it writes them.
+"""Makes the completions of the words of ntboot and ntmend for bash, zsh and fish, in docs/completions, out of what the programs read their words by:
+crates/command_words/src/table.rt and reading.rt, crates/ntmend/src/pages.rt. tests/completions.py checks that the files are those, and ends with
+'N passed, M failed'; with --write it writes them.
 
 From the table come the commands, their options, which options take a value, and the values that can be listed: those between backquotes in
 the comment of a variant of `Takes`. An option that takes any text is completed by names of files, but for those in `TEXTS`."""
@@ -10,6 +11,8 @@ import sys
 
 TOP = os.path.join(os.path.dirname(os.path.abspath(__file__)), "..")
 TABLE = os.path.join(TOP, "crates", "command_words", "src", "table.rt")
+READING = os.path.join(TOP, "crates", "command_words", "src", "reading.rt")
+MEND_PAGES = os.path.join(TOP, "crates", "ntmend", "src", "pages.rt")
 FOLDER = os.path.join(TOP, "docs", "completions")
 # Options of any text that name no file.
 TEXTS = ("--key", "--of")
@@ -51,6 +54,24 @@ def table():
     return [(name, [options[const] for const in re.findall(r"\w+", listed) + shared if options[const].name.startswith("--")]) for name, listed in found]
 
 
+MEND_HEAD = "Completions of ntmend's words for {}. Made by tests/completions.py from crates/ntmend/src/pages.rt; edit neither by hand."
+# What stands in place of a command; `help` is followed by the name of a page.
+ABOUT = ["help", "version"]
+
+
+def pages(commands):
+    """The pages that `help` names: the topics, and the commands."""
+    with open(READING) as f:
+        body = re.search(r"^fn page_named\(.*?^\}", f.read(), re.S | re.M).group()
+    return [name for name, _ in commands] + re.findall(r'name == "(\w+)"', body)
+
+
+def lone_words():
+    """The words of ntmend that ask for a page, where they stand alone."""
+    with open(MEND_PAGES) as f:
+        return re.findall(r'word == "(--\w+)"', f.read())
+
+
 def bash(commands):
     """Which option the word before is, and which are there already, is told in the shell; the table is in `case`."""
     yield "# " + HEAD.format("bash")
@@ -59,7 +80,7 @@ def bash(commands):
     yield "    local current=${COMP_WORDS[COMP_CWORD]} before=${COMP_WORDS[COMP_CWORD-1]} command=${COMP_WORDS[1]} options= word i"
     yield "    COMPREPLY=()"
     yield "    if [ \"$COMP_CWORD\" -eq 1 ]; then"
-    yield f"        COMPREPLY=($(compgen -W \"{' '.join(name for name, _ in commands)}\" -- \"$current\"))"
+    yield f"        COMPREPLY=($(compgen -W \"{' '.join([name for name, _ in commands] + ABOUT)}\" -- \"$current\"))"
     yield "        return"
     yield "    fi"
     yield "    # --name=value comes as three words"
@@ -67,6 +88,7 @@ def bash(commands):
     yield "    case $command in"
     for name, options in commands:
         yield f"        {name}) options=\"{' '.join(option.name for option in options)}\" ;;"
+    yield f"        help) [ \"$COMP_CWORD\" -eq 2 ] && COMPREPLY=($(compgen -W \"{' '.join(pages(commands))}\" -- \"$current\")); return ;;"
     yield "        *) return ;;"
     yield "    esac"
     yield "    case $before in"
@@ -106,7 +128,7 @@ def zsh(commands):
     yield "# To use it: put it as _ntboot into a folder of $fpath, before compinit."
     yield "_ntboot() {"
     yield "    if (( CURRENT == 2 )); then"
-    yield f"        compadd -- {' '.join(name for name, _ in commands)}"
+    yield f"        compadd -- {' '.join([name for name, _ in commands] + ABOUT)}"
     yield "        return"
     yield "    fi"
     yield "    local command=$words[2]"
@@ -118,6 +140,8 @@ def zsh(commands):
         yield "            _arguments \\"
         for i, option in enumerate(options):
             yield f"                {said(option)}" + (" \\" if i + 1 < len(options) else " ;;")
+    yield "        (help)"
+    yield f"            (( CURRENT == 2 )) && compadd -- {' '.join(pages(commands))} ;;"
     yield "    esac"
     yield "}"
     yield "_ntboot \"$@\""
@@ -132,15 +156,55 @@ def fish(commands):
     yield "    test (count $words) -gt 1; and test $words[2] = $argv[1]; or return 1"
     yield "    not contains -- --$argv[2] $words[3..-2]"
     yield "end"
+    yield "function __ntboot_asks_help"
+    yield "    set -l words (commandline -opc)"
+    yield "    test (count $words) -eq 2; and test $words[2] = help"
+    yield "end"
     yield "complete -c ntboot -f"
-    yield f"complete -c ntboot -n 'test (count (commandline -opc)) -eq 1' -a '{' '.join(name for name, _ in commands)}'"
+    yield f"complete -c ntboot -n 'test (count (commandline -opc)) -eq 1' -a '{' '.join([name for name, _ in commands] + ABOUT)}'"
+    yield f"complete -c ntboot -n '__ntboot_asks_help' -a '{' '.join(pages(commands))}'"
     for name, options in commands:
         for option in options:
             takes = "" if option.is_flag else " -r -F" if option.is_file else f" -x -a '{' '.join(option.words)}'" if option.words else " -x"
             yield f"complete -c ntboot -n '__ntboot_can {name} {option.name[2:]}' -l {option.name[2:]}{takes}"
 
 
-FILES = (("ntboot.bash", bash), ("_ntboot", zsh), ("ntboot.fish", fish))
+def mend_bash():
+    yield "# " + MEND_HEAD.format("bash")
+    yield "# To use it: source this file, or put it into /usr/share/bash-completion/completions as ntmend."
+    yield "_ntmend() {"
+    yield "    local current=${COMP_WORDS[COMP_CWORD]}"
+    yield "    COMPREPLY=()"
+    yield "    if [ \"$COMP_CWORD\" -eq 1 ] && [[ $current == -* ]]; then"
+    yield f"        COMPREPLY=($(compgen -W \"{' '.join(lone_words())}\" -- \"$current\"))"
+    yield "    elif [ \"$COMP_CWORD\" -le 2 ]; then"
+    yield "        compopt -o filenames 2> /dev/null"
+    yield "        mapfile -t COMPREPLY < <(compgen -f -- \"$current\")"
+    yield "    fi"
+    yield "}"
+    yield "complete -F _ntmend ntmend"
+
+
+def mend_zsh():
+    yield "#compdef ntmend"
+    yield "# " + MEND_HEAD.format("zsh")
+    yield "# To use it: put it as _ntmend into a folder of $fpath, before compinit."
+    yield "_arguments " + " ".join(f"'(- :){word}'" for word in lone_words()) + " ':hive:_files' ':log:_files'"
+
+
+def mend_fish():
+    yield "# " + MEND_HEAD.format("fish")
+    yield "# To use it: put it as ntmend.fish into ~/.config/fish/completions."
+    yield "complete -c ntmend -f"
+    yield "complete -c ntmend -n 'test (count (commandline -opc)) -lt 3' -F"
+    for word in lone_words():
+        yield f"complete -c ntmend -n 'test (count (commandline -opc)) -eq 1' -l {word[2:]}"
+
+
+FILES = (
+    ("ntboot.bash", bash), ("_ntboot", zsh), ("ntboot.fish", fish),
+    ("ntmend.bash", mend_bash), ("_ntmend", mend_zsh), ("ntmend.fish", mend_fish),
+)
 
 
 def main(words):
@@ -148,7 +212,8 @@ def main(words):
         raise SystemExit(__doc__)
     commands, differing = table(), 0
     for name, make in FILES:
-        path, text = os.path.join(FOLDER, name), "".join(line + "\n" for line in make(commands))
+        lines = make() if name.lstrip("_").startswith("ntmend") else make(commands)
+        path, text = os.path.join(FOLDER, name), "".join(line + "\n" for line in lines)
         if words:
             os.makedirs(FOLDER, exist_ok=True)
             with open(path, "w") as f:
@@ -156,6 +221,7 @@ def main(words):
         elif not os.path.isfile(path) or open(path).read() != text:
             differing += 1
             print(f"docs/completions/{name} differs: tests/completions.py --write")
+    print(f"{len(FILES) - differing} passed, {differing} failed")
     return 1 if differing else 0
 
 

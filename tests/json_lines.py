@@ -1,0 +1,188 @@
+#!/usr/bin/env python3
+"""The report of each run of tests/runs as JSON lines: tests/json_lines.py [--with NTBOOT NTMEND]. Each line of the wanted text is made an object by the
+tables of docs/texts.md, and with --json the run must print these. Left out are `graph`, `show`, `key`, and `diff` with all that differs."""
+import json
+import re
+import sys
+
+from programs import differs, fresh, judged, main, runs, said
+
+# A field `{name}` is a word, and `{name:X}` is: N a number, W a number or a word, I a word or nothing, S a name as a report writes it, Q a text in quotes,
+# P a path, V what one side of `diff` has. `{name=word}` is that word, which the line has; `{name!word}` is one that it doesn't have. An object's line is the
+# text's first word, if no field has that name.
+STARTS = ["start {number:N}", "set {number:N} {by}", "verdict {word}", "vital {name:S} missing"]
+REPORT = [
+    *STARTS, "entry {number:N} {path:S}", "load {sequence:N} {state}", "commit {what} {sequence:N}",
+    "select {current:N} {default:N} {failed:N} {good:N}", "phase {name}", "try {name:S} failed {outcome}", "try {name:S} {outcome=ok}", "unmet {name:S}",
+    "save refused {refused}", "refused {event} {word}", "logon", "edit ok", "flush nothing", "end",
+]
+FORMS = {
+    "run": REPORT,
+    "make": ["made {services:N} started {started:N} failed {failed:N} unmet {unmet:N} verdict {verdict} sequence {sequence:N}"],
+    "safe": [*REPORT, "mode {word}"],
+    "control": [
+        "started {name:S}", "stopped {name:S}", "running {name:S}", "verdict {word}", "end",
+        *(f"refused {{command}} {{name:S}} {{word={word}}} {{other:S}}" for word in ("missing", "need-disabled", "in-use")),
+        "refused {command} {name:S} {word}",
+    ],
+    "twin": ["load {sequence:N} {state}", "commit {what} {sequence:N}", "default nothing", "refused default {command!twin}{word}", "end"],
+    "export": ["exported {keys:N} keys {values:N} values", "{line!refused}{command=export} refused {word}"],
+    "import": [
+        "current {number:N}", "passed {count:N}", "commit {what} {sequence:N}", "import nothing", "{line!refused}{command=import} refused {word}",
+    ],
+    "replay": [
+        "sequence {first:N} {second:N} {state}", "log {log} {form=empty}", "log {log} {form=new} {entries:N} {from:N} {to:N}",
+        "log {log} {form=new} {entries:N}", "log {log} {form=old} {number:N} sectors {sectors:N}", "log {log} {form=old} {number:N} other {other}",
+        "fault {kind} {log} {at:N}", "apply {log} {number:N} bytes {bytes:N}", "replayed {applied:N} sequence {first:N} {second:N}",
+        "saved {sequence:N} {bytes:N}", "save refused {refused}", "end",
+    ],
+    "check": [
+        "select {value} {number:N}", "current-set-key", "set {number:N}", "no-set {number:N}", "no-services", "no-list", "no-start {name:S}",
+        "no-type {name:S}", "malformed {field} {name:S}", "beyond {start:N} {name:S}", "kind {type:N} {name:S}", "too-early {start:N} {name:S}",
+        "no-control {name:S}", "control-beyond {control:N} {name:S}", "no-image {name:S}", "no-service {need:Q} {name:S}", "never {start:N} {need:Q} {name:S}",
+        "later {start:N} {need:Q} {name:S}", "no-member {group:Q} {name:S}", "tag-unlisted {tag:N} {group:Q} {name:S}", "group-unlisted {count:N} {group:S}",
+        "cycle {number:N} {name:S}", "found {count:N}", "end",
+    ],
+    "diff": [
+        "no-set {side} {number:N}", "sets {first:N} {second:N}",
+        "only {side} start {start:N} type {type:N} control {control:N} image {image:I} {name:S}", "differs {field} {first:V} {second:V} {name:S}",
+        "registry {place:N} {first:V} {second:V}", "group-only {side} {group:S}", "groups {place:N} {first:V} {second:V}", "tags {first:V} {second:V} {group:S}",
+        "start-only {side} {name:S}", "unmet-only {side} {name:S}", "start-phase {first} {second} {name:S}", "start-order {place:N} {first:V} {second:V}",
+        "starts {word=same}", "key-differs {field} {path:P}", "value-differs {name:Q} {path:P}", "value-only {side} {name:Q} {path:P}",
+        "key-only {side} {keys:N} {path:P}", "stamps {count:N}", "flags {count:N}", "same", "differ {count:N}", "end",
+    ],
+    "why": [
+        *STARTS, "no-boot", "ended-by {name:S}", "name {name:S}", "entry {kind} start {start:N} type {type:N} control {control:N}",
+        "place {phase} {place:N} of {of:N}", "group {place=none}", "group {place:W} {name:S}", "tag {tag=none}", "tag {tag:N} {place:W}", "registry {place:N}",
+        "after {by} {name:S}", "before {by} {name:S}", "pulled {name:S}", "ready {moment=at-once}", "ready {moment=after} {name:S}",
+        "state {word=started} {number:N}", "state {word=failed} {number:N} {judgement}", "state {word=not-reached} {phase}", "state {word=not-taken} {reason}",
+        "state {word}", "unmet {phase} {name:S}", "lack {of} {state} {name:S}", "member {state} {name:S}", "cycle {name:S}", "end",
+    ],
+    "whatif": [
+        *STARTS, "of {state} {name:S}", "fail {judgement} {lost:N} {name:S}", "off {lost:N} {name:S}", "unmet {name:S}", "untaken {name:S}",
+        "leans {steps:N} {by} {state} {name:S}", "end",
+    ],
+    "sweep": [
+        "sweep {event}", "keeps none all odd torn", "stage {name}", "write {number:N} {file} {sector:N} {none} {all} {odd} {torn}",
+        "sync {number:N} {none} {all} {odd} {torn}", "calls {count:N} before {before:N} after {after:N} neither {neither:N}", *REPORT,
+    ],
+    "salvage": [
+        "sequence {first:N} {second:N} {state}", "version {minor:N}", "fault {kind} {log=log} {at:N}", "fault {kind} file {file:N} {part=bytes} {bytes:N}",
+        "fault {kind} file {file:N} {part=value} {name:Q} {path:P}", "fault {kind} file {file:N} {part=value-at} {number:N} {path:P}",
+        "fault {kind} file {file:N} {part=key-at} {number:N} {path:P}", "fault {kind} file {file:N} {part=base}", "fault {kind} file {file:N} {part=root}",
+        "fault {kind} file {file:N} {part} {path:P}", "root none", "root file {file:N}", "found {keys:N} {path:P}",
+        "salvaged {keys:N} keys {values:N} values lost {lost:N}", "saved {sequence:N} {bytes:N}", "save refused {refused}", "end",
+    ],
+}
+FIELD = re.compile(r"\{(\w+)(?:([:=!])([\w-]+))?\}")
+QUOTED = r'"(?:[^"\\]|\\.)*"'
+# What a field of each type looks like.
+TYPES = {
+    "N": r"\d+", "W": r"\d+|none|unlisted|idle", "I": r"[^ \"]+", "S": ".+", "Q": QUOTED, "P": f"{QUOTED}|[^\"].*",
+    "V": rf"-|\d+(?:,\d+)*|{QUOTED}(?:,{QUOTED})*", None: r"[^ \"]+",
+}
+LISTS = ("DependOnService", "DependOnGroup")
+
+
+def name_of(text):
+    """A name as a report writes it: other units than those from 0x20 to 0x7E have four digits."""
+    return re.sub(r"\\u([0-9a-f]{4})", lambda found: chr(int(found[1], 16)), text)
+
+
+def path_of(text):
+    """The components of a path; a text in quotes where it is no plain one."""
+    whole = json.loads(text) if text.startswith('"') else text
+    return whole.split("\\") if whole else []
+
+
+def side_of(text, is_list):
+    """What one side of `diff` has: nothing, a number, a text or a list of them."""
+    if text == "-":
+        return [] if is_list else None
+    items = json.loads(f"[{text}]")
+    return items if is_list else items[0]
+
+
+def value_of(kind, text, is_list):
+    """The value of a field of this type."""
+    if kind == "N" or kind == "W" and text.isdigit():
+        return int(text)
+    if kind == "V":
+        return side_of(text, is_list)
+    if kind == "I" and text == "-":
+        return None
+    return {"S": name_of, "Q": json.loads, "P": path_of}.get(kind, str)(text)
+
+
+def pattern_of(form):
+    """What matches the lines of a form."""
+    def one(found):
+        name, mark, what = found.groups()
+        return "" if mark == "!" else f"(?P<{name}>{re.escape(what) if mark == '=' else TYPES[what]})"
+
+    out, at = "", 0
+    for found in FIELD.finditer(form):
+        out += re.escape(form[at:found.start()]) + one(found)
+        at = found.end()
+    return re.compile(out + re.escape(form[at:]))
+
+
+PATTERNS = {command: [(form, pattern_of(form)) for form in forms] for command, forms in FORMS.items()}
+
+
+def object_of(command, line):
+    """The object of a line, by the first form that it has; nothing where it has none."""
+    for form, pattern in PATTERNS[command]:
+        found = pattern.fullmatch(line)
+        if found:
+            fields = {name: (mark, what) for name, mark, what in FIELD.findall(form)}
+            is_list = line.startswith("tags ") or found.groupdict().get("field") in LISTS
+            told = {name: what if mark == "!" else value_of(what if mark == ":" else None, found[name], is_list) for name, (mark, what) in fields.items()}
+            return {"line": line.split(" ")[0], **told}
+    return None
+
+
+def spelled(value):
+    """A value of JSON as the program writes it: units outside of 0x20 to 0x7E have four digits."""
+    if isinstance(value, str):
+        return '"' + "".join(f"\\u{ord(unit):04x}" if not " " <= unit <= "~" else "\\" + unit if unit in '"\\' else unit for unit in value) + '"'
+    if isinstance(value, list):
+        return "[" + ",".join(map(spelled, value)) + "]"
+    if isinstance(value, dict):
+        return "{" + ",".join(f"{spelled(name)}:{spelled(part)}" for name, part in value.items()) + "}"
+    return {None: "null", True: "true", False: "false"}[value] if value in (None, True, False) and not isinstance(value, int) else str(value)
+
+
+def shown(told):
+    """An object without what the text of boot.ini has beyond the text of the line, which has `?` there."""
+    return {**told, "path": re.sub("[^ -~]", "?", told["path"])} if told["line"] == "entry" and "path" in told else told
+
+
+def wrong_objects(programs, run):
+    """The first line of a run with --json that is not the object of the text's line."""
+    texts = run.wanted.out.decode().splitlines()
+    with fresh(run.inputs) as room:
+        found = said(run.program(programs), [*run.words, "--json"], room)
+    lines = found.out.decode().splitlines()
+    if found.status != run.wanted.status or len(lines) != len(texts):
+        return f"exit {found.status}, {len(lines)} lines, wanted {run.wanted.status}, {len(texts)} lines"
+    for text, line in zip(texts, lines):
+        told = object_of(run.words[0], text)
+        if told is None:
+            return f"no form of {text!r}"
+        if told != shown(json.loads(line)) or spelled(json.loads(line)) != line:
+            return f"{line}, wanted {spelled(told)}"
+    return ""
+
+
+def has_forms(run):
+    """A run with an answer in text, all of which the tables have."""
+    return run.is_done() and run.words[0] in FORMS and not {"--json", "--all", "--help", "-h"} & set(run.words)
+
+
+def check(programs):
+    return judged((run.name, wrong_objects, programs, run) for run in runs() if has_forms(run))
+
+
+if __name__ == "__main__":
+    sys.exit(main(check))
