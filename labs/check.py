@@ -1,9 +1,9 @@
 #!/usr/bin/env python3
-"""Says whether a report shows what a lab asks for: labs/check.py LAB REPORT.. (LAB is its number or folder; several reports are read one behind another).
-It prints `passed`, or each thing that is missing, and its exit is 0 or 1. The reports are what ntboot prints, as text or as JSON lines, with or
-without lines `answer ..` that the task asks for.
+"""Says whether a report shows what a lab asks for: labs/check.py LAB REPORT.. (LAB is its number or folder; several reports are read one after another).
+It prints `passed`, or a hint for each thing that is missing, and its exit is 0 or 1. With --show, for a teacher, it prints the wanted lines too. The
+reports are what ntboot prints, as text or as JSON lines, with or without lines `answer ..` that the task asks for.
 
-What a lab asks for is its file `expected`. Its lines, in which `*` stands for any text:
+What a lab asks for is its file `expected`, or in the students' archive the same file packed as `asked`. Its lines, in which `*` stands for any text:
 
     in report             what follows is asked of all that was handed in
     in part N             of its N-th part: a start of a run, or the whole report of another command; `last` is the last part
@@ -19,6 +19,7 @@ import os
 import re
 import signal
 import sys
+import zlib
 
 LABS = os.path.dirname(os.path.abspath(__file__))
 sys.path.insert(0, LABS)
@@ -30,6 +31,16 @@ def agrees(line, wanted):
     return re.fullmatch(".*".join(re.escape(piece) for piece in wanted.split("*")), line) is not None
 
 
+# The hint of a claim that has none of its own, by its word.
+HINTS = {
+    "says": "a line is missing",
+    "then": "a line is missing, or comes too early",
+    "never": "a line is there that should not be",
+    "tries": "the attempts are not the right ones, or not in the right order",
+    "counts": "a line is there too often or too seldom",
+}
+
+
 class Claim:
     """A line of `expected` that a report meets or not."""
 
@@ -38,8 +49,13 @@ class Claim:
         self.word, _, self.rest = line.partition(" ")
         self.hint = ""
 
+    def told(self, where, show):
+        """What is printed where it does not hold: the hint, and the claim itself only where it is to be shown."""
+        hint = self.hint or HINTS[self.word]
+        return f"missing in {where}: {self.line}  ({hint})" if show else f"in {where}: {hint}"
+
     def holds(self, lines, since):
-        """Whether it holds of these lines, and the place behind the line that it found."""
+        """Whether it holds of these lines, and the place after the line that it found."""
         if self.word in ("says", "then"):
             begin = since if self.word == "then" else 0
             for i in range(begin, len(lines)):
@@ -102,25 +118,43 @@ def folder_of(lab):
     return os.path.join(LABS, found[0])
 
 
-def main(words):
-    if len(words) < 2:
-        raise SystemExit(__doc__)
-    with open(os.path.join(folder_of(words[0]), "expected")) as f:
-        blocks = claims_of(f.read())
+def asked_in(folder):
+    """What a lab asks for: its file `expected`, or in the students' archive `asked`."""
+    plain = os.path.join(folder, "expected")
+    if os.path.isfile(plain):
+        with open(plain) as f:
+            return f.read()
+    try:
+        with open(os.path.join(folder, "asked"), "rb") as f:
+            return zlib.decompress(f.read()).decode()
+    except (OSError, zlib.error):
+        raise SystemExit(f"{os.path.basename(folder)}: what the lab asks for is not here; ask your teacher")
+
+
+def read_reports(names):
+    """The lines of the reports, one report after another."""
     lines = []
-    for name in words[1:]:
+    for name in names:
         try:
             with open(name, "rb") as f:
                 lines += reports.lines_of(f.read())
         except OSError:
             raise SystemExit(f"no file {name}")
-    bad = 0
-    for where, claims in blocks:
-        for claim in missing(where, claims, lines):
-            bad += 1
-            print(f"missing in {where}: {claim.line}" + (f"  ({claim.hint})" if claim.hint else ""))
-    print(f"{bad} missing" if bad else "passed")
-    return 1 if bad else 0
+    return lines
+
+
+def main(words):
+    show = "--show" in words
+    words = [word for word in words if word != "--show"]
+    if len(words) < 2:
+        raise SystemExit(__doc__)
+    blocks = claims_of(asked_in(folder_of(words[0])))
+    lines = read_reports(words[1:])
+    failed = [claim.told(where, show) for where, claims in blocks for claim in missing(where, claims, lines)]
+    for line in dict.fromkeys(failed):
+        print(line)
+    print(f"{len(failed)} missing" if failed else "passed")
+    return 1 if failed else 0
 
 
 if __name__ == "__main__":

@@ -61,7 +61,7 @@ def text_of(fields):
 
 def lines_of(data):
     """The lines of a report, which may be text or JSON."""
-    text = data.decode("utf-16") if data[:2] in (b"\xff\xfe", b"\xfe\xff") else data.decode("latin-1")
+    text = data.decode("utf-16", "replace") if data[:2] in (b"\xff\xfe", b"\xfe\xff") else data.decode("latin-1")
     lines = [line.strip() for line in text.splitlines()]
     return [text_or_line(line) for line in lines if line]
 
@@ -72,7 +72,7 @@ def text_or_line(line):
         return line
     try:
         return text_of(json.loads(line))
-    except (ValueError, KeyError, AttributeError, TypeError):
+    except (ValueError, KeyError, AttributeError, TypeError, RecursionError):
         return line
 
 

@@ -1,7 +1,8 @@
 #!/usr/bin/env python3
 """Runs the commands of each lab, the lines of its file `command`, and compares what is printed with the report that is kept behind `>`: labs/runs.py [LAB..].
-With --write it writes the reports. Files that a command saves go into a temporary folder, where the next commands find them. Then the solution of each lab
-has to pass its check, and the same with a file left out must not."""
+With --write it writes the reports; --with NTBOOT runs that program. Files that a command saves go into a temporary folder, where the next commands find
+them. Then the solution of each lab has to pass its check, and the same with a file left out must not. The last line is 'N passed, M failed'."""
+import argparse
 import contextlib
 import io
 import os
@@ -48,8 +49,12 @@ def unlike_its_check(lab):
 
 
 def main(words):
-    write = "--write" in words
-    asked = labs([word for word in words if word != "--write"])
+    parser = argparse.ArgumentParser(description=__doc__, formatter_class=argparse.RawDescriptionHelpFormatter)
+    parser.add_argument("labs", nargs="*", metavar="LAB")
+    parser.add_argument("--write", action="store_true")
+    parser.add_argument("--with", metavar="NTBOOT", dest="program")
+    given = parser.parse_args(words)
+    write, asked = given.write, labs(given.labs)
     with tempfile.TemporaryDirectory() as room:
         calls, reports = [], []
         for lab in asked:
@@ -58,7 +63,7 @@ def main(words):
                 calls.append(program.whole(call, os.path.join(room, lab)))
                 reports.append(os.path.join(LABS, lab, report))
         differing = 0
-        for path, (text, _) in zip(reports, program.answers(calls)):
+        for path, (text, _) in zip(reports, program.answers(calls, given.program and os.path.abspath(given.program))):
             kept = open(path, encoding="latin-1").read() if os.path.isfile(path) else None
             if write:
                 with open(path, "w", encoding="latin-1") as f:
@@ -66,9 +71,12 @@ def main(words):
             elif kept != text:
                 differing += 1
                 print(f"{os.path.relpath(path)} differs")
-    wrong = [line for lab in asked for line in unlike_its_check(lab)]
-    print("".join(line + "\n" for line in wrong) + f"{len(reports)} reports, {differing} differing; {len(asked)} labs checked, {len(wrong)} wrong")
-    return 1 if differing or wrong else 0
+    wrong = {lab: list(unlike_its_check(lab)) for lab in asked}
+    for line in sum(wrong.values(), []):
+        print(line)
+    failed = differing + sum(map(bool, wrong.values()))
+    print(f"{len(reports) + len(asked) - failed} passed, {failed} failed")
+    return 1 if failed else 0
 
 
 if __name__ == "__main__":
