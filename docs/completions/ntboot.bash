@@ -4,7 +4,7 @@ _ntboot() {
     local current=${COMP_WORDS[COMP_CWORD]} before=${COMP_WORDS[COMP_CWORD-1]} command=${COMP_WORDS[1]} options= word i
     COMPREPLY=()
     if [ "$COMP_CWORD" -eq 1 ]; then
-        COMPREPLY=($(compgen -W "run show make safe control twin export import key replay check whatif salvage diff why graph sweep" -- "$current"))
+        COMPREPLY=($(compgen -W "run show make safe control twin export import key replay check whatif salvage diff why graph sweep help version" -- "$current"))
         return
     fi
     # --name=value comes as three words
@@ -27,6 +27,7 @@ _ntboot() {
         why) options="--hive --log --boot-ini --system --script --json --verbose" ;;
         graph) options="--hive --log --boot-ini --system --script --of --json --verbose" ;;
         sweep) options="--hive --script --log --boot-ini --system --json --verbose" ;;
+        help) [ "$COMP_CWORD" -eq 2 ] && COMPREPLY=($(compgen -W "run show make safe control twin export import key replay check whatif salvage diff why graph sweep help version exits script report" -- "$current")); return ;;
         *) return ;;
     esac
     case $before in

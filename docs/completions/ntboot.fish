@@ -6,8 +6,13 @@ function __ntboot_can
     test (count $words) -gt 1; and test $words[2] = $argv[1]; or return 1
     not contains -- --$argv[2] $words[3..-2]
 end
+function __ntboot_asks_help
+    set -l words (commandline -opc)
+    test (count $words) -eq 2; and test $words[2] = help
+end
 complete -c ntboot -f
-complete -c ntboot -n 'test (count (commandline -opc)) -eq 1' -a 'run show make safe control twin export import key replay check whatif salvage diff why graph sweep'
+complete -c ntboot -n 'test (count (commandline -opc)) -eq 1' -a 'run show make safe control twin export import key replay check whatif salvage diff why graph sweep help version'
+complete -c ntboot -n '__ntboot_asks_help' -a 'run show make safe control twin export import key replay check whatif salvage diff why graph sweep help version exits script report'
 complete -c ntboot -n '__ntboot_can run hive' -l hive -r -F
 complete -c ntboot -n '__ntboot_can run script' -l script -r -F
 complete -c ntboot -n '__ntboot_can run log' -l log -r -F
