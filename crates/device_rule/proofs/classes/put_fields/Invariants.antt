@@ -1,0 +1,7 @@
+use Rattle.std.proofs.Common.{◌≡◌, ◌++◌, take, map, filter}
+use Rattle.device_rule.specs.Devices.{has_malformed}
+use Rattle.device_rule.specs.Classes.{malformed_at}
+use Rattle.device_rule.proofs.classes.put_fields.Given as goal
+
+abbrev pub invariant-loop-field : goal.invariant-loop-field
+invariant-loop-field l = l.lines ≡ l.initial.lines ++ map (malformed_at l.key) (filter (has_malformed l.key) (take l.field-index l.fields))

@@ -1,0 +1,4 @@
+mod Filled
+mod Pieces
+mod Printed
+pub mod Lines
