@@ -27,6 +27,9 @@ pub trait Files {
     /// The files, those that wait among them.
     ghost held: { Self → Held };
 
+    /// The files that have their names: what a name would lead to if all that wait were given up.
+    ghost standing: { Self → Held };
+
     /// What was printed on standard output so far.
     ghost said: { Self → List ℕ };
 
@@ -37,6 +40,7 @@ pub trait Files {
     fn get(&mut self, rt: &HostRuntime, name: &str) -> Result<Option<Bytes>, FileFault>
         ensures found { tells ≡ true → IfOk result (λ found. found ≡ held self.old name.now) }
         ensures same { tells ≡ true → held self.new ≡ held self.old }
+        ensures stands { tells ≡ true → standing self.new ≡ standing self.old }
         ensures unsaid { tells ≡ true → said self.new ≡ said self.old }
         ensures errors { errors self.new ≡ errors self.old };
 
@@ -44,6 +48,7 @@ pub trait Files {
     fn put(&mut self, rt: &HostRuntime, name: &str, bytes: &[u8]) -> Result<(), FileFault>
         ensures put { tells ≡ true → OnOk result (Puts (held self.old) (held self.new) name.now bytes.now) }
         ensures others { tells ≡ true → OnErr result (KeepsOthers (held self.old) (held self.new) name.now) }
+        ensures stand { tells ≡ true → KeepsOthers (standing self.old) (standing self.new) name.now }
         ensures unsaid { tells ≡ true → said self.new ≡ said self.old }
         ensures errors { errors self.new ≡ errors self.old };
 
@@ -52,22 +57,27 @@ pub trait Files {
         ensures said { tells ≡ true → OnOk result (said self.new ≡ said self.old ++ bytes.now) }
         ensures front { tells ≡ true → OnErr result (SaysFront (said self.old) (said self.new) bytes.now) }
         ensures same { tells ≡ true → held self.new ≡ held self.old }
+        ensures stands { tells ≡ true → standing self.new ≡ standing self.old }
         ensures errors { errors self.new ≡ errors self.old };
 
     /// Says the bytes on standard error, where that can be done.
     fn say_error(&mut self, rt: &HostRuntime, bytes: &[u8])
         ensures errors { tells ≡ true → (errors self.new ≡ errors self.old ++ bytes.now) ⊎ (errors self.new ≡ errors self.old) }
         ensures unsaid { said self.new ≡ said self.old }
-        ensures same { held self.new ≡ held self.old };
+        ensures same { held self.new ≡ held self.old }
+        ensures stands { standing self.new ≡ standing self.old };
 
     /// Gives each file that waits its name. After a refusal some of them may have it.
     fn finish(&mut self, rt: &HostRuntime) -> Result<(), FileFault>
         ensures same { tells ≡ true → OnOk result (held self.new ≡ held self.old) }
+        ensures stands { tells ≡ true → OnOk result (standing self.new ≡ held self.old) }
         ensures unsaid { tells ≡ true → said self.new ≡ said self.old }
         ensures errors { errors self.new ≡ errors self.old };
 
     /// Gives up each file that waits, so that its name has what it had.
     fn abandon(&mut self, rt: &HostRuntime)
+        ensures given_up { tells ≡ true → held self.new ≡ standing self.old }
+        ensures stands { tells ≡ true → standing self.new ≡ standing self.old }
         ensures unsaid { tells ≡ true → said self.new ≡ said self.old }
         ensures errors { errors self.new ≡ errors self.old };
 }
@@ -82,6 +92,8 @@ impl Files for NoFiles {
     ghost tells = { false };
 
     ghost held = { λ files q. None };
+
+    ghost standing = { λ files q. None };
 
     ghost said = { λ files. [] };
 

@@ -3,7 +3,7 @@
 ghost use Rattle.std.specs.Prelude.{◌≡◌, true, OnOk, IsErrOf};
 ghost use Rattle.nt_bytes.specs.Counts.{Rises};
 ghost use Rattle.nt_edge.specs.Host.{IsWithinEnds};
-ghost use Rattle.nt_edge.specs.declared.host.HostStop.TheVariants.{Write, Memory};
+ghost use Rattle.nt_edge.specs.declared.host.HostStop.TheVariants.{Read, Write, Memory};
 
 use crate::files::{FileFault, Files};
 use crate::system_files::SystemFiles;
@@ -45,11 +45,14 @@ impl<'a, F: Files + Drop> StandardHost<'a, F> {
     /// Gives the files that were put their names. After a refusal some of them may have theirs.
     pub fn finish(&mut self) -> Result<(), HostStop>
         ensures same { F.tells ≡ true → OnOk result (F.held self.new.files ≡ F.held self.old.files) }
+        ensures stands { F.tells ≡ true → OnOk result (F.standing self.new.files ≡ F.held self.old.files) }
         ensures unsaid { F.tells ≡ true → F.said self.new.files ≡ F.said self.old.files }
         ensures errors { F.errors self.new.files ≡ F.errors self.old.files }
         ensures gets { self.new.gets ≡ self.old.gets }
         ensures fault { IsErrOf result Write → Rises self.old.writes self.new.writes }
         ensures lack { IsErrOf result Memory → Rises self.old.lacks self.new.lacks }
+        ensures counted { OnOk result (self.new.writes ≡ self.old.writes) }
+        ensures unread { IsErrOf result Read → ⊥ }
     {
         let (_reads, _writes, _lacks) = (self.reads, self.writes, self.lacks);
         match self.files.finish(self.rt) {
@@ -67,8 +70,11 @@ impl<'a, F: Files + Drop> StandardHost<'a, F> {
 
     /// Gives up the files that were put and have not got their names.
     pub fn abandon(&mut self)
+        ensures given_up { F.tells ≡ true → F.held self.new.files ≡ F.standing self.old.files }
+        ensures stands { F.tells ≡ true → F.standing self.new.files ≡ F.standing self.old.files }
         ensures unsaid { F.tells ≡ true → F.said self.new.files ≡ F.said self.old.files }
         ensures errors { F.errors self.new.files ≡ F.errors self.old.files }
+        ensures writes { self.new.writes ≡ self.old.writes }
     {
         let (_reads, _writes, _lacks) = (self.reads, self.writes, self.lacks);
         self.files.abandon(self.rt);
@@ -85,6 +91,8 @@ impl StandardHost<'_, SystemFiles> {
     pub fn put_between(&mut self, bytes: &[u8]) -> Result<(), HostStop>
         ensures fault { IsErrOf result Write → Rises self.old.writes self.new.writes }
         ensures lack { IsErrOf result Memory → Rises self.old.lacks self.new.lacks }
+        ensures counted { OnOk result (self.new.writes ≡ self.old.writes) }
+        ensures unread { IsErrOf result Read → ⊥ }
     {
         let (_reads, _writes, _lacks) = (self.reads, self.writes, self.lacks);
         match self.files.put_between(self.rt, bytes) {

@@ -157,6 +157,8 @@ impl Files for SystemFiles {
 
     ghost held = { λ files q. None };
 
+    ghost standing = { λ files q. None };
+
     ghost said = { λ files. [] };
 
     ghost errors = { λ files. [] };

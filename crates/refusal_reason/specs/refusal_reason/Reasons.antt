@@ -3,6 +3,7 @@
 -- Exactly one where the command line asks for it and the status is no answer, and else none. For words that cannot be parsed it is
 -- the first reason from the left, at any other status a line made of the command line, of what was noted of the calls of the host, and of the files.
 use Rattle.std.specs.Prelude.{◌≡◌, ◌⊎◌, ◌&&◌, ◌++◌, Bool, true, false, List, Some, codes, if◌then◌else◌, is_some, take, unwrap_or}
+use Rattle.nt_bytes.specs.Counts.{Rises}
 use Rattle.nt_edge.specs.Host.{Files, HostState}
 use Rattle.command_words.specs.Words.{Text, Reading, refused}
 use Rattle.command_words.specs.Reading.{reading_of, wants_reason}
@@ -88,6 +89,10 @@ pub record IsLooked (old new : HostState) : Type 0 where
   pub errors : new.errors ≡ old.errors
   pub files : old.tells ≡ true → new.files ≡ old.files
   pub said : old.tells ≡ true → new.said ≡ old.said
+
+-- the host refused a call, and counted that: a file could not be read, or there was no memory
+abbrev pub IsUnread : HostState → HostState → Type 0
+IsUnread old new = Rises old.reads new.reads ⊎ Rises old.lacks new.lacks
 
 -- that line was printed, or could not be; or there was no memory for it, and that was printed; no file changed and nothing else was printed
 pub record IsExplained (wanted : Text) (old new : HostState) : Type 0 where

@@ -1,12 +1,12 @@
 //! The line of a reason.
 
-ghost use Rattle.std.specs.Prelude.{◌≡◌, Bool, false, IfOk, is_some, map, Some, true, unwrap_or};
+ghost use Rattle.std.specs.Prelude.{◌≡◌, Bool, false, IfOk, is_some, map, None, Some, true, unwrap_or};
 ghost use Rattle.std.specs.Option.{IfSome};
 ghost use Rattle.refusal_reason.specs.reason_lines.Files.{value_of};
 ghost use Rattle.refusal_reason.specs.reason_lines.Lines.{heard_line};
 ghost use Rattle.refusal_reason.specs.reason_lines.Seen.{heard_seen};
 ghost use Rattle.refusal_reason.specs.refusal_reason.Notes.{dirty_file, IsNoted};
-ghost use Rattle.refusal_reason.specs.refusal_reason.Reasons.{fault_line, heard_by, is_dirty_at, is_dirty_in, is_judged, printed_line, reason_line, IsLine, IsLooked};
+ghost use Rattle.refusal_reason.specs.refusal_reason.Reasons.{fault_line, heard_by, is_dirty_at, is_dirty_in, is_judged, printed_line, reason_line, IsLine, IsLooked, IsUnread};
 
 use crate::reason_lines::{
     Heard, absent_line, file_at, heard_in, heard_line, is_dirty, memory_line, missing_in,
@@ -21,6 +21,7 @@ use std::alloc::{AllocError, Global};
 fn is_dirty_file<H: Host>(name: &str, host: &mut H) -> Option<bool>
     ensures looked { IsLooked (H.state host.old) (H.state host.new) }
     ensures dirty { (H.state host.old).tells ≡ true → IfSome result (λ d. d ≡ unwrap_or (dirty_file (H.state host.old).files (Some name.now)) false) }
+    ensures unknown { result ≡ None → IsUnread (H.state host.old) (H.state host.new) }
 {
     match host.get(name) {
         Ok(Some(bytes)) => Some(is_dirty(bytes.as_slice())),
@@ -34,6 +35,7 @@ fn asked_dirty<H: Host>(words: &[&str], option: &str, host: &mut H) -> Option<bo
     ensures looked { IsLooked (H.state host.old) (H.state host.new) }
     ensures dirty { (H.state host.old).tells ≡ true
         → IfSome result (λ d. d ≡ is_dirty_at (map (λ w. w.now) words.now) (H.state host.old).files option.now) }
+    ensures unknown { result ≡ None → IsUnread (H.state host.old) (H.state host.new) }
 {
     match value_of(words, option) {
         Some(name) => is_dirty_file(name, host),
@@ -53,6 +55,7 @@ fn is_dirty_at<H: Host>(
     ensures dirty { (H.state host.old).tells ≡ true
         → (is_some noted ≡ true → dirty_file (H.state host.old).files (value_of (map (λ w. w.now) words.now) option.now) ≡ noted)
         → IfSome result (λ d. d ≡ is_dirty_at (map (λ w. w.now) words.now) (H.state host.old).files option.now) }
+    ensures unknown { result ≡ None → IsUnread (H.state host.old) (H.state host.new) }
 {
     match noted {
         Some(dirty) => Some(dirty),
@@ -66,6 +69,7 @@ fn is_dirty_in<H: Host>(words: &[&str], heard: Heard, notes: &Notes, host: &mut 
     ensures unasked { is_judged (heard_seen heard) notes.now ≡ true → H.state host.new ≡ H.state host.old }
     ensures dirty { (H.state host.old).tells ≡ true → IsNoted (map (λ w. w.now) words.now) (H.state host.old) notes.now
         → IfSome result (λ d. d ≡ is_dirty_in (map (λ w. w.now) words.now) (H.state host.old).files (heard_seen heard)) }
+    ensures unknown { result ≡ None → IsUnread (H.state host.old) (H.state host.new) }
 {
     match heard {
         Heard::Hive(_, _, _) => is_dirty_at(words, "--hive", notes.dirty, host),

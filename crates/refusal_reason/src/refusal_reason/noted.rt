@@ -41,23 +41,62 @@ impl<'w, H: Host + Drop> Noted<'w, H> {
 }
 
 impl<H: Host + Drop> Host for Noted<'_, H> {
+    ghost use Rattle.std.specs.Prelude.{◌++◌, IfOk, IsErrOf, OnErr, OnOk, is_err};
+    ghost use Rattle.nt_edge.specs.Host.{Asks, AsksNone, CountsFault, CountsLack, IsUnsaid, KeepsFiles, KeepsHost, KeepsOthers, Puts, SaysFront};
+    ghost use Rattle.nt_edge.specs.declared.host.HostStop.TheVariants.{Read, Write};
+    ghost use Rattle.refusal_reason.specs.refusal_reason.Notes.{with_got, with_put, IsSaid};
+
     ghost state = { λ noted. H.state noted.host };
 
     ghost bounded = { λ noted. H.bounded noted.host };
 
-    fn get(&mut self, name: &str) -> Result<Option<Bytes>, HostStop> {
+    fn get(&mut self, name: &str) -> Result<Option<Bytes>, HostStop>
+        ensures found { (H.state self.old.host).tells ≡ true → IfOk result (λ found. found ≡ (H.state self.old.host).files name.now) }
+        ensures keeps { KeepsHost (H.state self.old.host) (H.state self.new.host) }
+        ensures files { KeepsFiles (H.state self.old.host) (H.state self.new.host) }
+        ensures unsaid { IsUnsaid (H.state self.old.host) (H.state self.new.host) }
+        ensures asks { Asks (H.state self.old.host) (H.state self.new.host) }
+        ensures counts { CountsFault result (H.state self.old.host) (H.state self.new.host) }
+        ensures lacks { CountsLack result (H.state self.old.host) (H.state self.new.host) }
+        ensures never_write { IsErrOf result Write → ⊥ }
+        ensures noted { self.new.notes ≡ with_got (map (λ w. w.now) self.old.words.now) self.old.notes name.now result }
+    {
         let found = self.host.get(name);
         self.notes.get(self.words, name, &found);
         found
     }
 
-    fn put(&mut self, name: &str, bytes: &[u8]) -> Result<(), HostStop> {
+    fn put(&mut self, name: &str, bytes: &[u8]) -> Result<(), HostStop>
+        ensures keeps { KeepsHost (H.state self.old.host) (H.state self.new.host) }
+        ensures put { (H.state self.old.host).tells ≡ true → OnOk result
+            (Puts (H.state self.old.host).files (H.state self.new.host).files name.now bytes.now) }
+        ensures others { (H.state self.old.host).tells ≡ true → OnErr result
+            (KeepsOthers (H.state self.old.host).files (H.state self.new.host).files name.now) }
+        ensures unsaid { IsUnsaid (H.state self.old.host) (H.state self.new.host) }
+        ensures unasked { AsksNone (H.state self.old.host) (H.state self.new.host) }
+        ensures counts { CountsFault result (H.state self.old.host) (H.state self.new.host) }
+        ensures lacks { CountsLack result (H.state self.old.host) (H.state self.new.host) }
+        ensures never_read { IsErrOf result Read → ⊥ }
+        ensures noted { self.new.notes ≡ with_put (map (λ w. w.now) self.old.words.now) self.old.notes name.now (is_err result) }
+    {
         let put = self.host.put(name, bytes);
         self.notes.put(self.words, name, put.is_err());
         put
     }
 
-    fn say(&mut self, bytes: &[u8]) -> Result<(), HostStop> {
+    fn say(&mut self, bytes: &[u8]) -> Result<(), HostStop>
+        ensures said { (H.state self.old.host).tells ≡ true → OnOk result
+            ((H.state self.new.host).said ≡ (H.state self.old.host).said ++ bytes.now) }
+        ensures front { (H.state self.old.host).tells ≡ true → OnErr result
+            (SaysFront (H.state self.old.host).said (H.state self.new.host).said bytes.now) }
+        ensures keeps { KeepsHost (H.state self.old.host) (H.state self.new.host) }
+        ensures files { KeepsFiles (H.state self.old.host) (H.state self.new.host) }
+        ensures unasked { AsksNone (H.state self.old.host) (H.state self.new.host) }
+        ensures counts { CountsFault result (H.state self.old.host) (H.state self.new.host) }
+        ensures lacks { CountsLack result (H.state self.old.host) (H.state self.new.host) }
+        ensures never_read { IsErrOf result Read → ⊥ }
+        ensures noted { IsSaid (is_err result) self.old.notes bytes.now self.new.notes }
+    {
         let said = self.host.say(bytes);
         self.notes.say(bytes, said.is_err());
         said
