@@ -16,7 +16,7 @@ use Rattle.command_words.proofs.VerboseLemmas.{IsElsewhere, IsAlike, asked_in, f
 -- ---- places
 
 -- a row that is known has a place among the rows
-known_within : (n : ℕ) (passes : OptionRow → Bool) (rows : List OptionRow) (known : Known)
+pub known_within : (n : ℕ) (passes : OptionRow → Bool) (rows : List OptionRow) (known : Known)
     → known_from n passes rows ≡ Some known → known.place < n + length rows
 known_within n passes [] known is = absurd cc
 known_within n passes (row ∷ rows) known is = go (passes row) (known_within (n + 1) passes rows known) is

@@ -3,3 +3,17 @@ pub mod LawLemmas
 pub mod SplitLemmas
 pub mod ValueLemmas
 pub mod VerboseLemmas
+pub mod ToldLemmas
+pub mod RowLemmas
+pub mod WalkLemmas
+pub mod NamedLemmas
+pub mod WordForms
+pub mod RelLemmas
+pub mod ClaimLemmas
+pub mod StepLemmas
+pub mod ClapLemmas
+pub mod LevelLemmas
+pub mod LooseLemmas
+pub mod RefusedLemmas
+pub mod TellLemmas
+pub mod AskLemmas

@@ -12,7 +12,7 @@ use Rattle.command_words.specs.declared.asked.CommandName.TheVariants as names
 use Rattle.command_words.specs.Words.{Text, Asked, Reason, no_value, twice, left_over, unknown_option, bad_value}
 use Rattle.command_words.specs.Words.{is_empty_text, begins_with_hyphen}
 use Rattle.command_words.specs.Table.{OptionRow, Known, accepts, is_flag, is_free, known_from, option_known, free_known}
-use Rattle.command_words.specs.Walk.{State, Values, and_then, attached_in, name_in, no_values, value_at, value_named}
+use Rattle.command_words.specs.Walk.{State, Values, and_then, attached_in, name_in, no_values, value_at, value_named, flag_value}
 use Rattle.command_words.specs.Walk.{finished, walked, with_free, with_known, with_next, with_option, with_step}
 use Rattle.command_words.specs.Walk.{with_taken, with_value, with_word}
 use Rattle.command_words.specs.Commands.{CommandRow, Look, asks_of, commands, flag, flag_in, row_named}
@@ -125,10 +125,10 @@ option_alike place value values known word None other = go (is_flag known.row.ta
   where
     go : (t : Bool)
         → IsAlike place value values
-        (if t then Ok (with_value values known word) else Ok (record { values = values; waiting = Some known }))
-        (if t then Ok (with_value (set values place (Some value)) known word)
+        (if t then Ok (with_value values known flag_value) else Ok (record { values = values; waiting = Some known }))
+        (if t then Ok (with_value (set values place (Some value)) known flag_value)
         else Ok (record { values = set values place (Some value); waiting = Some known }))
-    go true = placed_alike place value values known word other
+    go true = placed_alike place value values known flag_value other
     go false = (refl, other, refl)
 option_alike place value values known word (Some text) other =
     go (is_empty_text text) (taken_alike place value values known text other)
@@ -327,41 +327,41 @@ is_written word is = go (bytes_eq word (codes "-v")) refl is
 
 flag_given : (place : ℕ) (values : Values) (word : Text) (k : Option Known) → k ≡ Some (flag_at place)
     → value_at place values ≡ None
-    → with_known values word None k ≡ Ok (record { values = set values place (Some word); waiting = None })
+    → with_known values word None k ≡ Ok (record { values = set values place (Some flag_value); waiting = None })
 flag_given place values word k there free =
     ap (λ (k : Option Known). with_known values word None k) there
     ∙ ap (λ (given : Option Text). if is_some given then Err (twice (codes "--verbose"))
-    else Ok (record { values = set values place (Some word); waiting = None })) free
+    else Ok (record { values = set values place (Some flag_value); waiting = None })) free
 
 flag_step : (rows : List OptionRow) (place : ℕ) (values : Values) (word : Text) → HasFlagAt place rows
     → value_at place values ≡ None → (word ≡ codes "-v") ⊎ (word ≡ codes "--verbose")
-    → with_next rows values word ≡ Ok (record { values = set values place (Some word); waiting = None })
+    → with_next rows values word ≡ Ok (record { values = set values place (Some flag_value); waiting = None })
 flag_step rows place values word there free (inl e) =
     subst (λ (w : Text). with_next rows values w
-    ≡ Ok (record { values = set values place (Some w); waiting = None })) (sym e)
+    ≡ Ok (record { values = set values place (Some flag_value); waiting = None })) (sym e)
     (flag_given place values (codes "-v") (option_known (codes "--verbose") rows) there free)
 flag_step rows place values word there free (inr e) =
     subst (λ (w : Text). with_next rows values w
-    ≡ Ok (record { values = set values place (Some w); waiting = None })) (sym e)
+    ≡ Ok (record { values = set values place (Some flag_value); waiting = None })) (sym e)
     (flag_given place values (codes "--verbose") (option_known (codes "--verbose") rows) there free)
 
 walk_with : (rows : List OptionRow) (place : ℕ) (state reached : State) (before after : List Text) (word : Text)
     → HasFlagAt place rows → IsElsewhere place state.waiting → value_at place state.values ≡ None
     → steps rows state before ≡ Ok reached → reached.waiting ≡ None → is_verbose word ≡ true
     → list_any names_flag before ≡ false → list_any names_flag after ≡ false
-    → walked rows state (before ++ word ∷ after) ≡ and_then (walked rows state (before ++ after)) (flagged place word)
+    → walked rows state (before ++ word ∷ after) ≡ and_then (walked rows state (before ++ after)) (flagged place flag_value)
 walk_with rows place state reached before after word there other free is idle verbose unlike none =
     let free_there : value_at place reached.values ≡ None =
     kept rows place state reached before there other unlike is ∙ free in
-    let step : with_step rows reached.values word reached.waiting ≡ Ok (with_flag place word reached) =
+    let step : with_step rows reached.values word reached.waiting ≡ Ok (with_flag place flag_value reached) =
     ap (λ (w : Option Known). with_step rows reached.values word w) idle
     ∙ flag_step rows place reached.values word there free_there (is_written word verbose)
-    ∙ ap (λ (w : Option Known). Ok (record { values = set reached.values place (Some word); waiting = w }))
+    ∙ ap (λ (w : Option Known). Ok (record { values = set reached.values place (Some flag_value); waiting = w }))
     (sym idle) in
     walk_from rows state reached before (word ∷ after) is
     ∙ ap (λ (r : Result State Reason). and_then r (λ next. walked rows next after)) step
-    ∙ walk_alike rows place word reached after there (subst (IsElsewhere place) (sym idle) tt) none
-    ∙ ap (λ (r : Result Values Reason). and_then r (flagged place word))
+    ∙ walk_alike rows place flag_value reached after there (subst (IsElsewhere place) (sym idle) tt) none
+    ∙ ap (λ (r : Result Values Reason). and_then r (flagged place flag_value))
     (sym (walk_from rows state reached before after is))
 
 -- ---- what is asked
@@ -520,12 +520,12 @@ verbose_alike first row reached before after word named is idle verbose none =
     let parts = any_parts names_flag before after none in
     let start : State = record { values = no_values; waiting = None } in
     let walk : walked row.options start (before ++ word ∷ after)
-    ≡ and_then (walked row.options start (before ++ after)) (flagged has.0 word) =
+    ≡ and_then (walked row.options start (before ++ after)) (flagged has.0 flag_value) =
     walk_with row.options has.0 start reached before after word has.1 tt (none_given has.0 no_values refl)
     is idle verbose parts.0 parts.1 in
     let asked : asked_of row (before ++ word ∷ after) ≡ asked_of row (before ++ after) =
     ap (λ (r : Result Values Reason). and_then r (asked_by row)) walk
-    ∙ asked_with row has.0 word (walked row.options start (before ++ after)) has.1 in
+    ∙ asked_with row has.0 flag_value (walked row.options start (before ++ after)) has.1 in
     ap (λ (t : Bool). if t then help (page_of_row row) else asked_read (asked_of row (before ++ word ∷ after)))
     (help_alike before after word (no_help word (is_written word verbose)))
     ∙ ap (λ (r : Result (Asked × Bool) Reason). if asks_help (before ++ after) then help (page_of_row row)

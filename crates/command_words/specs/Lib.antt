@@ -6,3 +6,4 @@ pub mod Reading
 pub mod Laws
 pub mod Reasons
 pub mod Views
+pub mod Clap

@@ -5,11 +5,12 @@
 use Rattle.std.specs.Prelude.{Bool, ◌||◌, false, List, [], ◌∷◌, Option, Some, None, codes, Result, Ok, Err, bytes_eq, if◌then◌else◌}
 use Rattle.std.specs.Prelude.{option_map}
 use Rattle.std.specs.List.{list_any}
+use Rattle.command_words.specs.declared.asked.CommandName.{CommandName}
 use Rattle.command_words.specs.declared.asked.Page.{Page}
 use Rattle.command_words.specs.declared.asked.Page.TheVariants as pages
 use Rattle.command_words.specs.Words.{Text, Asked, Reason, Reading, unknown_command, help, version, asks, refused}
 use Rattle.command_words.specs.Walk.{Values, and_then, no_values, walked, value_named}
-use Rattle.command_words.specs.Commands.{CommandRow, asks_of, flag_in, row_named}
+use Rattle.command_words.specs.Commands.{CommandRow, Look, asks_of, flag_in, row_named}
 
 -- the word asks for help
 abbrev pub is_help : Text → Bool
@@ -70,10 +71,12 @@ abbrev pub version_read : List Text → Reading
 version_read words = if asks_help words then help pages.Version else alone version words
 
 -- what the values ask of the command, and whether for JSON
+abbrev pub asked_with : CommandName → Look → Result (Asked × Bool) Reason
+asked_with command look = and_then (asks_of command look) (λ asked. Ok (asked, flag_in look (codes "--json")))
+
+-- the same of the values by their places
 abbrev pub asked_by : CommandRow → Values → Result (Asked × Bool) Reason
-asked_by row values =
-    and_then (asks_of row.command (value_named row.options values))
-    (λ asked. Ok (asked, flag_in (value_named row.options values) (codes "--json")))
+asked_by row values = asked_with row.command (value_named row.options values)
 
 -- what the arguments ask of the command, or the first reason from the left why they cannot be parsed
 abbrev pub asked_of : CommandRow → List Text → Result (Asked × Bool) Reason

@@ -1,6 +1,6 @@
 -- The commands as the code holds them.
 use Rattle.std.specs.Borrow.{Bor}
-use Rattle.std.specs.Prelude.{◌≡◌, ℕ, List, Bool, Option, Result, Ok, Err, map, option_map}
+use Rattle.std.specs.Prelude.{◌≡◌, ℕ, List, Bool, Option, Some, None, Result, Ok, Err, map, option_map}
 use Rattle.command_words.specs.Words.{Asked, Reason, RunAsked, ShowAsked, MakeAsked, SafeAsked, ControlAsked, TwinAsked, ExportAsked, ImportAsked}
 use Rattle.command_words.specs.Words.{KeyAsked, ReplayAsked, CheckAsked, WhatifAsked, SalvageAsked, DiffAsked}
 use Rattle.command_words.specs.Words.{WhyAsked, GraphAsked, SweepAsked}
@@ -38,6 +38,8 @@ use Rattle.command_words.specs.declared.table.Found.{Found}
 use Rattle.command_words.specs.Table.{OptionRow, Known}
 use Rattle.command_words.specs.Commands.{CommandRow, Look}
 use Rattle.command_words.specs.declared.commands.Given.{Given}
+use Rattle.clap.specs.declared.parser.matches.ArgMatches.{ArgMatches}
+use Rattle.clap.specs.Words.{first_of, found_of, rows_of}
 use Rattle.command_words.specs.Walk.{State, Values, value_named}
 use Rattle.command_words.specs.declared.walk.Walk.{Walk}
 
@@ -259,8 +261,13 @@ abbrev pub walk_seen : Walk → State
 walk_seen w = record { values = values_seen w.values; waiting = option_map found_seen w.waiting }
 
 -- the values by their names, seen so
+abbrev pub look_by : Option (Bor ArgMatches) → Look → Look
+look_by None walked = walked
+look_by (Some matches) walked = λ name. first_of name (rows_of (found_of matches.now))
+
+-- the same of what was given
 abbrev pub look_of : Given → Look
-look_of g = value_named (map option_seen g.options.now) (values_seen g.values)
+look_of g = look_by g.parsed (value_named (map option_seen g.options.now) (values_seen g.values))
 
 -- a command, and whether for JSON, seen so
 abbrev pub asked_seen : Command × Bool → Asked × Bool

@@ -7,7 +7,9 @@ ghost use Rattle.command_words.specs.Commands.{run_by, show_by, make_by, safe_by
 ghost use Rattle.command_words.specs.Commands.{flag_in, levels_in, encoding_in, current_in, paired};
 ghost use Rattle.command_words.specs.Commands.{key_by, replay_by, check_by, whatif_by, salvage_by, diff_by};
 ghost use Rattle.command_words.specs.Commands.{why_by, graph_by, sweep_by};
-ghost use Rattle.command_words.specs.Views.{Sees, command_seen, look_of};
+ghost use Rattle.std.specs.Prelude.{map};
+ghost use Rattle.command_words.specs.Walk.{value_named};
+ghost use Rattle.command_words.specs.Views.{Sees, command_seen, look_of, option_seen, values_seen};
 
 use crate::asked::{
     AskedEncoding, AskedMode, AskedScheme, AskedSet, CheckWords, Command, CommandName,
@@ -16,28 +18,40 @@ use crate::asked::{
     WhatifWords, WhyWords,
 };
 use crate::count::{count_in, depth_in, encoding_named, mode_named, set_named, set_number_in};
+use crate::parsing::value_of;
 use crate::reason::Reason;
 use crate::table::{CommandOption, option_named};
 use crate::walk::{Values, value_at};
+use clap::ArgMatches;
 
-/// The options of a command, with the values that were given.
+/// The values that were given: those of `clap`, where it read them, or else of our walk, by the options of the command.
 #[derive(Clone, Copy)]
-pub struct Given<'a> {
+pub struct Given<'b, 'a> {
     pub options: &'static [CommandOption],
     pub values: Values<'a>,
+    pub parsed: Option<&'b ArgMatches<'a>>,
 }
 
-/// The value of the option, where one was given.
-pub fn value<'a>(given: &Given<'a>, name: &str) -> Option<&'a str>
-    ensures { option_map (λ t. t.now) result ≡ look_of given.now name.now }
+fn walked_value<'a>(options: &[CommandOption], values: &Values<'a>, name: &str) -> Option<&'a str>
+    ensures { option_map (λ t. t.now) result ≡ value_named (map option_seen options.now) (values_seen values.now) name.now }
 {
-    match option_named(name, given.options) {
-        Some(found) => value_at(&given.values, found.place),
+    match option_named(name, options) {
+        Some(found) => value_at(values, found.place),
         None => None,
     }
 }
 
-fn needed<'a>(given: &Given<'a>, name: &'static str) -> Result<&'a str, Reason<'a>>
+/// The value of the option, where one was given.
+pub fn value<'a>(given: &Given<'_, 'a>, name: &str) -> Option<&'a str>
+    ensures { option_map (λ t. t.now) result ≡ look_of given.now name.now }
+{
+    match given.parsed {
+        Some(matches) => value_of(matches, name),
+        None => walked_value(given.options, &given.values, name),
+    }
+}
+
+fn needed<'a>(given: &Given<'_, 'a>, name: &'static str) -> Result<&'a str, Reason<'a>>
     ensures { Sees (λ t. t.now) result (needed_in (look_of given.now) name.now) }
 {
     match value(given, name) {
@@ -47,7 +61,7 @@ fn needed<'a>(given: &Given<'a>, name: &'static str) -> Result<&'a str, Reason<'
 }
 
 /// The system that is named, or the usual one.
-fn system<'a>(given: &Given<'a>) -> &'a str
+fn system<'a>(given: &Given<'_, 'a>) -> &'a str
     ensures { result.now ≡ system_in (look_of given.now) }
 {
     match value(given, "--system") {
@@ -57,7 +71,7 @@ fn system<'a>(given: &Given<'a>) -> &'a str
 }
 
 /// The number of a set, where one is given.
-fn set_number<'a>(given: &Given<'a>, name: &str) -> Option<u32>
+fn set_number<'a>(given: &Given<'_, 'a>, name: &str) -> Option<u32>
     ensures { result ≡ set_in (look_of given.now) name.now }
 {
     match value(given, name) {
@@ -67,13 +81,13 @@ fn set_number<'a>(given: &Given<'a>, name: &str) -> Option<u32>
 }
 
 /// Whether the flag is given.
-pub fn flag<'a>(given: &Given<'a>, name: &str) -> bool
+pub fn flag<'a>(given: &Given<'_, 'a>, name: &str) -> bool
     ensures { result ≡ flag_in (look_of given.now) name.now }
 {
     value(given, name).is_some()
 }
 
-fn run_words<'a>(given: &Given<'a>) -> Result<Command<'a>, Reason<'a>>
+fn run_words<'a>(given: &Given<'_, 'a>) -> Result<Command<'a>, Reason<'a>>
     ensures { Sees command_seen result (run_by (look_of given.now)) }
 {
     let hive = needed(given, "--hive")?;
@@ -89,7 +103,7 @@ fn run_words<'a>(given: &Given<'a>) -> Result<Command<'a>, Reason<'a>>
     }))
 }
 
-fn show_words<'a>(given: &Given<'a>) -> Result<Command<'a>, Reason<'a>>
+fn show_words<'a>(given: &Given<'_, 'a>) -> Result<Command<'a>, Reason<'a>>
     ensures { Sees command_seen result (show_by (look_of given.now)) }
 {
     let hive = needed(given, "--hive")?;
@@ -108,7 +122,7 @@ fn counted<'a>(text: &'a str) -> Result<u32, Reason<'a>>
     }
 }
 
-fn make_words<'a>(given: &Given<'a>) -> Result<Command<'a>, Reason<'a>>
+fn make_words<'a>(given: &Given<'_, 'a>) -> Result<Command<'a>, Reason<'a>>
     ensures { Sees command_seen result (make_by (look_of given.now)) }
 {
     let number = needed(given, "N")?;
@@ -120,7 +134,7 @@ fn make_words<'a>(given: &Given<'a>) -> Result<Command<'a>, Reason<'a>>
 }
 
 /// The mode that is named, where one is.
-fn mode<'a>(given: &Given<'a>) -> Option<AskedMode>
+fn mode<'a>(given: &Given<'_, 'a>) -> Option<AskedMode>
     ensures { result ≡ option_and_then mode_of (look_of given.now (codes "--mode")) }
 {
     match value(given, "--mode") {
@@ -129,7 +143,7 @@ fn mode<'a>(given: &Given<'a>) -> Option<AskedMode>
     }
 }
 
-fn safe_words<'a>(given: &Given<'a>) -> Result<Command<'a>, Reason<'a>>
+fn safe_words<'a>(given: &Given<'_, 'a>) -> Result<Command<'a>, Reason<'a>>
     ensures { Sees command_seen result (safe_by (look_of given.now)) }
 {
     let hive = needed(given, "--hive")?;
@@ -143,7 +157,7 @@ fn safe_words<'a>(given: &Given<'a>) -> Result<Command<'a>, Reason<'a>>
     }))
 }
 
-fn control_words<'a>(given: &Given<'a>) -> Result<Command<'a>, Reason<'a>>
+fn control_words<'a>(given: &Given<'_, 'a>) -> Result<Command<'a>, Reason<'a>>
     ensures { Sees command_seen result (control_by (look_of given.now)) }
 {
     let hive = needed(given, "--hive")?;
@@ -175,7 +189,7 @@ fn scheme(text: Option<&str>) -> AskedScheme
     }
 }
 
-fn twin_words<'a>(given: &Given<'a>) -> Result<Command<'a>, Reason<'a>>
+fn twin_words<'a>(given: &Given<'_, 'a>) -> Result<Command<'a>, Reason<'a>>
     ensures { Sees command_seen result (twin_by (look_of given.now)) }
 {
     let hive = needed(given, "--hive")?;
@@ -189,7 +203,7 @@ fn twin_words<'a>(given: &Given<'a>) -> Result<Command<'a>, Reason<'a>>
     }))
 }
 
-fn export_words<'a>(given: &Given<'a>) -> Result<Command<'a>, Reason<'a>>
+fn export_words<'a>(given: &Given<'_, 'a>) -> Result<Command<'a>, Reason<'a>>
     ensures { Sees command_seen result (export_by (look_of given.now)) }
 {
     let hive = needed(given, "--hive")?;
@@ -203,7 +217,7 @@ fn export_words<'a>(given: &Given<'a>) -> Result<Command<'a>, Reason<'a>>
 }
 
 /// How the text is encoded that the command line names: in UTF-16, where it is not said.
-fn encoding<'a>(given: &Given<'a>) -> AskedEncoding
+fn encoding<'a>(given: &Given<'_, 'a>) -> AskedEncoding
     ensures { result ≡ encoding_in (look_of given.now) }
 {
     match encoding_said(given) {
@@ -212,7 +226,7 @@ fn encoding<'a>(given: &Given<'a>) -> AskedEncoding
     }
 }
 
-fn encoding_said<'a>(given: &Given<'a>) -> Option<AskedEncoding>
+fn encoding_said<'a>(given: &Given<'_, 'a>) -> Option<AskedEncoding>
     ensures { result ≡ option_and_then encoding_of (look_of given.now (codes "--encoding")) }
 {
     match value(given, "--encoding") {
@@ -222,7 +236,7 @@ fn encoding_said<'a>(given: &Given<'a>) -> Option<AskedEncoding>
 }
 
 /// The set that `CurrentControlSet` stands for, where one is named.
-fn current<'a>(given: &Given<'a>) -> Option<AskedSet>
+fn current<'a>(given: &Given<'_, 'a>) -> Option<AskedSet>
     ensures { result ≡ current_in (look_of given.now) }
 {
     match value(given, "--current") {
@@ -231,7 +245,7 @@ fn current<'a>(given: &Given<'a>) -> Option<AskedSet>
     }
 }
 
-fn import_words<'a>(given: &Given<'a>) -> Result<Command<'a>, Reason<'a>>
+fn import_words<'a>(given: &Given<'_, 'a>) -> Result<Command<'a>, Reason<'a>>
     ensures { Sees command_seen result (import_by (look_of given.now)) }
 {
     let hive = needed(given, "--hive")?;
@@ -249,7 +263,7 @@ fn import_words<'a>(given: &Given<'a>) -> Result<Command<'a>, Reason<'a>>
 }
 
 /// The number of levels, where one is given.
-fn levels_said<'a>(given: &Given<'a>) -> Option<u32>
+fn levels_said<'a>(given: &Given<'_, 'a>) -> Option<u32>
     ensures { result ≡ option_and_then depth_of (look_of given.now (codes "--depth")) }
 {
     match value(given, "--depth") {
@@ -259,7 +273,7 @@ fn levels_said<'a>(given: &Given<'a>) -> Option<u32>
 }
 
 /// The number of levels, none where it isn't said.
-fn levels<'a>(given: &Given<'a>) -> u32
+fn levels<'a>(given: &Given<'_, 'a>) -> u32
     ensures { result ≡ levels_in (look_of given.now) }
 {
     match levels_said(given) {
@@ -268,7 +282,7 @@ fn levels<'a>(given: &Given<'a>) -> u32
     }
 }
 
-fn key_words<'a>(given: &Given<'a>) -> Result<Command<'a>, Reason<'a>>
+fn key_words<'a>(given: &Given<'_, 'a>) -> Result<Command<'a>, Reason<'a>>
     ensures { Sees command_seen result (key_by (look_of given.now)) }
 {
     let hive = needed(given, "--hive")?;
@@ -281,7 +295,7 @@ fn key_words<'a>(given: &Given<'a>) -> Result<Command<'a>, Reason<'a>>
     }))
 }
 
-fn replay_words<'a>(given: &Given<'a>) -> Result<Command<'a>, Reason<'a>>
+fn replay_words<'a>(given: &Given<'_, 'a>) -> Result<Command<'a>, Reason<'a>>
     ensures { Sees command_seen result (replay_by (look_of given.now)) }
 {
     let hive = needed(given, "--hive")?;
@@ -294,7 +308,7 @@ fn replay_words<'a>(given: &Given<'a>) -> Result<Command<'a>, Reason<'a>>
     }))
 }
 
-fn check_words<'a>(given: &Given<'a>) -> Result<Command<'a>, Reason<'a>>
+fn check_words<'a>(given: &Given<'_, 'a>) -> Result<Command<'a>, Reason<'a>>
     ensures { Sees command_seen result (check_by (look_of given.now)) }
 {
     let hive = needed(given, "--hive")?;
@@ -306,7 +320,7 @@ fn check_words<'a>(given: &Given<'a>) -> Result<Command<'a>, Reason<'a>>
     }))
 }
 
-fn whatif_words<'a>(given: &Given<'a>) -> Result<Command<'a>, Reason<'a>>
+fn whatif_words<'a>(given: &Given<'_, 'a>) -> Result<Command<'a>, Reason<'a>>
     ensures { Sees command_seen result (whatif_by (look_of given.now)) }
 {
     let hive = needed(given, "--hive")?;
@@ -319,7 +333,7 @@ fn whatif_words<'a>(given: &Given<'a>) -> Result<Command<'a>, Reason<'a>>
     }))
 }
 
-fn salvage_words<'a>(given: &Given<'a>) -> Result<Command<'a>, Reason<'a>>
+fn salvage_words<'a>(given: &Given<'_, 'a>) -> Result<Command<'a>, Reason<'a>>
     ensures { Sees command_seen result (salvage_by (look_of given.now)) }
 {
     let hive = needed(given, "--hive")?;
@@ -342,7 +356,7 @@ fn paired<'a>(with: Option<&'a str>, log: Option<&'a str>) -> Result<Option<&'a 
     }
 }
 
-fn diff_words<'a>(given: &Given<'a>) -> Result<Command<'a>, Reason<'a>>
+fn diff_words<'a>(given: &Given<'_, 'a>) -> Result<Command<'a>, Reason<'a>>
     ensures { Sees command_seen result (diff_by (look_of given.now)) }
 {
     let hive = needed(given, "--hive")?;
@@ -358,7 +372,7 @@ fn diff_words<'a>(given: &Given<'a>) -> Result<Command<'a>, Reason<'a>>
     }))
 }
 
-fn why_words<'a>(given: &Given<'a>) -> Result<Command<'a>, Reason<'a>>
+fn why_words<'a>(given: &Given<'_, 'a>) -> Result<Command<'a>, Reason<'a>>
     ensures { Sees command_seen result (why_by (look_of given.now)) }
 {
     let hive = needed(given, "--hive")?;
@@ -373,7 +387,7 @@ fn why_words<'a>(given: &Given<'a>) -> Result<Command<'a>, Reason<'a>>
     }))
 }
 
-fn graph_words<'a>(given: &Given<'a>) -> Result<Command<'a>, Reason<'a>>
+fn graph_words<'a>(given: &Given<'_, 'a>) -> Result<Command<'a>, Reason<'a>>
     ensures { Sees command_seen result (graph_by (look_of given.now)) }
 {
     let hive = needed(given, "--hive")?;
@@ -387,7 +401,7 @@ fn graph_words<'a>(given: &Given<'a>) -> Result<Command<'a>, Reason<'a>>
     }))
 }
 
-fn sweep_words<'a>(given: &Given<'a>) -> Result<Command<'a>, Reason<'a>>
+fn sweep_words<'a>(given: &Given<'_, 'a>) -> Result<Command<'a>, Reason<'a>>
     ensures { Sees command_seen result (sweep_by (look_of given.now)) }
 {
     let hive = needed(given, "--hive")?;
@@ -402,7 +416,10 @@ fn sweep_words<'a>(given: &Given<'a>) -> Result<Command<'a>, Reason<'a>>
 }
 
 /// What the values ask of the command, or the first that it needs and lacks.
-pub fn command_asked<'a>(name: CommandName, given: &Given<'a>) -> Result<Command<'a>, Reason<'a>>
+pub fn command_asked<'a>(
+    name: CommandName,
+    given: &Given<'_, 'a>,
+) -> Result<Command<'a>, Reason<'a>>
     ensures { Sees command_seen result (asks_of name (look_of given.now)) }
 {
     match name {

@@ -2,7 +2,7 @@
 
 ghost use Rattle.std.specs.Prelude.{◌≡◌, ◌∷◌, ◌++◌, Err, false, List, Ok, true};
 ghost use Rattle.std.specs.List.{list_all, list_any};
-ghost use Rattle.std.specs.Prelude.{[], codes, None, Some};
+ghost use Rattle.std.specs.Prelude.{[], codes, is_ok, None, Some};
 ghost use Rattle.command_words.specs.Words.{Reason, Text};
 ghost use Rattle.command_words.specs.Table.{OptionRow, is_free};
 ghost use Rattle.command_words.specs.Walk.{State, no_values, walked, with_step};
@@ -10,6 +10,7 @@ ghost use Rattle.command_words.specs.Commands.{CommandRow, commands, flag, has_p
 ghost use Rattle.command_words.specs.Reading.{asked_of, command_read, is_verbose};
 ghost use Rattle.command_words.specs.declared.asked.CommandName.{CommandName};
 ghost use Rattle.command_words.specs.Laws.{names_one, steps};
+ghost use Rattle.command_words.specs.Clap.{Tells, TellsTaken, is_refused, loosened};
 
 /// The first fault from the left decides: where the words before a word have none and the word is wrong, what follows it
 /// doesn't matter.
@@ -46,4 +47,22 @@ pub fn verbose_changes_nothing()
         → steps row.options (record { values = no_values; waiting = None }) before ≡ Ok reached → reached.waiting ≡ None
         → is_verbose word ≡ true → list_any (names_one (flag (codes "--verbose") ∷ [])) (before ++ after) ≡ false
         → command_read first (before ++ word ∷ after) (Some row) ≡ command_read first (before ++ after) (Some row) }
+{}
+
+/// The faults of `clap` are none exactly where the command, taking any value, reads the words, and then it finds the values that are read.
+pub fn clap_faults_where_there_is_a_reason()
+    ensures { (name : Text) (c : CommandRow) (words : List Text) → row_named name ≡ Some c → list_any is_refused words ≡ false
+        → Tells c words (walked (loosened c.options) (record { values = no_values; waiting = None }) words) }
+{}
+
+/// The command reads the words exactly where `clap` has no fault and each value is one that its option takes.
+pub fn clap_reads_what_is_read()
+    ensures { (name : Text) (c : CommandRow) (words : List Text) → row_named name ≡ Some c → list_any is_refused words ≡ false
+        → TellsTaken c words (walked c.options (record { values = no_values; waiting = None }) words) }
+{}
+
+/// A word that is refused before `clap` is asked is one that no command takes.
+pub fn no_command_takes_a_refused_word()
+    ensures { (name : Text) (c : CommandRow) (words : List Text) → row_named name ≡ Some c → list_any is_refused words ≡ true
+        → is_ok (walked c.options (record { values = no_values; waiting = None }) words) ≡ false }
 {}

@@ -35,9 +35,11 @@ mod asked;
 mod commands;
 mod count;
 mod laws;
+mod parsing;
 mod reading;
 mod reason;
 mod reason_texts;
+mod refusing;
 mod table;
 mod walk;
 mod word_texts;
@@ -49,7 +51,8 @@ pub use asked::{
     USUAL_SYSTEM, WhatifWords, WhyWords,
 };
 pub use laws::{
-    each_option_has_a_place, the_first_fault_decides, unnamed_options_ask_nothing,
+    clap_faults_where_there_is_a_reason, clap_reads_what_is_read, each_option_has_a_place,
+    no_command_takes_a_refused_word, the_first_fault_decides, unnamed_options_ask_nothing,
     unnamed_options_change_nothing, verbose_changes_nothing,
 };
 pub use reading::{read_words, wants_reason};

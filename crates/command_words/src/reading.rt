@@ -6,14 +6,19 @@ ghost use Rattle.command_words.specs.Commands.{row_named};
 ghost use Rattle.command_words.specs.Reading.{page_of_row};
 ghost use Rattle.command_words.specs.Reading.{is_about, is_verbose, wants_reason};
 ghost use Rattle.command_words.specs.Reading.{is_help, asks_help, page_named, page_read, alone, help_topic, help_read, version_read};
-ghost use Rattle.command_words.specs.Reading.{asked_by, asked_of, asked_read, command_read, first_read, reading_of};
-ghost use Rattle.command_words.specs.Views.{Sees, asked_seen, entry_seen, reading_seen, values_seen};
+ghost use Rattle.command_words.specs.Reading.{asked_with, asked_of, asked_read, command_read, first_read, reading_of};
+ghost use Rattle.command_words.specs.Views.{Sees, asked_seen, entry_seen, look_of, reading_seen};
+ghost use Rattle.std.specs.Prelude.{true};
+ghost use Rattle.clap.specs.Words.{first_of, found_of, rows_of};
+ghost use Rattle.command_words.specs.Clap.{is_told};
 
 use crate::asked::{Command, Page, Reading};
 use crate::commands::{Given, command_asked, flag};
+use crate::parsing::{read, told_named};
 use crate::reason::Reason;
 use crate::table::{CommandEntry, entry_named};
-use crate::walk::{Values, walked};
+use crate::walk::{PLACES, walked};
+use clap::ArgMatches;
 use std::alloc::Global;
 
 fn is_help(word: &str) -> bool
@@ -148,18 +153,18 @@ fn version_read<'a>(words: &[&str]) -> Reading<'a>
     alone(Reading::Version, words)
 }
 
-fn asked_by<'a>(entry: CommandEntry, values: Values<'a>) -> Result<(Command<'a>, bool), Reason<'a>>
-    ensures { Sees asked_seen result (asked_by (entry_seen entry) (values_seen values.entry)) }
+fn asked_by<'a>(
+    entry: CommandEntry,
+    given: &Given<'_, 'a>,
+) -> Result<(Command<'a>, bool), Reason<'a>>
+    ensures { Sees asked_seen result (asked_with entry.command (look_of given.now)) }
 {
-    let given = Given {
-        options: entry.options,
-        values,
-    };
-    let command = command_asked(entry.command, &given)?;
-    Ok((command, flag(&given, "--json")))
+    let command = command_asked(entry.command, given)?;
+    Ok((command, flag(given, "--json")))
 }
 
-fn asked_of<'a>(
+/// By our walk, which names the first reason.
+fn asked_walking<'a>(
     alloc: Global,
     entry: CommandEntry,
     words: &'a [&'a str],
@@ -167,10 +172,45 @@ fn asked_of<'a>(
     ensures { Sees asked_seen result (asked_of (entry_seen entry) (map (λ w. w.now) words.now)) }
 {
     let walk = walked(alloc, entry.options, words)?;
-    asked_by(entry, walk.values)
+    let given = Given {
+        options: entry.options,
+        values: walk.values,
+        parsed: None,
+    };
+    asked_by(entry, &given)
+}
+
+/// By the values of `clap`.
+fn asked_parsed<'a>(
+    entry: CommandEntry,
+    matches: &ArgMatches<'a>,
+) -> Result<(Command<'a>, bool), Reason<'a>>
+    ensures { Sees asked_seen result (asked_with entry.command (λ n. first_of n (rows_of (found_of matches.now)))) }
+{
+    let given = Given {
+        options: entry.options,
+        values: [None; PLACES],
+        parsed: Some(matches),
+    };
+    asked_by(entry, &given)
+}
+
+fn asked_of<'a>(
+    alloc: Global,
+    entry: CommandEntry,
+    words: &'a [&'a str],
+) -> Result<(Command<'a>, bool), Reason<'a>>
+    requires { is_told (entry_seen entry) ≡ true }
+    ensures { Sees asked_seen result (asked_of (entry_seen entry) (map (λ w. w.now) words.now)) }
+{
+    match read(alloc, entry, words) {
+        Some(matches) => asked_parsed(entry, &matches),
+        None => asked_walking(alloc, entry, words),
+    }
 }
 
 fn asked_read<'a>(alloc: Global, entry: CommandEntry, words: &'a [&'a str]) -> Reading<'a>
+    requires { is_told (entry_seen entry) ≡ true }
     ensures { reading_seen result ≡ asked_read (asked_of (entry_seen entry) (map (λ w. w.now) words.now)) }
 {
     match asked_of(alloc, entry, words) {
@@ -180,6 +220,7 @@ fn asked_read<'a>(alloc: Global, entry: CommandEntry, words: &'a [&'a str]) -> R
 }
 
 fn entry_read<'a>(alloc: Global, entry: CommandEntry, words: &'a [&'a str]) -> Reading<'a>
+    requires { is_told (entry_seen entry) ≡ true }
     ensures { reading_seen result ≡ command_read [] (map (λ w. w.now) words.now) (Some (entry_seen entry)) }
 {
     if asks_help(words) {
@@ -191,7 +232,7 @@ fn entry_read<'a>(alloc: Global, entry: CommandEntry, words: &'a [&'a str]) -> R
 fn command_read<'a>(alloc: Global, first: &'a str, words: &'a [&'a str]) -> Reading<'a>
     ensures { reading_seen result ≡ command_read first.now (map (λ w. w.now) words.now) (row_named first.now) }
 {
-    match entry_named(first) {
+    match told_named(first) {
         Some(entry) => entry_read(alloc, entry, words),
         None => Reading::Refused(Some(Reason::UnknownCommand(first))),
     }

@@ -1,7 +1,7 @@
 //! The arguments of a command, read from left to right.
 
 ghost use Rattle.std.specs.Prelude.{◌≡◌, ◌||◌, is_ok, map, None, option_map, slice_set, Some};
-ghost use Rattle.std.specs.Prelude.{Ok};
+ghost use Rattle.std.specs.Prelude.{List, Ok, ℕ};
 ghost use Rattle.std.specs.List.{before_first};
 ghost use Rattle.nt_bytes.specs.Text.{is_equals};
 ghost use Rattle.boot_ini.specs.arc_path.Reading.{arc_of};
@@ -18,7 +18,7 @@ use boot_ini::arc_path::{ArcStop, read_arc};
 use std::alloc::Global;
 
 /// No command has more options.
-const PLACES: usize = 12;
+pub const PLACES: usize = 12;
 
 /// The value of each option of a command, by its place, where it was given.
 pub type Values<'a> = [Option<&'a str>; PLACES];
@@ -40,7 +40,7 @@ pub fn is_empty(text: &[u8]) -> bool
     }
 }
 
-fn begins_with_hyphen(text: &[u8]) -> bool
+pub fn begins_with_hyphen(text: &[u8]) -> bool
     ensures { result ≡ begins_with_hyphen text.now }
 {
     match text {
@@ -66,7 +66,7 @@ fn is_arc_path(alloc: Global, text: &[u8]) -> bool
     }
 }
 
-fn accepts(alloc: Global, takes: Takes, value: &str) -> bool
+pub fn accepts(alloc: Global, takes: Takes, value: &str) -> bool
     ensures { result ≡ accepts takes value.now }
 {
     match takes {
@@ -159,11 +159,11 @@ fn with_attached<'a>(
 }
 
 /// A flag, or an option that waits for its value.
-fn with_bare<'a>(values: Values<'a>, found: Found, word: &'a str) -> Walk<'a>
-    ensures { with_option (values_seen values.entry) (found_seen found) word.now None ≡ Ok (walk_seen result) }
+fn with_bare<'a>(values: Values<'a>, found: Found) -> Walk<'a>
+    ensures { (word : List ℕ) → with_option (values_seen values.entry) (found_seen found) word None ≡ Ok (walk_seen result) }
 {
     if is_flag(found.option.takes) {
-        return with_value(values, found, word);
+        return with_value(values, found, "true");
     }
     Walk {
         values,
@@ -183,7 +183,7 @@ fn with_option<'a>(
 {
     match attached {
         Some(value) => with_attached(alloc, values, found, word, value),
-        None => Ok(with_bare(values, found, word)),
+        None => Ok(with_bare(values, found)),
     }
 }
 

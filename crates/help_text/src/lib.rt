@@ -4,7 +4,9 @@
 //! place, `src/texts.rt`. They are this project's own.
 #![tactic(auto)]
 
+mod laws;
 mod pages;
 mod texts;
 
+pub use laws::each_page_lists_the_options;
 pub use pages::{page_of, version_text};
