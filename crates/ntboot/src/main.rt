@@ -6,6 +6,18 @@
 
 mod clean_hive;
 
+ghost use Rattle.std.specs.Prelude.{◌≡◌, ◌⊎◌, Err, IsErrOf, None, OnOk, map, string_bytes};
+ghost use Rattle.std.specs.Option.{IsSome};
+ghost use Rattle.std.specs.Process.{exit_status};
+ghost use Rattle.nt_bytes.specs.Counts.{Rises};
+ghost use Rattle.nt_edge.specs.declared.host.HostStop.TheVariants.{Read, Write};
+ghost use Rattle.command_words.specs.Reading.{reading_of};
+ghost use Rattle.command_parts.specs.command_parts.Exits.{exit_of};
+ghost use Rattle.command_parts.specs.command_parts.Leaves.{stop_in};
+ghost use Rattle.command_parts.specs.command_parts.Refusals.{IsToldAs};
+ghost use Rattle.command_parts.specs.declared.command_parts.refusal.Refusal.TheVariants.{Usage as BadUsage};
+ghost use Rattle.ntboot_cli.specs.Inputs.{arguments_in};
+
 use clean_hive::clean_hive;
 use command_words::texts;
 use mem_edge::MemDisk;
@@ -48,7 +60,11 @@ fn finish(
     alloc: Global,
     host: &mut StandardHost<'_, SystemFiles>,
     disk: &mut MemDisk,
-) -> Result<(), HostStop> {
+) -> Result<(), HostStop>
+    ensures unread { IsErrOf result Read → ⊥ }
+    ensures fault { IsErrOf result Write → Rises host.old.writes host.new.writes }
+    ensures counted { OnOk result (host.new.writes ≡ host.old.writes) }
+{
     if host.wants_a_clean_hive() {
         match clean_hive(alloc, disk) {
             Ok(Some(hive)) => host.put_between(hive.as_slice())?,
@@ -65,9 +81,14 @@ fn settle(
     host: &mut StandardHost<'_, SystemFiles>,
     disk: &mut MemDisk,
     status: Status,
-) -> Status {
+) -> Status
+    ensures ends { IsToldAs status result }
+    ensures stopped { IsSome (stop_in status) → result ≡ status }
+    ensures fault { result ≡ Status.WriteFault → (status ≡ Status.WriteFault) ⊎ Rises host.old.writes host.new.writes }
+    ensures finished { stop_in status ≡ None → result ≡ status → host.new.writes ≡ host.old.writes }
+{
     let done = match status {
-        Status::WriteFault | Status::Memory => status,
+        Status::ReadFault | Status::WriteFault | Status::Memory => status,
         _ => match finish(alloc, host, disk) {
             Ok(()) => status,
             Err(HostStop::Memory) => Status::Memory,
@@ -79,7 +100,10 @@ fn settle(
 }
 
 /// Does what the command line asks for over real files; then prints the reason of a refusal, where that is asked for.
-fn obey(rt: &HostRuntime, words: &[String], texts: &[&str]) -> Status {
+fn obey(rt: &HostRuntime, words: &[String], texts: &[&str]) -> Status
+    ensures usage { result ≡ Status.Usage → arguments_in (reading_of (map string_bytes words.now)) ≡ Err BadUsage }
+    ensures refused { arguments_in (reading_of (map string_bytes words.now)) ≡ Err BadUsage → IsToldAs Status.Usage result }
+{
     let alloc = rt.alloc();
     let host = StandardHost::new(rt, SystemFiles::new(alloc));
     let mut host = Noted::new(alloc, host, texts);
@@ -93,16 +117,26 @@ fn obey(rt: &HostRuntime, words: &[String], texts: &[&str]) -> Status {
 }
 
 /// The status of the command line, or that there is no memory for it.
-fn read_and_obey(rt: &HostRuntime, words: &[String]) -> Status {
+fn read_and_obey(rt: &HostRuntime, words: &[String]) -> Status
+    ensures usage { result ≡ Status.Usage → arguments_in (reading_of (map string_bytes words.now)) ≡ Err BadUsage }
+    ensures refused { arguments_in (reading_of (map string_bytes words.now)) ≡ Err BadUsage → IsToldAs Status.Usage result }
+{
     match texts(rt.alloc(), words) {
         Ok(texts) => obey(rt, words, texts.as_slice()),
         Err(_) => Status::Memory,
     }
 }
 
+/// The exit code of a status.
+fn exit(status: Status) -> ExitCode
+    ensures { exit_status result ≡ exit_of status }
+{
+    ExitCode::from(status.code())
+}
+
 fn main(rt: HostRuntime) -> ExitCode {
     if take_standard_descriptors(&rt).is_err() {
-        return ExitCode::from(Status::WriteFault.code());
+        return exit(Status::WriteFault);
     }
     let status = match words(&rt) {
         Ok(words) => read_and_obey(&rt, &words),
@@ -110,5 +144,5 @@ fn main(rt: HostRuntime) -> ExitCode {
         Err(NoWords::Unread) => read_and_obey(&rt, &[]),
         Err(NoWords::Memory) => Status::Memory,
     };
-    ExitCode::from(status.code())
+    exit(status)
 }

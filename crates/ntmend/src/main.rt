@@ -4,6 +4,10 @@
 //! for a page.
 #![tactic(auto)]
 
+ghost use Rattle.std.specs.Prelude.{◌≡◌, ◌⊎◌, true};
+ghost use Rattle.std.specs.Fs.{new_options, with_read, with_write};
+ghost use Rattle.std.specs.Process.{exit_status};
+
 mod pages;
 
 use file_disk::FileDisk;
@@ -75,9 +79,18 @@ fn words(rt: &HostRuntime) -> Result<Asked, NoWords> {
     }
 }
 
+/// A file is read and written; it has to be there, and is not shortened.
+fn read_and_write() -> OpenOptions
+    ensures { result ≡ with_write (with_read new_options true) true }
+{
+    let mut options = OpenOptions::new();
+    options.read(true).write(true);
+    options
+}
+
 /// Opens a file that is there, to be read and written, and takes it for this run alone.
 fn open(rt: &HostRuntime, name: &str) -> Result<File, Unopened> {
-    let file = match OpenOptions::new().read(true).write(true).open(rt, name) {
+    let file = match read_and_write().open(rt, name) {
         Ok(file) => file,
         Err(e) if e.kind() == ErrorKind::OutOfMemory => return Err(Unopened::Memory),
         Err(_) => return Err(Unopened::Refused),
@@ -89,7 +102,9 @@ fn open(rt: &HostRuntime, name: &str) -> Result<File, Unopened> {
 }
 
 /// Says a line, and answers this exit.
-fn say(output: &mut Output<'_>, line: &[u8], exit: u8) -> u8 {
+fn say(output: &mut Output<'_>, line: &[u8], exit: u8) -> u8
+    ensures { (result ≡ exit) ⊎ (result ≡ 7) }
+{
     match output.say(line) {
         Ok(()) => exit,
         Err(_) => WRITE_FAULT,
@@ -97,7 +112,9 @@ fn say(output: &mut Output<'_>, line: &[u8], exit: u8) -> u8 {
 }
 
 /// Says that there is no such file.
-fn no_file(rt: &HostRuntime, output: &mut Output<'_>, name: &str) -> u8 {
+fn no_file(rt: &HostRuntime, output: &mut Output<'_>, name: &str) -> u8
+    ensures { (result ≡ 2) ⊎ ((result ≡ 7) ⊎ (result ≡ 9)) }
+{
     match format!(in rt.alloc(); "no file {name}\n") {
         Ok(line) => say(output, line.as_bytes(), 2),
         Err(_) => MEMORY,
@@ -105,7 +122,10 @@ fn no_file(rt: &HostRuntime, output: &mut Output<'_>, name: &str) -> u8 {
 }
 
 /// Ends where a file of this name is not open.
-fn end_without(rt: &HostRuntime, output: &mut Output<'_>, name: &str, why: Unopened) -> u8 {
+fn end_without(rt: &HostRuntime, output: &mut Output<'_>, name: &str, why: Unopened) -> u8
+    ensures ends { (result ≡ 2) ⊎ ((result ≡ 7) ⊎ (result ≡ 9)) }
+    ensures memory { why ≡ Unopened.Memory → result ≡ 9 }
+{
     match why {
         Unopened::Refused => no_file(rt, output, name),
         Unopened::Memory => MEMORY,
@@ -126,16 +146,33 @@ fn mend(rt: &HostRuntime, output: &mut Output<'_>, hive: &str, log: &str) -> u8 
     mend_hive(rt.alloc(), output, &mut disk).code()
 }
 
+/// Says that the words are not two, or that one is no UTF-8; or there was no memory for them.
+fn end_unread(output: &mut Output<'_>, why: NoWords) -> u8
+    ensures usage { why ≡ NoWords.Usage → (result ≡ 1) ⊎ (result ≡ 7) }
+    ensures memory { why ≡ NoWords.Memory → result ≡ 9 }
+{
+    match why {
+        NoWords::Usage => say(output, b"bad usage\n", 1),
+        NoWords::Memory => MEMORY,
+    }
+}
+
+/// The exit code of the program.
+fn exit(code: u8) -> ExitCode
+    ensures { exit_status result ≡ code }
+{
+    ExitCode::from(code)
+}
+
 fn main(rt: HostRuntime) -> ExitCode {
     if take_standard_descriptors(&rt).is_err() {
-        return ExitCode::from(WRITE_FAULT);
+        return exit(WRITE_FAULT);
     }
     let mut output = StandardHost::new(&rt, NoFiles);
-    let exit = match words(&rt) {
+    let code = match words(&rt) {
         Ok(Asked::Page(page)) => say(&mut output, page, 0),
         Ok(Asked::Mend(hive, log)) => mend(&rt, &mut output, hive.as_str(), log.as_str()),
-        Err(NoWords::Usage) => say(&mut output, b"bad usage\n", 1),
-        Err(NoWords::Memory) => MEMORY,
+        Err(why) => end_unread(&mut output, why),
     };
-    ExitCode::from(exit)
+    exit(code)
 }
