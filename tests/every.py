@@ -1,6 +1,6 @@
 #!/usr/bin/env python3
-"""All tests but the proofs and their must-fail edits, over two built programs: tests/every.py --with NTBOOT NTMEND. `./try --tests` builds both, unproved,
-and runs this over them; `.ci/run` runs it over the proved ones. Each check ends in a line 'N passed, M failed'; the last line here is their sum, and a
+"""All tests but the proofs and their must-fail edits, over two built programs: tests/every.py --with NTBOOT NTMEND [--short]. `./try --tests` builds both,
+unproved, and runs this over them with --short, which leaves out what takes minutes in a program with run-time checks; `.ci/run` runs it over the proved ones. Each check ends in a line 'N passed, M failed'; the last line here is their sum, and a
 check that ends otherwise is one that failed."""
 import argparse
 import os
@@ -13,8 +13,8 @@ TOP = os.path.dirname(os.path.dirname(os.path.realpath(__file__)))
 PAGES = ("definitions", "dead_text", "help_pages", "completions", "layers")
 
 
-def checks(ntboot, ntmend):
-    yield ["tests/run_all.py", "--with", ntboot, ntmend]
+def checks(ntboot, ntmend, short):
+    yield ["tests/run_all.py", "--with", ntboot, ntmend, *(["--short"] if short else [])]
     yield ["labs/runs.py", "--with", ntboot]
     yield ["tests/students.py", ntboot]
     yield ["tests/recipes.py", ntboot]
@@ -39,8 +39,9 @@ def counted(words):
 def main():
     parser = argparse.ArgumentParser(description=__doc__, formatter_class=argparse.RawDescriptionHelpFormatter)
     parser.add_argument("--with", nargs=2, required=True, metavar=("NTBOOT", "NTMEND"), dest="programs")
-    programs = [os.path.abspath(name) for name in parser.parse_args().programs]
-    counts = [counted(words) for words in checks(*programs)]
+    parser.add_argument("--short", action="store_true")
+    asked = parser.parse_args()
+    counts = [counted(words) for words in checks(*map(os.path.abspath, asked.programs), asked.short)]
     passed, failed = map(sum, zip(*counts))
     print(f"{passed} passed, {failed} failed")
     return 1 if failed or not passed else 0

@@ -204,6 +204,7 @@ def judged(rows, at_once=os.cpu_count()):
 
 def named(words):
     """The programs that a command line names with `--with NTBOOT NTMEND`, or those that `rt ci` leaves."""
+    words = [word for word in words if word != "--short"]
     if not words:
         return Programs()
     if len(words) != 3 or words[0] != "--with":

@@ -3,7 +3,7 @@
 line), the input files, what must be printed (`stdout`, and `stderr` on standard error), the exit status (`status`), and files that must be there then
 (`after`). No other file may be there, and each input that `after` does not have must be as it was. Then ntboot over each example, and the checks of the
 other modules, each of which runs alone too. Prints each run that differs, then 'N passed, M failed'.
-tests/run_all.py [--with NTBOOT NTMEND]"""
+tests/run_all.py [--with NTBOOT NTMEND] [--short]"""
 import os
 import sys
 
@@ -79,6 +79,17 @@ CHECKS = (
     large.check,
 )
 
+# What takes minutes in a program with run-time checks, as `./try` builds it.
+LONG = (large.check,)
+
+
+def chosen(words):
+    """All checks, or with `--short` those that are soon done in any build."""
+    if "--short" not in words:
+        return CHECKS
+    print("left out by --short: large.py (long lists, full hives, 10,000 services); .ci/run has it")
+    return [one for one in CHECKS if one not in LONG]
+
 
 if __name__ == "__main__":
-    sys.exit(main(*CHECKS))
+    sys.exit(main(*chosen(sys.argv)))
