@@ -156,20 +156,10 @@ class House:
                 if not all(it in tokens or not it.isalnum() and it in text for it in parts) and not file.lines[number].startswith("pub "):
                     yield file.path, number, here
 
-# What goes with the next change of its crate: most crates stand on these, and each change of one has them all proved again.
-LATER = {
-    ("dependencies/proofs/OrderLemmas.antt", "alike_in"),
-    ("hive_laws/proofs/RoundTrip.antt", "no_fault"),
-    ("hive_laws/proofs/RoundTrip.antt", "stops_at_none"),
-    ("hive_log/proofs/Appending.antt", "take_sector"),
-    ("start_model/specs/Demand.antt", "pulled_of"),
-}
-
 
 def main():
     house = House()
-    found = sorted((path, start, " ".join(sorted(names))) for path, start, names in house.dead())
-    dead = [(path, start, names) for path, start, names in found if (os.path.relpath(path, CRATES), names) not in LATER]
+    dead = sorted((path, start, " ".join(sorted(names))) for path, start, names in house.dead())
     unused = sorted(house.unused())
     for what, found in (("nothing cites", dead), ("imports in vain", unused)):
         for path, line, name in found:

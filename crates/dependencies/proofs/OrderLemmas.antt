@@ -142,11 +142,6 @@ again runs name there q =
     or_spared (stands_in runs q) (folds_same q name)
     (λ h. ap (λ (p : List ℕ → Bool). list_any (list_any p) runs) (λ i y. alike q name h y i) ∙ there)
 
-pub alike_in : (runs slice : List (List (List ℕ))) (name own : Option (List ℕ)) → slice ≡ runs
-    → AddsAlike slice name own → AddsAlike runs name own
-alike_in runs slice name own is h q =
-    ap (λ rs. stands_in rs q || is_that own q) (sym is) ∙ h q ∙ ap (λ rs. stands_in rs q || is_that name q) is
-
 -- a name that adds as much as another is carried as that one
 pub carried_alike : {E : Type 0} (r : Result (ℕ × List (List ℕ)) E) (runs : List (List (List ℕ))) (name own : Option (List ℕ))
     → IfOk r (λ c. AreCarried runs own c.0 c.1) → AddsAlike runs name own → IfOk r (λ c. AreCarried runs name c.0 c.1)

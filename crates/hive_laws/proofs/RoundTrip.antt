@@ -1,16 +1,13 @@
 -- The heap that is read from a text is the one whose bytes the text is, so what is in the one is in the other.
-use Rattle.std.proofs.Common.{◌≡◌, List, ℕ, Option, Some, None, sym, subst, ◌∙◌}
-use Rattle.nt_bytes.specs.declared.fault.HiveFault.{HiveFault}
+use Rattle.std.proofs.Common.{List, ℕ, sym, subst, ◌∙◌}
 use Rattle.nt_bytes.specs.declared.version.HiveVersion.{HiveVersion}
 use Rattle.hive_model.specs.Bins.{Bin, look_up, IsBins}
 use Rattle.hive_model.specs.Tree.{Tree}
 use Rattle.hive_model.specs.Packed.{packed, packed_bins}
-use Rattle.hive_model.specs.Walk.{first_fault}
 use Rattle.hive_model.specs.Stands.{IsWellFormed}
 use Rattle.hive_cells.proofs.Again.{one_list}
 use Rattle.hive_pack.proofs.Heap.{packed_is_bins}
 use Rattle.hive_pack.proofs.Formed.{packed_is_well_formed}
-use Rattle.hive_read.proofs.Wellformed.{well-formed-passes}
 use Rattle.hive_laws.specs.packing_laws.Packing.{IsPackedIn}
 
 -- cells that are well-formed in bins are so in the bins that are read from their bytes
@@ -28,13 +25,3 @@ well_formed_packed version t bins p =
     well_formed_again version (packed version t) (packed_bins version t) bins 32 t (packed_is_bins version t p.room)
     p.bytes
     (packed_is_well_formed version t p.valid p.numbers p.room)
-
-abbrev no_fault : Option HiveFault
-no_fault = None
-
--- there reading stops at no fault
-pub stops_at_none : (version : HiveVersion) (bins : List Bin) (root : ℕ) (t : Tree) (f : HiveFault)
-    → IsWellFormed (look_up version bins) root t
-    → first_fault (look_up version bins) root ≡ Some f → ⊥
-stops_at_none version bins root t f w e = let none : no_fault ≡ Some f =
-    sym (well-formed-passes (look_up version bins) root t w) ∙ e in cc

@@ -1,17 +1,10 @@
 -- A log as it grows, and logs of bits that agree.
-use Rattle.std.proofs.Common.{◌≡◌, ◌<◌, ◌≤◌, ◌+◌, ◌-◌, ◌*◌, ◌/◌, ◌%◌, ◌==◌, ◌&&◌, ◌++◌, ◌∷◌, ℕ, zero, suc, Bool, true, false, cond, List, [], length, take, replicate, refl, sym, ◌∙◌, ap, arith, add-one, append_assoc}
+use Rattle.std.proofs.Common.{◌≡◌, ◌<◌, ◌≤◌, ◌+◌, ◌-◌, ◌*◌, ◌/◌, ◌%◌, ◌==◌, ◌&&◌, ◌++◌, ◌∷◌, ℕ, zero, suc, Bool, true, false, cond, List, [], length, replicate, refl, sym, ◌∙◌, ap, arith, add-one, append_assoc}
 use Rattle.std.specs.Prelude.{codes, nat_le}
-use Rattle.std.proofs.Math.Seq.{take-add}
 use Rattle.std.proofs.lemmas.Bool.{eqb-true, leb-true, and_parts}
 use Rattle.hive_model.specs.Base.{Base, base_text, is_bins_size}
 use Rattle.hive_model.specs.Recovery.{sector, bitmap_sectors}
 use Rattle.hive_model.specs.Log.{byte_of, bytes_of_bits, bitmap_text, marked_sectors, log_of}
-
-pub take_sector : (text : List ℕ) (k : ℕ) → take (512 * (k + 1)) text ≡ take (512 * k) text ++ sector text k
-unfolding sector
-take_sector text k =
-    let long : 512 * (k + 1) ≡ 512 * k + 512 = omega arith in
-    ap (λ n. take n text) long ∙ take-add (512 * k) 512 text
 
 module _ (bits : ℕ → Bool) (new : List ℕ) (i count : ℕ) (small : i < count) where
   next : marked_sectors bits new i (count - i) ≡ cond (bits i) (sector new i) []

@@ -55,7 +55,3 @@ is_taken table q = list_all (λ s. not (is_closed table (member s)) || member s 
 -- the places of the least closed set, rising: what the automatic phase takes of the table
 abbrev pub automatic_of : List Need → List ℕ
 automatic_of table = filter (is_taken table) (range_with_len 0 (length table))
-
--- those of Start 3 among them: what is pulled in
-abbrev pub pulled_of : List Need → List ℕ
-pulled_of table = filter (λ q. starts_at table 3 q && is_taken table q) (range_with_len 0 (length table))
