@@ -12,7 +12,7 @@ abbrev as_done : {T : Type 0} → T → Result T RunStop
 as_done x = Ok x
 
 keeps-then : (a b c : HostState) → KeepsHost a b → KeepsHost b c → KeepsHost a c
-keeps-then a b c p q = record { tells = q.tells ∙ p.tells; quiet = λ e. q.quiet (p.quiet e); errors = q.errors ∙ p.errors }
+keeps-then a b c p q = record { tells = q.tells ∙ p.tells; quiet = λ e. q.quiet (p.quiet e); errors = q.errors ∙ p.errors; warned = q.warned ∙ p.warned }
 
 files-then : (a b c : HostState) → KeepsHost a b → KeepsFiles a b → KeepsFiles b c → KeepsFiles a c
 files-then a b c k p q = λ tells. q (k.tells ∙ tells) ∙ p tells
@@ -37,7 +37,7 @@ leaves-then r a b c p q = record {
 
 pub still-host : (a : HostState) → StillHost a a
 still-host a = record {
-  keeps = record { tells = refl; quiet = λ e. e; errors = refl };
+  keeps = record { tells = refl; quiet = λ e. e; errors = refl; warned = refl };
   files = λ e. refl;
   unasked = refl;
   counts = record { reads = refl; writes = refl };

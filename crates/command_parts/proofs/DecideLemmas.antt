@@ -124,7 +124,7 @@ pub memory_decides : (ends : Status → List ℕ → List ℕ → Type 0) (saves
 memory_decides ends saves host disk off end = record {
   decides = record {
     leaves = record {
-      keeps = record { tells = refl; quiet = λ q. q; errors = refl };
+      keeps = record { tells = refl; quiet = λ q. q; errors = refl; warned = refl };
       counts = record { reads = refl; writes = refl };
       said = λ tells. end;
     };

@@ -8,7 +8,7 @@ use Rattle.nt_edge.specs.declared.host.HostStop.TheVariants.{Read, Write, Memory
 use Rattle.command_parts.specs.command_parts.Leaves.{CountsBy, stop_in, stopped_as}
 
 pub keeps_then : (old mid new : HostState) → KeepsHost old mid → KeepsHost mid new → KeepsHost old new
-keeps_then old mid new k l = record { tells = l.tells ∙ k.tells; quiet = λ q. l.quiet (k.quiet q); errors = l.errors ∙ k.errors }
+keeps_then old mid new k l = record { tells = l.tells ∙ k.tells; quiet = λ q. l.quiet (k.quiet q); errors = l.errors ∙ k.errors; warned = l.warned ∙ k.warned }
 
 pub files_then : (old mid new : HostState) → KeepsHost old mid → KeepsFiles old mid → KeepsFiles mid new
     → KeepsFiles old new

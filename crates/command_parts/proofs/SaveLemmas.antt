@@ -79,7 +79,7 @@ saves-untaken file name old d e is =
     let P : DiskState → Type 0 = λ f. SavesFile file (Some name) (Err Memory) old old d f in
     subst P (sym is) (record {
       host = record {
-        keeps = record { tells = refl; quiet = λ q. q; errors = refl };
+        keeps = record { tells = refl; quiet = λ q. q; errors = refl; warned = refl };
         unsaid = λ tells. refl;
         unasked = refl;
         counts = record { reads = refl; writes = refl };

@@ -119,7 +119,7 @@ pub reads_so : {A : Type 0} {s : Result A Refusal} {r : Result A Obstacle} {host
     → Seeks (reads s) r host host
 reads_so {A} {s} {r} {host} is = record {
   looks = record {
-    keeps = record { tells = refl; quiet = λ q. q; errors = refl };
+    keeps = record { tells = refl; quiet = λ q. q; errors = refl; warned = refl };
     files = λ tells. refl;
     unsaid = λ tells. refl;
     found = λ tells. found_so r is;

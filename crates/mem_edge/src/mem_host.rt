@@ -16,6 +16,7 @@ pub struct MemHost {
     pub(crate) files: BTreeMap<String, Vec<u8>>,
     pub(crate) said: Vec<u8>,
     pub(crate) errors: Vec<u8>,
+    pub(crate) warned: u64,
     pub(crate) gets: u64,
     pub(crate) reads: u64,
     pub(crate) writes: u64,
@@ -36,6 +37,7 @@ impl MemHost {
         ensures files { (q : List ℕ) → files_of result q ≡ None }
         ensures said { result.said.items ≡ [] }
         ensures errors { result.errors.items ≡ [] }
+        ensures warned { result.warned ≡ 0 }
         ensures gets { result.gets ≡ 0 }
         ensures reads { result.reads ≡ 0 }
         ensures writes { result.writes ≡ 0 }
@@ -48,6 +50,7 @@ impl MemHost {
             files: BTreeMap::new(alloc),
             said: Vec::new(alloc),
             errors: Vec::new(alloc),
+            warned: 0,
             gets: 0,
             reads: 0,
             writes: 0,
@@ -63,6 +66,7 @@ impl MemHost {
         ensures same { OnErr result (files_of self.new ≡ files_of self.old) }
         ensures said { self.new.said ≡ self.old.said }
         ensures errors { self.new.errors ≡ self.old.errors }
+        ensures warned { self.new.warned ≡ self.old.warned }
         ensures gets { self.new.gets ≡ self.old.gets }
         ensures reads { self.new.reads ≡ self.old.reads }
         ensures writes { self.new.writes ≡ self.old.writes }
@@ -84,6 +88,7 @@ impl MemHost {
         ensures files { self.new.files ≡ self.old.files }
         ensures said { self.new.said ≡ self.old.said }
         ensures errors { self.new.errors ≡ self.old.errors }
+        ensures warned { self.new.warned ≡ self.old.warned }
         ensures gets { self.new.gets ≡ self.old.gets }
         ensures reads { self.new.reads ≡ self.old.reads }
         ensures writes { self.new.writes ≡ self.old.writes }
@@ -101,6 +106,7 @@ impl MemHost {
         ensures files { self.new.files ≡ self.old.files }
         ensures said { self.new.said ≡ self.old.said }
         ensures errors { self.new.errors ≡ self.old.errors }
+        ensures warned { self.new.warned ≡ self.old.warned }
         ensures gets { self.new.gets ≡ self.old.gets }
         ensures reads { self.new.reads ≡ self.old.reads }
         ensures writes { self.new.writes ≡ self.old.writes }
@@ -169,7 +175,7 @@ fn is_due(left: &mut u64) -> bool
 
 impl Host for MemHost {
     ghost use Rattle.std.specs.Prelude.{◌≡◌, ◌++◌, true, IfOk, OnOk, OnErr, IsErrOf};
-    ghost use Rattle.nt_edge.specs.Host.{Puts, KeepsOthers, KeepsHost, KeepsFiles, IsUnsaid, Asks, AsksNone, SaysFront, SaysError, CountsFault, CountsLack};
+    ghost use Rattle.nt_edge.specs.Host.{Puts, KeepsOthers, KeepsHost, KeepsFiles, IsUnsaid, Asks, AsksNone, Warns, SaysFront, SaysError, CountsFault, CountsLack};
     ghost use Rattle.nt_edge.specs.declared.host.HostStop.TheVariants.{Read, Write};
     ghost use Rattle.mem_edge.specs.Hosts.{host_of, FailsRead, FailsWrite, ends_law};
 
@@ -257,10 +263,12 @@ impl Host for MemHost {
 
     fn say_error(&mut self, bytes: &[u8])
         ensures said { (host_of self.old).tells ≡ true → SaysError (host_of self.old) (host_of self.new) bytes.now }
-        ensures same { host_of self.new ≡ record (host_of self.old) { errors = (host_of self.new).errors } }
+        ensures warns { Warns (host_of self.old) (host_of self.new) }
+        ensures same { host_of self.new ≡ record (host_of self.old) { errors = (host_of self.new).errors; warned = (host_of self.new).warned } }
         ensures due_read { self.new.fail_read ≡ self.old.fail_read }
         ensures due_write { self.new.fail_write ≡ self.old.fail_write }
     {
+        self.warned = self.warned.saturating_add(1);
         let _unsaid = self.errors.extend_from_slice(bytes);
     }
 

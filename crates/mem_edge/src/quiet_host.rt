@@ -15,6 +15,7 @@ pub struct QuietHost {
     pub(crate) files: BTreeMap<String, Vec<u8>>,
     pub(crate) said: Vec<u8>,
     pub(crate) errors: Vec<u8>,
+    pub(crate) warned: u64,
     pub(crate) gets: u64,
     pub(crate) lacks: u64,
     ghost ends: { IsWithinEnds 0 0 lacks },
@@ -34,6 +35,7 @@ impl QuietHost {
             files: BTreeMap::new(alloc),
             said: Vec::new(alloc),
             errors: Vec::new(alloc),
+            warned: 0,
             gets: 0,
             lacks: 0,
         }
@@ -45,6 +47,7 @@ impl QuietHost {
         ensures same { OnErr result (quiet_files_of self.new ≡ quiet_files_of self.old) }
         ensures said { self.new.said ≡ self.old.said }
         ensures errors { self.new.errors ≡ self.old.errors }
+        ensures warned { self.new.warned ≡ self.old.warned }
         ensures gets { self.new.gets ≡ self.old.gets }
         ensures lacks { self.new.lacks ≡ self.old.lacks }
     {
@@ -119,6 +122,7 @@ impl Host for QuietHost {
     }
 
     fn say_error(&mut self, bytes: &[u8]) {
+        self.warned = self.warned.saturating_add(1);
         let _unsaid = self.errors.extend_from_slice(bytes);
     }
 

@@ -10,8 +10,8 @@ abbrev pub Files : Type 0
 Files = List ℕ → Option (List ℕ)
 
 -- A host at a moment: whether it reports its files and what was printed to it; whether it refuses no call from now on
--- but for lack of memory; the files; what was printed so far; what was printed on standard error so far; how often a file was
--- asked for; how many faults there were in reading, and in writing a file or saying something; how many calls it refused for lack
+-- but for lack of memory; the files; what was printed so far; what was printed on standard error so far; how many texts were
+-- to be printed on standard error; how often a file was asked for; how many faults there were in reading, and in writing a file or saying something; how many calls it refused for lack
 -- of memory.
 pub record HostState : Type 0 where
   pub tells : Bool
@@ -19,6 +19,7 @@ pub record HostState : Type 0 where
   pub files : Files
   pub said : List ℕ
   pub errors : List ℕ
+  pub warned : ℕ
   pub gets : ℕ
   pub reads : ℕ
   pub writes : ℕ
@@ -47,20 +48,25 @@ Asks old new = new.gets ≡ min (old.gets + 1) 18446744073709551615
 abbrev pub AsksNone : HostState → HostState → Type 0
 AsksNone old new = new.gets ≡ old.gets
 
--- whether the host reports stays, one that is quiet stays quiet, and nothing was printed on standard error
+-- a text was to be printed on standard error, up to the end of the count
+abbrev pub Warns : HostState → HostState → Type 0
+Warns old new = new.warned ≡ min (old.warned + 1) 18446744073709551615
+
+-- whether the host reports stays, one that is quiet stays quiet, and nothing was printed on standard error, nor was to be
 pub record KeepsHost (old new : HostState) : Type 0 where
   pub tells : new.tells ≡ old.tells
   pub quiet : old.quiet ≡ true → new.quiet ≡ true
   pub errors : new.errors ≡ old.errors
+  pub warned : new.warned ≡ old.warned
 
 -- where the host reports, its files are as they were
 abbrev pub KeepsFiles : HostState → HostState → Type 0
 KeepsFiles old new = old.tells ≡ true → new.files ≡ old.files
 
--- a text was printed on standard error, or could not be said there, and nothing else changed
+-- a text was printed on standard error, or could not be said there, and nothing else changed but the count of such texts
 pub record SaysError (old new : HostState) (text : List ℕ) : Type 0 where
   pub errors : (new.errors ≡ old.errors ++ text) ⊎ (new.errors ≡ old.errors)
-  pub same : new ≡ record old { errors = new.errors }
+  pub same : new ≡ record old { errors = new.errors; warned = new.warned }
 
 -- where the host reports, nothing was printed
 abbrev pub IsUnsaid : HostState → HostState → Type 0

@@ -1,7 +1,7 @@
 //! A host of files, to which a report is printed.
 
 ghost use Rattle.std.specs.Prelude.{◌≡◌, ◌++◌, true, IfOk, OnOk, OnErr, IsErrOf};
-ghost use Rattle.nt_edge.specs.Host.{HostState, Puts, KeepsOthers, KeepsHost, KeepsFiles, IsUnsaid, Asks, AsksNone, SaysFront, SaysError, CountsFault, CountsLack, IsWithinEnds};
+ghost use Rattle.nt_edge.specs.Host.{HostState, Puts, KeepsOthers, KeepsHost, KeepsFiles, IsUnsaid, Asks, AsksNone, Warns, SaysFront, SaysError, CountsFault, CountsLack, IsWithinEnds};
 ghost use Rattle.nt_edge.specs.declared.host.HostStop.TheVariants.{Read, Write};
 
 use nt_bytes::Bytes;
@@ -61,10 +61,12 @@ pub trait Host {
         ensures lacks { CountsLack result (state self.old) (state self.new) }
         ensures never_read { IsErrOf result Read → ⊥ };
 
-    /// Says a text on standard error, where that can be done. It leaves what was printed, the files and all counts as they were.
+    /// Says a text on standard error, where that can be done. It counts the text, and leaves what was printed, the files and all other
+    /// counts as they were.
     fn say_error(&mut self, bytes: &[u8])
         ensures said { (state self.old).tells ≡ true → SaysError (state self.old) (state self.new) bytes.now }
-        ensures same { state self.new ≡ record (state self.old) { errors = (state self.new).errors } };
+        ensures warns { Warns (state self.old) (state self.new) }
+        ensures same { state self.new ≡ record (state self.old) { errors = (state self.new).errors; warned = (state self.new).warned } };
 
     /// None of these counts is ever past its end.
     ghost bounded: { (host : Self) → IsWithinEnds (state host).reads (state host).writes (state host).lacks };

@@ -16,6 +16,7 @@ use std::alloc::Global;
 pub struct StandardHost<'a, F> {
     rt: &'a HostRuntime,
     files: F,
+    warned: u64,
     gets: u64,
     reads: u64,
     writes: u64,
@@ -27,6 +28,7 @@ impl<'a, F: Files + Drop> StandardHost<'a, F> {
     /// The host over these files. Nothing is counted yet.
     pub fn new(rt: &'a HostRuntime, files: F) -> StandardHost<'a, F>
         ensures files { result.files ≡ files }
+        ensures warned { result.warned ≡ 0 }
         ensures gets { result.gets ≡ 0 }
         ensures reads { result.reads ≡ 0 }
         ensures writes { result.writes ≡ 0 }
@@ -35,6 +37,7 @@ impl<'a, F: Files + Drop> StandardHost<'a, F> {
         StandardHost {
             rt,
             files,
+            warned: 0,
             gets: 0,
             reads: 0,
             writes: 0,
@@ -48,6 +51,7 @@ impl<'a, F: Files + Drop> StandardHost<'a, F> {
         ensures stands { F.tells ≡ true → OnOk result (F.standing self.new.files ≡ F.held self.old.files) }
         ensures unsaid { F.tells ≡ true → F.said self.new.files ≡ F.said self.old.files }
         ensures errors { F.errors self.new.files ≡ F.errors self.old.files }
+        ensures warned { self.new.warned ≡ self.old.warned }
         ensures gets { self.new.gets ≡ self.old.gets }
         ensures fault { IsErrOf result Write → Rises self.old.writes self.new.writes }
         ensures lack { IsErrOf result Memory → Rises self.old.lacks self.new.lacks }
@@ -118,6 +122,7 @@ impl<F: Files + Drop> Host for StandardHost<'_, F> {
       files = F.held h.files;
       said = F.said h.files;
       errors = F.errors h.files;
+      warned = h.warned;
       gets = h.gets;
       reads = h.reads;
       writes = h.writes;
@@ -173,6 +178,7 @@ impl<F: Files + Drop> Host for StandardHost<'_, F> {
     }
 
     fn say_error(&mut self, bytes: &[u8]) {
+        self.warned = self.warned.saturating_add(1);
         self.files.say_error(self.rt, bytes);
     }
 }

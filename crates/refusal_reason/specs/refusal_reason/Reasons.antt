@@ -87,6 +87,7 @@ IsLine wanted line = (line ≡ wanted) ⊎ (line ≡ memory_line)
 pub record IsLooked (old new : HostState) : Type 0 where
   pub tells : new.tells ≡ old.tells
   pub errors : new.errors ≡ old.errors
+  pub warned : new.warned ≡ old.warned
   pub files : old.tells ≡ true → new.files ≡ old.files
   pub said : old.tells ≡ true → new.said ≡ old.said
 

@@ -2,6 +2,7 @@
 
 ghost use Rattle.std.specs.Prelude.{◌≡◌, false, true, map, IfOk};
 ghost use Rattle.command_words.specs.Reading.{reading_of};
+ghost use Rattle.nt_edge.specs.Host.{Warns};
 ghost use Rattle.refusal_reason.specs.refusal_reason.Notes.{IsNoted};
 ghost use Rattle.refusal_reason.specs.refusal_reason.Reasons.{explains, has_reason, heard_by, is_judged, line_on, usage_line, IsExplained, IsLine, IsLooked};
 
@@ -56,10 +57,11 @@ fn line_on<H: Host>(
 
 /// Prints the line on a status that is no answer; where there is no memory for it, that there is none.
 fn explain_now<H: Host>(alloc: Global, words: &[&str], status: Status, notes: &Notes, host: &mut H)
+    ensures warns { Warns (H.state host.old) (H.state host.new) }
     ensures said { (H.state host.old).tells ≡ true → IsNoted (map (λ w. w.now) words.now) (H.state host.old) notes.now
         → IsExplained (line_on (map (λ w. w.now) words.now) status notes.now (H.state host.old).files) (H.state host.old) (H.state host.new) }
     ensures same { is_judged (heard_by notes.now) notes.now ≡ true
-        → H.state host.new ≡ record (H.state host.old) { errors = (H.state host.new).errors } }
+        → H.state host.new ≡ record (H.state host.old) { errors = (H.state host.new).errors; warned = (H.state host.new).warned } }
 {
     match line_on(alloc, words, status, notes, host) {
         Ok(line) => host.say_error(line.as_slice()),
@@ -71,11 +73,12 @@ fn explain_now<H: Host>(alloc: Global, words: &[&str], status: Status, notes: &N
 /// answer. Nothing else changes, but that a hive is asked for which has the fault and of which it is not noted whether it is dirty.
 pub fn explain<H: Host>(alloc: Global, words: &[&str], status: Status, notes: &Notes, host: &mut H)
     ensures quiet { explains (map (λ w. w.now) words.now) status ≡ false → H.state host.new ≡ H.state host.old }
+    ensures warns { explains (map (λ w. w.now) words.now) status ≡ true → Warns (H.state host.old) (H.state host.new) }
     ensures said { (H.state host.old).tells ≡ true → explains (map (λ w. w.now) words.now) status ≡ true
         → IsNoted (map (λ w. w.now) words.now) (H.state host.old) notes.now
         → IsExplained (line_on (map (λ w. w.now) words.now) status notes.now (H.state host.old).files) (H.state host.old) (H.state host.new) }
     ensures same { is_judged (heard_by notes.now) notes.now ≡ true
-        → H.state host.new ≡ record (H.state host.old) { errors = (H.state host.new).errors } }
+        → H.state host.new ≡ record (H.state host.old) { errors = (H.state host.new).errors; warned = (H.state host.new).warned } }
 {
     if has_reason(status) && wants_reason(words) {
         explain_now(alloc, words, status, notes, host);
