@@ -6,7 +6,7 @@ tests/each_input.py [--with NTBOOT NTMEND]"""
 import os
 import sys
 
-from programs import Said, differs, fresh, judged, listing, main, runs, said
+from programs import Said, differs, fresh, judged, listing, main, said
 
 
 
@@ -27,7 +27,7 @@ def wrong(programs, run, name):
 
 
 def rows(programs):
-    for run in runs():
+    for run in programs.runs():
         if run.is_done():
             for name in run.read():
                 yield f"{run.name}: {name} is a folder", wrong, programs, run, name

@@ -1,16 +1,17 @@
 #!/usr/bin/env python3
 """That a report is printed up to where its output ends, and that nothing is saved then. No file may get longer than a number of bytes, so that the file
 which the report goes to ends there: after each line and a byte before it, of the longest report of each command, in text and in JSON, and a byte before
-the last of each other one. The report stands there up to that byte, the exit is 7, and the files to save have the bytes that they had before.
+the last of each other one. The report stands there up to that byte, the exit is 7, and the files to save have the bytes that they had before. With
+--short the longest reports end at every fifth of these places.
 
 `export` and `ntmend` write their files before they print, so that those would end first. Their report goes to a device that takes nothing: nothing is
 exported, and the hive of `ntmend` is as before or as it should be in the end. Prints each row that differs, then 'N passed, M failed'.
-tests/each_output.py [--with NTBOOT NTMEND]"""
+tests/each_output.py [--with NTBOOT NTMEND] [--short]"""
 import subprocess
 import sys
 import tempfile
 
-from programs import TIMEOUT, Said, contents, differs, fresh, judged, main, runs
+from programs import TIMEOUT, Said, contents, differs, fresh, judged, main
 
 REASON = b"ntboot: can't write the report\n"
 
@@ -63,13 +64,13 @@ def longest(all_runs):
 
 
 def rows(programs):
-    done = [run.saving() for run in runs() if run.is_done() and run.is_short()]
+    done = [run.saving() for run in programs.runs() if run.is_done() and run.is_short()]
     late = [run for run in done if run.is_of_ntmend() or run.words[0] == "export"]
     others = [run for run in done if run not in late]
     for run in late:
         yield f"{run.name}: its output takes nothing", takes_nothing, programs, run
     for run in longest(others):
-        for most in ends(run.wanted.out):
+        for most in ends(run.wanted.out)[::5 if programs.short else 1]:
             yield f"{run.name}: its output takes {most} bytes", ends_early, programs, run, most
     for run in others:
         most = len(run.wanted.out) - 1

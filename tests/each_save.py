@@ -5,7 +5,7 @@ and no file changes: not even one to save that could be saved. Prints each row t
 tests/each_save.py [--with NTBOOT NTMEND]"""
 import sys
 
-from programs import Said, contents, differs, fresh, judged, main, runs, said, with_value
+from programs import Said, contents, differs, fresh, judged, main, said, with_value
 
 NOWHERE = "gone/file"
 
@@ -30,7 +30,7 @@ def may_refuse(run):
 
 
 def rows(programs):
-    for run in (run.saving() for run in runs() if run.is_done() and run.is_short()):
+    for run in (run.saving() for run in programs.runs() if run.is_done() and run.is_short()):
         for option, name in run.saved().items():
             if name in run.after or not may_refuse(run):
                 yield f"{run.name}: {option} leads nowhere", wrong, programs, run, option

@@ -1,8 +1,8 @@
 #!/usr/bin/env python3
 """Files, command lines, outputs and saves that no folder can hold: a folder in place of a file, a pipe, 256 MiB and a byte more, an output that ends
 early, a save over links or without room. Two rows at once, since the long ones take much memory. Prints each row that differs, then
-'N passed, M failed'.
-tests/odd_files.py [--with NTBOOT NTMEND]"""
+'N passed, M failed'. With --short no file has 32 MiB or more.
+tests/odd_files.py [--with NTBOOT NTMEND] [--short]"""
 import os
 import stat
 import subprocess
@@ -18,6 +18,8 @@ DIRTY = Run("hive_recovered_by_its_log")
 WORDS = ["run", "--hive", "hive", "--script", "script"]
 REPORT = ONE_DRIVER.wanted.out
 HIVE = ONE_DRIVER.inputs["hive"]
+# What a run says whose file cannot be read.
+UNREAD = Said(b"", b"", 6)
 # That many bytes of a hive or a log count.
 COUNTED = 32 * 1024 * 1024
 UMASK = os.umask(0o022)
@@ -166,18 +168,22 @@ def saves(programs):
         yield name, wrong_save, programs, *rest
 
 
-def rows(programs):
-    below = ["run", "--hive", "hive", "--script", "script/below"]
-    odd = [b"run", b"--hive", b"\xff", b"--script", b"script"]
-    unread, unusable = Said(b"", b"", 6), Said(b"bad usage\n", b"", 1)
-    yield "a file that is a folder", wrong_answer, programs, becomes_a_folder, WORDS, unread
-    yield "a path below a plain file", wrong_answer, programs, as_it_is, below, unread
+def long_rows(programs):
     yield "a hive of 32 MiB", wrong_long_hive, programs, COUNTED
     yield "a hive of a byte more than 32 MiB", wrong_long_hive, programs, COUNTED + 1
     yield "a log of 32 MiB", wrong_long_log, programs, COUNTED
     yield "a log of a byte more than 32 MiB", wrong_long_log, programs, COUNTED + 1
     yield "a hive of 256 MiB", wrong_answer, programs, becomes_as_long_as_is_read, WORDS, ONE_DRIVER.wanted
-    yield "a hive of more than 256 MiB", wrong_answer, programs, becomes_too_long, WORDS, unread
+    yield "a hive of more than 256 MiB", wrong_answer, programs, becomes_too_long, WORDS, UNREAD
+
+
+def rows(programs):
+    below = ["run", "--hive", "hive", "--script", "script/below"]
+    odd = [b"run", b"--hive", b"\xff", b"--script", b"script"]
+    unusable = Said(b"bad usage\n", b"", 1)
+    yield "a file that is a folder", wrong_answer, programs, becomes_a_folder, WORDS, UNREAD
+    yield "a path below a plain file", wrong_answer, programs, as_it_is, below, UNREAD
+    yield from [] if programs.short else long_rows(programs)
     yield "a hive that comes in pieces", wrong_answer, programs, comes_in_pieces, WORDS, ONE_DRIVER.wanted
     yield "the program's name as a word", wrong_answer, programs, as_it_is, ["ntboot", *WORDS], unusable
     yield "a word that is no UTF-8", wrong_answer, programs, as_it_is, odd, unusable

@@ -10,7 +10,7 @@ each other one. Most have a list of rows for `judged`. A check ends with
     if __name__ == "__main__":
         sys.exit(main(check))
 
-so that it runs alone, as `tests/NAME.py [--with NTBOOT NTMEND]`, and run_all.py runs it with the others. It needs no network, looks at no clock, and
+so that it runs alone, as `tests/NAME.py [--with NTBOOT NTMEND] [--short]`, and run_all.py runs it with the others. It needs no network, looks at no clock, and
 writes nothing outside of the folders of `fresh`."""
 import contextlib
 import copy
@@ -45,9 +45,15 @@ SAVING = {
 
 
 class Programs(NamedTuple):
-    """The paths of the two programs, as `rt ci` leaves them or as `--with` names them."""
+    """The paths of the two programs, as `rt ci` leaves them or as `--with` names them, and whether a check leaves out what takes long in programs with
+    run-time checks (`--short`)."""
     ntboot: str = os.path.join(TOP, "crates", "ntboot", "out", "ntboot")
     ntmend: str = os.path.join(TOP, "crates", "ntmend", "out", "ntmend")
+    short: bool = False
+
+    def runs(self):
+        """The folders of tests/runs that are run."""
+        return [run for run in runs() if not (self.short and run.makes_many())]
 
 
 class Said(NamedTuple):
@@ -163,10 +169,13 @@ class Run:
         """Does it end with an answer, and not with a refusal of its words or files, or a page of help?"""
         return self.wanted.status in (0, 8) and not {"help", "version", "-h", "--help", "--version"}.intersection(self.words)
 
+    def makes_many(self):
+        """Does it make a hive of more than 100 services?"""
+        return self.words[:1] == ["make"] and any(word.isdigit() and int(word) > 100 for word in self.words)
+
     def is_short(self):
         """Are its input and the hive that it makes so short that it may be run many times?"""
-        makes_many = self.words[:1] == ["make"] and any(word.isdigit() and int(word) > 100 for word in self.words)
-        return not makes_many and sum(map(len, self.inputs.values())) <= SHORT
+        return not self.makes_many() and sum(map(len, self.inputs.values())) <= SHORT
 
     def is_verbose(self):
         """Does it ask for the reason of a refusal?"""
@@ -203,19 +212,20 @@ def judged(rows, at_once=os.cpu_count()):
 
 
 def named(words):
-    """The programs that a command line names with `--with NTBOOT NTMEND`, or those that `rt ci` leaves."""
+    """The programs that a command line names with `--with NTBOOT NTMEND`, or those that `rt ci` leaves, and whether it has `--short`."""
+    short = "--short" in words
     words = [word for word in words if word != "--short"]
     if not words:
-        return Programs()
+        return Programs(short=short)
     if len(words) != 3 or words[0] != "--with":
-        sys.exit("usage: [--with NTBOOT NTMEND]")
-    return Programs(*map(os.path.abspath, words[1:]))
+        sys.exit("usage: [--with NTBOOT NTMEND] [--short]")
+    return Programs(*map(os.path.abspath, words[1:]), short)
 
 
 def main(*checks):
     """Runs checks by the command line: prints each failure once its check is done, then 'N passed, M failed' of all. The answer is the exit status."""
     programs = named(sys.argv[1:])
-    if not all(map(os.path.exists, programs)):
+    if not all(map(os.path.exists, (programs.ntboot, programs.ntmend))):
         print("no built program: run `rt ci` at the top first")
         return 1
     passed = failed = 0

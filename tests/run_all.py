@@ -3,6 +3,7 @@
 line), the input files, what must be printed (`stdout`, and `stderr` on standard error), the exit status (`status`), and files that must be there then
 (`after`). No other file may be there, and each input that `after` does not have must be as it was. Then ntboot over each example, and the checks of the
 other modules, each of which runs alone too. Prints each run that differs, then 'N passed, M failed'.
+With --short some rows are left out: tests/README.md says which.
 tests/run_all.py [--with NTBOOT NTMEND] [--short]"""
 import os
 import sys
@@ -18,7 +19,7 @@ import refusals
 import saved_again
 import texts
 import words
-from programs import TOP, Said, contents, differs, fresh, judged, main, read, runs, said
+from programs import TOP, Said, contents, differs, fresh, judged, main, read, said
 
 EXAMPLES = os.path.join(TOP, "examples")
 
@@ -42,7 +43,7 @@ def wrong_run(programs, run):
 
 
 def check_runs(programs):
-    return judged((run.name, wrong_run, programs, run) for run in runs())
+    return judged((run.name, wrong_run, programs, run) for run in programs.runs())
 
 
 def wrong_example(programs, files, line):
@@ -87,7 +88,7 @@ def chosen(words):
     """All checks, or with `--short` those that are soon done in any build."""
     if "--short" not in words:
         return CHECKS
-    print("left out by --short: large.py (long lists, full hives, 10,000 services); .ci/run has it")
+    print("left out by --short and made by .ci/run: large.py, files of 32 MiB, hives of over 100 services, and what tests/README.md says of two modules")
     return [one for one in CHECKS if one not in LONG]
 
 

@@ -1,5 +1,5 @@
 #!/usr/bin/env python3
-"""That what is saved loads again, as what was told. Each folder of tests/runs whose command may save saves all files that it can. What `run`, `make`,
+"""That what is saved loads again, as what was reported. Each folder of tests/runs whose command may save saves all files that it can. What `run`, `make`,
 `twin` and `import` save loads under the last sequence number of their report, or, where it has none, under that of the input. After a stop it may be the
 next number too, since the change that was stopped may be whole; and where the power was cut so that sectors cannot be read, sector 0 of the hive may be
 zeros, and the files no hive. Each `run` is made once more without the last line of its script. A run that is refused changes no file. Prints each row that
@@ -8,9 +8,9 @@ tests/saved_again.py [--with NTBOOT NTMEND]"""
 import re
 import sys
 
-from programs import BEFORE, contents, differs, fresh, judged, main, options, runs, said
+from programs import BEFORE, contents, differs, fresh, judged, main, options, said
 
-# A line that tells the number which the disk has: of a load, of a commit, or of a made hive; as text and as JSON.
+# A line with the number that the disk has: of a load, of a commit, or of a made hive; as text and as JSON.
 TOLD = re.compile(rb'^(?:load|commit \w+|made .* sequence) (\d+)|^\{"line":"(?:load|commit|made)".*"sequence":(\d+)')
 STOPPED = (b"verdict cut", b"verdict device", b'{"line":"verdict","word":"cut"}', b'{"line":"verdict","word":"device"}')
 NO_HIVE = b"hive fault not-regf at 0\n"
@@ -24,7 +24,7 @@ def shown(program, room, *look):
 
 
 def shown_input(program, run, room):
-    """The number that the input of a run loads with. `make` has none, and `twin` tells the number of its two copies always."""
+    """The number that the input of a run loads with. `make` has none, and `twin` reports the number of its two copies always."""
     named = dict(options(run.words))
     if run.words[0] in ("make", "twin"):
         return None
@@ -113,7 +113,7 @@ def saves_nothing(programs, run):
 
 
 def rows(programs):
-    for run in (run.saving() for run in runs()):
+    for run in (run.saving() for run in programs.runs()):
         if not run.is_done():
             yield f"{run.name}: is refused and saves nothing", saves_nothing, programs, run
         elif run.words[0] in ("run", "make", "twin", "import"):
