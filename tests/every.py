@@ -12,7 +12,7 @@ import time
 from concurrent.futures import ThreadPoolExecutor
 
 TOP = os.path.dirname(os.path.dirname(os.path.realpath(__file__)))
-PAGES = ("definitions", "dead_text", "help_pages", "completions", "layers", "decisions")
+PAGES = ("definitions", "dead_text", "help_pages", "completions", "line_schema", "layers", "decisions")
 
 
 def checks(ntboot, ntmend, short):

@@ -1,11 +1,13 @@
 #!/usr/bin/env python3
 """The report of each run of tests/runs as JSON lines: tests/json_lines.py [--with NTBOOT NTMEND]. Each line of the wanted text is made an object by the
-tables of docs/texts.md, and with --json the run must print these. Left out are `graph`, `show`, `key`, and `diff` with all that differs."""
+tables of docs/texts.md, and with --json the run must print these. Of `graph`, `show`, `key`, and `diff` with all that differs it is asked only that
+docs/lines.schema.json takes each line, as it takes each other one."""
 import json
 import re
 import sys
 
-from programs import differs, fresh, judged, main, runs, said
+from programs import fresh, judged, main, said
+from schema import misfit
 
 # A field `{name}` is a word, and `{name:X}` is: N a number, W a number or a word, I a word or nothing, S a name as a report writes it, Q a text in quotes,
 # P a path, V what one side of `diff` has. `{name=word}` is that word, which the line has; `{name!word}` is one that it doesn't have. An object's line is the
@@ -73,6 +75,18 @@ FORMS = {
         "fault {kind} file {file:N} {part} {path:P}", "root none", "root file {file:N}", "found {keys:N} {path:P}",
         "salvaged {keys:N} keys {values:N} values lost {lost:N}", "saved {sequence:N} {bytes:N}", "save refused {refused}", "end",
     ],
+}
+# The objects whose text is not parted here, by the object alone: `{name:X}` is X bytes in hexadecimal, T a moment, R the type of a value, L a list of names,
+# B true or false.
+TOLD = ["{number:N}", "{list:L}", "{text:S} {ended:B}", "{length:N} {hex:X}"]
+OBJECTS = {
+    "show": ["tree {sequence:N} {bulk:N}", "key {level:N} {name:S}", "value {level:N} {name:S} {type:N} {length:N} {data:X}"],
+    "key": [
+        "{line!refused}{command!key}{word!no-key}", "root {name:S}", "key {path:P}", "stamp {stamp:T}", "flags {flags:N}", "class {text:S}",
+        "class {length:N} {hex:X}", "security {length:N} {hex:X}", *(f"value {{name:S}} {{type:R}} {data}" for data in TOLD), "subkey {name:S}", "end",
+    ],
+    "diff": [f"{side} {{type:R}} {data}" for side in ("first", "second") for data in TOLD],
+    "graph": [*STARTS, "no-boot", "ended-by {name:S}", "node {node:N} {kind} {phase} {state} {number:N} {name:S}", "edge {from:N} {to:N}", "end"],
 }
 FIELD = re.compile(r"\{(\w+)(?:([:=!])([\w-]+))?\}")
 QUOTED = r'"(?:[^"\\]|\\.)*"'
@@ -172,16 +186,52 @@ def wrong_objects(programs, run):
             return f"no form of {text!r}"
         if told != shown(json.loads(line)) or spelled(json.loads(line)) != line:
             return f"{line}, wanted {spelled(told)}"
-    return ""
+    return misfits(run.words[0], lines)
+
+
+def misfits(command, lines):
+    """The first of these lines that the schema does not take."""
+    return next(filter(None, (misfit(command, json.loads(line)) for line in lines)), "")
+
+
+def wrong_lines(programs, run):
+    """The first line of a run with --json that the schema does not take, for a run whose text is not parted here."""
+    with fresh(run.inputs) as room:
+        found = said(run.program(programs), [*run.words, "--json"], room)
+    if found.status != run.wanted.status or not found.out:
+        return f"exit {found.status}, wanted {run.wanted.status}; said {found.out[:400]!r}"
+    return misfits(run.words[0], found.out.decode().splitlines())
+
+
+def has_json(run):
+    """A run with an answer in lines: of one that asks for them already run_all.py judges whether they are printed."""
+    return run.is_done() and not run.is_of_ntmend() and "--help" not in run.words
 
 
 def has_forms(run):
     """A run with an answer in text, all of which the tables have."""
-    return run.is_done() and run.words[0] in FORMS and not {"--json", "--all", "--help", "-h"} & set(run.words)
+    return has_json(run) and run.words[0] in FORMS and not {"--json", "--all"} & set(run.words)
+
+
+def objects_of(run):
+    """The objects that a run wants, as far as it has them or the tables make them of its text."""
+    lines = run.wanted.out.decode().splitlines()
+    if "--json" in run.words:
+        return [json.loads(line) for line in lines]
+    return [object_of(run.words[0], line) for line in lines] if has_forms(run) else []
+
+
+def row_of(programs, run):
+    """What is judged of a run that has lines."""
+    if "--json" in run.words:
+        return f"{run.name}: its lines in the schema", misfits, run.words[0], run.wanted.out.decode().splitlines()
+    if has_forms(run):
+        return run.name, wrong_objects, programs, run
+    return f"{run.name} --json in the schema", wrong_lines, programs, run
 
 
 def check(programs):
-    return judged((run.name, wrong_objects, programs, run) for run in runs() if has_forms(run))
+    return judged(row_of(programs, run) for run in programs.runs() if has_json(run))
 
 
 if __name__ == "__main__":
