@@ -1,8 +1,8 @@
 #!/usr/bin/env python3
-"""Explores what a kill, a loss of power, a failed call or a short count leaves of a save and of a mending:
+"""Explores what a kill, a loss of power, a failed call or a short count leaves of a save and of a repair:
 bench/crash_states.py NTBOOT NTMEND [--few] [--only CASE]. No gate runs it. It needs strace (Debian: apt-get install strace), and cc for shorten.c.
 
-Each case is a run that saves a hive and its log over its own input, or a mending in place, in a folder of its own.
+Each case is a run that saves a hive and its log over its own input, or a repair in place, in a folder of its own.
 1. States of power loss. The system calls of the run are recorded. After each one every state is made that a file system may then leave: of the
    writes to a file since its last sync any subset, in sectors of 512 bytes; of the names that were made, moved or removed since the folder's last sync
    any subset. Where there are over 512 subsets of sectors, none, all, each one alone, each one missing and 64 at random are taken. In each state `show`
@@ -10,7 +10,7 @@ Each case is a run that saves a hive and its log over its own input, or a mendin
 2. Faults. Each call that the program makes fails in turn, with each of EIO, ENOSPC, EDQUOT and EINTR: the tree is then the old or the new one, the new
    one where the exit is 0, no new file is left over but where its removal failed, and the run made again ends its work.
 3. Kills. The run is killed at each call: the same, but that a new file may be left, and does not stop the run that follows.
-4. Short counts. Each read and write moves half of the bytes that it asks for, or one byte, and then each of one run moves at most so many: the run
+4. Short counts. Each read and write moves half of the bytes that it asks for, or one byte, and then each of one run moves at most that many: the run
    ends as it does without, prints the same, and leaves the same files.
 Prints the counts. --few takes each third fault, kill and short count.
 """
@@ -61,14 +61,14 @@ def run(words, room):
 
 
 class Shown:
-    """What `show` tells of a hive and a log; each pair is asked once."""
+    """What `show` prints of a hive and a log; each pair is asked once."""
 
     def __init__(self, ntboot):
         self.ntboot, self.seen = ntboot, {}
         self.room = tempfile.TemporaryDirectory()
 
     def tree(self, hive, log):
-        """The tree without the line of its number, or what is said where it does not load."""
+        """The tree without the line of its number, or what is printed where it does not load."""
         pair = hive, log
         if pair not in self.seen:
             fill(self.room.name, {name: data for name, data in (("hive", hive), ("log", log)) if data is not None})

@@ -18,7 +18,7 @@ def values(byte):
 
 
 def summed(data):
-    """The hive with the checksum of its base block made anew, so that later checks are reached too."""
+    """The hive with the checksum of its base block computed again, so that later checks are reached too."""
     block = bytearray(data)
     total = 0
     for at in range(0, 508, 4):

@@ -1,7 +1,7 @@
 #!/usr/bin/env python3
 """Times `salvage` of values that each name one list of segments and fail on a late one, with others between them that stand:
 bench/failing_values.py PROGRAM. Prints the processor seconds of three hives, each of twice the values and segments of the one before, so
-that the ratio tells how the time grows. No gate runs it."""
+that the ratio shows how the time grows. No gate runs it."""
 import os
 import subprocess
 import sys

@@ -3,7 +3,7 @@
 
 Each input is a folder of tests/runs with one to four changes of its hive, log, boot.ini or texts: bytes turned, fields set to edges, blocks
 of 512 bytes swapped, dropped or doubled, lines doubled or dropped, the end cut off. Where the base block changes its checksum is mostly
-made anew, so that later checks are reached too. Most inputs are for `run`, the others for each further command that reads a hive. Each run
+computed again, so that later checks are reached too. Most inputs are for `run`, the others for each further command that reads a hive. Each run
 must end with an answer of the program within ten seconds, take no more memory than 64 MiB and eight times its files, and where it is done
 leave files that load. What fails is kept as a folder with its inputs and words. The N-th input of a seed is always the same. No gate runs
 it."""
@@ -65,7 +65,7 @@ def turned(chance, data):
 
 
 def edged(chance, data):
-    """A field of one, two or four bytes is set to an edge; most stand at multiples of two."""
+    """A field of one, two or four bytes is set to an edge; most are at multiples of two."""
     size = chance.choice((1, 2, 4, 4))
     if len(data) >= size:
         at = chance.randrange((len(data) - size) // 2 + 1) * 2 if size > 1 else chance.randrange(len(data))
@@ -112,7 +112,7 @@ def lined(chance, data):
 
 
 def summed(data):
-    """The checksum of the base block is made anew."""
+    """The checksum of the base block is computed again."""
     if len(data) >= 512:
         total = 0
         for (word,) in struct.iter_unpack("<I", bytes(data[:508])):

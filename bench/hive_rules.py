@@ -84,7 +84,7 @@ class Bins:
         return None
 
     def cell(self, at, least, path, sign=b"", more=(0, 0)):
-        """Where the payload begins of an allocated cell that nothing else uses, with this signature and at least so many bytes, and those that a
+        """Where the payload begins of an allocated cell that nothing else uses, with this signature and at least that many bytes, and those that a
         field of it says."""
         size, again = -self.cells.get(at, 0), at in self.used
         if size > 0:

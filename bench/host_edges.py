@@ -1,6 +1,6 @@
 #!/usr/bin/env python3
-"""Tries what a host may put in the way of a save or of a mending: bench/host_edges.py NTBOOT NTMEND. No gate runs it. Run as root, it also tries another
-user's rights and a file system that fills up; else it tells that it left them out.
+"""Tries what a host may put in the way of a save or of a repair: bench/host_edges.py NTBOOT NTMEND. No gate runs it. Run as root, it also tries another
+user's rights and a file system that fills up; else it says that it left them out.
 
 Each edge is a run in a folder of its own: its exit, what the files then are, and that no new file is left over. Prints one line for each edge.
 """

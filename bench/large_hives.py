@@ -1,6 +1,6 @@
 #!/usr/bin/env python3
 """Times the built program on large hives: bench/large_hives.py PROGRAM. Prints the seconds, and those of a hive of half the size,
-so that the ratio tells how the time grows. No gate runs it."""
+so that the ratio shows how the time grows. No gate runs it."""
 import os
 import sys
 

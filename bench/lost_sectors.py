@@ -96,7 +96,7 @@ def wrong(program, room, hive, parts, lost):
         return "what was saved does not load"
     whole = {part for part, _ in parts}
     good = {part for part, way in parts if all(end <= lost[0] or lost[1] <= begin for begin, end in way)}
-    # Data, names and types are read as they now are: so what differs is no more than what was hit.
+    # Data, names and types are read as they now are: so what differs is at most what was hit.
     if len(kept[0] - whole) > len(whole - good):
         return f"something that was not there: {sorted(map(str, kept[0] - whole))[:2]}"
     if good - kept[0]:

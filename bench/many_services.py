@@ -2,7 +2,7 @@
 """Times whole starts of the built program: bench/many_services.py PROGRAM. Prints the seconds for that many services that each need one
 that goes before them; where one half pulls in the other, or each one the one before it; with ten names each; in as many groups, and with
 as many tags. Of services of which each needs the next in the registry, the worst order, it prints the time of 10,000 and of 20,000 beside
-that of 1,000, and what n log n would come to. No gate runs it."""
+that of 1,000, and what n log n would amount to. No gate runs it."""
 import math
 import os
 import sys

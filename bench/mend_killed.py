@@ -1,5 +1,5 @@
 #!/usr/bin/env python3
-"""Kills a mending at random moments: bench/mend_killed.py NTMEND [COUNT] [--show PROGRAM]. No gate runs it.
+"""Kills a repair at random moments: bench/mend_killed.py NTMEND [COUNT] [--show PROGRAM]. No gate runs it.
 
 A hive of 15 MiB, whose packed form is shorter by some pages and differs in nearly every sector, lies on a file beside an empty log.
 `ntmend` is killed with -9 at a random moment of its run, three times of four at one after its first write; 1,000 times. Each time the

@@ -3,7 +3,7 @@
 and the name, type, length and data of each value. bench/peers.py PROGRAM. No gate runs it. Prints what differs, then 'N passed, N failed'.
 
 It needs hivexml and hivexsh (apt-get install libhivex-bin), hivexregedit (libwin-hivex-perl) and reglookup (reglookup). The first three
-stand on one library, hivex, and the last one on another, regfi. hivexregedit tells all data byte for byte; of the others each tells
+stand on one library, hivex, and the last one on another, regfi. hivexregedit prints all data byte for byte; of the others each prints
 some types as texts or numbers, and what `show` says is then put in their words.
 
 None of them recovers a hive by its log. So they are asked about clean images alone: an image that `show` reads only with its log is loaded by
@@ -62,7 +62,7 @@ def value_of(said):
     data = b"" if last == "0" else bytes.fromhex(last)
     name, kind, length = (rest + " 0" if last == "0" else rest).rsplit(" ", 2)
     if int(length) != len(data):
-        raise ValueError(f"show tells of {length} bytes and says {len(data)}")
+        raise ValueError(f"show prints a length of {length} and {len(data)} bytes")
     return name_of(name), int(kind), data
 
 
@@ -96,7 +96,7 @@ def texts_in(data):
     return data.decode("utf-16-le").split("\0")[:-1]
 
 
-# ---- each tool: what it tells of a file, and what it should tell of a tree, both as a list of keys and values in any order
+# ---- each tool: what it prints of a file, and what it should print of a tree, both as a list of keys and values in any order
 
 HIVEXML_KINDS = ["none", "string", "expand", "binary", "int32", "int32", "link", "string-list", "resource-list", "resource-description",
                  "resource-requirements", "int64"]
@@ -144,7 +144,7 @@ def hivexml_of(tree):
 
 
 def hivexsh_tells(file):
-    """It is asked level by level for what each key has, by the paths that it told before. The path comes before each listing."""
+    """It is asked level by level for what each key has, by the paths that it printed before. The path comes before each listing."""
     told, level = [("\\",)], ["\\"]
     while level:
         asked = "".join(f"cd {path.ljust(2)}\ncd\nls\ncd\nlsval\n" for path in level)
@@ -227,7 +227,7 @@ def reglookup_tells(file):
 
 def reglookup_of(tree):
     def stored(name):
-        """A name is told as the bytes that it has in the file: one for each unit where all are below 256, else two."""
+        """A name is printed as the bytes that it has in the file: one for each unit where all are below 256, else two."""
         return name.encode("latin-1") if max(name, default="") < "\u0100" else name.encode("utf-16-le")
 
     def value(path, name, kind, data):

@@ -59,7 +59,7 @@ class Table:
         print(f"| {work} | {(counts[1] - counts[0]) / times:.2f} | | | |", flush=True)
 
     def same(self, words, plain, written=None):
-        """The program writes what plain C writes, into a file or, after its first line, which tells the hive's bulk, on standard output."""
+        """The program writes what plain C writes, into a file or, after its first line, which has the hive's bulk, on standard output."""
         said = memory(self.room, [self.program, *words])[1].partition(b"\n")[2]
         if written:
             with open(os.path.join(self.room, written), "rb") as f:

@@ -1,5 +1,5 @@
 #!/usr/bin/env python3
-"""Prints which functions of ntboot no run comes to: bench/reached.py [PROGRAM [CHECK]..]. No gate runs it; it needs valgrind and takes some minutes.
+"""Prints which functions of ntboot no run reaches: bench/reached.py [PROGRAM [CHECK]..]. No gate runs it; it needs valgrind and takes some minutes.
 
 The runs are those of tests/runs and of the examples, and those of each check of tests/ that is named, as `large`. A function is one of this project's
 crates that is there by name in the program as `rt ci` builds it; those that the compiler put into others are not seen, and of one that is there for
@@ -67,7 +67,7 @@ def run(program, words, files):
 
 
 def reached(program, checks):
-    """The functions that the runs and these checks come to, and how many runs of folders there are."""
+    """The functions that the runs and these checks reach, and how many runs of folders there are."""
     listed = [(one.words, one.inputs) for one in runs() if not one.is_of_ntmend()] + list(of_examples())
     with tempfile.TemporaryDirectory() as room:
         counted = counting(program, room)
@@ -84,7 +84,7 @@ def main(words):
     program = os.path.abspath(words[0] if words else Programs().ntboot)
     (found, count), there = reached(program, words[1:]), functions(program)
     if not found & there:
-        sys.exit("no run says which functions it comes to: is valgrind there, and was the program built by `rt ci`?")
+        sys.exit("no run says which functions it reaches: is valgrind there, and was the program built by `rt ci`?")
     print("".join(name + "\n" for name in sorted(there - found)), end="")
     print(f"{count} runs{''.join(', ' + name for name in words[1:])}: {len(there & found)} of {len(there)} functions are reached")
 

@@ -2,7 +2,7 @@
 """Runs the built program with its N-th allocation refused, for each N: bench/refused_memory.py PROGRAM [RUN..].
 
 RUN is a folder of tests/runs; without one they are a run with edits, one with a cut and one that saves a clone. Each is run with both files
-of the disk saved. With the N-th allocation refused the program has to end with exit 9 and a front of what it says otherwise, or as otherwise;
+of the disk saved. With the N-th allocation refused the program has to end with exit 9 and a prefix of what it prints otherwise, or as otherwise;
 each file that is saved is there whole or as it was, and no other file is left. It wants gcc, for a library that is loaded before the C
 library and counts the allocations. No gate runs it."""
 import os
@@ -75,7 +75,7 @@ def read(*path):
 
 
 def run(program, library, folder, refused, counted=None):
-    """The exit status, what was said, and the files that are there afterwards besides the inputs."""
+    """The exit status, what was printed, and the files that are there afterwards besides the inputs."""
     with tempfile.TemporaryDirectory() as room:
         for part in os.listdir(folder):
             if part not in ("words", "stdout", "status"):
@@ -99,7 +99,7 @@ def wrong(plain, status, said, files):
     if status != 9:
         return f"exit {status} says {said[-60:]!r}"
     if not plain[1].startswith(said):
-        return f"it says {said[-60:]!r}"
+        return f"it prints {said[-60:]!r}"
     if set(files) != set(SAVED):
         return f"it leaves {sorted(files)}"
     for name in SAVED:

@@ -85,7 +85,7 @@ def text_of(lines):
 
 
 def shown(program, room, hive, log=None):
-    """What `show` tells of a hive."""
+    """What `show` prints of a hive."""
     words = [program, "show", "--hive", hive] + (["--log", log] if log else [])
     return least(words, room)[1]
 

@@ -16,7 +16,7 @@ TRIES = 5
 
 
 def least(words, room):
-    """The least time of a few runs, and how much was said."""
+    """The least time of a few runs, and how much was printed."""
     times = []
     for _ in range(TRIES):
         began = time.monotonic()

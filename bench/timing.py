@@ -12,7 +12,7 @@ def used():
 
 
 def seconds(program, hive, script):
-    """The processor seconds that the program takes for the script on this hive, the lines that it says, and its exit status."""
+    """The processor seconds that the program takes for the script on this hive, the lines that it prints, and its exit status."""
     with tempfile.TemporaryDirectory() as room:
         for name, data in (("hive", hive), ("script", script)):
             with open(os.path.join(room, name), "wb") as f:

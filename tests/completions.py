@@ -55,7 +55,7 @@ def table():
 
 
 MEND_HEAD = "Completions of ntmend's words for {}. Made by tests/completions.py from crates/ntmend/src/pages.rt; edit neither by hand."
-# What stands in place of a command; `help` is followed by the name of a page.
+# What may be in place of a command; `help` is followed by the name of a page.
 ABOUT = ["help", "version"]
 
 
@@ -73,7 +73,7 @@ def lone_words():
 
 
 def bash(commands):
-    """Which option the word before is, and which are there already, is told in the shell; the table is in `case`."""
+    """Which option the word before is, and which are there already, is found in the shell; the table is in `case`."""
     yield "# " + HEAD.format("bash")
     yield "# To use it: source this file, or put it into /usr/share/bash-completion/completions as ntboot."
     yield "_ntboot() {"

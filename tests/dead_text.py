@@ -4,7 +4,7 @@ below, each name that a `use` line brings in vain, and then 'N passed, N failed'
 
 A node is a definition at the left margin, or a whole `module` or `mutual` block with all its names. What needs no citation are the answers and the
 invariants, which the prover asks for by name, and what a .rt file names in a clause or an attribute. Names count as cited wherever they are written
-outside comments, so a definition may live that could go, but none is told that is needed."""
+outside comments, so a definition may live that could go, but none is printed that is needed."""
 import collections
 import os
 import re

@@ -1,5 +1,5 @@
 #!/usr/bin/env python3
-"""docs/definitions.md, made from the comments of the two books: `tests/definitions.py` checks it, `tests/definitions.py --write` makes it anew.
+"""docs/definitions.md, made from the comments of the two books: `tests/definitions.py` checks it, `tests/definitions.py --write` writes it.
 
 Each public word of a book has a row in the section of its file: the word, its meaning and its source. The meaning is the comment above the
 word, word for word. The source is the one that the comment ends with in parentheses, else the one that its row has already, else `own`.

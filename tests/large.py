@@ -1,6 +1,6 @@
 #!/usr/bin/env python3
 """Large hives that an import changes: tests/large.py [--with NTBOOT NTMEND]. Lists of 1 to 1,001 children with one more and one less, many values at once,
-and hives of almost 16 MiB which are packed anew for want of room, or full. What is saved is what hive_edits.py works out, and bench/hive_rules.py finds
+and hives of almost 16 MiB which are repacked for lack of room, or full. What is saved is what hive_edits.py works out, and bench/hive_rules.py finds
 nothing wrong in it."""
 import bisect
 import functools
@@ -141,7 +141,7 @@ def room_rows(programs):
         yield f"version 1.{minor}, 4,097 values set", many_steps, programs, minor
         for more in (0, 1):
             most = most_that_fits(minor, more)
-            yield f"version 1.{minor}, packed anew with {1 + more} values", packed_anew, programs, minor, more, 80000
+            yield f"version 1.{minor}, repacked with {1 + more} values", packed_anew, programs, minor, more, 80000
             yield f"version 1.{minor}, the greatest bulk with {1 + more} values", packed_anew, programs, minor, more, most
             yield f"version 1.{minor}, {1 + more} values of two bytes more", full, programs, minor, more, most + 2
 

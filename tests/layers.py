@@ -1,7 +1,7 @@
 #!/usr/bin/env python3
 """docs/crates.md, made from crates.txt, whose comments are the layers, and from the first sentence of each crate; and in README.md, in the row of each layer,
-the names of its crates. `tests/layers.py` checks both, and that no crate but the laws of layer 2 uses one of a layer above; `tests/layers.py --write` makes them
-anew. Prints each line that differs, then 'N passed, M failed'."""
+the names of its crates. `tests/layers.py` checks both, and that no crate but the laws of layer 2 uses one of a layer above; `tests/layers.py --write` writes
+them. Prints each line that differs, then 'N passed, M failed'."""
 import os
 import re
 import sys

@@ -1,5 +1,5 @@
 #!/usr/bin/env python3
-"""Makes anew the hives of the runs and examples that are listed at its end, and those that must be there after a run: tests/make_hives.py. The others
+"""Writes again the hives of the runs and examples that are listed at its end, and those that must be there after a run: tests/make_hives.py. The others
 were written by hand. What a run must leave is worked out here from the rules, step by step (hive_edits.py)."""
 import os
 import struct
@@ -212,7 +212,7 @@ def one_driver(*four):
 
 
 def names_and_values():
-    """Values of six types with odd names, a value before two children that don't stand in the order of their names, and the greatest sequence number."""
+    """Values of six types with odd names, a value before two children that are not in the order of their names, and the greatest sequence number."""
     values = [("A", 3, b""), ("", 0, b"\0"), ("A ~", 1, b"\x0f\xf0"), ("\n\x1f", 7, b"\x9a"), ("\x7f\xe9", 4, b"\xff")]
     values.append(("\ud83d\\", 2 ** 32 - 1, b"0123456789:"))
     children = [Key("R", [("B", 3, b"")], [Key("\u4e2d")]), Key("A")]

@@ -1,6 +1,6 @@
 #!/usr/bin/env python3
 """Runs each command of docs/recipes.md in a copy of what it reads, and compares what it prints with what the page says: tests/recipes.py [NTBOOT]. A command
-whose tools are not installed is told as left out."""
+whose tools are not installed is printed as left out."""
 import os
 import re
 import shutil

@@ -187,7 +187,7 @@ def select(lines, count, said, name):
 
 
 def commit(lines, told, name):
-    """Each write is a square in its stage, each sync the bar that ends it; where it is told, colours say what the next start finds."""
+    """Each write is a square in its stage, each sync the bar that ends it; with the answer, colours say what the next start finds."""
     found = (" Where the power is cut in a call before the sync of open, the next start finds the hive of before the change; in that sync it finds either; after it, "
              "the hive of after the change.")
     picture = Picture("The four stages of a commit", "The stages log, open, sectors and close, each with its writes and one sync." + (found if told else ""))
@@ -255,7 +255,7 @@ def services(lines):
 
 
 def needs(told, name):
-    """Who needs whom: services as boxes, groups as round ones; where it is told, those of a cycle are red."""
+    """Who needs whom: services as boxes, groups as round ones; with the answer, those of a cycle are red."""
     with open(os.path.join(LABS, "03_cycle", "tree.txt")) as f:
         found = services(f.read().splitlines())
     unmet = {line.split(" ")[1] for line in reports.parts_of(kept("03_cycle"))[0] if line.startswith("unmet ")}
