@@ -1,7 +1,6 @@
 #!/usr/bin/env python3
 """The report of each run of tests/runs as JSON lines: tests/json_lines.py [--with NTBOOT NTMEND]. Each line of the wanted text is made an object by the
-tables of docs/texts.md, and with --json the run must print these. Of `graph`, `show`, `key`, and `diff` with all that differs it is asked only that
-docs/lines.schema.json takes each line, as it takes each other one."""
+tables of docs/texts.md, and with --json the run must print these. Left out are `graph`, `show`, `key`, and `diff` with all that differs."""
 import json
 import re
 import sys
@@ -76,17 +75,22 @@ FORMS = {
         "salvaged {keys:N} keys {values:N} values lost {lost:N}", "saved {sequence:N} {bytes:N}", "save refused {refused}", "end",
     ],
 }
-# The objects whose text is not parted here, by the object alone: `{name:X}` is X bytes in hexadecimal, T a moment, R the type of a value, L a list of names,
-# B true or false.
-TOLD = ["{number:N}", "{list:L}", "{text:S} {ended:B}", "{length:N} {hex:X}"]
+# The objects whose text is not parted here, by the object alone, each field with its type in line_schema.py.
+VALUES = ["{number:number}", "{list:list}", "{text:name} {ended:flag}", "{length:number} {hex:hex}"]
 OBJECTS = {
-    "show": ["tree {sequence:N} {bulk:N}", "key {level:N} {name:S}", "value {level:N} {name:S} {type:N} {length:N} {data:X}"],
-    "key": [
-        "{line!refused}{command!key}{word!no-key}", "root {name:S}", "key {path:P}", "stamp {stamp:T}", "flags {flags:N}", "class {text:S}",
-        "class {length:N} {hex:X}", "security {length:N} {hex:X}", *(f"value {{name:S}} {{type:R}} {data}" for data in TOLD), "subkey {name:S}", "end",
+    "show": [
+        "tree {sequence:number} {bulk:number}", "key {level:number} {name:name}",
+        "value {level:number} {name:name} {type:number} {length:number} {data:hex}",
     ],
-    "diff": [f"{side} {{type:R}} {data}" for side in ("first", "second") for data in TOLD],
-    "graph": [*STARTS, "no-boot", "ended-by {name:S}", "node {node:N} {kind} {phase} {state} {number:N} {name:S}", "edge {from:N} {to:N}", "end"],
+    "key": [
+        "{line!refused}{command!key}{word!no-key}", "root {name:name}", "key {path:path}", "stamp {stamp:stamp}", "flags {flags:number}", "class {text:name}",
+        "class {length:number} {hex:hex}", "security {length:number} {hex:hex}", *(f"value {{name:name}} {{type:type}} {value}" for value in VALUES),
+        "subkey {name:name}", "end",
+    ],
+    "diff": [f"{side} {{type:type}} {value}" for side in ("first", "second") for value in VALUES],
+    "graph": [
+        *STARTS, "no-boot", "ended-by {name:S}", "node {node:number} {kind} {phase} {state} {number:number} {name:name}", "edge {from:number} {to:number}", "end",
+    ],
 }
 FIELD = re.compile(r"\{(\w+)(?:([:=!])([\w-]+))?\}")
 QUOTED = r'"(?:[^"\\]|\\.)*"'
@@ -189,6 +193,9 @@ def wrong_objects(programs, run):
     return misfits(run.words[0], lines)
 
 
+# Each line of each run is also judged by docs/lines.schema.json; of a run whose text is not parted here that is all.
+
+
 def misfits(command, lines):
     """The first of these lines that the schema does not take."""
     return next(filter(None, (misfit(command, json.loads(line)) for line in lines)), "")
@@ -208,11 +215,6 @@ def has_json(run):
     return run.is_done() and not run.is_of_ntmend() and "--help" not in run.words
 
 
-def has_forms(run):
-    """A run with an answer in text, all of which the tables have."""
-    return has_json(run) and run.words[0] in FORMS and not {"--json", "--all"} & set(run.words)
-
-
 def objects_of(run):
     """The objects that a run wants, as far as it has them or the tables make them of its text."""
     lines = run.wanted.out.decode().splitlines()
@@ -228,6 +230,11 @@ def row_of(programs, run):
     if has_forms(run):
         return run.name, wrong_objects, programs, run
     return f"{run.name} --json in the schema", wrong_lines, programs, run
+
+
+def has_forms(run):
+    """A run with an answer in text, all of which the tables have."""
+    return run.is_done() and run.words[0] in FORMS and not {"--json", "--all", "--help", "-h"} & set(run.words)
 
 
 def check(programs):

@@ -26,8 +26,8 @@ LEFT_OUT = "no-key no-start no-type kind disabled beyond too-early demand"
 # The words that a field of a line may have: of a line of one command, or of the line in each command. Other words are any.
 WORDS = {
     "load state": "clean recovered",
-    "set by": "default last-known-good named",
-    "commit what": "begin save flush off default import edit",
+    "set by": "default last-known-good",
+    "commit what": "begin save flush off default import",
     "phase name": PHASES + " done",
     "try outcome": "ok " + JUDGED,
     "save refused": "full no-number no-root dirty",
@@ -72,6 +72,16 @@ WORDS = {
     "node kind": "entry missing group",
     "node phase": PHASES + " none",
     "node state": "started failed unmet not-reached untaken no-entry",
+    "device state": "enabled disabled legacy",
+    "load role": "lower class-lower function upper class-upper",
+    "class-filter role": "lower upper",
+    "devices malformed field": "Service ClassGUID ConfigFlags LowerFilters UpperFilters",
+    "class-malformed field": "LowerFilters UpperFilters",
+    **{f"devices {line} state": "built-in no-key no-start disabled no-type" for line in ("of", "load", "bound", "class-filter", "critical")},
+    "services entry kind": "driver service other",
+    "services entry phase": PHASES,
+    "find refused command": "find",
+    "find refused word": "no-key",
 }
 NUMBER = {"type": "integer", "minimum": 0, "maximum": 2 ** 64 - 1}
 NAME = {"type": "string"}
@@ -107,8 +117,8 @@ VALUES = {
     "marks": {"type": "array", "items": {"enum": ["no-image", "image-outside", "no-dll", "dll-outside"]}},
 }
 OF_TYPE = {
-    "N": "number", "H": "number", "S": "name", "Q": "name", "P": "path", "W": "place", "I": "image", "V": "side", "X": "hex", "T": "stamp", "R": "type",
-    "L": "list", "B": "flag", "F": "value", "O": "overrides", "M": "marks",
+    "N": "number", "H": "number", "D": "number", "S": "name", "Q": "name", "T": "name", "P": "path", "W": "place", "I": "image", "V": "side", "L": "list",
+    "E": "flag", "X": "hex", "F": "value", "O": "overrides", "M": "marks", **{name: name for name in VALUES},
 }
 
 
