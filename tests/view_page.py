@@ -79,7 +79,7 @@ class Browser:
             self.events.append(got)
 
     def value(self, expression):
-        """The value of a JavaScript expression, or of a promise."""
+        """What a JavaScript expression, or a promise, comes to."""
         done = self.ask("Runtime.evaluate", expression=expression, returnByValue=True, awaitPromise=True)
         if "exceptionDetails" in done:
             raise RuntimeError(done["exceptionDetails"]["exception"].get("description", expression))
@@ -124,7 +124,7 @@ class Trial:
             print("failed:", what)
 
     def says(self, *words):
-        """Each of the words is in what is shown."""
+        """Each of the words stands in what is shown."""
         text = self.browser.value("document.querySelector('main').innerText")
         for word in words:
             self.check(word in text, f"{word!r} is shown")
