@@ -117,8 +117,8 @@ VALUES = {
     "marks": {"type": "array", "items": {"enum": ["no-image", "image-outside", "no-dll", "dll-outside"]}},
 }
 OF_TYPE = {
-    "N": "number", "H": "number", "D": "number", "S": "name", "Q": "name", "T": "name", "P": "path", "W": "place", "I": "image", "V": "side", "L": "list",
-    "E": "flag", "X": "hex", "F": "value", "O": "overrides", "M": "marks", **{name: name for name in VALUES},
+    "N": "number", "X": "number", "D": "number", "S": "name", "Q": "name", "T": "name", "P": "path", "W": "place", "I": "image", "V": "side", "L": "list",
+    "E": "flag", "H": "hex", "F": "value", "O": "overrides", "M": "marks", **{name: name for name in VALUES},
 }
 
 
@@ -132,6 +132,8 @@ def of_field(command, line, name, mark, what):
     if mark in ("=", "!"):
         return {"type": "null"} if what == "null" else {"const": what}
     if mark == ":":
+        if what not in OF_TYPE:
+            raise SystemExit(f"tests/line_schema.py: {command} has a field {name} of the type {what}, for which no schema is told")
         return ref(OF_TYPE[what])
     words = words_of(command, line, name)
     return {"enum": words} if words else ref("word")
@@ -191,6 +193,11 @@ def schema_of(whole, command):
 WHOLE = made()
 
 
+def taken(command, told):
+    """Whether the schema takes an object of a command; not where no table has its lines."""
+    return f"command-{command}" in WHOLE["$defs"] and fits(WHOLE, WHOLE["$defs"][f"command-{command}"], told)
+
+
 def samples():
     """An object of each kind that the stored runs print: the command and the object, by the words of its line and the names and types of its fields."""
     found = {}
@@ -229,7 +236,7 @@ def by_library():
         return 0, []
     Validator.check_schema(WHOLE)
     validators = {name: Validator(schema_of(WHOLE, name)) for name in {*json_lines.FORMS, *json_lines.OBJECTS}}
-    tried, wrong = judged_by(lambda command, told: validators[command].is_valid(told))
+    tried, wrong = judged_by(lambda command, told: command in validators and validators[command].is_valid(told))
     return tried, [f"jsonschema: {line}" for line in wrong]
 
 
@@ -240,7 +247,7 @@ def main(words):
             f.write(text)
     there = open(FILE).read() if os.path.exists(FILE) else ""
     wrong = [] if there == text else ["docs/lines.schema.json is not what tests/line_schema.py --write makes"]
-    (ours, refused), (theirs, others) = judged_by(lambda command, told: fits(WHOLE, WHOLE["$defs"]["command-" + command], told)), by_library()
+    (ours, refused), (theirs, others) = judged_by(taken), by_library()
     wrong += refused + others
     print("".join(line + "\n" for line in wrong) + f"{1 + ours + theirs - len(wrong)} passed, {len(wrong)} failed")
     return 1 if wrong else 0
