@@ -254,6 +254,16 @@ def a_filter_over_groups(trial):
     trial.check(phases == ["Automatic phase"], f"phases with a hit: {phases}")
 
 
+def worst_first(trial):
+    """A button of whatif sorts the entries, and restores their order."""
+    trial.fresh()
+    trial.take("start 1\nset 1 default\nverdict running\nfail logged 0 A\noff 0 A\nfail stop 1 B\noff 0 B\nfail logged 2 C\nunmet A\nunmet B\noff 1 C\nunmet A\nend\n")
+    for wanted in (["B", "C", "A"], ["A", "B", "C"]):
+        trial.page.value("[...document.querySelectorAll('button')].find(button => button.textContent === 'Worst first').click()")
+        names = trial.page.value("[...document.querySelectorAll('tbody th')].map(head => head.textContent)")
+        trial.check(names == wanted, f"sorted {names}, wanted {wanted}")
+
+
 # ---- The page itself
 
 # Contrast of each text against what is behind it, by the formula of WCAG 2.
@@ -389,8 +399,9 @@ def keyboard(trial):
     trial.page.value("document.getElementById('load-whatif').focus()")
     trial.page.key(" ", 32, " ")
     trial.check(trial.count() == 1, "the sample comes by Space")
-    reached = tabbed(trial.page, 6)
-    trial.check(reached == ["Remove whatif: sample", "Filter whatif: sample", "Only some lines of whatif: sample", "button", "Each entry failed, and off", "Who leans on it"], f"Tab goes on {reached}")
+    reached = tabbed(trial.page, 5)
+    wanted = ["Remove whatif: sample", "Filter whatif: sample", "Only some lines of whatif: sample", "Each entry failed, and off", "Who leans on it"]
+    trial.check(reached == wanted, f"Tab goes on {reached}")
     trial.sample("run")
     trial.page.value("document.querySelector('details.start summary').focus()")
     trial.page.key("Enter", 13, "\r")
@@ -491,7 +502,7 @@ def quiet(trial):
     trial.check(not wrong, f"errors in the page: {wrong[:3]}")
 
 
-PARTS = (each_known_line, planted, of_136_entries, a_filter_over_10000_rows, a_filter_over_groups, samples, start_page, paper, keyboard, read_aloud, ways_in, beside_each_other,
+PARTS = (each_known_line, planted, of_136_entries, a_filter_over_10000_rows, a_filter_over_groups, worst_first, samples, start_page, paper, keyboard, read_aloud, ways_in, beside_each_other,
          hostile, quiet)
 
 
