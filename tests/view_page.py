@@ -24,6 +24,13 @@ SCRIPT = programs.read(TOP, "tests", "view_page.js").decode()
 HIDDEN = {"graph": ["node", "from", "to", "number"], "show": ["level", "data", "path"], "salvage": ["part"]}
 
 
+def alike(trial):
+    """The pairs of reports by hand: the name, the command, the JSON lines, and the text as it is shown."""
+    pairs = list(view_reports.alike_reports())
+    shown = trial.judged([(command, text) for _, command, text, _ in pairs])
+    return [(name, command, objects, found["text"]) for (name, command, _, objects), found in zip(pairs, shown)]
+
+
 def each_known_line(trial):
     """Each line of each known report is read and visible, as text and as JSON, and each form of the page has such a line."""
     trial.fresh()
@@ -32,7 +39,7 @@ def each_known_line(trial):
     for (name, _, _), found in zip(known, texts):
         trial.check(not found["problems"], f"{name}: {found['problems'][:3]}")
     pairs = [(name, command, view_reports.as_objects(command, text), found["text"]) for (name, command, text), found in zip(known, texts)]
-    pairs = [pair for pair in pairs if pair[2]]
+    pairs = [pair for pair in pairs if pair[2]] + alike(trial)
     objects = trial.judged([(command, text) for _, command, text, _ in pairs])
     for (name, _, _, shown), found in zip(pairs, objects):
         trial.check(not found["problems"] and found["text"] == shown, f"{name} as JSON lines: {found['problems'][:3] or 'is shown in another way'}")
@@ -226,6 +233,7 @@ def paper(trial):
     """Paper has no controls and light colours, and closed starts are open on it."""
     trial.page.emulate(dark=True, media="print")
     trial.page.open(PAGE)
+    trial.page.value("document.documentElement.dataset.theme = 'dark'")
     trial.sample("unmet")
     trial.sample("services")
     trial.check(not trial.call("controls"), f"controls on paper: {trial.call('controls')}")

@@ -35,6 +35,14 @@ def lines_of_no_run():
             yield f"{name} {i}", name.partition(".")[0], text
 
 
+def alike_reports():
+    """The pairs of tests/view_lines: reports whose text and JSON lines are by hand, for lines that json_lines.py does not have."""
+    for name in sorted(os.listdir(LINES)):
+        if name.endswith(".alike.txt"):
+            texts, objects = (programs.read(LINES, name[:-3] + form).decode().split("\n\n") for form in ("txt", "json"))
+            yield from ((f"{name} {i}", name.partition(".")[0], *pair) for i, pair in enumerate(zip(texts, objects, strict=True), 1))
+
+
 def known_reports():
     """Every known report: its name, its command, and its text."""
     runs = [(run.name, command_of(run), run.wanted.out.decode("latin-1")) for run in programs.runs()]
