@@ -77,14 +77,14 @@ const trial = {
     new MutationObserver(count).observe(document.getElementById("reports"), { childList: true, subtree: true });
   },
 
-  // The least contrast of a text and what is behind it, by the formula of WCAG 2.
-  contrast() {
+  // The least contrast of a text and what is behind it, or white paper, by the formula of WCAG 2.
+  contrast(onPaper) {
     const rgb = text => (text.match(/[\d.]+/g) || []).map(Number);
     const linear = value => value / 255 <= 0.03928 ? value / 255 / 12.92 : ((value / 255 + 0.055) / 1.055) ** 2.4;
     const light = ([r, g, b]) => 0.2126 * linear(r) + 0.7152 * linear(g) + 0.0722 * linear(b);
     const isOpaque = color => color.length === 3 || color[3] === 1;
     const behind = part => {
-      for (; part; part = part.parentElement) if (isOpaque(rgb(getComputedStyle(part).backgroundColor))) return rgb(getComputedStyle(part).backgroundColor);
+      for (; part && !onPaper; part = part.parentElement) if (isOpaque(rgb(getComputedStyle(part).backgroundColor))) return rgb(getComputedStyle(part).backgroundColor);
       return [255, 255, 255];
     };
     const texts = ".tag, .soft, .name, td, th, p, summary, button, select, input, .why, .place, h2, h3, h4, li, dt, dd, caption, output, label";
