@@ -2,10 +2,13 @@
 import base64
 import json
 import os
+import select
 import shutil
 import subprocess
 
 PROGRAMS = ("chromium", "chromium-browser", "google-chrome")
+# After this many seconds without an answer a browser hangs.
+TIMEOUT = 120
 FLAGS = ["--headless=new", "--remote-debugging-pipe", "--no-first-run", "--disable-gpu", "--disable-background-networking", "--disable-component-update",
          "--disable-sync", "--host-resolver-rules=MAP * ~NOTFOUND", "--hide-scrollbars"]
 
@@ -36,6 +39,9 @@ class Browser:
 
     def message(self):
         while b"\0" not in self.waiting:
+            if not select.select([self.read], [], [], TIMEOUT)[0]:
+                self.process.kill()
+                raise SystemExit("the browser does not answer")
             piece = os.read(self.read, 65536)
             if not piece:
                 raise SystemExit("the browser ended")
@@ -44,8 +50,11 @@ class Browser:
         return json.loads(text)
 
     def send(self, data):
-        while data:
-            data = data[os.write(self.write, data):]
+        try:
+            while data:
+                data = data[os.write(self.write, data):]
+        except BrokenPipeError:
+            raise SystemExit("the browser ended") from None
 
     def ask(self, method, **fields):
         self.number += 1

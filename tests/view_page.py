@@ -339,6 +339,26 @@ def ways_in(trial):
     trial.counts(0, "all are removed")
 
 
+def index(trial):
+    """Several reports are listed, each with a link to it."""
+    trial.fresh()
+    trial.sample("why")
+    trial.check(trial.page.value("document.getElementById('index').hidden"), "one report is not listed")
+    trial.sample("find")
+    links = trial.page.value("[...document.querySelectorAll('#index a')].map(link => [link.textContent, document.querySelector(link.hash).textContent])")
+    trial.check(links == [["why: sample"] * 2, ["find: sample"] * 2], f"the list of reports: {links}")
+
+
+def long_data(trial):
+    """A long text is shown on request, and is whole then."""
+    digits = "0123456789abcdef" * 500
+    trial.fresh()
+    trial.take(f'key A\nstamp 1601-01-01T00:00:00.0000000Z\nvalue "Blob" REG_BINARY hex 4000 {digits}\nend\n')
+    shown = trial.page.value("document.querySelector('details.long').innerText")
+    whole = trial.page.value("(() => { const long = document.querySelector('details.long'); long.open = true; return long.querySelector('.name').innerText; })()")
+    trial.check(len(shown) < 100 and whole == digits, f"long data: {shown}")
+
+
 def beside_each_other(trial):
     """The reasons of check are shown in a report of run as long as it is there; nothing else is drawn again."""
     reason = "its members wait for each other"
@@ -385,7 +405,7 @@ def quiet(trial):
 
 PARTS = (
     each_known_line, planted, of_136_entries, a_filter_over_10000_rows, a_filter_over_groups, worst_first, samples, start_page, paper, keyboard, read_aloud,
-    ways_in, beside_each_other, hostile, quiet,
+    ways_in, index, long_data, beside_each_other, hostile, quiet,
 )
 
 
@@ -448,16 +468,26 @@ class Trial:
             self.page.picture(os.path.join(self.folder, name + ".png"))
 
 
-def main(words):
+def started(profile):
+    """A browser, or why there is none."""
     program = browser.program()
     if not program:
-        print("skipped: there is no browser (apt-get install -y chromium)\n0 passed, 0 failed")
-        return 0
+        return None, "there is no browser (apt-get install -y chromium)"
+    try:
+        return browser.Browser(program, profile), ""
+    except SystemExit as ended:
+        return None, f"{program} does not start: {ended}"
+
+
+def main(words):
     folder = words[0] if words else None
     if folder:
         os.makedirs(folder, exist_ok=True)
     with tempfile.TemporaryDirectory() as profile:
-        page = browser.Browser(program, profile)
+        page, why_not = started(profile)
+        if page is None:
+            print(f"skipped: {why_not}\n0 passed, 0 failed")
+            return 0
         trial = Trial(page, folder)
         try:
             for part in PARTS:
