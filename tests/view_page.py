@@ -100,7 +100,7 @@ def filtered(trial, text, count, rows):
     trial.page.value("(() => { const search = document.querySelector('input[type=search]'); search.focus(); search.select(); })()")
     trial.page.key("Backspace", 8)
     trial.page.typed(text)
-    trial.settled(400)
+    trial.settled()
     found = trial.call("count"), trial.call("rows")
     trial.check(found == (count, rows), f"filter {text!r}: {found}, wanted {(count, rows)}")
 
@@ -201,8 +201,7 @@ def samples(trial):
     for name in SAID:
         sample_in_colours(trial, name, False)
         sample_in_colours(trial, name, True)
-        trial.fresh(width=380)
-        trial.sample(name)
+        trial.page.emulate(width=380)
         trial.check(trial.call("excess") <= 0, f"{name}: a narrow page does not scroll sideways")
         trial.shot(f"{name}_narrow")
     for name, path in KEPT.items():
@@ -438,8 +437,8 @@ class Trial:
             self.check(word in text, f"{word!r} is shown")
         self.check("[object" not in text and "undefined" not in text, "no value is shown raw")
 
-    def settled(self, milliseconds=150):
-        """A filter runs a moment later."""
+    def settled(self, milliseconds=200):
+        """Waits until a filter has run, which it does 100 ms after the last key, before later timers."""
         self.page.value(f"new Promise(done => setTimeout(done, {milliseconds}))")
 
     def count(self):
