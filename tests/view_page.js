@@ -23,9 +23,11 @@ const trial = {
 
   // The fields whose values are not seen.
   unseen(lines, seen, hidden) {
-    const fields = lines.flatMap(({ object }) => Object.entries(object).map(([name, value]) => ({ line: object.line, name, leaves: trial.leaves(name, value) })));
-    const wanted = fields.filter(({ name }) => !["line", "command", ...hidden].includes(name));
-    return wanted.flatMap(({ line, name, leaves }) => leaves.filter(leaf => !trial.spellings(leaf).some(text => seen.includes(text))).map(leaf => `not seen: ${line}.${name} ${leaf}`));
+    const isSeen = leaf => trial.spellings(leaf).some(text => seen.includes(text));
+    return lines.flatMap(({ object }) => Object.entries(object).flatMap(([name, value]) => {
+      const leaves = ["line", "command", ...hidden].includes(name) ? [] : trial.leaves(name, value);
+      return leaves.filter(leaf => !isSeen(leaf)).map(leaf => `not seen: ${object.line}.${name} ${leaf}`);
+    }));
   },
 
   // The lines as the report that is meant reads them.
@@ -84,11 +86,13 @@ const trial = {
     const light = ([r, g, b]) => 0.2126 * linear(r) + 0.7152 * linear(g) + 0.0722 * linear(b);
     const isOpaque = color => color.length === 3 || color[3] === 1;
     const behind = part => {
-      for (; part && !onPaper; part = part.parentElement) if (isOpaque(rgb(getComputedStyle(part).backgroundColor))) return rgb(getComputedStyle(part).backgroundColor);
-      return [255, 255, 255];
+      if (!part || onPaper) return [255, 255, 255];
+      const color = rgb(getComputedStyle(part).backgroundColor);
+      return isOpaque(color) ? color : behind(part.parentElement);
     };
     const texts = ".tag, .soft, .name, td, th, p, summary, button, select, input, .why, .place, h2, h3, h4, li, dt, dd, caption, output, label";
-    const visible = [...document.querySelectorAll(texts)].filter(part => part.textContent.trim() && !part.classList.contains("hidden") && part.getClientRects().length);
+    const isVisible = part => part.textContent.trim() && !part.classList.contains("hidden") && part.getClientRects().length;
+    const visible = [...document.querySelectorAll(texts)].filter(isVisible);
     return Math.min(99, ...visible.map(part => {
       const [a, b] = [light(rgb(getComputedStyle(part).color)), light(behind(part))];
       return (Math.max(a, b) + 0.05) / (Math.min(a, b) + 0.05);
@@ -97,12 +101,16 @@ const trial = {
 
   // Headings that are more than one level below the one before.
   steep() {
-    const levels = [...document.querySelectorAll("h1, h2, h3, h4")].filter(head => head.getClientRects().length).map(head => Number(head.localName[1]));
+    const heads = [...document.querySelectorAll("h1, h2, h3, h4")].filter(head => head.getClientRects().length);
+    const levels = heads.map(head => Number(head.localName[1]));
     return levels.filter((level, i) => level > (i ? levels[i - 1] : 0) + 1);
   },
 
   // Each command of the start page, with the length of what is said about it.
-  commands: () => [...document.querySelectorAll("#about li")].map(item => [item.querySelector("strong").textContent, item.querySelector("p").textContent.length]),
+  commands() {
+    const items = [...document.querySelectorAll("#about li")];
+    return items.map(item => [item.querySelector("strong").textContent, item.querySelector("p").textContent.length]);
+  },
 
   // Controls that are visible.
   controls() {

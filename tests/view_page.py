@@ -5,7 +5,6 @@ It shows every known report, as text and as JSON lines: those of tests/runs, of 
 and each of its fields has to be visible. Then come long reports, the filter, the start page, each sample in both colours, a narrow window, paper, the
 keyboard, the names for a screen reader, each way to bring a report in, hostile names, and that nothing asks a network. Screenshots go into FOLDER, if one
 is named. Prints what failed, then 'N passed, M failed'; without a browser it says that all is skipped."""
-import json
 import os
 import sys
 import tempfile
@@ -14,14 +13,9 @@ import browser
 import programs
 import view_reports
 from view_reports import LABS, TOP
-
-PAGE = "file://" + os.path.join(LABS, "view.html")
-SCRIPT = programs.read(TOP, "tests", "view_page.js").decode()
+from view_trial import PAGE, Trial
 
 # ---- Lines
-
-# Fields that need not be visible, by command: numbers that join lines, the level that the path shows, data that are shown decoded, and the word for a part.
-HIDDEN = {"graph": ["node", "from", "to", "number"], "show": ["level", "data", "path"], "salvage": ["part"]}
 
 
 def alike(trial):
@@ -80,7 +74,7 @@ def planted(trial):
 
 def of_136_entries(trial):
     """Reports of the size of a real machine's: each row is drawn, and no place is broken into two lines, at any width."""
-    for make, command in ((view_reports.long_run, "run"), (view_reports.long_services, "services"), (view_reports.long_whatif, "whatif"), (view_reports.long_key, "key")):
+    for command, make in view_reports.LONG.items():
         trial.fresh()
         trial.take(make(136))
         problems = trial.judged([(command, make(136))])[0]["problems"]
@@ -122,8 +116,18 @@ def a_filter_over_10000_rows(trial):
     trial.check(0 < made <= 111 and again == made, f"rows made while typing: {made}, then {again - made}")
     trial.call("only", "no-dll")
     trial.check(trial.call("count") == "1112 of 10000 lines, of which the first 500 are shown", trial.call("count"))
-    trial.call("press", "Show 1112")
-    trial.check((trial.call("count"), trial.call("rows")) == ("1112 of 10000 lines", 1112), f"all are shown on request: {trial.call('count')}")
+
+
+def more_on_request(trial):
+    """A button shows more rows, four times as many each time."""
+    trial.fresh()
+    trial.take(view_reports.long_key(700))
+    for rows, button in ((500, "Show 2000"), (2000, "Show 2100")):
+        count = f"2100 lines, of which the first {rows} are shown"
+        found = trial.call("count"), trial.call("rows")
+        trial.check(found == (count, rows), f"{found}, wanted {(count, rows)}")
+        trial.call("press", button)
+    trial.check((trial.call("count"), trial.call("rows")) == ("2100 lines", 2100), f"all are shown in the end: {trial.call('count')}")
 
 
 def a_filter_over_groups(trial):
@@ -354,7 +358,8 @@ def long_data(trial):
     trial.fresh()
     trial.take(f'key A\nstamp 1601-01-01T00:00:00.0000000Z\nvalue "Blob" REG_BINARY hex 4000 {digits}\nend\n')
     shown = trial.page.value("document.querySelector('details.long').innerText")
-    whole = trial.page.value("(() => { const long = document.querySelector('details.long'); long.open = true; return long.querySelector('.name').innerText; })()")
+    trial.page.value("document.querySelector('details.long').open = true")
+    whole = trial.page.value("document.querySelector('details.long .name').innerText")
     trial.check(len(shown) < 100 and whole == digits, f"long data: {shown}")
 
 
@@ -403,68 +408,9 @@ def quiet(trial):
 
 
 PARTS = (
-    each_known_line, planted, of_136_entries, a_filter_over_10000_rows, a_filter_over_groups, worst_first, samples, start_page, paper, keyboard, read_aloud,
-    ways_in, index, long_data, beside_each_other, hostile, quiet,
+    each_known_line, planted, of_136_entries, a_filter_over_10000_rows, more_on_request, a_filter_over_groups, worst_first, samples, start_page, paper,
+    keyboard, read_aloud, ways_in, index, long_data, beside_each_other, hostile, quiet,
 )
-
-
-class Trial:
-    """The page in the browser, and the checks, counted."""
-
-    def __init__(self, page, folder):
-        self.page, self.folder, self.passed, self.failed = page, folder, 0, 0
-        page.ask("Page.addScriptToEvaluateOnNewDocument", source=SCRIPT)
-
-    def check(self, held, what):
-        if held:
-            self.passed += 1
-        else:
-            self.failed += 1
-            print("failed:", what)
-
-    def call(self, name, *arguments):
-        """What a function of view_page.js answers."""
-        return self.page.called(f"trial.{name}", *arguments)
-
-    def judged(self, reports):
-        """What is wrong with how the page shows each report, the forms of its lines, and its text."""
-        return self.page.called("(reports, hidden) => reports.map(report => trial.judged(report, hidden))", reports, HIDDEN)
-
-    def says(self, *words):
-        """Each of these texts is shown."""
-        text = self.page.value("document.getElementById('reports').innerText").replace("\u00a0", " ")
-        for word in words:
-            self.check(word in text, f"{word!r} is shown")
-        self.check("[object" not in text and "undefined" not in text, "no value is shown raw")
-
-    def settled(self, milliseconds=200):
-        """Waits until a filter has run, which it does 100 ms after the last key, before later timers."""
-        self.page.value(f"new Promise(done => setTimeout(done, {milliseconds}))")
-
-    def count(self):
-        return self.page.value("document.querySelectorAll('section.report').length")
-
-    def counts(self, count, what):
-        """There is this number of reports on the page, at once or, after a file was read, in a moment."""
-        for _ in range(100):
-            if self.count() == count:
-                break
-            self.settled(50)
-        self.check(self.count() == count, what)
-
-    def fresh(self, dark=False, width=1280):
-        self.page.emulate(width, dark)
-        self.page.open(PAGE)
-
-    def take(self, text):
-        self.page.value(f"take({json.dumps(text)}, 'x')")
-
-    def sample(self, name):
-        self.page.value(f"document.getElementById('load-{name}').click()")
-
-    def shot(self, name):
-        if self.folder:
-            self.page.picture(os.path.join(self.folder, name + ".png"))
 
 
 def started(profile):

@@ -91,3 +91,6 @@ def long_key(count):
         return f"key Services\\Service{i}", "stamp 1601-01-01T00:00:00.0000000Z", f'value "Start" REG_DWORD {i % 5} 0x0000000{i % 5}'
 
     return "\n".join([line for i in range(count) for line in lines(i)] + ["end", ""])
+
+
+LONG = {"run": long_run, "services": long_services, "whatif": long_whatif, "key": long_key}
