@@ -141,6 +141,9 @@ def a_filter_over_groups(trial):
     filtered(trial, "service130", "1 of 137 lines", 0)
     phases = trial.page.value("[...document.querySelectorAll('.phase:not([hidden]) h4')].map(head => head.textContent)")
     trial.check(phases == ["Automatic phase"], f"phases with a match: {phases}")
+    trial.fresh()
+    trial.take(view_reports.long_services(20))
+    filtered(trial, "2 automatic", "4 of 20 lines", 4)
 
 
 THREE = ["fail logged 0 A", "off 0 A", "fail stop 1 B", "off 0 B", "fail logged 2 C", "unmet A", "unmet B", "off 1 C", "unmet A"]
