@@ -117,4 +117,8 @@ class Browser:
             self.ask("Browser.close")
         except (SystemExit, OSError):
             pass
-        self.process.wait(timeout=20)
+        try:
+            self.process.wait(timeout=TIMEOUT)
+        except subprocess.TimeoutExpired:
+            self.process.kill()
+            self.process.wait()

@@ -431,7 +431,7 @@ def main(words):
     folder = words[0] if words else None
     if folder:
         os.makedirs(folder, exist_ok=True)
-    with tempfile.TemporaryDirectory() as profile:
+    with tempfile.TemporaryDirectory(ignore_cleanup_errors=True) as profile:
         page, why_not = started(profile)
         if page is None:
             print(f"skipped: {why_not}\n0 passed, 0 failed")
