@@ -20,6 +20,7 @@ def checks(ntboot, ntmend, short):
     yield ["labs/runs.py", "--with", ntboot]
     yield ["tests/students.py", ntboot]
     yield ["tests/recipes.py", ntboot]
+    yield ["tests/view_page.py"]
     for name in PAGES:
         yield [f"tests/{name}.py"]
 
