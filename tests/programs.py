@@ -14,12 +14,12 @@ so that it runs alone, as `tests/NAME.py [--with NTBOOT NTMEND] [--short]`, and 
 writes nothing outside of the folders of `fresh`."""
 import contextlib
 import copy
+import multiprocessing
 import os
 import stat
 import subprocess
 import sys
 import tempfile
-from concurrent.futures import ThreadPoolExecutor
 from typing import NamedTuple
 
 TOP = os.path.join(os.path.dirname(os.path.abspath(__file__)), "..")
@@ -194,19 +194,26 @@ def differs(found, wanted):
     return f"exit {found.status}, wanted {wanted.status}; said {(found.out + found.errors)[:400]!r}, wanted {(wanted.out + wanted.errors)[:400]!r}"
 
 
-def judged(rows, at_once=os.cpu_count()):
-    """Judges rows, several at once. A row is a name, a function that returns nothing or in a line what is wrong, and the function's arguments. The
-    answer is that of a check. A row that breaks, or whose program takes too long, has failed."""
-    def judge(row):
-        name, wrong, *arguments = row
-        try:
-            found = wrong(*arguments)
-        except Exception as broken:  # any: whatever a row stumbles over is one failure, and the others are still judged
-            found = f"{type(broken).__name__}: {broken}"
-        return f"{name}: {found}" if found else ""
+# The rows that are judged now, which each process of the pool has from the one that it was forked from.
+ROWS = []
 
-    with ThreadPoolExecutor(at_once) as pool:
-        lines = list(pool.map(judge, rows))
+
+def judge(place):
+    """What is wrong with a row, in a line with its name; nothing where it is as it should be."""
+    name, wrong, *arguments = ROWS[place]
+    try:
+        found = wrong(*arguments)
+    except Exception as broken:  # any: whatever a row stumbles over is one failure, and the others are still judged
+        found = f"{type(broken).__name__}: {broken}"
+    return f"{name}: {found}" if found else ""
+
+
+def judged(rows, at_once=os.cpu_count()):
+    """Judges rows, several at once, each in one of some processes. A row is a name, a function that returns nothing or in a line what is wrong, and the
+    function's arguments. The answer is that of a check. A row that breaks, or whose program takes too long, has failed."""
+    ROWS[:] = rows
+    with multiprocessing.get_context("fork").Pool(at_once) as pool:
+        lines = pool.map(judge, range(len(ROWS)), chunksize=4)
     failures = [line for line in lines if line]
     return len(lines) - len(failures), failures
 
