@@ -20,7 +20,9 @@ def checks(ntboot, ntmend, short):
     yield ["labs/runs.py", "--with", ntboot]
     yield ["tests/students.py", ntboot]
     yield ["tests/recipes.py", ntboot]
-    yield ["tests/view_page.py"]
+    if short:
+        # (a browser is no part of the gate)
+        yield ["tests/view_page.py"]
     for name in PAGES:
         yield [f"tests/{name}.py"]
 
