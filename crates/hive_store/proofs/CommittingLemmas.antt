@@ -1,5 +1,5 @@
 -- What a commit of a session leaves.
-use Rattle.std.proofs.Common.{◌≡◌, ℕ, Bool, true, false, List, length, Err, refl, sym, ap, subst, ◌∙◌}
+use Rattle.std.proofs.Common.{◌≡◌, ℕ, Bool, true, false, List, [], length, Err, refl, sym, ap, subst, ◌∙◌}
 use Rattle.std.specs.Prelude.{IsErrOf}
 use Rattle.hive_model.specs.Base.{Base, is_bins_size, version_of}
 use Rattle.hive_model.specs.Image.{Image}
@@ -20,6 +20,7 @@ use Rattle.hive_commit.specs.declared.stops.CommitStop.TheVariants as commit
 use Rattle.cell_tables.specs.saved_pages.Overlay.{before}
 use Rattle.hive_store.specs.Session.{Session, HasTree, IsSession, session_of, next_bins, next_root}
 use Rattle.hive_store.specs.Commits.{next_base, committed, committed_state}
+use Rattle.hive_store.specs.Changes.{IsEdited}
 use Rattle.hive_store.proofs.SizedLemmas.{has_bytes}
 use Rattle.hive_store.proofs.Holding.{clean, held_by, carried, tree_holds, tree_loads, either_loads}
 
@@ -41,6 +42,27 @@ pub is_ready : (base : Base) (bins : List ℕ) (cells : HiveCells) (changed : Bo
 is_ready base bins cells changed is heap stands =
     subst (λ (v : HiveVersion). HasTree v (spelled 0 cells.bins) cells.root cells.tree) is.version
     (has_bytes cells.version cells.bins cells.root cells.tree heap stands)
+
+-- and the cells were made by edits of those that the disk carries
+pub is_edited : (base : Base) (bins : List ℕ) (cells : HiveCells) (changed : Bool) (is : IsSession base bins cells changed)
+    → IsReady (session_of base bins cells changed) → IsEdited (session_of base bins cells changed)
+is_edited base bins cells changed is ready =
+    let s = session_of base bins cells changed in (
+      is.edits,
+      record {
+        read = is.read;
+        written = cells;
+        read_of = record { carried = is.read_is; version = is.read_in; holds = tree_holds base bins is.read.tree is.carried };
+        edits_made = is.made;
+        written_of = record {
+          carried = record { bytes = refl; root = refl };
+          version = is.version;
+          holds = tree_holds (next_base s) (next_bins s) cells.tree ready;
+        };
+        tree_is = refl;
+        closed = refl;
+      },
+    )
 
 -- the base block that closes the commit, with these data, has the tree under the next number
 pub commit_loads : (s : Session) → IsReady s → (held : Image) → Carries held (next_base s) (next_bins s)
@@ -68,14 +90,23 @@ closed_as s closed new root closed_is written at =
     ∙ ap (λ (n : ℕ). closed_of s.base (next_bins s) n) at
 
 -- the cells are what the next session's disk carries, and the tree is in them
-pub next_session : (s : Session) → IsReady s → s.cells.version ≡ version_of s.base.minor
+pub next_session : (s : Session) → s.tree ≡ s.cells.tree → IsReady s → s.cells.version ≡ version_of s.base.minor
     → (closed : Base) (after : HiveCells) (new : List ℕ) (root : ℕ) → closed ≡ closed_of s.base new root
     → after ≡ settled_as (next_bins s) s.cells → new ≡ next_bins s → root ≡ next_root s
     → IsSession closed after.base after false
-next_session s has version closed after new root closed_is settled written at =
+next_session s tree has version closed after new root closed_is settled written at =
     subst (λ (b : Base). IsSession b after.base after false) (sym (closed_as s closed new root closed_is written at))
     (subst (λ (h : HiveCells). IsSession (next_base s) h.base h false) (sym settled)
-    (record { committed = s.tree; carried = has; version = version; kept = λ e. record { bytes = refl; root = refl } }))
+    (record {
+      read = settled_as (next_bins s) s.cells;
+      edits = [];
+      read_is = record { bytes = refl; root = refl };
+      read_in = version;
+      carried = subst (λ (t : Tree). HasTree (version_of s.base.minor) (next_bins s) (next_root s) t) tree has;
+      made = refl;
+      version = version;
+      kept = λ e. record { bytes = refl; root = refl };
+    }))
 
 -- it is the session that the book of hives says
 pub next_is : (s : Session) → s.tree ≡ s.cells.tree → (closed : Base) (after : HiveCells) (new : List ℕ) (root : ℕ)

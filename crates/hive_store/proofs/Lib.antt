@@ -1,5 +1,6 @@
 pub mod Holding
 pub mod LoadingLemmas
+pub mod EditingLemmas
 pub mod CommittingLemmas
 pub mod LoadingCalls
 pub mod SizedLemmas

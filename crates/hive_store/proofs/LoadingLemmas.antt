@@ -1,7 +1,7 @@
 -- What a load leaves: after a look that wrote nothing, and after what was found is restored.
 use Rattle.std.proofs.Common.{◌≡◌, ℕ, Bool, true, false, List, [], length, Ok, refl, sym, subst, ◌∙◌}
 use Rattle.nt_bytes.specs.declared.fault.HiveFault.{HiveFault}
-use Rattle.hive_model.specs.Base.{Base, is_bins_size}
+use Rattle.hive_model.specs.Base.{Base, is_bins_size, version_of}
 use Rattle.hive_model.specs.Bins.{spelled}
 use Rattle.hive_model.specs.Image.{Image}
 use Rattle.hive_model.specs.Recovery.{Recovered, recovered_of}
@@ -10,9 +10,12 @@ use Rattle.hive_model.specs.State.{HiveState}
 use Rattle.hive_model.specs.Load.{Loads, LoadsAs, LoadFault}
 use Rattle.nt_edge.specs.Disk.{DiskState}
 use Rattle.nt_edge.specs.Crash.{EachCrash}
+use Rattle.hive_edit.specs.Hive.{HiveCells, settled_as}
 use Rattle.hive_cells.proofs.Again.{one_list, not_both}
 use Rattle.hive_read.proofs.Loading.{load-or-fault}
 use Rattle.hive_commit.proofs.Kept.{only_held}
+use Rattle.hive_store.specs.Checks.{AreOf}
+use Rattle.hive_store.specs.Session.{HasTree, IsSession}
 use Rattle.hive_store.proofs.Holding.{held_again, held_by, carried_loads}
 
 -- an image that loads has no fault
@@ -51,4 +54,25 @@ found_again old s dirty r loads is size closed bins closed_is bins_is new carrie
       tree = holds.tree;
       sequence = holds.sequence;
       version = holds.version;
+    })
+
+-- ---- the session
+
+-- the cells of what was recovered, settled as they are, are a session with no edits yet
+pub loaded_session : (r : Recovered) (cells after : HiveCells) → AreOf r cells → is_bins_size (length r.bins) ≡ true
+    → after ≡ settled_as (spelled 0 cells.bins) cells → IsSession r.base after.base after false
+loaded_session r cells after are size settled =
+    let carried : HasTree (version_of r.base.minor) r.bins r.base.root cells.tree =
+    record { sized = size; heap = are.holds.bins; cells = are.holds.cells; stands = are.holds.tree } in
+    let P : List ℕ → Type 0 = λ b. HasTree (version_of r.base.minor) b r.base.root cells.tree in
+    let Q : HiveCells → Type 0 = λ h. IsSession r.base h.base h false in
+    subst Q (sym settled) (record {
+      read = settled_as (spelled 0 cells.bins) cells;
+      edits = [];
+      read_is = record { bytes = refl; root = are.carried.root };
+      read_in = are.version;
+      carried = subst P (sym are.carried.bytes) carried;
+      made = refl;
+      version = are.version;
+      kept = λ e. record { bytes = refl; root = are.carried.root };
     })

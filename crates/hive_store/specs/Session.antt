@@ -6,8 +6,10 @@ use Rattle.hive_model.specs.Base.{Base, is_bins_size, version_of}
 use Rattle.hive_model.specs.Bins.{Bin, IsBins, look_up, spelled}
 use Rattle.hive_model.specs.Tree.{Tree}
 use Rattle.hive_model.specs.Codes.{coded_tree}
+use Rattle.hive_model.specs.Edit.{Step}
 use Rattle.hive_model.specs.Stands.{IsWellFormed}
 use Rattle.hive_edit.specs.Hive.{HiveCells, coded_hive}
+use Rattle.hive_store.specs.Edits.{AreEdits}
 
 -- the base block and the bins data as the disk carries them; the cells with the edits since, and the tree in them; and whether
 -- one of the edits gave another tree, also where a later one undid it
@@ -42,10 +44,15 @@ pub record AreCarried (base : Base) (bins : List ℕ) (cells : HiveCells) : Type
 abbrev pub session_of : Base → List ℕ → HiveCells → Bool → Session
 session_of base bins cells changed = record { base = base; bins = bins; cells = cells; tree = cells.tree; changed = changed }
 
--- what the disk carries has a tree, in the version of the cells, which are those that the disk carries until an edit gives another tree
+-- What the disk carries are the cells that were read or committed last, with the tree in them. Those of the session were made of them by edits,
+-- and are still those that the disk carries until an edit gives another tree.
 pub record IsSession (base : Base) (bins : List ℕ) (cells : HiveCells) (changed : Bool) : Type 0 where
-  pub committed : Tree
-  pub carried : HasTree (version_of base.minor) bins base.root committed
+  pub read : HiveCells
+  pub edits : List (List Step)
+  pub read_is : AreCarried base bins read
+  pub read_in : read.version ≡ version_of base.minor
+  pub carried : HasTree (version_of base.minor) bins base.root read.tree
+  pub made : AreEdits read edits cells
   pub version : cells.version ≡ version_of base.minor
   pub kept : changed ≡ false → AreCarried base bins cells
 

@@ -7,10 +7,12 @@ ghost use Rattle.nt_edge.specs.Calls.{MakesUntil};
 ghost use Rattle.nt_edge.specs.Crash.{EachCrash};
 ghost use Rattle.hive_commit.specs.Calls.{change_calls};
 ghost use Rattle.hive_commit.specs.Commits.{IsCleanWith};
+ghost use Rattle.hive_commit.specs.Cuts.{IsCutOfCommit};
 ghost use Rattle.hive_commit.specs.Stages.{LoadsAsEither};
 ghost use Rattle.hive_commit.specs.Stops.{EndsCommit};
 ghost use Rattle.hive_store.specs.Session.{next_bins, next_root};
 ghost use Rattle.hive_store.specs.Commits.{committed_state, HasCommitted};
+ghost use Rattle.hive_store.specs.Changes.{IsEdited};
 
 use crate::Hive;
 use hive_commit::{CommitStop, commit_kept};
@@ -28,6 +30,12 @@ impl Hive {
         // At Ok the cells, their tree and the version stay, the number is one more modulo 2^32, and nothing is changed any more.
         // The disk is clean then, loads as the tree under this number, and carries what was written.
         ensures committed { IfOk result (HasCommitted D.tells (D.state disk.new) self) }
+        // What it writes are the cells that the disk carries with the edits since the load or the last commit: each was made in place, or by
+        // repacking for want of room.
+        ensures change { IsEdited self }
+        // At every exit a cut leaves what is recovered as before or as after, and the rest of the primary as it was.
+        ensures cut { D.tells ≡ true → EachCrash (D.state disk.new)
+            (IsCutOfCommit (D.state disk.old).held self.base self.bins (next_bins self) (next_root self)) }
         // At every exit a cut leaves what loads as the disk did at entry, or as after the commit, be sectors in
         // flight torn or not. At entry there is such a state, by the session itself.
         ensures before { D.tells ≡ true → (before : HiveState) × Loads (D.state disk.old).held before false }

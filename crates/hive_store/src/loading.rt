@@ -12,7 +12,7 @@ ghost use Rattle.hive_model.specs.Asked.{asked_of};
 ghost use Rattle.hive_log.specs.Asked.{MakesReads, IsAsked};
 ghost use Rattle.hive_log.specs.Found.{Found};
 ghost use Rattle.hive_log.specs.Stops.{IsLookAt, IsLoadOn};
-ghost use Rattle.hive_commit.specs.Alone.{WritesOnlyDirty};
+ghost use Rattle.hive_commit.specs.Alone.{KeepsAll, WritesOnlyDirty};
 ghost use Rattle.hive_commit.specs.Calls.{MakesRecovery};
 ghost use Rattle.hive_store.specs.Session.{AreCarried};
 ghost use Rattle.hive_store.specs.Loading.{loaded_state, LoadsFrom, StopsFrom, AreOfLoad, HasLoaded};
@@ -92,6 +92,8 @@ impl Hive {
         ensures crash { D.tells ≡ true → (s : HiveState) (dirty : Bool)
             → Loads (D.state disk.old).held s dirty
             → EachCrash (D.state disk.new) (λ (c : Image). LoadsAs c s) }
+        // At every exit a cut leaves what is recovered as the disk was at entry, and the log and the rest of the primary as they were.
+        ensures cut { D.tells ≡ true → KeepsAll (D.state disk.old) (D.state disk.new) }
         // Where the primary was clean, or the hive has a fault, all is as it was, whatever the answer.
         ensures written { WritesOnlyDirty D.tells (LoadFault (D.state disk.old).held) (D.state disk.old) (D.state disk.new) result }
         ensures goes { IsLoadOn (D.state disk.old) (D.state disk.new) result }
@@ -100,7 +102,7 @@ impl Hive {
     }
 
     /// The session, and whether the primary was dirty, as `load` answers them with the same reads and writes. Cells that were judged before may
-    /// come along: where the disk holds their bytes, with their root and in their version, they are taken, and the hive is not checked anew.
+    /// come along: where the disk holds their bytes, with their root and in their version, they are taken, and the hive is not checked again.
     pub fn load_judged<D: Disk>(
         alloc: Global,
         disk: &mut D,
@@ -115,6 +117,7 @@ impl Hive {
         ensures crash { D.tells ≡ true → (s : HiveState) (dirty : Bool)
             → Loads (D.state disk.old).held s dirty
             → EachCrash (D.state disk.new) (λ (c : Image). LoadsAs c s) }
+        ensures cut { D.tells ≡ true → KeepsAll (D.state disk.old) (D.state disk.new) }
         ensures written { WritesOnlyDirty D.tells (LoadFault (D.state disk.old).held) (D.state disk.old) (D.state disk.new) result }
         ensures goes { IsLoadOn (D.state disk.old) (D.state disk.new) result }
     {

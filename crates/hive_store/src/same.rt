@@ -200,7 +200,7 @@ fn ends_in_change(alloc: Global, cells: &HiveBytes, steps: &[TreeStep]) -> Resul
     }
 }
 
-/// Whether several steps leave the tree as it is. Where the last one tells, no tree is read.
+/// Whether several steps leave the tree as it is. Where the last one shows it, no tree is read.
 fn many_keep(alloc: Global, cells: &HiveBytes, steps: &Steps) -> Result<bool, EditStop>
     ensures same { IfOk result (λ b. (b ≡ true) ↔ Keep cells.now.version cells.now.tree (map step_of steps.now)) }
     ensures refused { IfErr result (IsRefused (edited cells.now.version cells.now.tree (map step_of steps.now))) }

@@ -7,11 +7,13 @@ use Rattle.nt_edge.specs.Calls.{Makes, MakesFront}
 use Rattle.nt_edge.specs.Crash.{EachCrash}
 use Rattle.hive_commit.specs.Calls.{change_calls}
 use Rattle.hive_commit.specs.Commits.{IsCleanWith, IsCommitted}
-use Rattle.hive_commit.specs.Stages.{closed_of, IsBeforeOrAfter, LoadsAsEither}
+use Rattle.hive_commit.specs.Cuts.{IsCutOfCommit}
+use Rattle.hive_commit.specs.Stages.{closed_of, LoadsAsEither}
 use Rattle.cell_tables.specs.saved_pages.Overlay.{before}
 use Rattle.hive_store.specs.Session.{Session, HasTree, session_of, next_bins, next_root}
 use Rattle.hive_store.specs.Commits.{committed, committed_state}
-use Rattle.hive_store.proofs.CommittingLemmas.{IsReady, is_ready, stood, commit_loads, commit_crash, next_session, next_is, old_is, as_written, ends_again}
+use Rattle.hive_store.specs.Changes.{IsEdited}
+use Rattle.hive_store.proofs.CommittingLemmas.{IsReady, is_ready, is_edited, stood, commit_loads, commit_crash, next_session, next_is, old_is, as_written, ends_again}
 use Rattle.hive_store.proofs.SizedLemmas.{sized_bytes}
 use Rattle.hive_store.proofs.hive.Hive.commit.Given.{Over}
 use Rattle.hive_store.proofs.hive.Hive.commit.Goals as goal
@@ -26,10 +28,17 @@ ready g c =
     let i = c.self.inside in
     is_ready i.base i.cells.base i.cells i.changed c.self.invariant c.bytes-new.ensures.sound c.root.ensures.stands
 
+-- its cells were made of those that the disk carries
+edited : (g : Over) (c : After-root g) → IsEdited c.args.self
+edited g c =
+    let i = c.self.inside in
+    subst (λ (s : Session). IsEdited s) c.self.view_is
+    (is_edited i.base i.cells.base i.cells i.changed c.self.invariant (ready g c))
+
 -- a tree is in the data from before
 has : (g : Over) (c : After-self g) → let s = c.args.self in
-    HasTree (version_of s.base.minor) s.bins s.base.root c.self.invariant.committed
-has g c = subst (λ (s : Session). HasTree (version_of s.base.minor) s.bins s.base.root c.self.invariant.committed)
+    HasTree (version_of s.base.minor) s.bins s.base.root c.self.invariant.read.tree
+has g c = subst (λ (s : Session). HasTree (version_of s.base.minor) s.bins s.base.root c.self.invariant.read.tree)
     c.self.view_is c.self.invariant.carried
 
 loads_before : (g : Over) (c : After-self g) → g.D.Disk.tells ≡ true
@@ -45,6 +54,15 @@ of_session g c P is = subst (λ (s : Session). P s.base s.bins (next_bins s) (ne
     (as_written (P c.self.inside.base) (old_is _ _ c.bytes-new.ensures.exact c.pages.ensures.base)
     c.bytes-new.ensures.exact c.root.ensures.root is)
 
+cut : (g : Over) (c : After-commit_kept g) → g.D.Disk.tells ≡ true → let s = c.args.self in
+    EachCrash (g.D.Disk.state c.commit_kept.new.disk)
+    (IsCutOfCommit (g.D.Disk.state c.args.disk.now).held s.base s.bins (next_bins s) (next_root s))
+cut g c tells =
+    let held = (g.D.Disk.state c.args.disk.now).held in
+    of_session g c
+    (λ base old new root. EachCrash (g.D.Disk.state c.commit_kept.new.disk) (IsCutOfCommit held base old new root))
+    (c.commit_kept.ensures.cut tells)
+
 crash : (g : Over) (c : After-commit_kept g) → g.D.Disk.tells ≡ true → (state : HiveState) (dirty : Bool)
     → Loads (g.D.Disk.state c.args.disk.now).held state dirty
     → EachCrash (g.D.Disk.state c.commit_kept.new.disk) (LoadsAsEither state (committed_state c.args.self))
@@ -52,9 +70,7 @@ crash g c tells =
     let state = g.D.Disk.state c.commit_kept.new.disk in
     commit_crash c.args.self (subst IsReady c.self.view_is (ready g (goal.at.After-commit_kept g c).After-root))
     (has g (goal.at.After-commit_kept g c).After-self).sized (g.D.Disk.state c.args.disk.now).held state
-    (c.requires.clean.carries tells)
-    (of_session g c (λ base old new root. EachCrash state (IsBeforeOrAfter base old (closed_of base new root) new))
-    (λ cut left. (c.commit_kept.ensures.cut tells cut left).either))
+    (c.requires.clean.carries tells) (λ image left. (cut g c tells image left).either)
 
 pub commit_kept-requires-clause-sized : goal.commit_kept-requires-clause-sized
 commit_kept-requires-clause-sized g c =
@@ -72,7 +88,7 @@ commit_kept-requires-clause-clean g c =
 pub invariant_of-hive : goal.invariant_of-hive
 invariant_of-hive g c =
     let here = (goal.at.invariant_of-hive g c).After-root in
-    next_session (session g here) (ready g here) c.self.invariant.version _ _ _ _ c.in_ok-closed.ensures.committed.answered
+    next_session (session g here) refl (ready g here) c.self.invariant.version _ _ _ _ c.in_ok-closed.ensures.committed.answered
     c.settle.ensures c.bytes-new.ensures.exact c.root.ensures.root
 
 pub returns-clause-committed : goal.returns-clause-committed
@@ -105,6 +121,18 @@ returns-in_err-closed-clause-made g c =
     (of_session g (goal.at.returns-in_err-closed-clause-made g c).After-commit_kept
     (λ base old new root. MakesFront (g.D.Disk.calls c.args.disk.now) (g.D.Disk.calls c.commit_kept.new.disk)
     (change_calls base old new root)) c.in_err-closed.ensures.made)
+
+pub returns-clause-change : goal.returns-clause-change
+returns-clause-change g c = edited g (goal.at.returns-clause-change g c).After-root
+
+pub returns-in_err-closed-clause-change : goal.returns-in_err-closed-clause-change
+returns-in_err-closed-clause-change g c = edited g (goal.at.returns-in_err-closed-clause-change g c).After-root
+
+pub returns-clause-cut : goal.returns-clause-cut
+returns-clause-cut g c = cut g (goal.at.returns-clause-cut g c).After-commit_kept
+
+pub returns-in_err-closed-clause-cut : goal.returns-in_err-closed-clause-cut
+returns-in_err-closed-clause-cut g c = cut g (goal.at.returns-in_err-closed-clause-cut g c).After-commit_kept
 
 pub returns-clause-crash : goal.returns-clause-crash
 returns-clause-crash g c = crash g (goal.at.returns-clause-crash g c).After-commit_kept

@@ -7,13 +7,18 @@ use Rattle.hive_model.specs.Recovery.{Recovered, bit}
 use Rattle.hive_commit.specs.Calls.{closing_calls}
 use Rattle.hive_commit.proofs.RecoveryCalls.{only_read, read_then, restored_front, restored_all, clean_all}
 use Rattle.nt_edge.specs.Calls.{reads_of}
+use Rattle.nt_edge.specs.Crash.{EachCrash}
+use Rattle.nt_edge.specs.Disk.{DiskState}
+use Rattle.hive_commit.specs.Alone.{KeepsAll}
+use Rattle.hive_commit.specs.Cuts.{IsCutOfRestoring}
+use Rattle.hive_commit.proofs.Rest.{all_kept, all_restored}
 use Rattle.hive_store.specs.Session.{Session}
 use Rattle.hive_store.specs.Loading.{loaded_state}
 use Rattle.hive_store.proofs.LoadingLemmas.{loads_or_fails, kept_loads, restored_loads, found_again}
 use Rattle.hive_store.proofs.LoadingCalls.{stopped_look, stopped_restore}
 use Rattle.hive_store.proofs.hive.Hive.load_judged.Given.{Over}
 use Rattle.hive_store.proofs.hive.Hive.load_judged.Goals as goal
-use Rattle.hive_store.proofs.hive.Hive.load_judged.Goals.{In_ok-hive, After-hive, then-dirty+in_ok-restore, else-dirty}
+use Rattle.hive_store.proofs.hive.Hive.load_judged.Goals.{After-look, In_ok-hive, After-hive, then-dirty+in_ok-restore, else-dirty}
 
 -- what was read, as what is recovered
 abbrev seen : (g : Over) → In_ok-hive g → Recovered
@@ -33,6 +38,41 @@ bins_read : (g : Over) (c : After-hive g) (bins : List ℕ) → bins ≡ spelled
     → bins ≡ c.in_ok-hive.field-0.hive.bins
 bins_read g c bins is =
     is ∙ ap (λ (s : Session). spelled 0 s.cells.bins) c.hive.view_is ∙ c.in_ok-hive.ensures.cells.bytes
+
+-- where nothing was written, a cut keeps all
+kept_all : (g : Over) (c : After-look g) → g.D.Disk.tells ≡ true
+    → KeepsAll (g.D.Disk.state c.args.disk.now) (g.D.Disk.state c.look.new.disk)
+kept_all g c tells =
+    all_kept (g.D.Disk.state c.args.disk.now) (g.D.Disk.state c.look.new.disk) (c.look.ensures.look.held tells)
+    (c.look.ensures.look.flight tells ∙ c.requires.still tells)
+
+-- and where what was read was given to the restoring
+kept_restored : (g : Over) (c : After-hive g) (bins : List ℕ) → bins ≡ spelled 0 c.hive.inside.cells.bins
+    → g.D.Disk.tells ≡ true → (now : DiskState)
+    → EachCrash now (IsCutOfRestoring (g.D.Disk.state c.look.new.disk).held c.hive.inside.base bins)
+    → KeepsAll (g.D.Disk.state c.args.disk.now) now
+kept_restored g c bins is tells now cut =
+    let here = (goal.at.After-hive g c).In_ok-hive in
+    all_restored (g.D.Disk.state c.args.disk.now) (g.D.Disk.state c.look.new.disk) now (seen g here)
+    c.hive.inside.base bins (c.look.ensures.look.held tells) (c.in_ok-hive.ensures.recovered tells)
+    (ap (λ (s : Session). s.base) c.hive.view_is) (bins_read g c bins is) cut
+
+pub returns-in_err-hive-clause-cut : goal.returns-in_err-hive-clause-cut
+returns-in_err-hive-clause-cut g c = kept_all g (goal.at.returns-in_err-hive-clause-cut g c).After-look
+
+pub returns-in_err-restore-clause-cut : goal.returns-in_err-restore-clause-cut
+returns-in_err-restore-clause-cut g c = λ tells.
+    kept_restored g (goal.at.returns-in_err-restore-clause-cut g c).After-hive c.bytes-bins.result.now
+    c.bytes-bins.ensures.exact tells (g.D.Disk.state c.restore.new.disk) (c.restore.ensures.cut tells)
+
+pub returns-clause-cut : goal.returns-clause-cut
+returns-clause-cut g c = λ tells.
+    elim c.if-dirty.branch [
+      | then-dirty+in_ok-restore w ↦ rw w.disk-is
+          (kept_restored g (goal.at.returns-clause-cut g c).After-hive w.bytes-bins.result.now
+          w.bytes-bins.ensures.exact tells (g.D.Disk.state w.restore.new.disk) (w.restore.ensures.cut tells))
+      | else-dirty w ↦ rw w.disk-is (kept_all g (goal.at.returns-clause-cut g c).After-look tells)
+    ]
 
 pub returns-in_err-hive-clause-made : goal.returns-in_err-hive-clause-made
 returns-in_err-hive-clause-made g c =
