@@ -1,7 +1,6 @@
 -- What a part of the program leaves, by what its search for inputs came to.
 use Rattle.std.proofs.Common.{◌≡◌, inl, inr, ℕ, false, List, Some, refl, sym, ap, subst, ◌∙◌, arith}
 use Rattle.std.specs.Prelude.{Result, Ok, Err}
-use Rattle.hive_model.specs.Image.{Image}
 use Rattle.nt_edge.specs.Disk.{DiskState, new_state}
 use Rattle.nt_edge.specs.Host.{HostState, Files, KeepsFiles}
 use Rattle.nt_edge.specs.declared.host.HostStop.{HostStop}
@@ -15,7 +14,7 @@ use Rattle.command_parts.specs.command_parts.Decides.{Decides, DecidesAlone}
 use Rattle.command_parts.specs.command_parts.Leaves.{Leaves, Looks, stop_in, stopped_as}
 use Rattle.command_parts.specs.command_parts.Placed.{IsUnrun, IsUntouchedBy}
 use Rattle.command_parts.specs.command_parts.Refusals.{Ends, IsToldAs, refusal, refusal_status}
-use Rattle.command_parts.specs.command_parts.Saves.{Saves, FilesAs}
+use Rattle.command_parts.specs.command_parts.Saves.{Saves, FilesAs, KeepsAll, StopsSaving}
 use Rattle.command_parts.proofs.LeaveLemmas.{keeps_then, counts_by, stop_counts}
 
 -- ---- files and disk after a status
@@ -40,20 +39,31 @@ new_off disk is = ap (λ (d : DiskState). d.on) is
 pub unrun : (disk : DiskState) → disk ≡ new_state → IsUnrun disk
 unrun disk is = (let P : DiskState → Type 0 = IsUnrun in subst P (sym is) (record { few = omega arith; alone = refl }))
 
+-- no file was changed, as where the saving was not begun
+pub unsaved : (saves : Saves) (disk : DiskState) (old new : Files) → new ≡ old → StopsSaving saves disk old new
+unsaved saves disk old new same =
+    let kept : KeepsAll old new = λ q. ap (λ (f : Files). f q) same in
+    record {
+      others = λ q other. kept q;
+      untaken = λ none. kept;
+      early = λ some q other. kept q;
+      in_turn = inl (λ q other. kept q);
+    }
+
 -- no file was changed, and this was not the end
-pub unchanged : (saves : Saves) (status : Status) (held : Image) (old new : Files) → (status ≡ statuses.Done → ⊥)
-    → new ≡ old → FilesAs saves status held old new
-unchanged saves statuses.Done held old new undone same = absurd (undone refl)
-unchanged saves statuses.Usage held old new undone same = same
-unchanged saves statuses.NoFile held old new undone same = same
-unchanged saves statuses.ScriptFault held old new undone same = same
-unchanged saves statuses.BootIniFault held old new undone same = same
-unchanged saves statuses.HiveFault held old new undone same = same
-unchanged saves statuses.RegFault held old new undone same = same
-unchanged saves statuses.Found held old new undone same = same
-unchanged saves statuses.ReadFault held old new undone same = same
-unchanged saves statuses.WriteFault held old new undone same = λ q other. ap (λ (f : Files). f q) same
-unchanged saves statuses.Memory held old new undone same = λ q other. ap (λ (f : Files). f q) same
+pub unchanged : (saves : Saves) (status : Status) (disk : DiskState) (old new : Files) → (status ≡ statuses.Done → ⊥)
+    → new ≡ old → FilesAs saves status disk old new
+unchanged saves statuses.Done disk old new undone same = absurd (undone refl)
+unchanged saves statuses.Usage disk old new undone same = same
+unchanged saves statuses.NoFile disk old new undone same = same
+unchanged saves statuses.ScriptFault disk old new undone same = same
+unchanged saves statuses.BootIniFault disk old new undone same = same
+unchanged saves statuses.HiveFault disk old new undone same = same
+unchanged saves statuses.RegFault disk old new undone same = same
+unchanged saves statuses.Found disk old new undone same = same
+unchanged saves statuses.ReadFault disk old new undone same = same
+unchanged saves statuses.WriteFault disk old new undone same = unsaved saves disk old new same
+unchanged saves statuses.Memory disk old new undone same = unsaved saves disk old new same
 
 -- ---- a status that was reported
 
@@ -75,7 +85,7 @@ refused_read refusals.IniTooLong e = absurd cc
 refused_read refusals.IniTooManyEntries e = absurd cc
 refused_read (refusals.HiveFault fault) e = absurd cc
 
--- where neither this status nor a stop in saying it is another, it isn't told
+-- where neither this status nor a stop in saying it is another, it isn't reported
 told_not : (told status other : Status) → IsToldAs told status → (told ≡ other → ⊥) → (statuses.WriteFault ≡ other → ⊥)
     → (statuses.Memory ≡ other → ⊥) → status ≡ other → ⊥
 told_not told status other (inl is) a b c e = a (sym is ∙ e)
@@ -128,7 +138,7 @@ memory_decides ends saves host disk off end = record {
       counts = record { reads = refl; writes = refl };
       said = λ tells. end;
     };
-    files = λ tells q other. refl;
+    files = λ tells. unsaved saves disk host.files host.files refl;
     off = off;
     untouched = tt;
   };
@@ -149,7 +159,7 @@ refusal_decides ends saves why status old new disk fresh leaves files told lift 
     counts = leaves.counts;
     said = λ tells. lift old.said new.said (leaves.said tells);
   };
-  files = λ tells. unchanged saves status disk.held old.files new.files
+  files = λ tells. unchanged saves status disk old.files new.files
       (told_open (refusal_status why) status told (refused_open why)) (files tells);
   off = new_off disk fresh;
   untouched = untouched_by status disk fresh;
@@ -177,7 +187,7 @@ module _ {A : Type 0} (wanted : Result A Refusal) (All : Result A Refusal → St
               subst (λ (w : Result A Refusal). All w status old.said new.said) (sym (a.found tells))
               (subst (λ (m : List ℕ). All (Ok x) status m new.said) (a.unsaid tells) here);
         };
-        files = λ tells. subst (λ (f : Files). FilesAs saves status disk.held f new.files) (a.files tells)
+        files = λ tells. subst (λ (f : Files). FilesAs saves status disk f new.files) (a.files tells)
             (b.decides.files (a.keeps.tells ∙ tells));
         off = b.decides.off;
         untouched = b.decides.untouched;
@@ -199,7 +209,7 @@ module _ {A : Type 0} (wanted : Result A Refusal) (All : Result A Refusal → St
           subst (λ (w : Result A Refusal). All w status old.said new.said) (sym (a.found tells))
           (subst (λ (m : List ℕ). All (Err why) status m new.said) (a.unsaid tells) here);
     };
-    files = λ tells. unchanged saves status disk.held old.files new.files
+    files = λ tells. unchanged saves status disk old.files new.files
         (told_open (refusal_status why) status told (refused_open why))
         (files (a.keeps.tells ∙ tells) ∙ a.files tells);
     off = new_off disk fresh;
@@ -217,7 +227,7 @@ module _ {A : Type 0} (wanted : Result A Refusal) (All : Result A Refusal → St
       counts = stop_counts stop old new a.counts;
       said = λ tells. lift old.said new.said (a.unsaid tells) (λ e. a.unwritten (ap (λ (s : HostStop). Stopped s) e));
     };
-    files = λ tells. unchanged saves (stopped_as stop) disk.held old.files new.files (stopped_open stop)
+    files = λ tells. unchanged saves (stopped_as stop) disk old.files new.files (stopped_open stop)
         (a.files tells);
     off = new_off disk fresh;
     untouched = untouched_by (stopped_as stop) disk fresh;

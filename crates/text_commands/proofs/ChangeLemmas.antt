@@ -104,7 +104,7 @@ settled_commit image h k steps number old new loads recovered e settles = record
       (λ edit. edit) e.cells;
 }
 
--- where nothing was committed, nothing is said of a commit
+-- where nothing was committed, nothing is stated of a commit
 refused_commit : (stop : ImportStop) (done : Done) (image : Image) (before : HiveState) (steps : List Step)
     (after : HiveState) (left : Image) → done ≡ dones.Refused stop → IsCommitWhere done image before steps after left
 refused_commit stop done image before steps after left is number commit =

@@ -1,5 +1,5 @@
 -- What `import` leaves.
-use Rattle.std.proofs.Common.{◌≡◌, ◌≤◌, ◌++◌, inl, inr, ℕ, zero, suc, false, List, Option, None, Some, refl, sym, ap, subst, ◌∙◌, arith}
+use Rattle.std.proofs.Common.{◌≡◌, ◌≤◌, ◌++◌, inl, inr, ℕ, false, List, refl, sym, ap, subst, ◌∙◌, arith}
 use Rattle.std.specs.Prelude.{Result, Ok, Err}
 use Rattle.nt_bytes.specs.declared.version.HiveVersion.{HiveVersion}
 use Rattle.hive_model.specs.Edit.{Step}
@@ -20,12 +20,12 @@ use Rattle.command_parts.specs.declared.command_parts.refusal.Obstacle.TheVarian
 use Rattle.command_parts.specs.declared.command_parts.status.Status.{Status}
 use Rattle.command_parts.specs.declared.command_parts.status.Status.TheVariants as statuses
 use Rattle.command_parts.specs.command_parts.Inputs.{hive_in, file_in}
-use Rattle.command_parts.specs.command_parts.Leaves.{Leaves, Looks, more, named, stop_in, stopped_as, IsPartDone}
-use Rattle.command_parts.specs.command_parts.Placed.{IsUntouchedBy}
-use Rattle.command_parts.specs.command_parts.Refusals.{Answer, Ends, IsToldAs, refusal, refusal_status, refusal_text}
-use Rattle.command_parts.specs.command_parts.Saves.{Saves, saved_count, Settles, FinishesAs, FilesAs}
+use Rattle.command_parts.specs.command_parts.Leaves.{Leaves, Looks, more, stop_in, stopped_as, IsPartDone}
+use Rattle.command_parts.specs.command_parts.Refusals.{Ends, IsToldAs, refusal, refusal_status, refusal_text}
+use Rattle.command_parts.specs.command_parts.Saves.{Saves, saved_count, TellsFirst, Settles, FinishesAs, FilesAs}
 use Rattle.command_parts.proofs.DecideLemmas.{told_unused, told_unread, refused_unread, found_decides, refused_decides, stopped_decides}
 use Rattle.command_parts.proofs.LeaveLemmas.{no_front, keeps_then, counts_by}
+use Rattle.command_parts.proofs.SaveLemmas.{count_few, done_with, more_few, tells-first, untouched_told, was_said}
 use Rattle.text_commands.proofs.ImportAskLemmas.{text_asked}
 use Rattle.report_text.specs.declared.line_text.form.ReportForm.{ReportForm}
 use Rattle.text_commands.specs.declared.said.How.{How}
@@ -36,19 +36,6 @@ use Rattle.text_commands.specs.Imported.{IsImported, EndsChange, EndsHive, EndsI
 use Rattle.text_commands.specs.Imports.{IsImportOf, EndsRead, IsChecked, IsLoadable, DecidesEdits, DecidesText, DecidesFile}
 
 -- ---- the disk after the saving
-
-more_few : (n : ℕ) → n ≤ 2 → more n 0 ≡ n
-more_few zero le = refl
-more_few (suc zero) le = refl
-more_few (suc (suc zero)) le = refl
-more_few (suc (suc (suc n))) le = absurd (omega (arith, le))
-
-named_few : (name : Option (List ℕ)) → named name ≤ 1
-named_few None = omega arith
-named_few (Some name) = omega arith
-
-count_few : (saves : Saves) → saved_count saves ≤ 2
-count_few saves = omega (arith, named_few saves.hive, named_few saves.log)
 
 saved_imported : (files : HiveFiles) (change : Change) (n : ℕ) (mid after : DiskState) → n ≤ 2
     → IsImported files change 0 mid → Settles n mid after
@@ -80,40 +67,41 @@ new_part files disk is =
 
 -- ---- the edits
 
-abbrev done_with : List ℕ → Answer
-done_with text = record { status = statuses.Done; text = text }
-
-said_done : (text old new : List ℕ) → Ends (done_with text) statuses.Done old new → new ≡ old ++ text
-said_done text old new (inl end) = end.1
-said_done text old new (inr none) = absurd none
+first_imported : (files : HiveFiles) (form : ReportForm) (change : Change) (text old new : List ℕ) (taken : ℕ)
+    (disk : DiskState) → text ≡ said_text form change.said → IsImported files change taken disk
+    → ((taken ≡ 0 → ⊥) → new ≡ old ++ text) → TellsFirst (said_text form change.said) disk old new
+first_imported files form change text old new taken disk same made first =
+    tells-first (said_text form change.said) taken disk old new made.taken
+    (λ some. first some ∙ ap (λ (t : List ℕ). old ++ t) same)
 
 ends_change : (files : HiveFiles) (saves : Saves) (form : ReportForm) (change : Change) (status : Status)
     (text old new : List ℕ) (taken : ℕ) (disk : DiskState) → IsToldAs statuses.Done status
     → text ≡ said_text form change.said → taken ≤ saved_count saves → (status ≡ statuses.Done
     → taken ≡ saved_count saves)
-    → IsImported files change taken disk
+    → IsImported files change taken disk → ((taken ≡ 0 → ⊥) → new ≡ old ++ text)
     → Ends (done_with text) status old new → EndsChange files saves form change disk status old new
-ends_change files saves form change status text old new taken disk (inl is) same few all made end =
+ends_change files saves form change status text old new taken disk (inl is) same few all made first end =
     let done = subst (λ (t : List ℕ). Ends (done_with t) statuses.Done old new) same
     (subst (λ (s : Status). Ends (done_with text) s old new) is end) in
     let P : ℕ → Type 0 = λ n. IsImported files change n disk in
     subst (λ (s : Status). EndsChange files saves form change disk s old new) (sym is)
-    (said_done (said_text form change.said) old new done, subst P (all is) made)
-ends_change files saves form change status text old new taken disk (inr (inl is)) same few all made end =
+    (was_said (said_text form change.said) old new done, subst P (all is) made)
+ends_change files saves form change status text old new taken disk (inr (inl is)) same few all made first end =
     let part = subst (λ (t : List ℕ). Ends (done_with t) statuses.WriteFault old new) same
     (subst (λ (s : Status). Ends (done_with text) s old new) is end) in
-    subst (λ (s : Status). EndsChange files saves form change disk s old new) (sym is)
-    (part, part_imported files change taken (saved_count saves) disk few made)
-ends_change files saves form change status text old new taken disk (inr (inr is)) same few all made end =
+    subst (λ (s : Status). EndsChange files saves form change disk s old new) (sym is) (
+      part,
+      part_imported files change taken (saved_count saves) disk few made,
+      first_imported files form change text old new taken disk same made first,
+    )
+ends_change files saves form change status text old new taken disk (inr (inr is)) same few all made first end =
     let part = subst (λ (t : List ℕ). Ends (done_with t) statuses.Memory old new) same
     (subst (λ (s : Status). Ends (done_with text) s old new) is end) in
-    subst (λ (s : Status). EndsChange files saves form change disk s old new) (sym is)
-    (part, part_imported files change taken (saved_count saves) disk few made)
-
-untouched_told : (status : Status) (disk : DiskState) → IsToldAs statuses.Done status → IsUntouchedBy status disk
-untouched_told status disk (inl is) = (let P : Status → Type 0 = λ s. IsUntouchedBy s disk in subst P (sym is) tt)
-untouched_told status disk (inr (inl is)) = (let P : Status → Type 0 = λ s. IsUntouchedBy s disk in subst P (sym is) tt)
-untouched_told status disk (inr (inr is)) = (let P : Status → Type 0 = λ s. IsUntouchedBy s disk in subst P (sym is) tt)
+    subst (λ (s : Status). EndsChange files saves form change disk s old new) (sym is) (
+      part,
+      part_imported files change taken (saved_count saves) disk few made,
+      first_imported files form change text old new taken disk same made first,
+    )
 
 -- the line was printed and the files saved, or that was stopped
 pub finished_imports : (files : HiveFiles) (saves : Saves) (how : How) (steps : List Step) (said : Said)
@@ -133,7 +121,8 @@ finished_imports files saves how steps said line status old new mid after on off
             on.0,
             on.1,
             ends_change files saves how.form change status line old.said new.said f.taken after f.told text f.few f.all
-                (saved_imported files change f.taken mid after two on.3 f.settles) (f.leaves.said tells),
+                (saved_imported files change f.taken mid after two on.3 f.settles) (f.first tells)
+                (f.leaves.said tells),
           );
         };
         files = f.files;
@@ -263,7 +252,7 @@ found_import form words files status old mid new disk a b =
             (f words.reg)) disk status mid.said new.said)
             (a.files tells) here));
       };
-      files = λ tells. subst (λ (f : Files). FilesAs saves status disk.held f new.files) (a.files tells)
+      files = λ tells. subst (λ (f : Files). FilesAs saves status disk f new.files) (a.files tells)
           (b.decides.files (a.keeps.tells ∙ tells));
       off = b.decides.off;
       untouched = b.decides.untouched;

@@ -18,8 +18,8 @@ pub record AreCellsOf (base : Base) (bins : List ℕ) (state : HiveState) (cells
   pub version : cells.version ≡ state.version
   pub tree : cells.tree ≡ state.tree
 
--- What is left is the image of a commit from the one state to the other, by these steps. Its log lists exactly the sectors in which the new bins
--- data are not what the image from before was recovered as. The new cells are the old ones edited in place, or packed anew where the strain of
+-- What remains is the image of a commit from the one state to the other, by these steps. Its log lists exactly the sectors in which the new bins
+-- data are not what the image from before was recovered as. The new cells are the old ones edited in place, or repacked where the strain of
 -- the steps is over the greatest size of bins data.
 pub record IsCommitOf (image : Image) (before : HiveState) (steps : List Step) (after : HiveState) (left : Image) : Type 0 where
   pub logged : IsLogged left before after

@@ -2,7 +2,7 @@
 --
 -- The registry text of the key that the path leads to is put into a file, and then one line is printed. Where there is no such
 -- key, or no such text, no file is put.
-use Rattle.std.specs.Prelude.{◌≡◌, ◌⊎◌, ◌++◌, ◌+◌, ℕ, List, [], ◌∷◌, Option, Some, None, Result, Ok, Err, codes}
+use Rattle.std.specs.Prelude.{◌≡◌, ◌⊎◌, ◌++◌, ◌+◌, ℕ, List, [], ◌∷◌, Option, Some, None, Result, Ok, Err, IfSome, codes}
 use Rattle.std.specs.Fmt.{decimal}
 use Rattle.nt_bytes.specs.declared.fault.HiveFault.{HiveFault}
 use Rattle.nt_edge.specs.Host.{Files, HostState, Puts, KeepsOthers}
@@ -97,14 +97,19 @@ PutsAs name (Some text) statuses.Done old new = Puts old new name text
 PutsAs name (Some text) statuses.ReadFault old new = new ≡ old
 PutsAs name (Some text) stopped old new = KeepsOthers old new name
 
+-- nothing was printed before the file of this name has what was to be put
+abbrev pub PutsFirst : List ℕ → Option (List ℕ) → Files → Files → List ℕ → List ℕ → Type 0
+PutsFirst name put before after old new = IfSome put (λ text. (new ≡ old) ⊎ Puts before after name text)
+
 -- The first obstacle of the command line's files is printed; or the hive has a first fault, and that is printed; or it loads as a state, and
--- its export is put and said; or there was no memory or a read fault before anything was done. Before the export nothing is put.
+-- its export is put and then said; or there was no memory or a read fault before anything was done. Before the export nothing is put.
 abbrev pub EndsExported : ReportForm → Result HiveFiles Refusal → List (List ℕ) → List ℕ → Files → Files → Status → List ℕ → List ℕ → Type 0
 EndsExported form (Err r) path name before after status old new = Ends (refusal r) status old new × (after ≡ before)
 EndsExported form (Ok files) path name before after status old new =
     ((fault : HiveFault) × (LoadFault (image_in files) fault) × Ends (refusal (BadHive fault)) status old new × (after ≡ before))
     ⊎ (((placed : Woken) × (Loads (image_in files) placed.state placed.dirty)
-    × Ends (export_of form path placed.state.tree).answer status old new × PutsAs name (export_of form path placed.state.tree).put status before after)
+    × Ends (export_of form path placed.state.tree).answer status old new × PutsAs name (export_of form path placed.state.tree).put status before after
+    × PutsFirst name (export_of form path placed.state.tree).put before after old new)
     ⊎ (((status ≡ statuses.Memory) ⊎ (status ≡ statuses.ReadFault)) × (new ≡ old) × (after ≡ before)))
 
 -- the host is left so by the whole command

@@ -1,7 +1,7 @@
 -- What do the steps of `export` do? (this project's own)
-use Rattle.std.specs.Prelude.{◌≡◌, ◌⊎◌, true, List, ℕ, Option, Result, Ok, Err, IfSome}
+use Rattle.std.specs.Prelude.{◌≡◌, true, List, ℕ, Option, Result, Ok, Err}
 use Rattle.nt_bytes.specs.declared.fault.HiveFault.{HiveFault}
-use Rattle.nt_edge.specs.Host.{HostState, Puts, AsksNone}
+use Rattle.nt_edge.specs.Host.{HostState, AsksNone}
 use Rattle.nt_edge.specs.declared.host.HostStop.TheVariants.{Memory as NoMemory}
 use Rattle.hive_model.specs.Image.{Image}
 use Rattle.hive_model.specs.Load.{Loads, LoadFault}
@@ -17,7 +17,7 @@ use Rattle.command_parts.specs.command_parts.Leaves.{Leaves}
 use Rattle.command_parts.specs.command_parts.Refusals.{Ends, IsToldAs}
 use Rattle.report_text.specs.declared.line_text.form.ReportForm.{ReportForm}
 use Rattle.text_commands.specs.declared.exporting.Outcome.{Outcome}
-use Rattle.text_commands.specs.Exported.{Export, export_of, PutsAs, EndsExported}
+use Rattle.text_commands.specs.Exported.{Export, export_of, PutsAs, PutsFirst, EndsExported}
 
 -- what is put, with what is answered
 abbrev pub export_with : Option (List ℕ) → Status → List ℕ → Export
@@ -39,7 +39,7 @@ ExportsAs form image path (Err (Stopped stop)) = stop ≡ NoMemory
 pub record PutsExport (name : List ℕ) (e : Export) (status : Status) (old new : HostState) : Type 0 where
   pub leaves : Leaves (Ends e.answer) status old new
   pub files : old.tells ≡ true → PutsAs name e.put status old.files new.files
-  pub first : old.tells ≡ true → IfSome e.put (λ text. (new.said ≡ old.said) ⊎ Puts old.files new.files name text)
+  pub first : old.tells ≡ true → PutsFirst name e.put old.files new.files old.said new.said
   pub unasked : AsksNone old new
   pub told : IsToldAs e.answer.status status
 

@@ -25,7 +25,7 @@ use Rattle.command_parts.specs.command_parts.Inputs.{hive_in, file_in}
 use Rattle.command_parts.specs.command_parts.Leaves.{named, IsPartDone}
 use Rattle.command_parts.specs.command_parts.Placed.{image_in}
 use Rattle.command_parts.specs.command_parts.Refusals.{Answer, Ends, refusal}
-use Rattle.command_parts.specs.command_parts.Saves.{Saves, saved_count}
+use Rattle.command_parts.specs.command_parts.Saves.{Saves, saved_count, TellsFirst}
 use Rattle.text_commands.specs.declared.said.How.{How}
 use Rattle.text_commands.specs.Changed.{Change, steps_in, change_of}
 use Rattle.text_commands.specs.Committed.{IsCommitWhere}
@@ -54,14 +54,14 @@ abbrev pub imported : ReportForm → Change → Answer
 imported form change = record { status = statuses.Done; text = said_text form change.said }
 
 -- The lines were printed whole at the end, and the files saved; or a prefix of the lines up to a fault in saying or saving, or until
--- memory ran out. The disk is this afterwards.
+-- memory ran out, and all of them before a file was taken to be saved. The disk is this afterwards.
 abbrev pub EndsChange : HiveFiles → Saves → ReportForm → Change → DiskState → Status → List ℕ → List ℕ → Type 0
 EndsChange files saves form change disk statuses.Done old new =
     (new ≡ old ++ said_text form change.said) × IsImported files change (saved_count saves) disk
 EndsChange files saves form change disk statuses.WriteFault old new =
-    Ends (imported form change) statuses.WriteFault old new × IsPartDone files (saved_count saves) disk
+    Ends (imported form change) statuses.WriteFault old new × IsPartDone files (saved_count saves) disk × TellsFirst (said_text form change.said) disk old new
 EndsChange files saves form change disk statuses.Memory old new =
-    Ends (imported form change) statuses.Memory old new × IsPartDone files (saved_count saves) disk
+    Ends (imported form change) statuses.Memory old new × IsPartDone files (saved_count saves) disk × TellsFirst (said_text form change.said) disk old new
 EndsChange files saves form change disk refused old new = ⊥
 
 -- the fault of the text is printed, and nothing was done to the disk; or its edits are made

@@ -34,7 +34,7 @@ fn settle<D: Disk>(hive: Hive, disk: &mut D) -> Result<Done, AllocError>
     if !hive.changed() {
         return Ok(Done::Nothing);
     }
-    // The tree that is committed stands in these cells.
+    // The tree that is committed is in these cells.
     let _ = hive.cells();
     match hive.commit(disk) {
         Ok((_, number)) => Ok(Done::Commit(number)),
@@ -87,7 +87,7 @@ fn edit<D: Disk>(
     ensures changed { D.tells ≡ true → IfOk result (MakesTree false hive (map step_of steps) (D.state disk.new)) }
     ensures unmoved { Unmoved result (D.state disk.old) (D.state disk.new) }
 {
-    // The tree that was loaded stands in these cells.
+    // The tree that was loaded is in these cells.
     let _ = hive.cells();
     match hive.apply(alloc, steps) {
         Ok(()) => settle(hive, disk),

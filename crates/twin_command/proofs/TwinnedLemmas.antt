@@ -1,5 +1,5 @@
 -- What `twin` leaves: the lines, the files that are saved, and the disk.
-use Rattle.std.proofs.Common.{◌≡◌, ◌≤◌, ◌++◌, inl, inr, ℕ, zero, suc, false, List, Option, None, Some, Result, Ok, Err, refl, sym, ap, subst, ◌∙◌, arith}
+use Rattle.std.proofs.Common.{◌≡◌, ◌≤◌, ◌++◌, inl, inr, ℕ, false, List, Option, Result, Ok, Err, refl, sym, ap, subst, ◌∙◌, arith}
 use Rattle.std.specs.Prelude.{IfOk, OnErr}
 use Rattle.nt_bytes.specs.declared.fault.HiveFault.{HiveFault}
 use Rattle.hive_model.specs.Image.{Image, IsCrashImage}
@@ -19,12 +19,13 @@ use Rattle.command_parts.specs.declared.command_parts.refusal.Obstacle.TheVarian
 use Rattle.command_parts.specs.declared.command_parts.status.Status.{Status}
 use Rattle.command_parts.specs.declared.command_parts.status.Status.TheVariants as statuses
 use Rattle.command_parts.specs.command_parts.Decides.{Decides, DecidesAlone}
-use Rattle.command_parts.specs.command_parts.Leaves.{Leaves, Looks, more, named, stopped_as, IsPartDone}
-use Rattle.command_parts.specs.command_parts.Placed.{image_in, placed_disk, IsUnrun, IsUntouchedBy}
-use Rattle.command_parts.specs.command_parts.Refusals.{Answer, Ends, IsToldAs, refusal, refusal_text}
+use Rattle.command_parts.specs.command_parts.Leaves.{Leaves, Looks, more, stopped_as, IsPartDone}
+use Rattle.command_parts.specs.command_parts.Placed.{image_in, placed_disk, IsUnrun}
+use Rattle.command_parts.specs.command_parts.Refusals.{Ends, IsToldAs, refusal, refusal_text}
 use Rattle.command_parts.specs.command_parts.Saves.{Saves, saved_count, Settles, FinishesAs}
 use Rattle.command_parts.proofs.DecideLemmas.{memory_decides, refusal_decides, stopped_decides, told_unused, told_unread, refused_unread, unrun}
 use Rattle.command_parts.proofs.LeaveLemmas.{no_front}
+use Rattle.command_parts.proofs.SaveLemmas.{count_few, done_with, more_few, tells-first, untouched_told, was_said}
 use Rattle.twin_command.specs.Awake.{IsAwake, ToldOf}
 use Rattle.twin_command.specs.declared.report.Told.{Told}
 use Rattle.report_text.specs.declared.line_text.form.ReportForm.{ReportForm}
@@ -117,19 +118,6 @@ part_unrun files disk u = record {
   uncut = ap (λ (d : DiskState). d.history.cut_calls) u.alone;
 }
 
-more_few : (n : ℕ) → n ≤ 2 → more n 0 ≡ n
-more_few zero le = refl
-more_few (suc zero) le = refl
-more_few (suc (suc zero)) le = refl
-more_few (suc (suc (suc n))) le = absurd (omega (arith, le))
-
-named_few : (name : Option (List ℕ)) → named name ≤ 1
-named_few None = omega arith
-named_few (Some name) = omega arith
-
-count_few : (saves : Saves) → saved_count saves ≤ 2
-count_few saves = omega (arith, named_few saves.hive, named_few saves.log)
-
 module _ (stands : Standing) (files : HiveFiles) (number : Option ℕ) (found : Recovered) (tree : Tree) where
   takings_are : (n : ℕ) (mid after : DiskState) → n ≤ 2 → mid.history.takings ≡ 0 → Settles n mid after
       → after.history.takings ≡ n
@@ -164,18 +152,6 @@ part_more files most disk p =
 
 -- ---- the lines
 
-abbrev done_with : List ℕ → Answer
-done_with text = record { status = statuses.Done; text = text }
-
-pub was_said : (text old new : List ℕ) → Ends (done_with text) statuses.Done old new → new ≡ old ++ text
-was_said text old new (inl x) = x.1
-was_said text old new (inr never) = absurd never
-
-untouched_told : (status : Status) (disk : DiskState) → IsToldAs statuses.Done status → IsUntouchedBy status disk
-untouched_told status disk (inl is) = (let P : Status → Type 0 = λ s. IsUntouchedBy s disk in subst P (sym is) tt)
-untouched_told status disk (inr (inl is)) = (let P : Status → Type 0 = λ s. IsUntouchedBy s disk in subst P (sym is) tt)
-untouched_told status disk (inr (inr is)) = (let P : Status → Type 0 = λ s. IsUntouchedBy s disk in subst P (sym is) tt)
-
 module _ (form : ReportForm) (stands : Standing) (files : HiveFiles) (number : Option ℕ) (saves : Saves) where
   abbrev pub Whole : DiskState → Status → List ℕ → List ℕ → Type 0
   Whole disk = EndsFiles form stands files number saves disk
@@ -191,7 +167,11 @@ module _ (form : ReportForm) (stands : Standing) (files : HiveFiles) (number : O
         found = some.0;
         tree = some.1;
         is_found = some.2;
-        ends = (inr (no_front text host.said host.said refl), part_more files (saved_count saves) disk part);
+        ends = (
+          inr (no_front text host.said host.said refl),
+          part_more files (saved_count saves) disk part,
+          inl (omega (arith, part.taken)),
+        );
       })))
 
   module _ (found : Recovered) (tree : Tree) where
@@ -201,24 +181,33 @@ module _ (form : ReportForm) (stands : Standing) (files : HiveFiles) (number : O
     ends_twinned : (status : Status) (text old new : List ℕ) (taken : ℕ) (disk : DiskState)
         → IsToldAs statuses.Done status → text ≡ text_is
         → taken ≤ saved_count saves → (status ≡ statuses.Done → taken ≡ saved_count saves)
-        → IsTwinned stands files number found tree taken disk → Ends (done_with text) status old new
+        → IsTwinned stands files number found tree taken disk → ((taken ≡ 0 → ⊥) → new ≡ old ++ text)
+        → Ends (done_with text) status old new
         → EndsTwinned form stands files number saves found tree disk status old new
-    ends_twinned status text old new taken disk (inl is) same few all made end =
+    ends_twinned status text old new taken disk (inl is) same few all made first end =
         let done = subst (λ (t : List ℕ). Ends (done_with t) statuses.Done old new) same
         (subst (λ (s : Status). Ends (done_with text) s old new) is end) in
         let P : ℕ → Type 0 = λ n. IsTwinned stands files number found tree n disk in
         subst (λ (s : Status). EndsTwinned form stands files number saves found tree disk s old new) (sym is)
         (was_said text_is old new done, subst P (all is) made)
-    ends_twinned status text old new taken disk (inr (inl is)) same few all made end =
+    ends_twinned status text old new taken disk (inr (inl is)) same few all made first end =
         let part = subst (λ (t : List ℕ). Ends (done_with t) statuses.WriteFault old new) same
         (subst (λ (s : Status). Ends (done_with text) s old new) is end) in
-        subst (λ (s : Status). EndsTwinned form stands files number saves found tree disk s old new) (sym is)
-        (part, part_of stands files number found tree taken (saved_count saves) disk few made)
-    ends_twinned status text old new taken disk (inr (inr is)) same few all made end =
+        subst (λ (s : Status). EndsTwinned form stands files number saves found tree disk s old new) (sym is) (
+          part,
+          part_of stands files number found tree taken (saved_count saves) disk few made,
+          tells-first text_is taken disk old new made.taken
+              (λ some. first some ∙ ap (λ (t : List ℕ). old ++ t) same),
+        )
+    ends_twinned status text old new taken disk (inr (inr is)) same few all made first end =
         let part = subst (λ (t : List ℕ). Ends (done_with t) statuses.Memory old new) same
         (subst (λ (s : Status). Ends (done_with text) s old new) is end) in
-        subst (λ (s : Status). EndsTwinned form stands files number saves found tree disk s old new) (sym is)
-        (part, part_of stands files number found tree taken (saved_count saves) disk few made)
+        subst (λ (s : Status). EndsTwinned form stands files number saves found tree disk s old new) (sym is) (
+          part,
+          part_of stands files number found tree taken (saved_count saves) disk few made,
+          tells-first text_is taken disk old new made.taken
+              (λ some. first some ∙ ap (λ (t : List ℕ). old ++ t) same),
+        )
 
   -- the lines were printed and the disk saved, or that was stopped
   pub finished_twins : (told : Told) (line : List ℕ) (status : Status) (old new : HostState) (mid after : DiskState)
@@ -239,7 +228,7 @@ module _ (form : ReportForm) (stands : Standing) (files : HiveFiles) (number : O
               tree = is.tree;
               is_found = is.is_found;
               ends = ends_twinned is.found is.tree status line old.said new.said f.taken after f.told text f.few f.all
-                  disk (f.leaves.said tells);
+                  disk (f.first tells) (f.leaves.said tells);
             }));
           };
           files = f.files;

@@ -27,7 +27,7 @@ use Rattle.command_parts.specs.command_parts.Inputs.{hive_in, asks_hive}
 use Rattle.command_parts.specs.command_parts.Leaves.{named, IsPartDone}
 use Rattle.command_parts.specs.command_parts.Placed.{image_in, IsUnrun}
 use Rattle.command_parts.specs.command_parts.Refusals.{Answer, Ends, refusal}
-use Rattle.command_parts.specs.command_parts.Saves.{Saves, saved_count}
+use Rattle.command_parts.specs.command_parts.Saves.{Saves, saved_count, TellsFirst}
 use Rattle.twin_command.specs.declared.report.Told.{Told}
 use Rattle.report_text.specs.declared.line_text.form.ReportForm.{ReportForm}
 use Rattle.twin_command.specs.Told.{told_in, told_of}
@@ -65,14 +65,16 @@ abbrev pub twinned : ReportForm → Option ℕ → Recovered → Tree → Answer
 twinned form number found tree = record { status = statuses.Done; text = told_in form (told_of number found tree) }
 
 -- The lines were printed whole at the end, and the files saved; or a prefix of the lines up to a fault in saying or saving, or to want
--- of memory. The disk is this afterwards.
+-- of memory, and all of them before a file was taken to be saved. The disk is this afterwards.
 abbrev pub EndsTwinned : ReportForm → Standing → HiveFiles → Option ℕ → Saves → Recovered → Tree → DiskState → Status → List ℕ → List ℕ → Type 0
 EndsTwinned form stands files number saves found tree disk statuses.Done old new =
     (new ≡ old ++ told_in form (told_of number found tree)) × IsTwinned stands files number found tree (saved_count saves) disk
 EndsTwinned form stands files number saves found tree disk statuses.WriteFault old new =
     Ends (twinned form number found tree) statuses.WriteFault old new × IsPartDone files (saved_count saves) disk
+    × TellsFirst (told_in form (told_of number found tree)) disk old new
 EndsTwinned form stands files number saves found tree disk statuses.Memory old new =
     Ends (twinned form number found tree) statuses.Memory old new × IsPartDone files (saved_count saves) disk
+    × TellsFirst (told_in form (told_of number found tree)) disk old new
 EndsTwinned form stands files number saves found tree disk refused old new = ⊥
 
 -- the files stand for something that holds a tree, and so it ends

@@ -15,7 +15,7 @@ Ending = Status → List ℕ → List ℕ → Type 0
 -- The host is left as the end allows; the files are those that were saved; the disk is off, and untouched after a refusal.
 pub record Decides (ends : Ending) (saves : Saves) (status : Status) (old new : HostState) (disk : DiskState) : Type 0 where
   pub leaves : Leaves ends status old new
-  pub files : old.tells ≡ true → FilesAs saves status disk.held old.files new.files
+  pub files : old.tells ≡ true → FilesAs saves status disk old.files new.files
   pub off : disk.on ≡ false
   pub untouched : IsUntouchedBy status disk
 

@@ -9,7 +9,7 @@ use Rattle.command_parts.specs.declared.command_parts.reporting.FileReport.{File
 use Rattle.command_parts.specs.declared.command_parts.status.Status.{Status}
 use Rattle.command_parts.specs.declared.command_parts.status.Status.TheVariants as statuses
 use Rattle.command_parts.specs.command_parts.Leaves.{Leaves, stop_in}
-use Rattle.command_parts.specs.command_parts.Refusals.{Answer, Ends, StopsBy, IsToldAs, refusal}
+use Rattle.command_parts.specs.command_parts.Refusals.{Answer, Ends, StopsBy, IsToldAs, LacksAsHost, refusal}
 
 -- its text with its status: something was found, or all was done
 abbrev pub report_answer : FileReport → Answer
@@ -45,15 +45,19 @@ DecidesReport wanted name status old new = Leaves (EndsReport wanted name old.fi
 
 -- ---- its steps
 
--- a file was put, or that was stopped: nothing was printed and no file asked for
+-- a file was put, or that was stopped: nothing was printed and no file asked for, and there was no memory only where the host refused to put it
+-- for lack of memory
 pub record PutsFile (wanted : Status) (name file : List ℕ) (status : Status) (old new : HostState) : Type 0 where
   pub leaves : Leaves (λ s before after. (after ≡ before) × EndsPut wanted name file old.files new.files s) status old new
   pub unasked : AsksNone old new
   pub told : IsToldAs wanted status
+  pub own : LacksAsHost status old new
 
--- the report was printed, and the file put where it is saved: no file was asked for
+-- the report was printed, and the file put where it is saved: no file was asked for, and there was no memory only where the host refused one of
+-- the two for lack of memory
 pub record FinishesReport (saved : Bool) (name : Option (List ℕ)) (answer : Answer) (file : List ℕ) (status : Status) (old new : HostState)
     : Type 0 where
   pub leaves : Leaves (EndsTold saved name answer file old.files new.files) status old new
   pub unasked : AsksNone old new
   pub told : IsToldAs answer.status status
+  pub own : LacksAsHost status old new

@@ -1,10 +1,10 @@
 //! How a command ends that answers by what a hive loads as.
 
-ghost use Rattle.std.specs.Prelude.{◌≡◌, ℕ, Err, Result};
+ghost use Rattle.std.specs.Prelude.{◌≡◌, ℕ, Err, IsOk, Result};
 ghost use Rattle.nt_edge.specs.Host.{HostState};
 ghost use Rattle.command_parts.specs.command_parts.Leaves.{AsksBy, AsksUntil, IsBadUsage, stop_in};
 ghost use Rattle.command_parts.specs.command_parts.OnHive.{DecidesOnHive, Question, SeeksAnswer, told_answer};
-ghost use Rattle.command_parts.specs.command_parts.Refusals.{IsToldAs};
+ghost use Rattle.command_parts.specs.command_parts.Refusals.{IsToldAs, LacksAsHost};
 
 use crate::command_parts::refusal::{Obstacle, Refusal, refuse, stopped, tell};
 use crate::command_parts::status::Status;
@@ -47,6 +47,7 @@ pub fn answer<H: Host>(alloc: Global, host: &mut H, told: Result<Told, Obstacle>
         → AsksBy n (stop_in result) before (H.state host.new).gets }
     ensures usage { result ≡ Status.Usage → told ≡ Err (Obstacle.Refused Refusal.Usage) }
     ensures refused { IsBadUsage told → IsToldAs Status.Usage result }
+    ensures own { IsOk told → LacksAsHost result (H.state host.old) (H.state host.new) }
 {
     match told {
         Ok(told) => tell(host, told.text.as_slice(), told.status()),

@@ -1,8 +1,9 @@
 //! How a command ends that prints a report and then puts a file.
 
-ghost use Rattle.std.specs.Prelude.{◌≡◌, ℕ, true, if◌then◌else◌, Some, Err, Result, option_map};
+ghost use Rattle.std.specs.Prelude.{◌≡◌, ℕ, true, if◌then◌else◌, Some, Err, IsOk, Result, option_map};
 ghost use Rattle.nt_edge.specs.Host.{HostState};
 ghost use Rattle.command_parts.specs.command_parts.Leaves.{AsksBy, AsksUntil, Looks, stop_in};
+ghost use Rattle.command_parts.specs.command_parts.Refusals.{LacksAsHost};
 ghost use Rattle.command_parts.specs.command_parts.Reporting.{DecidesReport, FinishesReport, PutsFile, report_answer};
 
 use crate::command_parts::refusal::{Obstacle, Refusal, refuse, stopped, tell};
@@ -83,6 +84,7 @@ pub fn report<H: Host>(
     ensures asked { (n before : ℕ) → AsksUntil n found before (H.state host.old).gets
         → AsksBy n (stop_in result) before (H.state host.new).gets }
     ensures usage { result ≡ Status.Usage → found ≡ Err (Obstacle.Refused Refusal.Usage) }
+    ensures own { IsOk found → LacksAsHost result (H.state host.old) (H.state host.new) }
 {
     match found {
         Ok(report) => finish(name, &report, host),
