@@ -17,3 +17,5 @@ pub mod LooseLemmas
 pub mod RefusedLemmas
 pub mod TellLemmas
 pub mod AskLemmas
+pub mod ReadLemmas
+pub mod FindLemmas

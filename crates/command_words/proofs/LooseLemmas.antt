@@ -61,6 +61,11 @@ flag_takes takes.Depth v e = never (sym e)
 flag_takes takes.Mode v e = never (sym e)
 flag_takes takes.Encoding v e = never (sym e)
 flag_takes takes.Set v e = never (sym e)
+flag_takes takes.Hex v e = never (sym e)
+flag_takes takes.Number v e = never (sym e)
+flag_takes takes.Kind v e = never (sym e)
+flag_takes takes.Time v e = never (sym e)
+flag_takes takes.Sort v e = never (sym e)
 
 rule_same : (r : OptionRow) → rule_for (loosened_row r) ≡ rule_for r
 rule_same r = rw (free_same r, flag_same r) refl

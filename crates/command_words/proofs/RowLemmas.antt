@@ -168,6 +168,11 @@ free_no_flag takes.Depth e = refl
 free_no_flag takes.Mode e = refl
 free_no_flag takes.Encoding e = refl
 free_no_flag takes.Set e = refl
+free_no_flag takes.Hex e = refl
+free_no_flag takes.Number e = refl
+free_no_flag takes.Kind e = refl
+free_no_flag takes.Time e = refl
+free_no_flag takes.Sort e = refl
 
 -- the rule is the one of the option
 pub record IsRuleOf (a : Rule) (row : OptionRow) : Type 0 where

@@ -388,6 +388,9 @@ unasked names.Diff look = refl
 unasked names.Why look = refl
 unasked names.Graph look = refl
 unasked names.Sweep look = refl
+unasked names.Devices look = refl
+unasked names.Find look = refl
+unasked names.Services look = refl
 
 named_alike : (rows : List OptionRow) (place : ℕ) (value : Text) (values : Values) (name : Text) → HasFlagAt place rows
     → bytes_eq (codes "--verbose") name ≡ false
@@ -470,7 +473,7 @@ all_have = (
             (7, refl),
             (
               (5, refl),
-              ((9, refl), ((6, refl), ((6, refl), ((5, refl), ((6, refl), ((5, refl), ((8, refl), ((7, refl), ((7, refl), ((6, refl), tt)))))))))),
+              ((9, refl), ((6, refl), ((6, refl), ((5, refl), ((6, refl), ((5, refl), ((8, refl), ((7, refl), ((7, refl), ((6, refl), ((8, refl), ((9, refl), ((8, refl), tt))))))))))))),
             ),
           ),
         ),

@@ -1,4 +1,5 @@
 pub mod Words
+pub mod Times
 pub mod Table
 pub mod Walk
 pub mod Commands

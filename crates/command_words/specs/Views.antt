@@ -4,10 +4,12 @@ use Rattle.std.specs.Prelude.{◌≡◌, ℕ, List, Bool, Option, Some, None, Re
 use Rattle.command_words.specs.Words.{Asked, Reason, RunAsked, ShowAsked, MakeAsked, SafeAsked, ControlAsked, TwinAsked, ExportAsked, ImportAsked}
 use Rattle.command_words.specs.Words.{KeyAsked, ReplayAsked, CheckAsked, WhatifAsked, SalvageAsked, DiffAsked}
 use Rattle.command_words.specs.Words.{WhyAsked, GraphAsked, SweepAsked}
+use Rattle.command_words.specs.Words.{DevicesAsked, FindAsked, ServicesAsked}
 use Rattle.command_words.specs.Words.{Reading, help, version, asks, refused}
 use Rattle.command_words.specs.Words.{unknown_command, left_over, bad_value, unknown_option, twice, no_value, missing}
 use Rattle.command_words.specs.Words.{run, show, make, safe, control, twin, export, import}
 use Rattle.command_words.specs.Words.{key, replay, check, whatif, salvage, diff, why, graph, sweep}
+use Rattle.command_words.specs.Words.{devices, find, services}
 use Rattle.command_words.specs.declared.asked.Command.{Command}
 use Rattle.command_words.specs.declared.asked.Command.TheVariants as commands
 use Rattle.command_words.specs.declared.asked.Command.TheVariants.{Run, Show, Make, Safe, Control, Twin, Export, Import}
@@ -28,6 +30,9 @@ use Rattle.command_words.specs.declared.asked.DiffWords.{DiffWords}
 use Rattle.command_words.specs.declared.asked.WhyWords.{WhyWords}
 use Rattle.command_words.specs.declared.asked.GraphWords.{GraphWords}
 use Rattle.command_words.specs.declared.asked.SweepWords.{SweepWords}
+use Rattle.command_words.specs.declared.asked.DevicesWords.{DevicesWords}
+use Rattle.command_words.specs.declared.asked.FindWords.{FindWords}
+use Rattle.command_words.specs.declared.asked.ServicesWords.{ServicesWords}
 use Rattle.command_words.specs.declared.reason.Reason.{Reason as CodeReason}
 use Rattle.command_words.specs.declared.reason.Reason.TheVariants as reasons
 use Rattle.command_words.specs.declared.asked.Reading.{Reading as CodeReading}
@@ -42,6 +47,8 @@ use Rattle.clap.specs.declared.parser.matches.ArgMatches.{ArgMatches}
 use Rattle.clap.specs.Words.{first_of, found_of, rows_of}
 use Rattle.command_words.specs.Walk.{State, Values, value_named}
 use Rattle.command_words.specs.declared.walk.Walk.{Walk}
+use Rattle.command_words.specs.Times.{Part}
+use Rattle.command_words.specs.declared.time.Part.{Part as CodePart}
 
 -- what `run` is asked for, as the texts after the references
 abbrev pub run_seen : RunWords → RunAsked
@@ -198,6 +205,43 @@ sweep_seen w = record {
   system = w.system.now;
 }
 
+-- what `devices` is asked for, seen so
+abbrev pub devices_seen : DevicesWords → DevicesAsked
+devices_seen w = record {
+  hive = w.hive.now;
+  log = option_map (λ t. t.now) w.log;
+  set = w.set;
+  of = option_map (λ t. t.now) w.of;
+  findings = w.findings;
+  ids = w.ids;
+  critical = w.critical;
+}
+
+-- what `find` is asked for, seen so
+abbrev pub find_seen : FindWords → FindAsked
+find_seen w = record {
+  hive = w.hive.now;
+  log = option_map (λ t. t.now) w.log;
+  text = option_map (λ t. t.now) w.text;
+  hex = option_map (λ t. t.now) w.hex;
+  names = w.names;
+  «data» = w.«data»;
+  exact = w.exact;
+  key = option_map (λ t. t.now) w.key;
+}
+
+-- what `services` is asked for, seen so
+abbrev pub services_seen : ServicesWords → ServicesAsked
+services_seen w = record {
+  hive = w.hive.now;
+  log = option_map (λ t. t.now) w.log;
+  set = w.set;
+  start = w.start;
+  kind = w.kind;
+  since = w.since;
+  sort = w.sort;
+}
+
 -- the command seen so
 abbrev pub command_seen : Command → Asked
 command_seen (Run r) = run (run_seen r)
@@ -217,6 +261,13 @@ command_seen (commands.Diff w) = diff (diff_seen w)
 command_seen (commands.Why w) = why (why_seen w)
 command_seen (commands.Graph w) = graph (graph_seen w)
 command_seen (commands.Sweep w) = sweep (sweep_seen w)
+command_seen (commands.Devices w) = devices (devices_seen w)
+command_seen (commands.Find w) = find (find_seen w)
+command_seen (commands.Services w) = services (services_seen w)
+
+-- a number and what follows it, seen so
+abbrev pub part_seen : CodePart → Part
+part_seen p = record { value = p.value; rest = p.rest.now }
 
 -- a reason, as the texts after the references
 abbrev pub reason_seen : CodeReason → Reason

@@ -221,6 +221,63 @@ pub struct SweepWords<'a> {
     pub system: &'a str,
 }
 
+/// What `devices` is asked for: the names of the files that it reads, the number of a set, from 1 to 999, the name of a driver as it
+/// was given, and whether devices without findings are left out, entries of devices and critical entries are printed too.
+#[derive(Clone, Copy, Debug, PartialEq, Eq)]
+pub struct DevicesWords<'a> {
+    pub hive: &'a str,
+    pub log: Option<&'a str>,
+    pub set: Option<u32>,
+    pub of: Option<&'a str>,
+    pub findings: bool,
+    pub ids: bool,
+    pub critical: bool,
+}
+
+/// What `find` is asked for: the names of the files that it reads, a text as it was given, bytes as pairs of hexadecimal digits, whether
+/// only names or only data are searched, whether what is sought has to be the whole, and the path of the key that is searched.
+///
+/// A text or bytes are there, and the bytes are at least one pair of digits.
+#[derive(Clone, Copy, Debug, PartialEq, Eq)]
+pub struct FindWords<'a> {
+    pub hive: &'a str,
+    pub log: Option<&'a str>,
+    pub text: Option<&'a str>,
+    pub hex: Option<&'a str>,
+    pub names: bool,
+    pub data: bool,
+    pub exact: bool,
+    pub key: Option<&'a str>,
+}
+
+/// A kind of entry of `Services`.
+#[derive(Clone, Copy, Debug, PartialEq, Eq)]
+pub enum AskedKind {
+    Driver,
+    Service,
+}
+
+/// By what entries are sorted: by their names, by when they were written, or by their places in the start.
+#[derive(Clone, Copy, Debug, PartialEq, Eq)]
+pub enum AskedSort {
+    Name,
+    Written,
+    Order,
+}
+
+/// What `services` is asked for: the names of the files that it reads, the number of a set, from 1 to 999, a Start and a kind, the time
+/// stamp (in steps of 100 ns since 1601-01-01) from which on an entry has to be written, and by what entries are sorted.
+#[derive(Clone, Copy, Debug, PartialEq, Eq)]
+pub struct ServicesWords<'a> {
+    pub hive: &'a str,
+    pub log: Option<&'a str>,
+    pub set: Option<u32>,
+    pub start: Option<u32>,
+    pub kind: Option<AskedKind>,
+    pub since: Option<u64>,
+    pub sort: Option<AskedSort>,
+}
+
 /// A command by its name.
 #[derive(Clone, Copy, Debug, PartialEq, Eq)]
 pub enum CommandName {
@@ -241,6 +298,9 @@ pub enum CommandName {
     Why,
     Graph,
     Sweep,
+    Devices,
+    Find,
+    Services,
 }
 
 /// A page of help: of all commands, of one, of `help`, of `version`, or of a topic.
@@ -275,6 +335,9 @@ pub enum Command<'a> {
     Why(WhyWords<'a>),
     Graph(GraphWords<'a>),
     Sweep(SweepWords<'a>),
+    Devices(DevicesWords<'a>),
+    Find(FindWords<'a>),
+    Services(ServicesWords<'a>),
 }
 
 /// What words are read as.

@@ -18,6 +18,7 @@ use crate::asked::{
     WhatifWords, WhyWords,
 };
 use crate::count::{count_in, depth_in, encoding_named, mode_named, set_named, set_number_in};
+use crate::listings::{devices_words, find_words, services_words};
 use crate::parsing::value_of;
 use crate::reason::Reason;
 use crate::table::{CommandOption, option_named};
@@ -51,7 +52,8 @@ pub fn value<'a>(given: &Given<'_, 'a>, name: &str) -> Option<&'a str>
     }
 }
 
-fn needed<'a>(given: &Given<'_, 'a>, name: &'static str) -> Result<&'a str, Reason<'a>>
+/// The value that has to be there.
+pub fn needed<'a>(given: &Given<'_, 'a>, name: &'static str) -> Result<&'a str, Reason<'a>>
     ensures { Sees (λ t. t.now) result (needed_in (look_of given.now) name.now) }
 {
     match value(given, name) {
@@ -71,7 +73,7 @@ fn system<'a>(given: &Given<'_, 'a>) -> &'a str
 }
 
 /// The number of a set, where one is given.
-fn set_number<'a>(given: &Given<'_, 'a>, name: &str) -> Option<u32>
+pub fn set_number<'a>(given: &Given<'_, 'a>, name: &str) -> Option<u32>
     ensures { result ≡ set_in (look_of given.now) name.now }
 {
     match value(given, name) {
@@ -440,5 +442,8 @@ pub fn command_asked<'a>(
         CommandName::Why => why_words(given),
         CommandName::Graph => graph_words(given),
         CommandName::Sweep => sweep_words(given),
+        CommandName::Devices => devices_words(given),
+        CommandName::Find => find_words(given),
+        CommandName::Services => services_words(given),
     }
 }

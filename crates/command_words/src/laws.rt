@@ -3,13 +3,14 @@
 ghost use Rattle.std.specs.Prelude.{◌≡◌, ◌∷◌, ◌++◌, Err, false, List, Ok, true};
 ghost use Rattle.std.specs.List.{list_all, list_any};
 ghost use Rattle.std.specs.Prelude.{[], codes, is_ok, None, Some};
-ghost use Rattle.command_words.specs.Words.{Reason, Text};
+ghost use Rattle.std.specs.Prelude.{Bool};
+ghost use Rattle.command_words.specs.Words.{FindAsked, Reason, Text, asks, find};
 ghost use Rattle.command_words.specs.Table.{OptionRow, is_free};
 ghost use Rattle.command_words.specs.Walk.{State, no_values, walked, with_step};
 ghost use Rattle.command_words.specs.Commands.{CommandRow, commands, flag, has_places, row_named};
-ghost use Rattle.command_words.specs.Reading.{asked_of, command_read, is_verbose};
+ghost use Rattle.command_words.specs.Reading.{asked_of, command_read, is_verbose, reading_of};
 ghost use Rattle.command_words.specs.declared.asked.CommandName.{CommandName};
-ghost use Rattle.command_words.specs.Laws.{names_one, steps};
+ghost use Rattle.command_words.specs.Laws.{IsSought, names_one, steps};
 ghost use Rattle.command_words.specs.Clap.{Tells, TellsTaken, is_refused, loosened};
 
 /// The first fault from the left decides: where the words before a word have none and the word is wrong, what follows it
@@ -32,6 +33,11 @@ pub fn unnamed_options_ask_nothing()
         → list_any (names_one extra) words ≡ false → list_any (λ row. is_free row.takes) extra ≡ false
         → asked_of (record { name = name; command = command; options = rows ++ extra }) words
         ≡ asked_of (record { name = name; command = command; options = rows }) words }
+{}
+
+/// `find` is asked for a text or for bytes, and the bytes are pairs of hexadecimal digits.
+pub fn find_is_asked_for_something()
+    ensures { (words : List Text) (asked : FindAsked) (json : Bool) → reading_of words ≡ asks (find asked) json → IsSought asked }
 {}
 
 /// The value of each option of each command has a place of its own.

@@ -11,9 +11,13 @@ ghost use Rattle.command_words.specs.Walk.{attached_in, long_name, no_values, va
 ghost use Rattle.command_words.specs.Walk.{walked, with_value, with_taken, with_word, with_option, with_known, with_free, with_next, with_step, finished};
 ghost use Rattle.command_words.specs.Views.{Sees, found_seen, option_seen, values_seen, walk_seen};
 
-use crate::count::{count_in, depth_in, encoding_named, mode_named, set_named, set_number_in};
+use crate::count::{
+    count_in, depth_in, dword_in, encoding_named, is_hex, kind_named, mode_named, set_named,
+    set_number_in, sort_named,
+};
 use crate::reason::Reason;
 use crate::table::{CommandOption, Found, Takes, free_word, is_flag, option_named};
+use crate::time::time_in;
 use boot_ini::arc_path::{ArcStop, read_arc};
 use std::alloc::Global;
 
@@ -81,6 +85,11 @@ pub fn accepts(alloc: Global, takes: Takes, value: &str) -> bool
         Takes::Mode => mode_named(value).is_some(),
         Takes::Encoding => encoding_named(value).is_some(),
         Takes::Set => set_named(value).is_some(),
+        Takes::Hex => is_hex(value.as_bytes()),
+        Takes::Number => dword_in(value.as_bytes()).is_some(),
+        Takes::Kind => kind_named(value).is_some(),
+        Takes::Time => time_in(value.as_bytes()).is_some(),
+        Takes::Sort => sort_named(value).is_some(),
     }
 }
 

@@ -6,8 +6,8 @@ use Rattle.std.specs.Prelude.{slice_index_or, if◌then◌else◌}
 use Rattle.std.specs.List.{list_all, list_any, starts_with}
 use Rattle.command_words.specs.Commands.{CommandRow}
 use Rattle.command_words.specs.Clap.{ToldOption, told_options}
-use Rattle.help_text.specs.declared.texts.TheConstants as texts
-use Rattle.help_text.specs.Pages.{command_text}
+use Rattle.command_words.specs.declared.asked.Page.TheVariants as pages
+use Rattle.help_text.specs.Constants.{command_constant, page_constant}
 
 -- what the line of an option begins with, after the line before it
 abbrev pub line_start : List ℕ
@@ -48,5 +48,5 @@ is_common option = bytes_eq option.name (codes "json") || bytes_eq option.name (
 -- the page of all commands
 abbrev pub lists_options : CommandRow → Bool
 lists_options c =
-    list_all (λ o. if is_common o then has_within (codes "--" ++ o.name) texts.OVERVIEW.now else has_line (command_text c.command) o) (told_options c)
-    && has_only (told_options c) (command_text c.command)
+    list_all (λ o. if is_common o then has_within (codes "--" ++ o.name) (page_constant pages.Overview) else has_line (command_constant c.command) o) (told_options c)
+    && has_only (told_options c) (command_constant c.command)

@@ -1,17 +1,18 @@
 //! The text of each page.
 
 ghost use Rattle.std.specs.Prelude.{◌≡◌, codes};
-ghost use Rattle.help_text.specs.Pages.{command_text, page_text};
+ghost use Rattle.help_text.specs.Constants.{command_constant, page_constant};
+ghost use Rattle.help_text.specs.Pages.{page_text};
 
 use crate::texts::{
-    CHECK, CONTROL, DIFF, EXITS, EXPORT, GRAPH, HELP, IMPORT, KEY, MAKE, OVERVIEW, REPLAY, REPORT,
-    RUN, SAFE, SALVAGE, SCRIPT, SHOW, SWEEP, TWIN, VERSION, WHATIF, WHY,
+    CHECK, CONTROL, DEVICES, DIFF, EXITS, EXPORT, FIND, GRAPH, HELP, IMPORT, KEY, MAKE, OVERVIEW,
+    REPLAY, REPORT, RUN, SAFE, SALVAGE, SCRIPT, SERVICES, SHOW, SWEEP, TWIN, VERSION, WHATIF, WHY,
 };
 use command_words::{CommandName, Page};
 
-/// The text of a command's page.
+/// The constant of a command's page.
 fn command_page(command: CommandName) -> &'static [u8]
-    ensures { result.now ≡ command_text command }
+    ensures { result.now ≡ command_constant command }
 {
     match command {
         CommandName::Run => RUN,
@@ -31,12 +32,15 @@ fn command_page(command: CommandName) -> &'static [u8]
         CommandName::Why => WHY,
         CommandName::Graph => GRAPH,
         CommandName::Sweep => SWEEP,
+        CommandName::Devices => DEVICES,
+        CommandName::Find => FIND,
+        CommandName::Services => SERVICES,
     }
 }
 
-/// The text of a page: at most 36 lines of at most 80 characters of ASCII, each ended by a line feed.
-pub fn page_of(page: Page) -> &'static [u8]
-    ensures { result.now ≡ page_text page }
+/// The constant of a page.
+fn page_constant(page: Page) -> &'static [u8]
+    ensures { result.now ≡ page_constant page }
 {
     match page {
         Page::Overview => OVERVIEW,
@@ -47,6 +51,13 @@ pub fn page_of(page: Page) -> &'static [u8]
         Page::Script => SCRIPT,
         Page::Report => REPORT,
     }
+}
+
+/// The text of a page: at most 36 lines of at most 80 characters of ASCII, each ended by a line feed.
+pub fn page_of(page: Page) -> &'static [u8]
+    ensures { result.now ≡ page_text page }
+{
+    page_constant(page)
 }
 
 /// The name of the program and its version, ended by a line feed.

@@ -16,7 +16,10 @@ Predict
 Look
   show     print the hive as text
   key      print one key readably
+  find     where a text, or bytes, stand in the hive
+  services every driver and service of a control set, one a line
   check    everything suspicious about the services of a control set
+  devices  the drivers Plug and Play loads for each device, and what prevents it
   diff     compare two control sets or hives, and the boots they give
   export   write a key as registry text
 Repair
@@ -118,6 +121,47 @@ Print one key readably: when it was written, its class, values and subkeys.
   --log F      the hive's log, which recovers a dirty hive
 ";
 
+/// Of `find`.
+pub const FIND: &[u8] = b"Usage: ntboot find --hive F --text T [OPTIONS]
+       ntboot find --hive F --hex BYTES [OPTIONS]
+
+Print where a text stands in a hive: in names of keys and values, and in data
+that are text. The exit is 8 where it stands nowhere.
+
+  --hive F     the hive
+  --text T     the text, upper or lower case; \\u and four hexadecimal digits
+               are one unit
+  --hex BYTES  these bytes in data of any type, as 4d5a90; also with --text
+  --names      look for T in names alone
+  --data       look for T in data alone
+  --exact      the whole name, text or data, not a part of it
+  --key PATH   only this key and those below it; CurrentControlSet is the
+               Default set
+  --log F      the hive's log, which recovers a dirty hive
+";
+
+/// Of `services`.
+pub const SERVICES: &[u8] = b"Usage: ntboot services --hive F [OPTIONS]
+
+List the drivers and services of a control set, one a line, with everything that
+a boot asks of them and when their keys were last written.
+
+  --hive F       the SYSTEM hive
+  --log F        its log, which recovers a dirty hive
+  --set N        control set N [default: the Default set]
+  --start N      only those of Start N: 0 boot, 1 system, 2 automatic,
+                 3 demand, 4 disabled
+  --kind KIND    only drivers (driver) or services (service)
+  --since TIME   only those whose key was written at that time or later, as
+                 2012-04-04 or 2012-04-04T11:47:06Z (UTC)
+  --sort BY      name, written (the newest first) or order (the boot's)
+                 [default: as in the registry]
+
+A field that is not there is -, one that is not well formed (TYPE DATA). Marks
+at the end of a line: no-image, image-outside, no-dll, dll-outside; outside is
+outside of the Windows folder. order: the phase and the number of the attempt.
+";
+
 /// Of `check`.
 pub const CHECK: &[u8] = b"Usage: ntboot check --hive F [OPTIONS]
 
@@ -128,6 +172,23 @@ where something was found.
   --log F    its log, which recovers a dirty hive
   --set N    judge control set N alone [default: the Default set, and Select]
   --order    also entries of unlisted groups and tags
+";
+
+/// Of `devices`.
+pub const DEVICES: &[u8] = b"Usage: ntboot devices --hive F [OPTIONS]
+
+Print the drivers that Plug and Play loads for each device instance, in load
+order, and what prevents it. The exit is 8 where something was found.
+
+  --hive F     the SYSTEM hive
+  --log F      its log, which recovers a dirty hive
+  --set N      use control set N [default: the Default set]
+  --of NAME    only the devices that use the driver NAME
+  --findings   only the devices with a finding
+  --ids        also which entry of CriticalDeviceDatabase matches each device
+  --critical   also the entries of that database whose driver is not Start 0
+
+NAME is a key below Services; \\u and four hexadecimal digits are one unit.
 ";
 
 /// Of `diff`.
@@ -244,7 +305,8 @@ pub const EXITS: &[u8] = b"Exit status:
    5  the hive with its log has a fault
    6  a file could not be read
    7  the report or a file could not be written
-   8  something was found, where a command looks for something
+   8  something was found, where a command looks for something (find: nothing
+      was found)
    9  out of memory
   10  the registry text has a fault
 

@@ -68,7 +68,7 @@ plain_back first rest all plain =
 
 -- ---- the key of a spelled path
 
-folds_along : (a b z : List ℕ) → folds_same a b ≡ true → folds_same b z ≡ folds_same a z
+pub folds_along : (a b z : List ℕ) → folds_same a b ≡ true → folds_same b z ≡ folds_same a z
 folds_along [] [] z e = refl
 folds_along [] (y ∷ b) z e = absurd (false≢true e)
 folds_along (x ∷ a) [] z e = absurd (false≢true e)
@@ -87,12 +87,12 @@ passes_by : (b : Bool) (name : List ℕ) (t c : Tree) (o : Option Tree) → is_n
 passes_by true name t c o is e further = (let same : t ≡ c = cc in ap (is_named name) (sym same) ∙ is)
 passes_by false name t c o is e further = further e
 
-passes : (name : List ℕ) (ts : List Tree) (c : Tree) → find (is_named name) ts ≡ Some c → is_named name c ≡ true
+pub passes : (name : List ℕ) (ts : List Tree) (c : Tree) → find (is_named name) ts ≡ Some c → is_named name c ≡ true
 passes name [] c e = absurd cc
 passes name (t ∷ ts) c e =
     passes_by (is_named name t) name t c (find (is_named name) ts) refl e (λ f. passes name ts c f)
 
-alike : (a b : List ℕ) (ts : List Tree) → folds_same a b ≡ true → find (is_named b) ts ≡ find (is_named a) ts
+pub alike : (a b : List ℕ) (ts : List Tree) → folds_same a b ≡ true → find (is_named b) ts ≡ find (is_named a) ts
 alike a b [] e = refl
 alike a b (t ∷ ts) e =
     ap (λ (c : Bool). cond c (Some t) (find (is_named b) ts)) (folds_along a b (head t).name e)
@@ -109,13 +109,13 @@ leads_by name path root (Some c) t is found further =
     (alike name (head c).name (children root) (passes name (children root) c is) ∙ is)
     ∙ further c found
 
-leads : (path : List (List ℕ)) (root t : Tree) → find_key path root ≡ Some t
+pub leads : (path : List (List ℕ)) (root t : Tree) → find_key path root ≡ Some t
     → find_key (spelled path root) root ≡ Some t
 leads [] root t found = found
 leads (name ∷ path) root t found =
     leads_by name path root (find (is_named name) (children root)) t refl found (λ c f. leads path c t f)
 
-no_current : (root c : Tree) (name : List ℕ) → find (is_named name) (children root) ≡ Some c
+pub no_current : (root c : Tree) (name : List ℕ) → find (is_named name) (children root) ≡ Some c
     → means_current root name ≡ false
 no_current root c name is = by_test (folds_same current name) refl
   where
@@ -135,7 +135,7 @@ true_by name path root (Some c) is =
     let no = no_current root c (head c).name found in
     rw no refl
 
-spelled_true : (path : List (List ℕ)) (root : Tree) → true_path root (spelled path root) ≡ Some (spelled path root)
+pub spelled_true : (path : List (List ℕ)) (root : Tree) → true_path root (spelled path root) ≡ Some (spelled path root)
 unfolding true_path
 spelled_true [] root = refl
 spelled_true (name ∷ path) root = true_by name path root (find (is_named name) (children root)) refl

@@ -80,7 +80,8 @@ fn units_form(alloc: Global, kind: u32, units: &[u16]) -> Result<DataForm, Alloc
     }
 }
 
-fn is_string_kind(kind: u32) -> bool
+/// Whether a type is one of those whose data are strings: 1, 2, 6 and 7.
+pub fn is_string_kind(kind: u32) -> bool
     ensures { result ≡ is_string_kind kind }
 {
     kind == 1 || kind == 2 || kind == 6 || kind == 7

@@ -40,13 +40,10 @@ fn default_path(alloc: Global, root: &Key, rest: &[Units]) -> Result<Option<Name
     Ok(Some(path_from(alloc, set_name(alloc, number)?, rest)?))
 }
 
-/// The path with the true set in place of `CurrentControlSet`; none where there is no such set.
+/// The path with the true set in place of `CurrentControlSet`; none where there is no such set. Each key of the tree must be one that a
+/// hive can hold.
 #[tactic(auto, unfolding(crate::specs::Found::true_path))]
-pub(crate) fn true_path(
-    alloc: Global,
-    root: &Key,
-    path: &Names,
-) -> Result<Option<Names>, AllocError>
+pub fn true_path(alloc: Global, root: &Key, path: &Names) -> Result<Option<Names>, AllocError>
     requires { HoldsKeys root.now }
     ensures { IfOk result (λ found. found ≡ true_path root.now path.now) }
 {
@@ -60,7 +57,7 @@ pub(crate) fn true_path(
 }
 
 /// The names of the keys to which a path leads, as they are spelled, as far as there are any.
-pub(crate) fn spelled(alloc: Global, root: &Key, path: &Names) -> Result<Vec<Units>, AllocError>
+pub fn spelled(alloc: Global, root: &Key, path: &Names) -> Result<Vec<Units>, AllocError>
     ensures { IfOk result (λ names. names.items ≡ spelled path.now root.now) }
 {
     let mut names = Vec::new(alloc);

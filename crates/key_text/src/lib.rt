@@ -20,7 +20,8 @@ mod values;
 mod walk;
 mod word;
 
-pub use data::{DataForm, data_form};
+pub use data::{DataForm, data_form, is_string_kind};
+pub use finding::{spelled, true_path};
 pub use kind::push_kind;
 pub use laws::{
     a_date_stands_for_its_day, a_deeper_report_begins_with_the_key, a_form_determines_its_data,
@@ -30,4 +31,6 @@ pub use laws::{
 };
 pub use printing::{push_form, push_form_fields};
 pub use report::key_report;
+pub use split::split_at;
+pub use stamp::push_moment;
 pub use word::path_in;

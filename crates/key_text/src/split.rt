@@ -7,7 +7,7 @@ use nt_bytes::{Names, Units};
 use std::alloc::{AllocError, Global};
 
 /// The parts between units of this value, empty ones too.
-pub(crate) fn split_at(alloc: Global, units: &[u16], mark: u16) -> Result<Names, AllocError>
+pub fn split_at(alloc: Global, units: &[u16], mark: u16) -> Result<Names, AllocError>
     ensures { IfOk result (λ parts. parts ≡ slice_split (λ u. u == mark) units.now) }
 {
     let mut parts = Names::new(alloc);

@@ -67,7 +67,7 @@ fn push_fraction(out: &mut Vec<u8>, steps: u32) -> Result<(), AllocError>
 
 /// Appends the moment of a stamp in UTC, in steps of 100 ns since 1601-01-01T00:00:00: `2012-04-02T11:47:06.6718750Z`.
 #[tactic(auto, unfolding(crate::specs::Stamps::stamp_text))]
-pub(crate) fn push_moment(out: &mut Vec<u8>, stamp: u64) -> Result<(), AllocError>
+pub fn push_moment(out: &mut Vec<u8>, stamp: u64) -> Result<(), AllocError>
     ensures { OnOk result (out.new.items ≡ out.old.items ++ stamp_text stamp) }
 {
     let seconds = stamp / 10_000_000;
