@@ -1,6 +1,6 @@
 -- What is wrong with the filter drivers of a device class?
 --
--- The class keys and their two lists of filter drivers: Windows Internals, 4th edition, driver loading. That a class is told of whether a device
+-- The class keys and their two lists of filter drivers: Windows Internals, 4th edition, driver loading. That a class is reported whether a device
 -- has it or not is this project's own.
 use Rattle.std.specs.Prelude.{ℕ, ◌&&◌, if◌then◌else◌, List, [], ◌∷◌, ◌++◌, map, filter, codes, Option, Some, None, unwrap_or}
 use Rattle.std.specs.List.{flat_map}

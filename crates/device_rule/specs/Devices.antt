@@ -1,4 +1,4 @@
--- Which devices does a control set know, and what is told of each?
+-- Which devices does a control set know, and what is reported of each?
 --
 -- The layout of `Enum`, the load order of the five values, bit 0 of ConfigFlags: Windows Internals, 4th edition, device enumeration and driver
 -- loading. That a legacy device has no findings, and which values are called malformed: this project's own.
@@ -70,7 +70,7 @@ abbrev pub class_name : Option (List ℕ) → Option Tree → Option (List ℕ)
 class_name None class = None
 class_name (Some guid) class = Some (class_label guid class)
 
--- ---- what is told of its values
+-- ---- what is reported of its values
 
 -- what it is called
 abbrev pub called : Tree → Option (List ℕ)
@@ -165,7 +165,7 @@ block_with ids scope d guid class = record {
   lines = block_lines ids scope d guid class;
 }
 
--- what is told of a device, with its entry of the database where that is asked for
+-- what is reported of a device, with its entry of the database where that is asked for
 abbrev pub block_of : Bool → Scope → Device → Block
 block_of ids scope d =
     let guid : Option (List ℕ) = text_of (codes "ClassGUID") d.key in block_with ids scope d guid (class_of scope.classes guid)

@@ -1,4 +1,4 @@
-//! What is told of a device.
+//! What is reported of a device.
 
 ghost use Rattle.std.specs.Prelude.{◌≡◌, ◌≤◌, ◌++◌, count_by, if◌then◌else◌, IfOk, OnOk, Some};
 ghost use Rattle.std.specs.List.{list_any};
@@ -22,9 +22,9 @@ use std::alloc::{AllocError, Global};
 
 /// The lines on a device, and whether it is enabled.
 #[derive(Drop)]
-pub(crate) struct Block {
-    pub(crate) enabled: bool,
-    pub(crate) lines: DeviceLines,
+pub struct Block {
+    pub enabled: bool,
+    pub lines: DeviceLines,
 }
 
 // ---- its state
@@ -184,7 +184,7 @@ fn block_with(
     Ok(Block { enabled, lines })
 }
 
-/// What is told of a device, with its entry of the database where that is asked for.
+/// What is reported of a device, with its entry of the database where that is asked for.
 pub(crate) fn block_of(
     alloc: Global,
     ids: bool,

@@ -124,7 +124,7 @@ fn matched(alloc: Global, scope: &Scope, key: &Key) -> Result<DeviceLines, Alloc
     first_lines(alloc, scope, ids.as_slice())
 }
 
-/// Moves the lines behind others.
+/// Moves the lines after others.
 pub(crate) fn append(lines: &mut DeviceLines, more: DeviceLines) -> Result<(), AllocError>
     ensures { OnOk result (lines.new ≡ lines.old ++ more) }
 {

@@ -11,13 +11,13 @@ use std::alloc::{AllocError, Global};
 
 /// An instance of a device: its path below `Enum`, and its key.
 #[derive(Drop)]
-pub(crate) struct Device {
-    pub(crate) path: Names,
-    pub(crate) key: Key,
+pub struct Device {
+    pub path: Names,
+    pub key: Key,
 }
 
 /// Devices, in the order of the registry.
-pub(crate) type Devices = Row<Device>;
+pub type Devices = Row<Device>;
 
 /// The path by these three names.
 fn path(

@@ -19,7 +19,10 @@ mod scope;
 mod stack;
 mod values;
 
+pub use block::Block;
+pub use device::{Device, Devices};
 pub use lines::{DeviceLine, DeviceLines, DeviceState, Driver, DriverState, Field, Role};
+pub use named_keys::NamedKeys;
 pub use names::{CLASS, CRITICAL_DEVICE_DATABASE, ENUM};
 pub use report::{DeviceReport, device_report};
-pub use scope::{Selection, SetKeys};
+pub use scope::{DeviceSet, Scope, Selection, SetKeys};

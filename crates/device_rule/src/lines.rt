@@ -1,4 +1,4 @@
-//! What is told of devices, line by line.
+//! What is reported of devices, line by line.
 
 use nt_bytes::{Names, Row, Units};
 
@@ -64,7 +64,7 @@ pub enum Field {
 /// A line.
 #[derive(Drop)]
 pub enum DeviceLine {
-    /// The set of this number is told of.
+    /// The set of this number is reported.
     Set {
         number: u32,
     },
@@ -130,7 +130,7 @@ pub enum DeviceLine {
         entry: Units,
         driver: Driver,
     },
-    /// How many devices are told of, of how many.
+    /// How many devices are reported, of how many.
     Devices {
         count: u64,
         of: u64,

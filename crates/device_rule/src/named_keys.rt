@@ -14,7 +14,7 @@ use std::marker::Model;
 
 /// Keys in the order of the registry. Contracts see their list.
 #[derive(Drop)]
-pub(crate) struct NamedKeys {
+pub struct NamedKeys {
     keys: Vec<Key>,
     places: NamePlaces,
 }

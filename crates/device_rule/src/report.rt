@@ -70,7 +70,7 @@ fn shown_blocks(
     Ok(blocks)
 }
 
-/// The blocks that are told.
+/// The blocks that are reported.
 fn blocks_in(alloc: Global, set: &DeviceSet, only: &Selection) -> Result<Blocks, AllocError>
     ensures { IfOk result (λ b. b ≡ blocks_in set.now only.now) }
 {
@@ -235,8 +235,8 @@ fn no_set(alloc: Global, number: u32) -> Result<DeviceReport, AllocError>
     Ok(DeviceReport { lines, found: 1 })
 }
 
-/// What is told of the set of a number by its keys; they are none where there is no such set. Takes n log n time in the keys and
-/// what they hold, and in what is told.
+/// What is reported of the set of a number by its keys; they are none where there is no such set. Takes n log n time in the keys and
+/// what they hold, and in what is reported.
 #[tactic(auto, unfolding(crate::specs::Report::device_lines, crate::specs::Report::device_findings))]
 pub fn device_report(
     alloc: Global,

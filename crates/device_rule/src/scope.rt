@@ -26,33 +26,33 @@ pub struct SetKeys {
 /// What is asked for.
 #[derive(Drop)]
 pub struct Selection {
-    /// The name of a driver, where only what it is loaded for is told.
+    /// The name of a driver, where only what it is loaded for is reported.
     pub of: Option<Units>,
-    /// Only the devices with a finding are told.
+    /// Only the devices with a finding are reported.
     pub findings: bool,
-    /// The entry of the database that each device has is told too.
+    /// The entry of the database that each device has is reported too.
     pub ids: bool,
-    /// The entries of the database are told too.
+    /// The entries of the database are reported too.
     pub critical: bool,
 }
 
 /// The keys by which devices are judged: services, classes and entries of the database.
 #[derive(Drop)]
-pub(crate) struct Scope {
-    pub(crate) services: NamedKeys,
-    pub(crate) classes: NamedKeys,
-    pub(crate) database: NamedKeys,
+pub struct Scope {
+    pub services: NamedKeys,
+    pub classes: NamedKeys,
+    pub database: NamedKeys,
 }
 
 /// What the keys of a control set are read as.
 #[derive(Drop)]
-pub(crate) struct DeviceSet {
+pub struct DeviceSet {
     /// It has a key `Enum`.
-    pub(crate) has_enum: bool,
+    pub has_enum: bool,
     /// It has a key `CriticalDeviceDatabase`.
-    pub(crate) has_database: bool,
-    pub(crate) scope: Scope,
-    pub(crate) devices: Devices,
+    pub has_database: bool,
+    pub scope: Scope,
+    pub devices: Devices,
 }
 
 /// The children of a key, found by name.

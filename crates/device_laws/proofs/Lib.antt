@@ -1,0 +1,16 @@
+pub mod ListLemmas
+pub mod TellLemmas
+pub mod ReadLemmas
+pub mod BlockLemmas
+pub mod StackLemmas
+pub mod SameLemmas
+pub mod PlainLemmas
+pub mod FoundLemmas
+pub mod SoundLemmas
+pub mod AgreeLemmas
+pub mod BareLemmas
+pub mod LostLemmas
+pub mod FilterLemmas
+pub mod RepairLemmas
+pub mod DemandedLemmas
+pub mod StartedLemmas
