@@ -1,0 +1,5 @@
+pub mod PrintLemmas
+pub mod TellLemmas
+pub mod ReportLemmas
+pub mod EndLemmas
+pub mod HexLemmas

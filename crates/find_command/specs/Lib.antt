@@ -1,0 +1,4 @@
+pub mod Asked
+pub mod Answer
+pub mod Prints
+pub mod Tells
