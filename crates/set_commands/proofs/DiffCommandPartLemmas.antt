@@ -22,7 +22,7 @@ use Rattle.set_commands.proofs.StartLemmas.{services_same, listed_same, orders_s
 use Rattle.set_commands.specs.diff_command.Compared.{found_lines}
 use Rattle.set_commands.specs.diff_command.Read.{StandsFor}
 
--- ---- a boot: it says the same whatever set it keeps a copy of
+-- ---- a boot: it prints the same whatever set it keeps a copy of
 
 abbrev plain : Course → Course
 plain c = record { lines = c.lines; start = without_clone c.start }
@@ -92,10 +92,13 @@ lines_plain set =
     (played_plain set third
     ∙ ap (played_by plans) (played_plain set second ∙ ap (played_by plans) (played_plain set first ∙ ap (played_by plans) (begun_plain set))))
 
+-- a set and what stands for it are started alike
+pub start_same : (set part : Tree) → ShowsSet set part → start_lines_of part ≡ start_lines_of set
+start_same set part shows =
+    lines_plain part ∙ (λ i. lines_by (λ phase tried. plan_same set part shows phase tried i)) ∙ sym (lines_plain set)
+
 boot_same : (set part : Tree) → ShowsSet set part → boot_of part ≡ boot_of set
-boot_same set part shows =
-    ap (boot_from no_boot)
-    (lines_plain part ∙ (λ i. lines_by (λ phase tried. plan_same set part shows phase tried i)) ∙ sym (lines_plain set))
+boot_same set part shows = ap (boot_from no_boot) (start_same set part shows)
 
 -- ---- two sets
 

@@ -1,4 +1,4 @@
--- Keys found by name, and names that are told apart by their lengths.
+-- Keys found by name, and names that differ in their lengths.
 use Rattle.std.proofs.Common.{◌≡◌, ℕ, Bool, true, false, cond, nat_eq, List, [], ◌∷◌, ◌++◌, length, map, Option, Some, None, refl, sym, ap, ◌∙◌, inl, inr, arith}
 use Rattle.std.specs.Prelude.{find, option_map, option_and_then, ◌&&◌}
 use Rattle.std.proofs.lemmas.Bool.{false_from_ne_true}

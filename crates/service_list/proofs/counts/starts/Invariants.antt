@@ -1,0 +1,10 @@
+use Rattle.std.proofs.Common.{◌≡◌, ◌≤◌, take}
+use Rattle.std.specs.Prelude.{count_by}
+use Rattle.service_list.specs.Counts.{starts_as}
+use Rattle.service_list.proofs.counts.starts.Given as goal
+
+abbrev pub invariant-loop-entry : goal.invariant-loop-entry
+invariant-loop-entry l = record {
+  count : l.count ≡ count_by (starts_as l.start) (take l.entry-index l.entries);
+  few : l.count ≤ l.entry-index;
+}

@@ -1,0 +1,10 @@
+pub mod Fields
+pub mod Folders
+pub mod Kinds
+pub mod Marks
+pub mod Overrides
+pub mod Turns
+pub mod Entries
+pub mod Sorting
+pub mod Counts
+pub mod Listing

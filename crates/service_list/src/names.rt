@@ -1,0 +1,16 @@
+//! The names of keys and values of a service that no start reads, as UTF-16 units.
+
+/// `Parameters`. The subkey of what the service itself reads.
+pub(crate) const PARAMETERS: [u16; 10] = [
+    0x50, 0x61, 0x72, 0x61, 0x6d, 0x65, 0x74, 0x65, 0x72, 0x73,
+];
+
+/// `ServiceDll`. The library that svchost loads for the service.
+pub(crate) const SERVICE_DLL: [u16; 10] = [
+    0x53, 0x65, 0x72, 0x76, 0x69, 0x63, 0x65, 0x44, 0x6c, 0x6c,
+];
+
+/// `StartOverride`. The subkey of other Starts, each under a number.
+pub(crate) const START_OVERRIDE: [u16; 13] = [
+    0x53, 0x74, 0x61, 0x72, 0x74, 0x4f, 0x76, 0x65, 0x72, 0x72, 0x69, 0x64, 0x65,
+];
