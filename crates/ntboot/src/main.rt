@@ -18,7 +18,7 @@ ghost use Rattle.command_parts.specs.command_parts.Refusals.{IsToldAs};
 ghost use Rattle.command_parts.specs.declared.command_parts.refusal.Refusal.TheVariants.{Usage as BadUsage};
 ghost use Rattle.ntboot_cli.specs.Inputs.{arguments_in};
 
-use clean_hive::clean_hive;
+use clean_hive::hive_between;
 use command_words::texts;
 use mem_edge::MemDisk;
 use nt_edge::HostStop;
@@ -65,12 +65,9 @@ fn finish(
     ensures fault { IsErrOf result Write → Rises host.old.writes host.new.writes }
     ensures counted { OnOk result (host.new.writes ≡ host.old.writes) }
 {
-    if host.wants_a_clean_hive() {
-        match clean_hive(alloc, disk) {
-            Ok(Some(hive)) => host.put_between(hive.as_slice())?,
-            Ok(None) => {}
-            Err(_) => return Err(HostStop::Memory),
-        }
+    let wanted = host.wants_a_clean_hive();
+    if let Some(hive) = hive_between(alloc, wanted, disk)? {
+        host.put_between(hive.as_slice())?;
     }
     host.finish()
 }

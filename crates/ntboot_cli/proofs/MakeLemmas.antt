@@ -1,5 +1,5 @@
 -- What `make` leaves.
-use Rattle.std.proofs.Common.{◌≡◌, ◌≤◌, ◌+◌, ◌++◌, inl, inr, ℕ, zero, suc, false, List, [], ◌∷◌, Option, None, Some, refl, sym, ap, subst, ◌∙◌, arith}
+use Rattle.std.proofs.Common.{◌≡◌, ◌≤◌, ◌+◌, ◌++◌, inl, inr, ℕ, false, List, [], ◌∷◌, Option, None, refl, sym, ap, subst, ◌∙◌, arith}
 use Rattle.std.specs.Prelude.{Result, Ok, Err, IfOk, OnErr}
 use Rattle.hive_model.specs.Image.{Arming}
 use Rattle.nt_edge.specs.Bench.{KeepsOrders}
@@ -32,30 +32,14 @@ use Rattle.command_parts.specs.command_parts.Leaves.{more, named}
 use Rattle.ntboot_cli.specs.Made.{PlaysMade, make_script, made_state, made_going, made_run, made_text, summary_line, told, IsMade, IsPartMade}
 use Rattle.report_text.specs.declared.line_text.form.ReportForm.{ReportForm}
 use Rattle.report_text.specs.declared.line_text.form.ReportForm.TheVariants.{Text}
-use Rattle.command_parts.specs.command_parts.Placed.{placed_disk, IsUntouchedBy}
-use Rattle.command_parts.specs.command_parts.Refusals.{Answer, Ends, IsToldAs}
-use Rattle.command_parts.specs.command_parts.Saves.{Saves, saved_count, Settles, FinishesAs}
+use Rattle.command_parts.specs.command_parts.Placed.{placed_disk}
+use Rattle.command_parts.specs.command_parts.Refusals.{Ends, IsToldAs}
+use Rattle.command_parts.specs.command_parts.Saves.{Saves, saved_count, TellsFirst, Settles, FinishesAs}
 use Rattle.command_parts.proofs.DecideLemmas.{memory_decides, told_unused, told_unread}
 use Rattle.command_parts.proofs.LeaveLemmas.{no_front}
-use Rattle.twin_command.proofs.TwinnedLemmas.{was_said}
-
-abbrev pub done_with : List ℕ → Answer
-done_with text = record { status = statuses.Done; text = text }
+use Rattle.command_parts.proofs.SaveLemmas.{count_few, done_with, more_few, tells-first, untouched_told, was_said}
 
 -- ---- the disk
-
-more_few : (n : ℕ) → n ≤ 2 → more n 0 ≡ n
-more_few zero le = refl
-more_few (suc zero) le = refl
-more_few (suc (suc zero)) le = refl
-more_few (suc (suc (suc n))) le = absurd (omega (arith, le))
-
-named_few : (name : Option (List ℕ)) → named name ≤ 1
-named_few None = omega arith
-named_few (Some name) = omega arith
-
-count_few : (saves : Saves) → saved_count saves ≤ 2
-count_few saves = omega (arith, named_few saves.hive, named_few saves.log)
 
 takings_are : (n : ℕ) (mid after : DiskState) → n ≤ 2 → mid.history.takings ≡ 0 → Settles n mid after
     → after.history.takings ≡ n
@@ -106,37 +90,46 @@ module _ (form : ReportForm) (usual : Usual) (words : MakeAsked) where
   pub unmade : (host : HostState) (disk : DiskState) → disk.on ≡ false → IsPartMade 0 disk
       → MakesAlone form (Ok usual) words statuses.Memory host host disk
   unmade host disk off part =
-      memory_decides (Made disk) saves host disk off
-      (inr (no_front (made_text form usual words.count) host.said host.said refl), part_more (saved_count saves) disk part)
+      memory_decides (Made disk) saves host disk off (
+        inr (no_front (made_text form usual words.count) host.said host.said refl),
+        part_more (saved_count saves) disk part,
+        inl (omega (arith, part.taken)),
+      )
+
+  first_made : (text old new : List ℕ) (taken : ℕ) (disk : DiskState) → text ≡ made_text form usual words.count
+      → IsMade usual words.count taken disk → ((taken ≡ 0 → ⊥) → new ≡ old ++ text)
+      → TellsFirst (made_text form usual words.count) disk old new
+  first_made text old new taken disk same made first =
+      tells-first (made_text form usual words.count) taken disk old new made.taken
+      (λ some. first some ∙ ap (λ (t : List ℕ). old ++ t) same)
 
   ends_made : (status : Status) (text old new : List ℕ) (taken : ℕ) (disk : DiskState) → IsToldAs statuses.Done status
       → text ≡ made_text form usual words.count
       → taken ≤ saved_count saves → (status ≡ statuses.Done → taken ≡ saved_count saves)
-      → IsMade usual words.count taken disk → Ends (done_with text) status old new
-      → Made disk status old new
-  ends_made status text old new taken disk (inl is) same few all made end =
+      → IsMade usual words.count taken disk → ((taken ≡ 0 → ⊥) → new ≡ old ++ text)
+      → Ends (done_with text) status old new → Made disk status old new
+  ends_made status text old new taken disk (inl is) same few all made first end =
       let done = subst (λ (t : List ℕ). Ends (done_with t) statuses.Done old new) same
       (subst (λ (s : Status). Ends (done_with text) s old new) is end) in
       let P : ℕ → Type 0 = λ n. IsMade usual words.count n disk in
       subst (λ (s : Status). Made disk s old new) (sym is)
       (was_said (made_text form usual words.count) old new done, subst P (all is) made)
-  ends_made status text old new taken disk (inr (inl is)) same few all made end =
+  ends_made status text old new taken disk (inr (inl is)) same few all made first end =
       let part = subst (λ (t : List ℕ). Ends (done_with t) statuses.WriteFault old new) same
       (subst (λ (s : Status). Ends (done_with text) s old new) is end) in
-      subst (λ (s : Status). Made disk s old new) (sym is)
-      (part, part_made usual words.count taken (saved_count saves) disk few made)
-  ends_made status text old new taken disk (inr (inr is)) same few all made end =
+      subst (λ (s : Status). Made disk s old new) (sym is) (
+        part,
+        part_made usual words.count taken (saved_count saves) disk few made,
+        first_made text old new taken disk same made first,
+      )
+  ends_made status text old new taken disk (inr (inr is)) same few all made first end =
       let part = subst (λ (t : List ℕ). Ends (done_with t) statuses.Memory old new) same
       (subst (λ (s : Status). Ends (done_with text) s old new) is end) in
-      subst (λ (s : Status). Made disk s old new) (sym is)
-      (part, part_made usual words.count taken (saved_count saves) disk few made)
-
-  untouched_told : (status : Status) (disk : DiskState) → IsToldAs statuses.Done status → IsUntouchedBy status disk
-  untouched_told status disk (inl is) = (let P : Status → Type 0 = λ s. IsUntouchedBy s disk in subst P (sym is) tt)
-  untouched_told status disk (inr (inl is)) =
-      (let P : Status → Type 0 = λ s. IsUntouchedBy s disk in subst P (sym is) tt)
-  untouched_told status disk (inr (inr is)) =
-      (let P : Status → Type 0 = λ s. IsUntouchedBy s disk in subst P (sym is) tt)
+      subst (λ (s : Status). Made disk s old new) (sym is) (
+        part,
+        part_made usual words.count taken (saved_count saves) disk few made,
+        first_made text old new taken disk same made first,
+      )
 
   -- the line was printed and the disk saved, or that was stopped
   pub finished_makes : (summary : Summary) (line : List ℕ) (status : Status) (old new : HostState)
@@ -154,7 +147,7 @@ module _ (form : ReportForm) (usual : Usual) (words : MakeAsked) where
             counts = f.leaves.counts;
             said = λ tells.
                 ends_made status line old.said new.said f.taken after f.told text f.few f.all
-                (is_made usual words.count f.taken mid after two made f.settles) (f.leaves.said tells);
+                (is_made usual words.count f.taken mid after two made f.settles) (f.first tells) (f.leaves.said tells);
           };
           files = f.files;
           off = f.settles.on ∙ off;

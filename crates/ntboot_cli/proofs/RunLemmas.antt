@@ -49,13 +49,13 @@ use Rattle.command_parts.specs.declared.command_parts.refusal.Refusal.{Refusal}
 use Rattle.command_parts.specs.declared.command_parts.status.Status.{Status}
 use Rattle.command_parts.specs.declared.command_parts.status.Status.TheVariants as statuses
 use Rattle.command_parts.specs.command_parts.Decides.{Decides, DecidesAlone}
-use Rattle.ntboot_cli.specs.Answer.{IsChecked, saves_of, RunsWhole, RunsFront, EndsRun, EndsHive, EndsInputs, run_in}
+use Rattle.ntboot_cli.specs.Answer.{IsChecked, saves_of, RunsWhole, RunsFront, RunsPart, EndsRun, EndsHive, EndsInputs, run_in}
 use Rattle.command_parts.specs.command_parts.Leaves.{Looks, CountsBy, stop_in, stopped_as}
 use Rattle.ntboot_cli.specs.Made.{told}
 use Rattle.command_parts.specs.command_parts.Placed.{image_in, placed_disk, IsUntouchedBy}
 use Rattle.command_parts.specs.command_parts.Refusals.{refusal_text}
-use Rattle.command_parts.specs.command_parts.Saves.{Saves, saved_status, FilesAs, Settles, SavesBoth}
-use Rattle.command_parts.proofs.DecideLemmas.{stopped_decides, unrun}
+use Rattle.command_parts.specs.command_parts.Saves.{Saves, saved_status, FilesAs, StopsSaving, KeepsAll, Settles, SavesBoth}
+use Rattle.command_parts.proofs.DecideLemmas.{stopped_decides, unrun, unsaved}
 use Rattle.command_parts.proofs.SaveLemmas.{counts_saved, files_saved, untouched_saved, unused_saved, unread_saved}
 use Rattle.command_parts.proofs.LeaveLemmas.{keeps_then, fault_then, no_front}
 
@@ -167,7 +167,7 @@ saved_decides form inputs saves script summary r status old mid new before left 
               ));
         };
         files = λ tells.
-            subst (λ (f : Files). FilesAs saves (saved_status r) after.held f new.files) (host.files tells)
+            subst (λ (f : Files). FilesAs saves (saved_status r) after f new.files) (host.files tells)
             (files_saved saves r mid new left after (host.keeps.tells ∙ tells) s);
         off = s.settles.on ∙ off;
         untouched = untouched_saved saves r mid new left after after s;
@@ -204,6 +204,7 @@ module _ (form : ReportForm) (inputs : Inputs) (saves : Saves) (script : List Ev
     reports = front;
     good = front_good form (choices inputs.ini inputs.system) (map event_in inputs.script) any.0 old.said new.said
         (placed_disk inputs.hive) after front;
+    untaken = front.grew.takings;
   }
 
   ends_stopped : (stop : RunStop) → ReportsFront form (run_in inputs any.0) old.said new.said (placed_disk inputs.hive) after
@@ -217,9 +218,9 @@ module _ (form : ReportForm) (inputs : Inputs) (saves : Saves) (script : List Ev
   counts_stopped stops.Memory c = c
 
   files_stopped : (stop : RunStop) → new.files ≡ old.files
-      → FilesAs saves (stop_status stop) after.held old.files new.files
-  files_stopped stops.Write is = λ q other. ap (λ (f : Files). f q) is
-  files_stopped stops.Memory is = λ q other. ap (λ (f : Files). f q) is
+      → FilesAs saves (stop_status stop) after old.files new.files
+  files_stopped stops.Write is = unsaved saves after old.files new.files is
+  files_stopped stops.Memory is = unsaved saves after old.files new.files is
 
   untouched_stopped : (stop : RunStop) → IsUntouchedBy (stop_status stop) after
   untouched_stopped stops.Write = tt
@@ -254,6 +255,14 @@ module _ (form : ReportForm) (inputs : Inputs) (saves : Saves) (script : List Ev
         unread = unread_stopped stop;
       } in
       subst (λ (t : Status). DecidesAlone (EndsHive form inputs saves after) saves t old new after) (sym is) decided
+
+-- no file was changed, or the whole report was printed
+pub printed_first : (form : ReportForm) (inputs : Inputs) (w : Woken) (saves : Saves) (disk : DiskState) (old new : List ℕ)
+    (before after : Files) → RunsPart form inputs w saves (placed_disk inputs.hive) disk old new
+    → StopsSaving saves disk before after
+    → KeepsAll before after ⊎ ((taken : ℕ) × RunsWhole form inputs w taken (placed_disk inputs.hive) disk old new)
+printed_first form inputs w saves disk old new before after (inl front) stops = inl (stops.untaken front.untaken)
+printed_first form inputs w saves disk old new before after (inr (taken, few, whole)) stops = inr (taken, whole)
 
 -- ---- before the run
 

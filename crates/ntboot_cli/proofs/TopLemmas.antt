@@ -54,7 +54,7 @@ others_kept : (form : ReportForm) (wanted : Result HiveFiles Refusal) (path : Li
 others_kept form (Err r) path name before after status old new end = same_kept before after name end.1
 others_kept form (Ok files) path name before after status old new (inl (fault, load, ends, same)) =
     same_kept before after name same
-others_kept form (Ok files) path name before after status old new (inr (inl (placed, loads, ends, puts))) =
+others_kept form (Ok files) path name before after status old new (inr (inl (placed, loads, ends, puts, first))) =
     puts_kept name (export_of form path placed.state.tree).put status before after puts
 others_kept form (Ok files) path name before after status old new (inr (inr (stop, said, same))) =
     same_kept before after name same

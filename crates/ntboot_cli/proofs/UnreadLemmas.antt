@@ -1,9 +1,9 @@
 -- There was no memory for the command line: nothing was printed and nothing done, which every command allows.
-use Rattle.std.proofs.Common.{◌≡◌, inl, inr, ℕ, Bool, true, false, List, Option, None, Some, refl, sym, subst, arith}
+use Rattle.std.proofs.Common.{◌≡◌, inl, inr, ℕ, Bool, true, false, List, Option, None, Some, refl, sym, ap, subst, arith}
 use Rattle.std.specs.Prelude.{Result, Ok, Err}
 use Rattle.nt_edge.specs.Disk.{DiskState, new_state}
 use Rattle.nt_edge.specs.Host.{Files, HostState}
-use Rattle.command_words.specs.Words.{Reading, asks, help, refused, version, sweep, graph, why, diff, salvage, whatif, check, key, replay, export, import, twin, control, safe, run, show, make}
+use Rattle.command_words.specs.Words.{Reading, asks, help, refused, version, services, find, devices, sweep, graph, why, diff, salvage, whatif, check, key, replay, export, import, twin, control, safe, run, show, make}
 use Rattle.command_words.specs.Words.{MakeAsked}
 use Rattle.command_parts.specs.declared.command_parts.inputs.HiveFiles.{HiveFiles}
 use Rattle.command_parts.specs.declared.command_parts.refusal.Refusal.{Refusal}
@@ -15,7 +15,7 @@ use Rattle.command_parts.specs.declared.command_parts.reporting.FileReport.{File
 use Rattle.command_parts.specs.command_parts.Refusals.{Answer, refusal_text}
 use Rattle.command_parts.specs.command_parts.Reporting.{EndsReport, EndsTold, report_answer}
 use Rattle.command_parts.specs.command_parts.Saves.{Saves, no_saves}
-use Rattle.command_parts.proofs.DecideLemmas.{memory_decides, new_off, unrun}
+use Rattle.command_parts.proofs.DecideLemmas.{memory_decides, new_off, unrun, unsaved}
 use Rattle.command_parts.proofs.LeaveLemmas.{no_front}
 use Rattle.hive_alt.specs.Schemes.{Standing}
 use Rattle.report_text.specs.declared.line_text.form.ReportForm.{ReportForm}
@@ -26,6 +26,9 @@ use Rattle.set_commands.specs.check_command.Answer.{question_in as check_questio
 use Rattle.start_commands.specs.whatif_command.Answer.{question_in as whatif_question_in}
 use Rattle.start_commands.specs.why_command.Answer.{question_in as why_question_in}
 use Rattle.start_commands.specs.graph_command.Answer.{question_in as graph_question_in}
+use Rattle.device_command.specs.Answer.{question_in as devices_question_in}
+use Rattle.find_command.specs.Answer.{question_in as find_question_in}
+use Rattle.services_command.specs.Answer.{question_in as services_question_in}
 use Rattle.sweep_command.specs.sweep_command.Answer.{files_asked, EndsSweep}
 use Rattle.sweep_command.specs.declared.sweep_inputs.inputs.SweepInputs.{SweepInputs}
 use Rattle.sweep_command.specs.sweep_inputs.Inputs.{inputs_in as sweep_inputs_in}
@@ -38,7 +41,7 @@ use Rattle.text_commands.specs.Imported.{EndsImport, import_how, import_saves}
 use Rattle.text_commands.specs.Exported.{EndsExported}
 use Rattle.ntboot_cli.specs.declared.inputs.Inputs.{Inputs}
 use Rattle.ntboot_cli.specs.declared.making.Usual.{Usual}
-use Rattle.ntboot_cli.specs.Answer.{EndsInputs, EndsMade, EndsWords, form_of, saves_of, show_question_in}
+use Rattle.ntboot_cli.specs.Answer.{EndsInputs, EndsMade, EndsWords, LeavesFiles, form_of, saves_of, show_question_in}
 use Rattle.ntboot_cli.specs.Inputs.{inputs_in}
 use Rattle.ntboot_cli.specs.Made.{usual_in}
 use Rattle.ntboot_cli.proofs.MakeLemmas.{new_part, part_more}
@@ -90,8 +93,11 @@ unread_report (Ok report) name files said =
 unread_made : (form : ReportForm) (wanted : Result Usual Refusal) (words : MakeAsked) (saves : Saves) (disk : DiskState) (said : List ℕ)
     → disk ≡ new_state → EndsMade form wanted words.count saves disk statuses.Memory said said
 unread_made form (Err r) words saves disk said fresh = (inr (no_front (refusal_text r) said said refl), fresh)
-unread_made form (Ok usual) words saves disk said fresh =
-    (inr (no_front _ said said refl), part_more _ disk (new_part form usual words disk fresh))
+unread_made form (Ok usual) words saves disk said fresh = (
+  inr (no_front _ said said refl),
+  part_more _ disk (new_part form usual words disk fresh),
+  inl (ap (λ (d : DiskState). d.history.takings) fresh),
+)
 
 unread_sweep : (form : ReportForm) (wanted : Result SweepInputs Refusal) (said : List ℕ)
     → EndsSweep form wanted statuses.Memory said said
@@ -138,6 +144,12 @@ unread_words (asks (graph words) json) host disk fresh =
     (unread_hive (graph_question_in (form_of json) words host.files) host.said, fresh)
 unread_words (asks (sweep words) json) host disk fresh =
     (unread_sweep (form_of json) (sweep_inputs_in (files_asked words) host.files) host.said, fresh)
+unread_words (asks (devices words) json) host disk fresh =
+    (unread_hive (devices_question_in (form_of json) words host.files) host.said, fresh)
+unread_words (asks (find words) json) host disk fresh =
+    (unread_hive (find_question_in (form_of json) words host.files) host.said, fresh)
+unread_words (asks (services words) json) host disk fresh =
+    (unread_hive (services_question_in (form_of json) words host.files) host.said, fresh)
 
 pub unread_leaves : (asked : Reading) (host : HostState) (disk : DiskState) → disk ≡ new_state
     → Leaves (EndsWords asked host.files host.files disk) statuses.Memory host host
@@ -145,3 +157,29 @@ unread_leaves asked host disk fresh =
     let d = memory_decides (EndsWords asked host.files host.files disk) no_saves host disk (new_off disk fresh)
     (unread_words asked host disk fresh) in
     d.decides.leaves
+
+-- and no file changed
+pub unread_files : (asked : Reading) (disk : DiskState) (files : Files) → LeavesFiles asked statuses.Memory disk files files
+unread_files (refused reason) disk files = unsaved no_saves disk files files refl
+unread_files (help page) disk files = unsaved no_saves disk files files refl
+unread_files version disk files = unsaved no_saves disk files files refl
+unread_files (asks (run words) json) disk files = unsaved (saves_of (asks (run words) json)) disk files files refl
+unread_files (asks (show words) json) disk files = unsaved (saves_of (asks (show words) json)) disk files files refl
+unread_files (asks (make words) json) disk files = unsaved (saves_of (asks (make words) json)) disk files files refl
+unread_files (asks (safe words) json) disk files = unsaved (saves_of (asks (safe words) json)) disk files files refl
+unread_files (asks (control words) json) disk files = unsaved (saves_of (asks (control words) json)) disk files files refl
+unread_files (asks (twin words) json) disk files = unsaved (saves_of (asks (twin words) json)) disk files files refl
+unread_files (asks (import words) json) disk files = unsaved (saves_of (asks (import words) json)) disk files files refl
+unread_files (asks (export words) json) disk files = λ q other. refl
+unread_files (asks (key words) json) disk files = unsaved (saves_of (asks (key words) json)) disk files files refl
+unread_files (asks (replay words) json) disk files = λ q other. refl
+unread_files (asks (check words) json) disk files = unsaved (saves_of (asks (check words) json)) disk files files refl
+unread_files (asks (whatif words) json) disk files = unsaved (saves_of (asks (whatif words) json)) disk files files refl
+unread_files (asks (salvage words) json) disk files = λ q other. refl
+unread_files (asks (diff words) json) disk files = unsaved (saves_of (asks (diff words) json)) disk files files refl
+unread_files (asks (why words) json) disk files = unsaved (saves_of (asks (why words) json)) disk files files refl
+unread_files (asks (graph words) json) disk files = unsaved (saves_of (asks (graph words) json)) disk files files refl
+unread_files (asks (sweep words) json) disk files = unsaved (saves_of (asks (sweep words) json)) disk files files refl
+unread_files (asks (devices words) json) disk files = unsaved (saves_of (asks (devices words) json)) disk files files refl
+unread_files (asks (find words) json) disk files = unsaved (saves_of (asks (find words) json)) disk files files refl
+unread_files (asks (services words) json) disk files = unsaved (saves_of (asks (services words) json)) disk files files refl

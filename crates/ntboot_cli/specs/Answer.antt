@@ -24,7 +24,7 @@ use Rattle.boot_run.specs.Agrees.{LoadsAny}
 use Rattle.boot_run.specs.Choices.{choices}
 use Rattle.help_text.specs.Pages.{page_text}
 use Rattle.tree_text.specs.TreeObjects.{shown_in}
-use Rattle.command_words.specs.Words.{Reading, asks, help, refused, version, sweep, graph, why, diff, salvage, whatif, check, key, replay, export, import, twin, control, safe, run, show, make, RunAsked, ShowAsked, MakeAsked}
+use Rattle.command_words.specs.Words.{Reading, asks, help, refused, version, services, find, devices, sweep, graph, why, diff, salvage, whatif, check, key, replay, export, import, twin, control, safe, run, show, make, RunAsked, ShowAsked, MakeAsked}
 use Rattle.command_parts.specs.declared.command_parts.status.Status.{Status}
 use Rattle.command_parts.specs.declared.command_parts.status.Status.TheVariants as statuses
 use Rattle.command_parts.specs.declared.command_parts.refusal.Refusal.{Refusal}
@@ -55,6 +55,9 @@ use Rattle.set_commands.specs.check_command.Answer.{question_in as check_questio
 use Rattle.start_commands.specs.whatif_command.Answer.{question_in as whatif_question_in}
 use Rattle.start_commands.specs.why_command.Answer.{question_in as why_question_in}
 use Rattle.start_commands.specs.graph_command.Answer.{question_in as graph_question_in}
+use Rattle.device_command.specs.Answer.{question_in as devices_question_in}
+use Rattle.find_command.specs.Answer.{question_in as find_question_in}
+use Rattle.services_command.specs.Answer.{question_in as services_question_in}
 use Rattle.sweep_command.specs.sweep_command.Answer.{files_asked, EndsSweep}
 use Rattle.sweep_command.specs.sweep_inputs.Inputs.{inputs_in as sweep_inputs_in}
 use Rattle.repair_commands.specs.salvage_command.Answer.{report_in as salvage_report_in}
@@ -62,7 +65,7 @@ use Rattle.set_commands.specs.diff_command.Answer.{EndsDiff}
 use Rattle.set_commands.specs.diff_command.Asks.{AsksDiff}
 use Rattle.command_parts.specs.command_parts.Placed.{image_in, placed_disk, IsUnrun, IsUntouchedBy}
 use Rattle.command_parts.specs.command_parts.Refusals.{Answer, Ends, IsToldAs, refusal}
-use Rattle.command_parts.specs.command_parts.Saves.{Saves, no_saves, saved_count, FilesAs, KeepsUnsaved, Settles}
+use Rattle.command_parts.specs.command_parts.Saves.{Saves, no_saves, saved_count, FilesAs, KeepsUnsaved, Settles, TellsFirst}
 
 -- ---- a run
 
@@ -94,10 +97,11 @@ pub record RunsWhole (form : ReportForm) (inputs : Inputs) (placed : Woken) (tak
   pub logged : LeavesLogged (run_in inputs placed) reports.report.woken (outcomes_of reports.text) after
   pub good : let r = run_in inputs placed reports.report.woken (outcomes_of reports.text) in KeepsGood r.notes r.disk
 
--- A prefix of the report was printed, and LastKnownGood names a good set up to where nothing more happened.
+-- A prefix of the report was printed, and LastKnownGood names a good set up to where nothing more happened. No file was taken from the disk.
 pub record RunsFront (form : ReportForm) (inputs : Inputs) (placed : Woken) (before after : DiskState) (old new : List ℕ) : Type 0 where
   pub reports : ReportsFront form (run_in inputs placed) old new before after
   pub good : let r = run_in inputs placed reports.report.woken (outcomes_of reports.text) in KeepsGood r.notes r.disk
+  pub untaken : after.history.takings ≡ 0
 
 -- the run was given up, and a prefix of its report was printed; or the whole report was, and then the saving was given up
 abbrev pub RunsPart : ReportForm → Inputs → Woken → Saves → DiskState → DiskState → List ℕ → List ℕ → Type 0
@@ -156,9 +160,10 @@ show_question_in form asked files = shown_by form (hive_in files asked.hive aske
 abbrev pub made : ReportForm → Usual → ℕ → Answer
 made form usual count = record { status = statuses.Done; text = made_text form usual count }
 
--- a prefix of the line was printed, and the disk is left as it may be then
+-- a prefix of the line was printed, and all of it before a file was taken to be saved; the disk is left as it may be then
 abbrev pub EndsPart : ReportForm → Usual → ℕ → Saves → DiskState → Status → List ℕ → List ℕ → Type 0
-EndsPart form usual count saves disk status old new = Ends (made form usual count) status old new × IsPartMade (saved_count saves) disk
+EndsPart form usual count saves disk status old new =
+    Ends (made form usual count) status old new × IsPartMade (saved_count saves) disk × TellsFirst (made_text form usual count) disk old new
 
 -- the line was printed whole at the end, or of it a front up to a fault in saying it or to lack of memory; the disk is this afterwards
 abbrev pub EndsMade : ReportForm → Result Usual Refusal → ℕ → Saves → DiskState → Status → List ℕ → List ℕ → Type 0
@@ -192,6 +197,9 @@ saves_of (asks (diff words) json) = no_saves
 saves_of (asks (why words) json) = no_saves
 saves_of (asks (graph words) json) = no_saves
 saves_of (asks (sweep words) json) = no_saves
+saves_of (asks (devices words) json) = no_saves
+saves_of (asks (find words) json) = no_saves
+saves_of (asks (services words) json) = no_saves
 
 -- the answer with a page of help, or the version
 abbrev pub about : List ℕ → Answer
@@ -239,6 +247,12 @@ EndsWords (asks (graph words) json) files after disk status old new =
     EndsOnHive (graph_question_in (form_of json) words files) status old new × (disk ≡ new_state)
 EndsWords (asks (sweep words) json) files after disk status old new =
     EndsSweep (form_of json) (sweep_inputs_in (files_asked words) files) status old new × (disk ≡ new_state)
+EndsWords (asks (devices words) json) files after disk status old new =
+    EndsOnHive (devices_question_in (form_of json) words files) status old new × (disk ≡ new_state)
+EndsWords (asks (find words) json) files after disk status old new =
+    EndsOnHive (find_question_in (form_of json) words files) status old new × (disk ≡ new_state)
+EndsWords (asks (services words) json) files after disk status old new =
+    EndsOnHive (services_question_in (form_of json) words files) status old new × (disk ≡ new_state)
 
 -- the same number of files are asked for as are in the written order, up to the first obstacle; for `import` and `diff` more, where the hive has no fault
 abbrev pub AsksAs : Reading → Status → HostState → HostState → Type 0
@@ -246,13 +260,13 @@ AsksAs (asks (import words) json) status old new = AsksImport words status old n
 AsksAs (asks (diff words) json) status old new = AsksDiff words status old new
 AsksAs asked status old new = AsksSoMany (asks_in asked) status old new
 
--- what becomes of the files: `export` changes the one that it puts alone, `replay` and `salvage` the one that they save alone, every other command
--- those that it saves
-abbrev pub LeavesFiles : Reading → Status → Image → Files → Files → Type 0
-LeavesFiles (asks (export words) json) status held old new = KeepsOthers old new words.reg
-LeavesFiles (asks (replay words) json) status held old new = KeepsUnsaved (record { hive = words.save_hive; log = None }) old new
-LeavesFiles (asks (salvage words) json) status held old new = KeepsUnsaved (record { hive = words.save_hive; log = None }) old new
-LeavesFiles asked status held old new = FilesAs (saves_of asked) status held old new
+-- What becomes of the files: `export` changes the one that it puts alone, `replay` and `salvage` the one that they save alone, and `EndsWords` says
+-- what is in it; every other command changes those that it saves, and where it was stopped each is whole or as it was, but for one.
+abbrev pub LeavesFiles : Reading → Status → DiskState → Files → Files → Type 0
+LeavesFiles (asks (export words) json) status disk old new = KeepsOthers old new words.reg
+LeavesFiles (asks (replay words) json) status disk old new = KeepsUnsaved (record { hive = words.save_hive; log = None }) old new
+LeavesFiles (asks (salvage words) json) status disk old new = KeepsUnsaved (record { hive = words.save_hive; log = None }) old new
+LeavesFiles asked status disk old new = FilesAs (saves_of asked) status disk old new
 
 -- ---- what a part of the program leaves
 
@@ -275,7 +289,7 @@ MakesAlone form usual words status old new disk =
 -- all that holds of the whole call
 pub record TopDecides (asked : Reading) (status : Status) (old new : HostState) (disk : DiskState) : Type 0 where
   pub leaves : Leaves (EndsWords asked old.files new.files disk) status old new
-  pub files : old.tells ≡ true → LeavesFiles asked status disk.held old.files new.files
+  pub files : old.tells ≡ true → LeavesFiles asked status disk old.files new.files
   pub off : disk.on ≡ false
   pub untouched : IsUntouchedBy status disk
   pub asks : AsksAs asked status old new

@@ -10,7 +10,7 @@ use Rattle.boot_ini.specs.arc_path.Reading.{arc_of}
 use Rattle.boot_script.specs.declared.boot_script.event.Event.{Event}
 use Rattle.boot_script.specs.declared.boot_script.stop.ScriptFault.{ScriptFault}
 use Rattle.boot_script.specs.boot_script.Script.{script_of}
-use Rattle.command_words.specs.Words.{Reading, asks, help, refused, version, sweep, graph, why, diff, salvage, whatif, check, key, replay, export, import, twin, control, safe, run, show, make, RunAsked, ShowAsked}
+use Rattle.command_words.specs.Words.{Reading, asks, help, refused, version, services, find, devices, sweep, graph, why, diff, salvage, whatif, check, key, replay, export, import, twin, control, safe, run, show, make, RunAsked, ShowAsked}
 use Rattle.command_parts.specs.declared.command_parts.refusal.Refusal.{Refusal}
 use Rattle.command_parts.specs.declared.command_parts.refusal.Refusal.TheVariants.{Usage, ScriptFault as BadScript}
 use Rattle.command_parts.specs.command_parts.Inputs.{system_in, asks_hive}
@@ -25,6 +25,9 @@ use Rattle.set_commands.specs.check_command.Answer.{asks_check}
 use Rattle.start_commands.specs.whatif_command.Inputs.{asks_whatif, arguments_in as whatif_arguments_in}
 use Rattle.start_commands.specs.why_command.Inputs.{asks_why, arguments_in as why_arguments_in}
 use Rattle.start_commands.specs.graph_command.Inputs.{asks_graph, arguments_in as graph_arguments_in}
+use Rattle.device_command.specs.Answer.{asks_devices}
+use Rattle.find_command.specs.Answer.{asks_find}
+use Rattle.services_command.specs.Answer.{asks_services}
 use Rattle.sweep_command.specs.sweep_command.Inputs.{asks_sweep, arguments_in as sweep_arguments_in}
 use Rattle.repair_commands.specs.salvage_command.Answer.{asks_salvage}
 use Rattle.ntboot_cli.specs.declared.inputs.Inputs.{Inputs}
@@ -67,6 +70,9 @@ arguments_in (asks (diff words) json) = Ok tt
 arguments_in (asks (why words) json) = why_arguments_in words
 arguments_in (asks (graph words) json) = graph_arguments_in words
 arguments_in (asks (sweep words) json) = sweep_arguments_in words
+arguments_in (asks (devices words) json) = Ok tt
+arguments_in (asks (find words) json) = Ok tt
+arguments_in (asks (services words) json) = Ok tt
 
 -- ---- how many files are asked for, up to the first obstacle
 
@@ -100,3 +106,6 @@ asks_in (asks (diff words) json) files = asks_hive files words.hive words.log
 asks_in (asks (why words) json) files = asks_why words files
 asks_in (asks (graph words) json) files = asks_graph words files
 asks_in (asks (sweep words) json) files = asks_sweep words files
+asks_in (asks (devices words) json) files = asks_devices words files
+asks_in (asks (find words) json) files = asks_find words files
+asks_in (asks (services words) json) files = asks_services words files

@@ -5,6 +5,7 @@ ghost use Rattle.std.specs.Option.{IsSome};
 ghost use Rattle.hive_model.specs.Image.{Primary, Log, IsFileOf, image_of};
 ghost use Rattle.hive_model.specs.Load.{Loads};
 ghost use Rattle.nt_edge.specs.Disk.{DiskState};
+ghost use Rattle.nt_edge.specs.Host.{Files};
 ghost use Rattle.start_model.specs.Report.{Going};
 ghost use Rattle.start_model.specs.Events.{Event as BookEvent};
 ghost use Rattle.start_model.specs.Fits.{outcomes_of, KeepsGood, MayLoad};
@@ -19,11 +20,11 @@ ghost use Rattle.command_parts.specs.declared.command_parts.inputs.HiveFiles.{Hi
 ghost use Rattle.ntboot_cli.specs.declared.inputs.Inputs.{Inputs};
 ghost use Rattle.ntboot_cli.specs.declared.making.Usual.{Usual};
 ghost use Rattle.command_parts.specs.declared.command_parts.status.Status.{Status};
-ghost use Rattle.ntboot_cli.specs.Answer.{RunsWhole, EndsInputs, quiet_in};
+ghost use Rattle.ntboot_cli.specs.Answer.{RunsPart, RunsWhole, EndsInputs, quiet_in};
 ghost use Rattle.command_parts.specs.command_parts.Leaves.{more, named, stop_in};
 ghost use Rattle.ntboot_cli.specs.Made.{told, usual_in, made_run, IsMade};
 ghost use Rattle.command_parts.specs.command_parts.Placed.{image_in, placed_disk};
-ghost use Rattle.command_parts.specs.command_parts.Saves.{Saves};
+ghost use Rattle.command_parts.specs.command_parts.Saves.{Saves, StopsSaving, KeepsAll};
 
 /// Over every script and whatever came of its disk operations, LastKnownGood names a good set in each tree that was loaded or
 /// committed, and in each that the disk may load as afterwards: where the report was printed whole, and where the run was given up.
@@ -48,6 +49,13 @@ pub fn a_run_places_and_takes_the_named_files()
         → ReportsFront form run old new (placed_disk files) after → after.history.placings ≡ 1 + named files.log }
     ensures untaken_front { (form : ReportForm) (run : Going) (files : HiveFiles) (after : DiskState) (old new : List ℕ)
         → ReportsFront form run old new (placed_disk files) after → after.history.takings ≡ 0 }
+{}
+
+/// Where a run ends early, the files to be saved are as they were; or its whole report was printed, and then saving them was stopped.
+pub fn no_file_changes_before_a_report_is_whole()
+    ensures { (form : ReportForm) (inputs : Inputs) (placed : Woken) (saves : Saves) (disk : DiskState) (old new : List ℕ) (before after : Files)
+        → RunsPart form inputs placed saves (placed_disk inputs.hive) disk old new → StopsSaving saves disk before after
+        → KeepsAll before after ⊎ ((taken : ℕ) × RunsWhole form inputs placed taken (placed_disk inputs.hive) disk old new) }
 {}
 
 /// Where options and files have no obstacle and the hive is well-formed, a run ends as done, unless the environment stopped it or there

@@ -36,7 +36,7 @@ mod top;
 pub use command_parts::command_parts::Status;
 pub use laws::{
     a_run_keeps_last_known_good, a_run_places_and_takes_the_named_files, a_well_formed_hive_is_run,
-    make_has_no_obstacle, what_a_quiet_run_saved_loads_as_its_last_tree,
-    what_was_saved_loads_as_the_run_says,
+    make_has_no_obstacle, no_file_changes_before_a_report_is_whole,
+    what_a_quiet_run_saved_loads_as_its_last_tree, what_was_saved_loads_as_the_run_says,
 };
 pub use top::ntboot;

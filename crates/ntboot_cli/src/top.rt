@@ -15,6 +15,8 @@ use crate::showing::show;
 use command_parts::command_parts::{Refusal, Status, refuse, tell};
 use command_words::{Command, Reading, read_words, texts};
 use control_command::control;
+use device_command::devices;
+use find_command::find;
 use help_text::{page_of, version_text};
 use key_command::key_command::key;
 use nt_edge::{Bench, Host};
@@ -22,6 +24,7 @@ use repair_commands::replay_command::replay;
 use repair_commands::salvage_command::salvage;
 use report_text::line_text::ReportForm;
 use safe_command::safe;
+use services_command::services;
 use set_commands::check_command::check;
 use set_commands::diff_command::diff;
 use start_commands::graph_command::graph;
@@ -72,6 +75,11 @@ fn obey<H: Host, B: Bench>(alloc: Global, words: &[&str], host: &mut H, bench: &
         Reading::Command(Command::Why(words), json) => why(alloc, words, form(json), host),
         Reading::Command(Command::Graph(words), json) => graph(alloc, words, form(json), host),
         Reading::Command(Command::Sweep(words), json) => sweep(alloc, words, form(json), host),
+        Reading::Command(Command::Devices(words), json) => devices(alloc, words, form(json), host),
+        Reading::Command(Command::Find(words), json) => find(alloc, words, form(json), host),
+        Reading::Command(Command::Services(words), json) => {
+            services(alloc, words, form(json), host)
+        }
         Reading::Refused(_) => refuse(alloc, host, &Refusal::Usage),
     }
 }
@@ -88,7 +96,7 @@ pub fn ntboot<H: Host, B: Bench>(
     requires fresh { B.state bench.old ≡ new_state }
     ensures answer { Leaves (EndsWords (reading_of (map string_bytes words.now)) (H.state host.old).files (H.state host.new).files (B.state bench.new)) result
         (H.state host.old) (H.state host.new) }
-    ensures files { (H.state host.old).tells ≡ true → LeavesFiles (reading_of (map string_bytes words.now)) result (B.state bench.new).held
+    ensures files { (H.state host.old).tells ≡ true → LeavesFiles (reading_of (map string_bytes words.now)) result (B.state bench.new)
         (H.state host.old).files (H.state host.new).files }
     ensures off { (B.state bench.new).on ≡ false }
     ensures untouched { IsUntouchedBy result (B.state bench.new) }
