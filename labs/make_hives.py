@@ -1,12 +1,13 @@
 #!/usr/bin/env python3
 """Makes the hives and logs of the labs again, byte for byte: labs/make_hives.py. Keys and values are those of tests/make_hives.py and bench/hives.py."""
+import datetime
 import importlib.util
 import os
 import sys
 
 LABS = os.path.dirname(os.path.abspath(__file__))
 TOP = os.path.join(LABS, "..")
-sys.path.insert(0, os.path.join(TOP, "bench"))
+sys.path[:0] = [os.path.join(TOP, "bench"), os.path.join(TOP, "tests")]
 import hives
 
 
@@ -163,6 +164,85 @@ def two_sets(default):
     return sets([network(), network(DISABLED)], (1, default, 0, 0), ["NDIS"])
 
 
+def device(place, description, *values):
+    """A device instance by its path below Enum, with the keys on the way."""
+    name, *above = reversed(place.split("\\"))
+    key = (name.encode(), [text(b"DeviceDesc", description), *values], [])
+    for outer in above:
+        key = (outer.encode(), [], [key])
+    return key
+
+
+def device_class(name, *values):
+    return [text(b"Class", name), *values]
+
+
+CDROM, KEYBOARD, MOUSE = (f"{{4D36E9{end}-E325-11CE-BFC1-08002BE10318}}" for end in ("65", "6B", "6F"))
+
+
+def keyboard_with_a_lost_filter():
+    """A filter driver of the class Keyboard was removed and its name was not; and the driver of the CD drive is disabled."""
+    groups = ["SCSI Class", "SCSI CDROM Class", "Keyboard Port", "Keyboard Class", "Pointer Class"]
+    name, values, (control, services) = hives.control_set(b"ControlSet001", [
+        entry("Cdrom", DISABLED, group="SCSI CDROM Class"),
+        entry("Disk", BOOT, control=1, group="SCSI Class"),
+        entry("Eventlog", AUTOMATIC, kind=SERVICE),
+        entry("i8042prt", SYSTEM, group="Keyboard Port"),
+        entry("Imapi", DEMAND),
+        entry("Kbdclass", SYSTEM, group="Keyboard Class"),
+        entry("Mouclass", SYSTEM, group="Pointer Class"),
+    ], groups, {})
+    control[2].insert(0, (b"Class", [], [
+        (CDROM.encode(), device_class("CDROM", hives.strings(b"LowerFilters", ["Imapi"])), []),
+        (KEYBOARD.encode(), device_class("Keyboard", hives.strings(b"UpperFilters", ["Kbdclass", "Hotkeyfl"])), []),
+        (MOUSE.encode(), device_class("Mouse", hives.strings(b"UpperFilters", ["Mouclass"])), []),
+    ]))
+    (acpi, _, [keyboard]), (_, _, [mouse]) = (
+        device("ACPI\\PNP0303\\4&1506BB2E&0", "Standard 101/102-Key Keyboard", text(b"ClassGUID", KEYBOARD), text(b"Service", "i8042prt")),
+        device("ACPI\\PNP0F13\\4&1506BB2E&0", "PS/2 Compatible Mouse", text(b"ClassGUID", MOUSE), text(b"Service", "i8042prt")),
+    )
+    devices = [
+        (acpi, [], [keyboard, mouse]),
+        device("IDE\\CdRomLITE-ON_DVD_LTD-163\\5&2C3D4E5F&0&0.0.0", "CD-ROM Drive", text(b"ClassGUID", CDROM), text(b"Service", "Cdrom")),
+        device("Root\\LEGACY_HOTKEYFL\\0000", "Hotkeyfl", hives.dword(b"Legacy", 1), text(b"Service", "Hotkeyfl")),
+    ]
+    return hives.machine([(name, values, [control, (b"Enum", [], devices), services])], (1, 1, 0, 0))
+
+
+def stamp(moment):
+    """A moment in UTC as a key's stamp."""
+    return int((datetime.datetime.fromisoformat(moment) - datetime.datetime(1601, 1, 1)).total_seconds()) * 10 ** 7
+
+
+def installed(written, name, start, image, kind=SERVICE, dll=None, **more):
+    """A driver or service with its image, and the moment at which its key was written last."""
+    name, values, children = entry(name, start, kind, **more)
+    values.insert(3, (b"ImagePath", 2, f"{image}\0".encode("utf-16-le")))
+    if dll:
+        children.append((b"Parameters", [(b"ServiceDll", 2, f"{dll}\0".encode("utf-16-le"))], [], stamp(written)))
+    return (name, values, children, stamp(written))
+
+
+def unknown_service():
+    """A service in another's process, a driver and a changed need, all of one minute; and a harmless service whose program is not Windows's."""
+    shared, system = "%SystemRoot%\\system32\\svchost.exe -k netsvcs", "%SystemRoot%\\system32\\"
+    first, printer_day = "2004-03-02T09:14:31", "2004-06-21T16:40:05"
+    name, values, (control, services) = hives.control_set(b"ControlSet001", [
+        installed(first, "Afd", SYSTEM, "System32\\drivers\\afd.sys", kind=1, group="TDI"),
+        installed(first, "Dhcp", AUTOMATIC, shared, dll=system + "dhcpcsvc.dll", services=["Afd"]),
+        installed(first, "Disk", BOOT, "System32\\drivers\\disk.sys", kind=1, group="SCSI Class"),
+        installed("2004-11-05T02:47:18", "Eventlog", AUTOMATIC, system + "services.exe", services=["Wmdmhlp"]),
+        installed(printer_day, "Prnmon", AUTOMATIC, '"C:\\Program Files\\Prnmon\\prnmon.exe"', services=["Spooler"]),
+        installed(first, "Schedule", AUTOMATIC, shared, dll=system + "schedsvc.dll"),
+        installed(first, "Spooler", AUTOMATIC, system + "spoolsv.exe"),
+        installed("2004-11-05T02:47:16", "Wmdmhlp", AUTOMATIC, shared, dll="C:\\Documents and Settings\\All Users\\wmdmhlp.dll"),
+        installed("2004-11-05T02:47:15", "Wmdmnet", SYSTEM, "System32\\drivers\\wmdmnet.sys", kind=1, group="TDI"),
+    ], ["SCSI Class", "TDI"], {})
+    listed = [(b"Afd", [], []), (b"Dhcp", [], []), (b"Eventlog", [], []), (b"Wmdmhlp", [], [])]
+    control[2].insert(1, (b"SafeBoot", [], [(b"Minimal", [], [(b"Eventlog", [], [])]), (b"Network", [], listed)]))
+    return hives.machine([(name, values, [control, services])], (1, 1, 0, 0))
+
+
 OFF, ON = printer(DISABLED), printer(AUTOMATIC)
 
 MADE = [
@@ -181,6 +261,8 @@ MADE = [
     ("11_safe_mode/SYSTEM", safe_lists()),
     ("12_bytes/SYSTEM", torn(OFF, ON, 8, 7)),
     ("12_bytes/SYSTEM.LOG", log_of(OFF, ON, 8)),
+    ("13_dead_keyboard/SYSTEM", keyboard_with_a_lost_filter()),
+    ("14_unknown_service/SYSTEM", unknown_service()),
 ]
 
 

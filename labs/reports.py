@@ -31,6 +31,9 @@ FORMS = {
     "write": "write {number} {file} {sector} {none} {all} {odd} {torn}",
     "sync": "sync {number} {none} {all} {odd} {torn}",
     "calls": "calls {count} before {before} after {after} neither {neither}",
+    "devices": "devices {count} of {of}",
+    "listed": "listed {count} of {of} driver {driver} service {service} other {other} boot {boot} system {system} automatic {automatic} demand {demand} "
+              "disabled {disabled} beyond {beyond} none {none}",
 }
 # A report that is one line, after which nothing comes.
 REFUSALS = ("bad usage", "no file ", "script fault ", "boot.ini fault ", "hive fault ", "reg fault ")
@@ -44,8 +47,53 @@ def shown(value):
     return "".join(chr(u) if 0x20 <= u <= 0x7E else f"\\u{u:04x}" for u in (units[i] + 256 * units[i + 1] for i in range(0, len(units), 2)))
 
 
+def quoted(value):
+    """A text in quotes, as `devices` and `services` print it."""
+    return '"' + shown(value.replace("\\", "\\\\").replace('"', '\\"')) + '"'
+
+
+def driver_of(fields):
+    """A driver with its state, and the state's number where it has one."""
+    return " ".join([quoted(fields["name"]), fields["state"], *(str(fields[name]) for name in ("start", "type") if name in fields)])
+
+
+def field_of(value):
+    """What `services` prints of a value: a hyphen, a number, a text in quotes; of a value of another type the type alone."""
+    return "-" if value is None else f"({value['type']} ..)" if isinstance(value, dict) else quoted(value) if isinstance(value, str) else str(value)
+
+
+def entry_of(fields):
+    """A line of `services`, without a DLL of its own and overrides."""
+    names = ("start", "type", "control", "group", "tag", "account", "image", "dll")
+    place = "-" if fields["phase"] is None else f"{fields['phase']} {'unmet' if fields['number'] is None else fields['number']}"
+    return " ".join(["entry", fields["kind"], quoted(fields["name"]), *(f"{name} {field_of(fields[name])}" for name in names), "order", place,
+                     "written", fields["written"], *fields["marks"]])
+
+
+def path_of(components):
+    """A path whose components need no quotes, as those of the labs."""
+    return "\\".join(map(shown, components))
+
+
+def long_text_of(fields):
+    """The text of a line that has texts in quotes; nothing for other lines."""
+    line = fields["line"]
+    if line == "load" and "role" in fields:
+        return f"load {fields['role']} {driver_of(fields)}"
+    if line == "class-filter":
+        return f"class-filter {fields['role']} {quoted(fields['class'])} {quoted(fields['key'])} {driver_of(fields)}"
+    if line == "device":
+        return f"device {fields['state']} {quoted(fields['class']) if 'class' in fields else 'none'} {path_of(fields['path'])}"
+    if line == "entry" and "kind" in fields and "written" in fields:
+        return entry_of(fields)
+    return None
+
+
 def text_of(fields):
     """The line of text of a JSON object."""
+    text = long_text_of(fields)
+    if text is not None:
+        return text
     fields = {name: shown(value) for name, value in fields.items()}
     line = fields.pop("line")
     if line == "try":
