@@ -423,7 +423,7 @@ all_may s m next c due h =
 
 -- ---- answers
 
--- a call that was refused told a part
+-- a call that was refused printed a part
 pub says_err : {T : Type 0} {x : Told} (r : Result T RunStop) → is_err r ≡ true → (ls : List Line) (y : Told)
     → SaysPart ls x y.said → SaysAll ls x y r
 says_err (Ok v) h ls y p = absurd (false≢true h)

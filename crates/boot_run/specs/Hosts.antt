@@ -10,14 +10,14 @@ CountsStop (Ok x) old new = KeepsCounts old new
 CountsStop (Err stops.Write) old new = CountsWrite old new
 CountsStop (Err stops.Memory) old new = KeepsCounts old new
 
--- the host shows what it told, its files are as they were, none was asked for, and its counts rose only with their own fault
+-- the host shows what it reported, its files are as they were, none was asked for, and its counts rose only with their own fault
 pub record LeavesHost {T : Type 0} (result : Result T RunStop) (old new : HostState) : Type 0 where
   pub keeps : KeepsHost old new
   pub files : KeepsFiles old new
   pub unasked : AsksNone old new
   pub counts : CountsStop result old new
 
--- the host shows what it told, its files are as they were, none was asked for, and no fault was counted
+-- the host shows what it reported, its files are as they were, none was asked for, and no fault was counted
 pub record StillHost (old new : HostState) : Type 0 where
   pub keeps : KeepsHost old new
   pub files : KeepsFiles old new

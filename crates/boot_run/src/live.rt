@@ -99,7 +99,7 @@ impl Live {
         count_services(alloc, &self.hive, number)
     }
 
-    /// Hands out the lists of the current set, whose number this is: those that are kept, or else read anew.
+    /// Hands out the lists of the current set, whose number this is: those that are kept, or else read again.
     pub(crate) fn take_lists(&mut self, alloc: Global, number: u32) -> Result<SetLists, AllocError>
         requires { IsTaken self.old.tree number }
         ensures lists { IfOk result (AreRead (current_set self.old.tree)) }

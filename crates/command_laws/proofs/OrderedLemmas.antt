@@ -60,7 +60,7 @@ script = arm ∷ boot ∷ boot ∷ []
 
 -- ---- what the notes have
 
--- at most so many operations were stopped, each by a cut
+-- at most that many operations were stopped, each by a cut
 abbrev HaveAtMost : List Note → ℕ → Type 0
 HaveAtMost [] n = Unit {0}
 HaveAtMost (Woke p ∷ ns) n = HaveAtMost ns n

@@ -1,6 +1,6 @@
 //! Laws of comparisons of two control sets, with the sets exchanged.
 //!
-//! What is said of the one set is said of the other, and the exit stays. Definitions: `specs/Turned.antt`. This project's own.
+//! What is printed of the one set is printed of the other, and the exit stays. Definitions: `specs/Turned.antt`. This project's own.
 
 mod laws;
 

@@ -1,4 +1,4 @@
--- A node tells greater lengths: the tree stands as it stood, and what was owned is owned.
+-- A node records greater lengths: the tree stands as it stood, and what was owned is owned.
 use Rattle.std.proofs.Common.{◌≡◌, ℕ, suc, ◌-◌, Bool, true, false, cond, List, [], ◌∷◌, ◌++◌, length, refl, sym, ◌∙◌, ap, subst, inl, inr, ⊎_elim, Some, Result, Ok}
 use Rattle.std.specs.Prelude.{◌⊎◌, MatchBool, ◌==◌}
 use Rattle.std.proofs.lemmas.Bool.{cases_eq}
@@ -270,7 +270,7 @@ module _ (b c : Cells) (root : ℕ) (t : Tree) (p : List (List ℕ)) (x : ℕ) (
         named_through b c p p root x (sound_hive b root t well).all (path_itself p) h raised_elsewhere
         rewritten_there.rewrites.parent rewritten_there.rewrites.parents
 
--- where a step is done, and then a node that it names tells greater lengths, the step is done
+-- where a step is done, and then a node that it names records greater lengths, the step is done
 pub raised_done : (b m c : Cells) (root : ℕ) (t u : Tree) (step : Step) (path : List (List ℕ)) (x : ℕ)
     → IsDone b m root t u step → key_place m path root ≡ Some x → IsNamedPath step path → RaisesLengths m c x
     → IsDone b c root t u step

@@ -17,14 +17,14 @@ with_lengths n m = record n {
   greatest_value_size = m.greatest_value_size;
 }
 
--- no length that a node tells is greater than that of another
+-- no length that a node records is greater than that of another
 pub record IsNoLonger (old new : KeyNode) : Type 0 where
   pub child_name : old.greatest_child_name ≤ new.greatest_child_name
   pub child_class : old.greatest_child_class ≤ new.greatest_child_class
   pub value_name : old.greatest_value_name ≤ new.greatest_value_name
   pub value_size : old.greatest_value_size ≤ new.greatest_value_size
 
--- from cells b to cells c the node at x tells greater lengths, or the same, and no other cell that is allocated changes
+-- from cells b to cells c the node at x records greater lengths, or the same, and no other cell that is allocated changes
 pub record RaisesLengths (b c : Cells) (x : ℕ) : Type 0 where
   pub version : c.version ≡ b.version
   pub old : KeyNode

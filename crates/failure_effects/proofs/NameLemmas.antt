@@ -29,7 +29,7 @@ found_at p xs false is = sym (find_at p xs ∙ slice_get_past xs (position_or_le
 pub found_place : {X : Type 0} (p : X → Bool) (xs : List X) → option_and_then (slice_get xs) (position p xs) ≡ find p xs
 found_place p xs = found_at p xs (nat_lt (position_or_len p xs) (length xs)) refl
 
--- what is told of a name, by the place of the name among the names
+-- what is reported of a name, by the place of the name among the names
 pub named_at : (told : List Told) (name : List ℕ)
     → option_and_then (slice_get told) (position (folds_same name) (map (λ (t : Told). t.name) told)) ≡ told_named told name
 named_at told name =

@@ -290,7 +290,7 @@ put_back_none l old place before off = by_case (slice_get l.entries place) refl 
     by_case None is before = off ∙ ap (λ (es : List Entry). record l { entries = es }) (kept_start l.entries place 4 is)
     by_case (Some e) is before = absurd cc
 
--- what is told on the lists with the entry off is told on the set with it off
+-- what is reported on the lists with the entry off is reported on the set with it off
 pub off_told : {E : Type 0} (r : Result (List Told) E) (taken whole : Taken) (lists : Lists) (name : List ℕ)
     (found : Option ℕ) (place : ℕ) → taken ≡ whole → HoldsKeys taken.set → lists ≡ lists_of taken.set
     → IsOnlyPlace name lists.entries found

@@ -1,4 +1,4 @@
--- Which entries are lost in another start, and what is said of them? (this project's own)
+-- Which entries are lost in another start, and what is printed of them? (this project's own)
 use Rattle.std.specs.Prelude.{ℕ, Bool, true, false, not, ◌&&◌, List, [], ◌∷◌, ◌++◌, map, filter, length, Option, Some, None, if◌then◌else◌}
 use Rattle.std.specs.List.{list_any, flat_map}
 use Rattle.nt_bytes.specs.Folding.{folds_same}
@@ -28,7 +28,7 @@ is_lost other name t = is_started t.fate && not (folds_same name t.name) && not 
 abbrev pub lost_in : List Told → Other → List ℕ → List (List ℕ)
 lost_in plain other name = map (λ (t : Told). t.name) (filter (is_lost other name) plain)
 
--- what is said of one of the lost: it is never ready there, or no phase takes it
+-- what is printed of one of the lost: it is never ready there, or no phase takes it
 abbrev pub lost_line : Other → List ℕ → EffectLine
 lost_line other name = if has_name other.unmet name then lines.Unmet name else lines.Untaken name
 

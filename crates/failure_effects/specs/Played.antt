@@ -16,7 +16,7 @@ use Rattle.failure_effects.specs.declared.told.Told.{Told}
 use Rattle.failure_effects.specs.declared.course.Course.{Course}
 use Rattle.failure_effects.specs.declared.opening.Taken.{Taken}
 
--- ---- what is told of an entry
+-- ---- what is reported of an entry
 
 -- the judgement of the code that is the book's
 abbrev pub judgement_as : book.Judgement → Judgement
@@ -25,11 +25,11 @@ judgement_as book.Log = judgements.Log
 judgement_as book.FallBack = judgements.FallBack
 judgement_as book.Stop = judgements.Stop
 
--- what is told of an attempt
+-- what is reported of an attempt
 abbrev pub told_of : machine.Tried → Told
 told_of t = record { name = t.name; fate = if t.ok then Started else Failed (judgement_as t.judgement) }
 
--- what is told of an entry that was never ready
+-- what is reported of an entry that was never ready
 abbrev pub left : List ℕ → Told
 left name = record { name = name; fate = Unmet }
 
@@ -57,7 +57,7 @@ failed_by Started = None
 failed_by (Failed judgement) = Some judgement
 failed_by Unmet = None
 
--- what follows from the first failure, if one is told of
+-- what follows from the first failure, if one is reported
 abbrev pub failure_in : List Told → Option Judgement
 failure_in [] = None
 failure_in (t ∷ ts) = option_or (failed_by t.fate) (failure_in ts)
@@ -76,7 +76,7 @@ judged book.Log m = m
 judged book.FallBack m = ended true m
 judged book.Stop m = ended false m
 
--- an attempt is told of and judged
+-- an attempt is reported and judged
 abbrev pub attempted : Course → MachineState × machine.Tried → Course
 attempted c one = record { told = c.told ++ told_of one.1 ∷ []; machine = judged one.1.judgement one.0 }
 
@@ -95,7 +95,7 @@ attempts_of (suc n) usable c = option_map_or (attempts_of n usable) (next_course
 abbrev pub waiting_count : MachineState → ℕ
 waiting_count m = option_map_or (λ (s : Start). length s.waiting) m.start 0
 
--- what still waits is unmet, and the next phase begins; of a start that is over nothing more is told
+-- what still waits is unmet, and the next phase begins; of a start that is over nothing more is reported
 abbrev pub phase_ended : Tree → Course → Course
 phase_ended set c = record {
   told = c.told ++ map left (option_map_or machine.unmet_in c.machine.start []);
@@ -123,7 +123,7 @@ begun taken set name = record {
   machine = without_clone (with_start (begun_with set taken.number taken.on_good) (noted name off_machine));
 }
 
--- What is told of a start on this set. The first attempt of the entry of this name fails, where there is a name, and each other
+-- What is reported of a start on this set. The first attempt of the entry of this name fails, where there is a name, and each other
 -- attempt goes well.
 unfoldable pub played : Taken → Tree → Option (List ℕ) → List Told
 played taken set name = (played_on taken.usable set (begun taken set name)).told

@@ -16,7 +16,7 @@ state_by fates.Started = states.Started
 state_by (fates.Failed judgement) = states.Started
 state_by fates.Unmet = states.Unmet
 
--- what is told of a name, if anything is
+-- what is reported of a name, if anything is
 abbrev pub told_named : List Told → List ℕ → Option Told
 told_named plain name = find (λ (t : Told). folds_same name t.name) plain
 

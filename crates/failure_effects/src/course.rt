@@ -42,7 +42,7 @@ pub(crate) fn play(
     play_on(alloc, taken, lists, failing, &mut course)
 }
 
-/// The same on a machine that is off, where nothing was said.
+/// The same on a machine that is off, where nothing was printed.
 fn play_on(
     alloc: Global,
     taken: &Taken,

@@ -1,4 +1,4 @@
-//! What is said of failures, line by line.
+//! What is reported of failures, line by line.
 
 use boot_phases::error_control::Judgement;
 use nt_bytes::{Row, Units};

@@ -63,7 +63,7 @@ pub(crate) fn lost_in(
     Ok(names)
 }
 
-/// What is said of one of the lost.
+/// What is printed of one of the lost.
 fn lost_line(alloc: Global, other: &Other, name: &Units) -> Result<EffectLine, AllocError>
     ensures { IfOk result (λ line. line ≡ lost_line other.now name.now) }
 {

@@ -59,7 +59,7 @@ impl<'a> ReadTaken<'a> {
         play(alloc, self.taken, &self.lists, failing)
     }
 
-    /// What a start says on the set with the entry of this name off. Where no entry has the name, the set is changed and read anew.
+    /// What a start says on the set with the entry of this name off. Where no entry has the name, the set is changed and read again.
     pub(crate) fn play_off(&mut self, alloc: Global, name: &[u16]) -> Result<ToldRow, AllocError>
         ensures told { IfOk result (λ told. told ≡ played self.old (off_set name.now self.old.set) None) }
         ensures same { self.new ≡ self.old }

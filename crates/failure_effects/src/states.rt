@@ -43,7 +43,7 @@ impl<'a> States<'a> {
         Ok(States { told, places })
     }
 
-    /// What is told of a name.
+    /// What is reported of a name.
     fn named(&self, name: &[u16]) -> Option<&Told>
         ensures { option_copied result ≡ told_named self.now name.now }
     {
@@ -53,7 +53,7 @@ impl<'a> States<'a> {
         }
     }
 
-    /// What is told of the entry at a place.
+    /// What is reported of the entry at a place.
     fn at(&self, place: usize) -> Option<&Told>
         ensures { option_copied result ≡ slice_get self.now place }
     {

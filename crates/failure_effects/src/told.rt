@@ -30,7 +30,7 @@ pub struct Told {
 /// What a start says, in order.
 pub type ToldRow = Row<Told>;
 
-/// What is told of an attempt.
+/// What is reported of an attempt.
 #[tactic(auto, using(crate::proofs::PlayLemmas::judgement_again))]
 pub(crate) fn told_of(tried: Tried) -> Told
     ensures { result ≡ told_of (tried_in tried) }
@@ -90,7 +90,7 @@ pub(crate) fn unmet_in(alloc: Global, told: &[Told]) -> Result<Names, AllocError
     Ok(names)
 }
 
-/// What follows from the first failure, if one is told of.
+/// What follows from the first failure, if one is reported.
 pub(crate) fn failure_in(told: &[Told]) -> Option<Judgement>
     ensures { result ≡ failure_in told.now }
 {

@@ -1,4 +1,4 @@
--- What reads one after the other give of a file.
+-- What consecutive reads give of a file.
 use Rattle.std.proofs.Common.{◌≡◌, ◌∙◌, ◌+◌, ◌-◌, ◌++◌, ℕ, List, Option, Some, None, take, drop, replicate, sym, ap, subst, arith, take-add, drop-drop}
 use Rattle.std.proofs.lemmas.List.{drop-replicate}
 use Rattle.std.specs.Option.{IfSome}

@@ -229,7 +229,7 @@ later-found notes before count path a = go (count == 0)
     go true = subst (AreNoted notes) (nothing-more before) a
     go false = by_none notes before a
 
--- what is noted so far is said in the walk or after it; and so it is after one more key
+-- what is noted so far is printed in the walk or after it; and so it is after one more key
 pub step-told : (notes : List Incomplete) (walk : Said) (said : List ParentLine) (below : List WalkLine) (count : ℕ)
     (path : List (List ℕ)) → AreNoted notes ((walk ++ map lacking_later said) ++ map lacking below)
     → AreNoted notes (walk ++ map lacking_later (said ++ (map printed.Walked below ++ found_line count path)))

@@ -120,7 +120,7 @@ attempted_after tries.Stop = refl
 
 module _ (choice : Option ℕ → Choice) (script : List Event) (placed : Woken) (last : ℕ × List Line)
     (is_last : last_start_in (book.quiet_run_of choice script placed).lines ≡ Some last) where
-  -- the state tells of the attempt at a place
+  -- the state reports the attempt at a place
   record IsTold (name : List ℕ) (s : NameState) : Type 0 where
     place : ℕ
     number : node_number s ≡ place + 1

@@ -236,7 +236,7 @@ module _ (choice : Option ℕ → Choice) (script : List Event) (placed : Woken)
         (mapped_on (rule.entry_named r es (names_of es)) (first_names (all_names r es)) first.0 e.0 first.1 named) in
         (p.0, e.0, p.1, sym (alike first.0 e.0.name same a.name) ∙ first.2)
 
-    -- its node tells of the attempt
+    -- its node reports the attempt
     node_told : (e : Entry) → folds_same e.name a.name ≡ true → IsTold (state_of r e.name) (k + 1) a.outcome
     node_told e same =
         told (state_of r e.name) (k + 1) a.outcome (tries_are_states choice script placed last is_last held k a is e.name same)

@@ -1,4 +1,4 @@
--- The graph of a start is one that its text tells.
+-- The graph of a start is one that its text reports.
 use Rattle.std.proofs.Common.{◌≡◌, ℕ, suc, ◌+◌, ◌==◌, not, Bool, true, false, cond, List, [], ◌∷◌, length, slice_get, Option, Some, None, refl, sym, ap, subst, ◌∙◌, arith}
 use Rattle.std.specs.Prelude.{Contains, nat_lt}
 use Rattle.std.specs.Option.{option_map, option_map_or, is_some}
@@ -35,7 +35,7 @@ use Rattle.graph_laws.proofs.BegunLemmas.{views_begun}
 
 -- ---- states
 
--- the number is there exactly where the state tells of an attempt
+-- the number is there exactly where the state reports an attempt
 record IsNumbered (s : NameState) : Type 0 where
   number : (node_number s == 0) ≡ not (has_number kinds.Entry (node_state s))
 

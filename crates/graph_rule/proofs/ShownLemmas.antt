@@ -45,7 +45,7 @@ shown_of_all ns rows back v shown turned' is =
 
 -- ---- with a name
 
--- the test tells whether there is an edge
+-- the test says whether there is an edge
 record IsEdgeTest (rows : List (List ℕ)) (step : ℕ → ℕ → Bool) : Type 0 where
   pub made : (u v : ℕ) → step u v ≡ true → HasEdge rows u v
   pub only : (u v : ℕ) → HasEdge rows u v → step u v ≡ true

@@ -5,7 +5,7 @@ ghost use Rattle.hive_model.specs.Recovery.{bit};
 
 use hive_log::has_bit;
 
-/// The byte at a place, or 0 behind the last.
+/// The byte at a place, or 0 after the last.
 fn byte_or_zero(bitmap: &[u8], at: usize) -> u8
     ensures { result ≡ slice_index bitmap.now at }
 {

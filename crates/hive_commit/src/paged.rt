@@ -18,7 +18,7 @@ use cell_tables::saved_pages::SavedPages;
 use nt_edge::Disk;
 use regf_base::BaseBlock;
 
-/// The same as `commit`, of old data that are told by the pages of them that were kept: only these are compared.
+/// The same as `commit`, of old data that are given by the pages of them that were kept: only these are compared.
 pub fn commit_kept<D: Disk>(
     disk: &mut D,
     base: &BaseBlock,

@@ -50,7 +50,7 @@ pub packed_hive : (version : HiveVersion) (heap : Opened) (bulk : ℕ) (t : Tree
     → IsValid t → bulk ≡ bulk_of version t → IsHive heap.bins 32 version bulk
 packed_hive version heap bulk t h v b = hive_opened heap.bins heap.bins 32 version bulk t refl h.stands v b
 
--- what is said of each outcome by itself, said of both
+-- what holds of each outcome by itself, said of both
 pub both : {A E : Type 0} (r : Result A E) (P Q : A → Type 0) (M N : E → Type 0) → ((x : A) → P x → Q x)
     → ((e : E) → M e → N e) → IfOk r P → IfErr r M → MatchResult r Q N
 both (Ok x) P Q M N f g p m = f x p

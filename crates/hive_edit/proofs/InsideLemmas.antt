@@ -76,7 +76,7 @@ no_less : (o : Option (List ℕ)) (place : ℕ) → IsSomeAnd o (λ p. u32_in p 
 no_less None place h = h
 no_less (Some p) place h = absurd (omega (arith, h))
 
--- what was written, where the node of the key tells the length of the data then
+-- what was written, where the node of the key records the length of the data then
 pub value_written : (old mid new : HiveCells) (path : List (List ℕ)) (at : ℕ) (fields : List ℕ) (size : ℕ)
     → WritesFields at fields old.bins mid.bins → mid.version ≡ old.version → mid.root ≡ old.root
     → IsTold mid path 2 0 size new → WritesValue old path at fields size new

@@ -1,4 +1,4 @@
--- A node that tells greater lengths: what is read of it, and what that leaves of the hive.
+-- A node that records greater lengths: what is read of it, and what that leaves of the hive.
 use Rattle.std.proofs.Common.{◌≡◌, ◌≤◌, ◌<◌, ◌^◌, ℕ, zero, suc, ◌+◌, ◌*◌, Bool, true, false, cond, List, [], ◌∷◌, ◌++◌, length, Option, Some, None, Result, inl, inr, ⊎_elim, refl, sym, ap, subst, ◌∙◌, arith}
 use Rattle.std.specs.Prelude.{◌⊎◌, find, nat_lt}
 use Rattle.std.specs.Int.{w16, w32, w64, to_le_bytes, from_le_bytes}
@@ -253,7 +253,7 @@ longer_still n m k r s = record {
   value_size = (let a = r.value_size in let b = s.value_size in omega (arith, a, b));
 }
 
--- the node tells no less than both
+-- the node records no less than both
 record AreTold (b c : Cells) (x field first second : ℕ) : Type 0 where
   raises : RaisesLengths b c x
   first_told : first ≤ length_told field raises.new
@@ -426,7 +426,7 @@ pub record IsToldPath (step : Step) (path : List (List ℕ)) : Type 0 where
   pub names : IsNamedPath step path
   pub top : (t : Tree) (r : List ℕ × Tree) → In (run_trees t step) r → path ≡ []
 
--- a step that was made is made also where a node that it names tells greater lengths
+-- a step that was made is made also where a node that it names records greater lengths
 pub stepped_told : (old mid new : HiveCells) (step : Step) (path : List (List ℕ)) (field first second : ℕ)
     → IsWellFormed (cells_in old) old.root old.tree → IsStepped old step mid → IsToldPath step path
     → IsTold mid path field first second new → IsStepped old step new
@@ -519,9 +519,9 @@ copy_path from to = record {
 pub class_short : (k : Tree) → HoldsKeys k → length (head k).class < 65536
 class_short (tree_key h ts) holds = let c = holds.0.class in omega (arith, c)
 
--- ---- what the node tells then
+-- ---- what the node records then
 
--- the key at the path is the one whose node was raised, and it tells that much
+-- the key at the path is the one whose node was raised, and it records that much
 tells_after : (old mid new : HiveCells) (step : Step) (path : List (List ℕ)) (field first second : ℕ)
     → IsStepped old step mid → IsTold mid path field first second new → TellsAt new path field first second
 tells_after old mid new step path field first second stepped told = each
@@ -571,7 +571,7 @@ tells_after old mid new step path field first second stepped told = each
             subst (TellsBoth field first second) (sym same)
             (record { first_told = t.first_told; second_told = t.second_told })
 
--- a node that tells so much tells less
+-- a node that records no less than a length records no less than a smaller one
 less_told : (h : HiveCells) (path : List (List ℕ)) (field a b first second : ℕ) → first ≤ a → second ≤ b
     → TellsAt h path field a b → TellsAt h path field first second
 less_told h path field a b first second e f t = λ x n at read.
@@ -580,7 +580,7 @@ less_told h path field a b first second e f t = λ x n at read.
     let two = both.second_told in
     record { first_told = omega (arith, e, one); second_told = omega (arith, f, two) }
 
--- a step was made, and then the node of a key that it names tells no less than the lengths of the item
+-- a step was made, and then the node of a key that it names records no less than the lengths of the item
 step_told : (old mid new : HiveCells) (step : Step) (path : List (List ℕ)) (field a b first second : ℕ)
     → IsWellFormed (cells_in old) old.root old.tree → IsStepped old step mid → IsToldPath step path
     → IsTold mid path field a b new → first ≤ a → second ≤ b

@@ -12,7 +12,7 @@ use Rattle.reg_tree.specs.Makes.{IsRefused}
 use Rattle.hive_edit.specs.Hive.{HiveCells}
 use Rattle.hive_edit.specs.Tells.{IsToldStep}
 
--- the steps were made, each on the cells that the one before left, and each key that got an item tells its lengths
+-- the steps were made, each on the cells that the one before left, and each key that got an item records its lengths
 abbrev pub AreStepped : HiveCells → List Step → HiveCells → Type 0
 AreStepped old [] new = old ≡ new
 AreStepped old (step ∷ steps) new = (mid : HiveCells) × IsToldStep old step mid × AreStepped mid steps new

@@ -12,14 +12,14 @@ use Rattle.hive_edit.specs.Hive.{HiveCells, cells_in}
 use Rattle.hive_look.specs.Places.{value_place}
 use Rattle.hive_edit.specs.Stepped.{IsStepped}
 
--- what a node tells in one of the four fields: of the names and the classes of its children, and of the names and the data of its values
+-- what a node records in one of the four fields: of the names and the classes of its children, and of the names and the data of its values
 abbrev pub length_told : ℕ → KeyNode → ℕ
 length_told zero n = n.greatest_child_name
 length_told (suc zero) n = n.greatest_child_class
 length_told (suc (suc zero)) n = n.greatest_value_name
 length_told (suc (suc (suc field))) n = n.greatest_value_size
 
--- a node tells no less than two lengths, in a field and the next
+-- a node records no less than two lengths, in a field and the next
 pub record TellsBoth (field first second : ℕ) (n : KeyNode) : Type 0 where
   pub first_told : first ≤ length_told field n
   pub second_told : second ≤ length_told (field + 1) n
@@ -38,7 +38,7 @@ new_name_length cells path name root =
 abbrev pub class_length : List ℕ → Tree → ℕ
 class_length name t = option_map_or (λ k. length (head k).class) (find (is_named name) (children t)) 0
 
--- The key that got an item by a step tells no less than its lengths: those of a value's name, where it is new, and of its data, or those of a
+-- The key that got an item by a step records no less than its lengths: those of a value's name, where it is new, and of its data, or those of a
 -- new child's name and class, the class of a key that is made being empty.
 abbrev pub TellsItem : HiveCells → Step → HiveCells → Type 0
 TellsItem old (set_value path name kind bytes) new = TellsAt new path 2 (new_name_length (cells_in old) path name old.root) (length bytes)
@@ -48,7 +48,7 @@ TellsItem old (delete_key path) new = Unit {0}
 TellsItem old (copy_child from to) new = TellsAt new [] 0 (2 * length to) (class_length from old.tree)
 TellsItem old (add_child name k) new = TellsAt new [] 0 (2 * length name) (length (head k).class)
 
--- one step was made, and the key that got an item by it tells the item's lengths
+-- one step was made, and the key that got an item by it records the item's lengths
 pub record IsToldStep (old : HiveCells) (step : Step) (new : HiveCells) : Type 0 where
   pub stepped : IsStepped old step new
   pub told : TellsItem old step new

@@ -45,14 +45,14 @@ pub record AreRaisedTo (at field first second : ℕ) (old new : List Bin) : Type
   pub one : IsRaisedTo at field first old mid
   pub two : IsRaisedTo at (field + 1) second mid new
 
--- the node at an offset tells no less than two numbers, in a field and the next, and nothing else changed
+-- the node at an offset records no less than two numbers, in a field and the next, and nothing else changed
 pub record IsToldAt (old new : HiveCells) (x field first second : ℕ) : Type 0 where
   pub raises : RaisesLengths (cells_in old) (cells_in new) x
   pub first_told : first ≤ length_told field raises.new
   pub second_told : second ≤ length_told (field + 1) raises.new
   pub written : AreRaisedTo x field first second old.bins new.bins
 
--- the node of the key at a path, if there is one, tells no less than two numbers, in a field and the next, and nothing else changed
+-- the node of the key at a path, if there is one, records no less than two numbers, in a field and the next, and nothing else changed
 pub record IsTold (old : HiveCells) (path : List (List ℕ)) (field first second : ℕ) (new : HiveCells) : Type 0 where
   pub version : new.version ≡ old.version
   pub root : new.root ≡ old.root
@@ -62,7 +62,7 @@ pub record IsTold (old : HiveCells) (path : List (List ℕ)) (field first second
   pub here : (x : ℕ) → key_place (cells_in old) path old.root ≡ Some x → IsToldAt old new x field first second
   pub none : key_place (cells_in old) path old.root ≡ None → new.bins ≡ old.bins
 
--- These fields were written over those of the value at an offset, and then, where the node of the key at a path told a smaller greatest
+-- These fields were written over those of the value at an offset, and then, where the node of the key at a path recorded a smaller greatest
 -- length of its values' data than this, that number was: no other byte differs.
 pub record WritesValue (old : HiveCells) (path : List (List ℕ)) (at : ℕ) (fields : List ℕ) (size : ℕ) (new : HiveCells) : Type 0 where
   pub mid : List Bin

@@ -169,7 +169,7 @@ impl HiveBytes {
         Some(NewPlace { at, bulk })
     }
 
-    /// Makes a key that may be made, whatever the bulk then; the node of the key above it tells no less than the length of the
+    /// Makes a key that may be made, whatever the bulk then; the node of the key above it records no less than the length of the
     /// name. `false` where there is no room for its node, or for the lists of the key above it.
     fn make_at(
         &mut self,

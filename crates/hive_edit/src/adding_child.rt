@@ -227,7 +227,7 @@ impl HiveBytes {
         }
     }
 
-    /// Adds a key under a name that it may have; the root's node tells no less than the lengths of the name and of the class.
+    /// Adds a key under a name that it may have; the root's node records no less than the lengths of the name and of the class.
     fn add_named(&mut self, alloc: Global, name: &[u16], key: &Key) -> Result<bool, EditStop>
         requires free { IsFreeName self.old name.now }
         requires fits { Fits (add_child name.now key.now) }

@@ -124,7 +124,7 @@ impl HiveBytes {
         }
     }
 
-    /// Copies a child under a name that one may have; the root's node tells no less than the lengths of the name and of the class.
+    /// Copies a child under a name that one may have; the root's node records no less than the lengths of the name and of the class.
     fn copy_named(
         &mut self,
         alloc: Global,

@@ -148,7 +148,7 @@ impl HiveBytes {
     }
 
     /// Makes the steps in order, all or none. Each value list that is rewritten takes a page of the strain at the least: where
-    /// so many steps set a value that the strain is over the limit, the tree is repacked at once.
+    /// that many steps set a value that the strain is over the limit, the tree is repacked at once.
     fn apply_many(&mut self, alloc: Global, steps: Steps) -> Result<(), EditStop>
         requires fits { All Fits (map step_of steps) }
         ensures made { Makes self.old.tree self.new.tree result (edited self.old.version self.old.tree (map step_of steps)) }
@@ -286,7 +286,7 @@ impl HiveBytes {
         are_bytes(&self.cells);
     }
 
-    /// The same, and the node of the key tells no less than the length of the data.
+    /// The same, and the node of the key records no less than the length of the data.
     fn set_inside(&mut self, path: &Names, name: &[u16], at: u32, kind: u32, bytes: &[u8])
         requires there { inside_place (cells_in self.old) path.now name.now self.old.root ≡ Some at }
         requires few { length bytes.now ≤ 4 }
@@ -306,7 +306,7 @@ impl HiveBytes {
     /// written, new cells take data of over four bytes, and the cells of the old data are freed; where these were in the
     /// value itself, and so are the new, no memory is wanted. For a value of a new name one run of cells takes the list
     /// with it, its own cell and those of its data, eight bytes of the key's node say so, and the old list is freed.
-    /// Where the node told smaller greatest lengths of its values, it tells these. What there is no room for repacks the
+    /// Where the node recorded smaller greatest lengths of its values, it records these. What there is no room for repacks the
     /// tree. After an `Err` the hive is as before; that it is out of memory is reported only where the edit would be made.
     pub fn set_value(
         &mut self,

@@ -323,7 +323,7 @@ impl HiveBytes {
         self.bulk + more - list_len(count)
     }
 
-    /// Puts a value of a new name into a key, whatever the bulk then, which is reported; the key's node tells no less than the
+    /// Puts a value of a new name into a key, whatever the bulk then, which is reported; the key's node records no less than the
     /// lengths of the name and of the data. `false` where there is no room for it; the hive is as before then, and where
     /// there is no memory.
     fn put_new(

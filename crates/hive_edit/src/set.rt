@@ -48,7 +48,7 @@ impl HiveBytes {
         self.bulk + has as u64 - had as u64
     }
 
-    /// Gives the value that is there a type and data, whatever the bulk then, which is reported; the node of the key tells no
+    /// Gives the value that is there a type and data, whatever the bulk then, which is reported; the node of the key records no
     /// less than their length. `false` where there is no room for the data; the hive is as before then, and where there is
     /// no memory.
     pub(crate) fn give_there(

@@ -1,4 +1,4 @@
-//! The greatest lengths that a key's node tells, raised where a child or a value is longer.
+//! The greatest lengths that a key's node records, raised where a child or a value is longer.
 
 ghost use Rattle.std.specs.Prelude.{◌≡◌, ◌≤◌, ◌+◌, ◌*◌, [], length};
 ghost use Rattle.std.specs.Option.{IsSomeAnd};

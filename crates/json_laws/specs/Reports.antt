@@ -1,4 +1,4 @@
--- What is a report in both of its forms, and what tells its text? (this project's own)
+-- What is a report in both of its forms, and what gives its text? (this project's own)
 use Rattle.std.specs.Prelude.{◌≡◌, ℕ, Bool, true, ◌&&◌, List, map}
 use Rattle.std.specs.List.{AllByRecursion, flat_map, list_all}
 use Rattle.report_text.specs.line_text.Objects.{Value}
@@ -33,7 +33,7 @@ has_words o = is_word o.word && list_all (λ (f : Field). is_word f.0) o.fields
 abbrev pub Reader : Type 0
 Reader = List ℕ → Fields → List ℕ
 
--- the reader gives the text of a line from what its object tells
+-- the reader gives the text of a line from what its object says
 pub record IsRead (reader : Reader) (s : Said) : Type 0 where
   pub words : has_words s.object ≡ true
   pub back : reader s.object.word (map told_field s.object.fields) ≡ s.text

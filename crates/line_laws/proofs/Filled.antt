@@ -6,7 +6,7 @@ use Rattle.line_parts.specs.Parts.{Part, Said, Number, Word, Name, Quoted, Writt
 use Rattle.line_laws.specs.Objects.{told_piece}
 use Rattle.line_laws.specs.Layouts.{emptied}
 
--- a part of this kind with what this piece says; a list without anything is told as one of texts
+-- a part of this kind with what this piece says; a list without anything is known as one of texts
 abbrev filled : Part → Piece → Part
 filled (Number a b) (Field key (objects.Number n)) = Number key n
 filled (Hex a b) (Field key (objects.Number n)) = Hex key n

@@ -1,4 +1,4 @@
--- The pieces of an object are told by its text, and where it ends.
+-- The pieces of an object are known by its text, and where it ends.
 use Rattle.std.proofs.Common.{◌≡◌, ℕ, ◌==◌, eqb, Bool, true, false, cond, not, ◌&&◌, List, [], ◌∷◌, ◌++◌, map, refl, sym, ap, ◌∙◌, append_assoc, arith}
 use Rattle.std.specs.Prelude.{codes}
 use Rattle.std.specs.List.{AllByRecursion, list_all, flat_map}
@@ -30,7 +30,7 @@ keyed key after = key ++ (34 ∷ 58 ∷ after)
 abbrev opened : List ℕ → List ℕ → List ℕ → List ℕ
 opened first text after = keyed first (quoted text ++ after)
 
--- what stands behind the key of a piece that has one
+-- what follows the key of a piece that has one
 abbrev behind_key : Piece → List ℕ → List ℕ
 behind_key (Field key value) after = value_text value ++ after
 behind_key (Opens key first text) after = 123 ∷ 34 ∷ opened first text after
@@ -181,7 +181,7 @@ form_behind (Opens key first text) after k has = refl
 form_behind (ListOpens key first text) after k has = refl
 form_behind p after k has = absurd (apart (sort_of p) 0 refl k)
 
--- a piece without a key is told by its sort
+-- a piece without a key is known by its sort
 settled : (n : ℕ) (q : Piece) → eqb n 0 ≡ false → n ≡ sort_of q → n ≡ form_of q
 settled n (Field key value) d k = absurd (apart n 0 d k)
 settled n (Opens key first text) d k = absurd (apart n 0 d k)
@@ -194,7 +194,7 @@ no_end q k = absurd (apart 1 (sort_of q) refl k)
 
 -- ---- two texts that agree
 
--- a key up to the colon behind it
+-- a key up to the colon after it
 parted_key : (a b after more : List ℕ) → is_word a ≡ true → is_word b ≡ true → keyed a after ≡ keyed b more
     → (a ≡ b) × (after ≡ more)
 parted_key a b after more is_a is_b e =

@@ -47,11 +47,11 @@ pub record Layout : Type 0 where
 abbrev pub layout_of : Line → Layout
 layout_of l = record { head = l.head; parts = map emptied l.parts }
 
--- what tells the layout of a line by its object
+-- what gives the layout of a line by its object
 abbrev pub Layouts : Type 0
 Layouts = List ℕ → List Piece → Layout
 
--- a line whose layout is told by its object, and whose word and keys stand between quotes as they are
+-- a line whose layout is known by its object, and whose word and keys stand between quotes as they are
 pub record IsToldBy (layouts : Layouts) (l : Line) : Type 0 where
   pub words : has_words (object_of l) ≡ true
   pub laid : layouts l.word (map told_piece (pieces_of l.parts)) ≡ layout_of l

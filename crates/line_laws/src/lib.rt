@@ -1,4 +1,4 @@
-//! What the objects of lines tell: the lines, whose layouts are told by samples of each kind.
+//! What the objects of lines say: the lines, whose layouts are known by samples of each kind.
 #![tactic(auto)]
 
 mod laws;

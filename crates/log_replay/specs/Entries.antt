@@ -45,7 +45,7 @@ with_entry hive c = record {
   applied = hive.applied + 1;
 }
 
--- one step: the hive after it, what is said, and whether it goes on
+-- one step: the hive after it, what is printed, and whether it goes on
 pub record Step : Type 0 where
   pub hive : HiveNow
   pub lines : List ReplayLine
@@ -62,7 +62,7 @@ stepped (Some c) hive =
 unfoldable pub step_of : List GivenLog → HiveNow → Step
 step_of logs hive = stepped (chosen logs hive.next) hive
 
--- what the entries make of the hive, and what is said
+-- what the entries make of the hive, and what is printed
 pub record Replayed : Type 0 where
   pub hive : HiveNow
   pub lines : List ReplayLine

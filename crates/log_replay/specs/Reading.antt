@@ -1,4 +1,4 @@
--- What is a log to a dirty hive, and what is said of it? (this project's own; the forms of the logs are Windows's)
+-- What is a log to a dirty hive, and what is reported of it? (this project's own; the forms of the logs are Windows's)
 use Rattle.std.specs.Prelude.{◌==◌, ◌-◌, ℕ, if◌then◌else◌, List, [], ◌∷◌, ◌++◌, length, take, slice_index_or, Option, Some, None, Result, Ok, Err}
 use Rattle.nt_bytes.specs.declared.fault.HiveFault.{HiveFault}
 use Rattle.hive_model.specs.Base.{Base}
@@ -36,7 +36,7 @@ entries_in (Broken fault) = []
 entries_in (New run) = run.entries
 entries_in (Old base reading) = []
 
--- ---- what is said of it
+-- ---- what is reported of it
 
 abbrev pub fault_line : LogName → LogFault → ReplayLine
 fault_line name fault = lines.Fault fault.kind name fault.at

@@ -1,7 +1,7 @@
--- What do the logs of Windows make of a hive, and what is said of it?
+-- What do the logs of Windows make of a hive, and what is reported of it?
 --
 -- A clean hive stays as it is. To a dirty one entries of new logs are applied, from its second number on, as far as they follow
--- one by one; where there is none, an old log that belongs to it. (Windows's recovery; what is said is this project's own.)
+-- one by one; where there is none, an old log that belongs to it. (Windows's recovery; what is printed is this project's own.)
 use Rattle.std.specs.Prelude.{◌+◌, ◌*◌, ◌==◌, true, false, nat_le, ℕ, if◌then◌else◌, List, [], ◌∷◌, ◌++◌, length, take, map, Option, Some, None, Result, Ok, Err}
 use Rattle.nt_bytes.specs.declared.fault.HiveFault.{HiveFault}
 use Rattle.nt_bytes.specs.declared.fault.HiveFaultKind.TheVariants.{NotRegf, Size}

@@ -96,7 +96,7 @@ pub(crate) fn entries_in(reading: &LogReading) -> &[Entry]
     }
 }
 
-// ---- what is said of it
+// ---- what is reported of it
 
 fn fault_line(name: LogName, fault: &LogFault) -> ReplayLine
     ensures { result ≡ ReplayLine.Fault fault.now.kind name fault.now.at }

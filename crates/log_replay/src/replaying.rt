@@ -25,7 +25,7 @@ pub struct LogFile {
     pub bytes: Bytes,
 }
 
-/// What the logs made of a hive: its file, its two numbers, and what is said.
+/// What the logs made of a hive: its file, its two numbers, and what is printed.
 #[derive(Drop)]
 pub struct Outcome {
     pub file: Bytes,

@@ -21,7 +21,7 @@ a write or a sync failed.
 /// The name of the program and its version.
 pub const VERSION: &[u8] = b"ntmend 1.0.0\n";
 
-/// The page that this word asks for, where it stands alone.
+/// The page that this word asks for, where it is the only one.
 pub fn page_of(word: &str) -> Option<&'static [u8]>
     ensures exact { option_map (λ page. page.now) result ≡ page_named word.now }
 {

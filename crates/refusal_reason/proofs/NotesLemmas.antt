@@ -97,7 +97,7 @@ add-front (suc n) (x ∷ front) bytes fits =
     let left : suc n - length (x ∷ front) ≡ n - length front = omega arith in
     ap (λ k. x ∷ (front ++ take k bytes)) left ∙ ap (λ l. x ∷ l) (add-front n front bytes (omega arith))
 
--- so these notes have more of what was said
+-- so these notes have more of what was printed
 pub added : (notes : Notes) (bytes part : Text) (answer : Result (Unit {0}) AllocError) (front : Text)
     → length notes.front ≤ notes.room → part ≡ take (notes.room - length notes.front) bytes
     → OnOk answer (front ≡ notes.front ++ part) → OnOk answer (record notes { front = front } ≡ with_said notes bytes)

@@ -58,7 +58,7 @@ longer words text long =
         (omega (arith, length-take (length text - 1 - 8) (drop 8 text), length-drop 8 text))
     go false = refl
 
--- what there is room for tells which file is absent
+-- what there is room for says which file is absent
 pub missing-front : (words : List Text) (text : Text)
     → missing_in words (take (room_for words) text) ≡ missing_in words text
 missing-front words text = go (nat_lt (room_for words) (length text)) refl

@@ -37,9 +37,9 @@ use Rattle.run_laws.proofs.KeptLemmas.{IsMark}
 use Rattle.run_laws.proofs.NoteLemmas.{fits_possible, woke_in-append}
 use Rattle.run_laws.specs.commit_laws.Numbers.{number_of, AreUnnumbered, tell_stop, one_more, MayBeUnder, IsNext}
 
--- ---- what the report told so far
+-- ---- what the report said so far
 
--- the last number that was told, if one was, and whether a stop was told after it
+-- the last number that was reported, if one was, and whether a stop was reported after it
 data Said : Type 0 where
   Untold : Said
   Settled : ℕ → Said
@@ -79,7 +79,7 @@ none_told n (lines.Verdict verdicts.Device ∷ ls) e = absurd cc
 none_told n (lines.Verdict other ∷ ls) e = none_told n ls e
 none_told n (other ∷ ls) e = none_told n ls e
 
--- after lines without a number the last one stays, and is that of a stop where one was told
+-- after lines without a number the last one stays, and is that of a stop where one was reported
 abbrev unless_stopped : Bool → ℕ → Said
 unless_stopped true n = Opened n
 unless_stopped false n = Settled n

@@ -1,4 +1,4 @@
--- What is said of the bins data of a damaged hive, from their first byte to their last (this project's own)?
+-- What is reported of the bins data of a damaged hive, from their first byte to their last (this project's own)?
 use Rattle.std.specs.Prelude.{ℕ, zero, suc, ◌+◌, ◌/◌, ◌==◌, if◌then◌else◌, List, [], ◌∷◌, ◌++◌, length, drop, Result, Ok, Err}
 use Rattle.nt_bytes.specs.declared.fault.HiveFault.{HiveFault}
 use Rattle.salvage_bins.specs.declared.layout.Mark.{Mark}

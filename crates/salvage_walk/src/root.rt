@@ -191,7 +191,7 @@ pub fn walk_tree(
     Ok(WalkedTree { tree, walk, notes })
 }
 
-/// The tree that is salvaged from a root, and what is said on the way. There is an answer for any cells; the bytes are at most
+/// The tree that is salvaged from a root, and what is printed on the way. There is an answer for any cells; the bytes are at most
 /// 256 MiB.
 pub fn salvage_tree(
     alloc: Global,

@@ -1,4 +1,4 @@
--- How is a system written out, and what is said of it? (this project's own)
+-- How is a system written out, and what holds of it? (this project's own)
 --
 -- Each key has no class, no descriptor and no stamp.
 use Rattle.std.specs.Prelude.{ℕ, zero, suc, ◌/◌, ◌%◌, true, false, List, [], ◌∷◌, ◌++◌, Option, codes}

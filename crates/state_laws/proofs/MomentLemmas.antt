@@ -228,7 +228,7 @@ module _ (r : ViewedRun) (e : Entry) where
         by None is = le
         by (Some j) is = omega (arith, le, last_early j is)
 
-    -- the line tells of it
+    -- the line reports it
     line_tells : (from : ℕ) → k ≤ length r.run.start.attempts
         → TellsOf r from (moment_by from last_met) (ready_line r from last_met)
     line_tells from long = by last_met refl

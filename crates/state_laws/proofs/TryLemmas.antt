@@ -1,4 +1,4 @@
--- Each `try` line is what the state of its name tells of.
+-- Each `try` line is what the state of its name reports.
 use Rattle.std.proofs.Common.{◌≡◌, ◌<◌, ℕ, ◌+◌, true, List, [], get_or, slice_get, Option, Some, sym, ap, subst, ◌∙◌, arith}
 use Rattle.std.specs.Option.{option_map}
 use Rattle.std.proofs.lemmas.Bool.{false_from_ne_true}

@@ -31,7 +31,7 @@ use Rattle.state_laws.proofs.ActLemmas.{IsKept, Keeps, nothing_held, set_held, a
 abbrev IsHeldPhase : BegunPhase → Type 0
 IsHeldPhase p = HoldsKeys p.set
 
--- a line tells of no set
+-- a line reports no set
 seen_held : (line : Line) (l : LastStart) → AreHeld l.phases → AreHeld (seen line l).phases
 seen_held (lines.Start number) l h = All-nil IsHeldPhase
 seen_held (lines.Entry number path) l h = h

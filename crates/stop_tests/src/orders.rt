@@ -5,7 +5,7 @@ ghost use Rattle.hive_model.specs.Limits.{most_file};
 
 use nt_edge::{Bench, DiskCall, DiskStop, HiveFile, Keep};
 
-/// A stop at the n-th call of a kind: a cut where it says what is kept, else a fault.
+/// A stop at the n-th call of a kind: a cut where what is kept is given, else a fault.
 #[derive(Clone, Copy, Debug)]
 pub struct Order {
     pub call: DiskCall,

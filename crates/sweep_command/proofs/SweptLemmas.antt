@@ -40,7 +40,7 @@ whole_in before event =
     ap (map event_in) (append_assoc before (event ∷ []) (probe_event ∷ []))
     ∙ map-append event_in before (event ∷ probe_event ∷ [])
 
--- ---- what was said
+-- ---- what was printed
 
 module _ (inputs : SweepInputs) (first second : Played) (placed : Woken)
     (without : IsPlayed (choices inputs.ini inputs.system) (inputs.script.before ++ probe_event ∷ []) placed first)

@@ -1,4 +1,4 @@
-//! An event played after others, on a disk of its own: what it says, and the log that the disk then holds.
+//! An event played after others, on a disk of its own: what it prints, and the log that the disk then holds.
 
 mod playing;
 

@@ -1,6 +1,6 @@
 //! The lines that one event says, by two reports: that of the events before it, and that with it.
 //!
-//! Behind the events of both stands the probe (`specs/Probe.antt`), whose line parts what events say from the end of a report.
+//! After the events of both stands the probe (`specs/Probe.antt`), whose line parts what events say from the end of a report.
 
 mod between;
 mod laws;

@@ -1,4 +1,4 @@
--- Numbers put on what a walk comes to.
+-- Numbers put on what a walk reaches.
 use Rattle.std.proofs.Common.{◌≡◌, ℕ, ◌+◌, ◌<◌, Bool, true, false, not, ◌&&◌, nat_eq, List, [], ◌∷◌, ◌++◌, length, take, filter, get_or, set, cond, refl, sym, ap, ◌∙◌, inl, inr, subst, arith}
 use Rattle.std.specs.Prelude.{Contains}
 use Rattle.std.proofs.lemmas.Bool.{cases_eq, and_parts, not-true, eqb-true, eq-eqb}

@@ -15,7 +15,7 @@ pub record IsSettling (rows : List (List ℕ)) (places : ℕ) (marks : List Bool
   pub settled : (u : ℕ) → u < length rows → is_ripe rows places (is_done marks work) u ≡ true → member marks u ≡ true
   pub least : (set : ℕ → Bool) → IsMetBy rows places set → (k : ℕ) → member marks k ≡ true → set k ≡ true
 
--- so many at the front of each list are marked
+-- that many at the front of each list are marked
 pub record AreFirsts (rows : List (List ℕ)) (marks : List Bool) (firsts : List ℕ) : Type 0 where
   pub len : length firsts ≡ length rows
   pub marked : (u : ℕ) → list_all (member marks) (take (slice_index firsts u) (row_at rows u)) ≡ true

@@ -165,7 +165,7 @@ fn are_all(rows: &[Row<usize>], at: usize, firsts: &mut Vec<usize>, marks: &[boo
     row.len() <= first
 }
 
-/// How many at the front of the list are marked, where so many are known to be.
+/// How many at the front of the list are marked, where that many are known to be.
 fn first_open(marks: &[bool], row: &[usize], known: usize) -> usize
     requires { list_all (member marks.now) (take known row.now) ≡ true }
     ensures marked { list_all (member marks.now) (take result row.now) ≡ true }

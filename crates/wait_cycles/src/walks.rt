@@ -1,4 +1,4 @@
-//! Walks over some vertices of a graph, which put a number on what they come to.
+//! Walks over some vertices of a graph, which put a number on what they reach.
 
 ghost use Rattle.std.specs.Prelude.{◌≡◌, ℕ, ◌<◌, ◌&&◌, [], ◌∷◌, false, not, All, filter, length, OnOk};
 ghost use Rattle.start_model.specs.Demand.{member};

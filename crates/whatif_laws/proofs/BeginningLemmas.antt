@@ -1,4 +1,4 @@
--- A beginning on a tree with lighter sets: no step of it tells that tree from the first one, and the size refuses it no sooner.
+-- A beginning on a tree with lighter sets: no step of it distinguishes that tree from the first one, and the size refuses it no sooner.
 use Rattle.std.proofs.Common.{◌≡◌, ◌⊎◌, inl, inr, ℕ, ◌≤◌, Bool, true, false, ◌&&◌, ◌||◌, ◌==◌, not, nat_eq, cond, ltb, List, [], ◌∷◌, ◌++◌, length, map, Option, Result, Ok, Err, refl, sym, ap, subst, ◌∙◌, arith}
 use Rattle.std.specs.Prelude.{find, filter, nat_le, codes, option_and_then}
 use Rattle.std.specs.List.{AllByRecursion, range_with_len}

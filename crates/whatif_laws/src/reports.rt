@@ -14,9 +14,9 @@ pub fn a_start_takes_the_set_of_the_edited_hive()
     ensures set { TakesEditedSet }
 {}
 
-/// The lines `try` and `unmet` of the report of `boot` and `go`, perhaps after `fail NAME 1`, are those of what is told of the start: the same
+/// The lines `try` and `unmet` of the report of `boot` and `go`, perhaps after `fail NAME 1`, are those of what is reported of the start: the same
 /// names with the same words, in one order, on a disk without cuts and faults (`failure`). Where the disk loads as a tree of which a start takes the
-/// same set with the entry of a name off, they are those of what is told of the start with it off (`off`); and so they are where it loads as the tree
+/// same set with the entry of a name off, they are those of what is reported of the start with it off (`off`); and so they are where it loads as the tree
 /// in which the value `Start` of that entry, in the set that is taken, was set to the DWORD 4 (`edited`).
 pub fn what_is_told_is_what_a_run_reports()
     ensures failure { TellsAsRun }

@@ -45,7 +45,7 @@ each_at P [] p r h is = absurd cc
 each_at P (x ∷ xs) zero r h is = subst P (same_Some x r is) h.0
 each_at P (x ∷ xs) (suc p) r h is = each_at P xs p r h.1 is
 
--- with one that is ahead, or that is behind
+-- with one that is ahead, or that is after
 filter_on : (test : Rank → Bool) (x : Rank) (xs : List Rank) → test x ≡ true → filter test (x ∷ xs) ≡ x ∷ filter test xs
 filter_on test x xs is = ap (λ (b : Bool). cond b (x ∷ filter test xs) (filter test xs)) is
 

@@ -32,7 +32,7 @@ use Rattle.why_laws.proofs.ActLemmas.{hear, script_known}
 
 -- ---- states alike but for what the log and the sequence numbers leave
 
--- what a start is told of
+-- what is reported of a start
 record Core : Type 0 where
   machine : MachineState
   live : Tree

@@ -34,7 +34,7 @@ use Rattle.why_laws.proofs.SeenLemmas.{heard, heard_more, told, heard_alike, hea
 
 -- ---- states alike but for what the log and the sequence numbers leave
 
--- what a start is told of
+-- what is reported of a start
 record Core : Type 0 where
   machine : MachineState
   live : Tree
@@ -77,7 +77,7 @@ record Alike (m n : RunState) (k h : LastStart) : Type 0 where
   second : n ≡ state_by core right
   last : told k ≡ told h
 
--- what was watched after a start was as told, and what lines say then
+-- what was watched after a start was as reported, and what lines say then
 abbrev Tells : LastStart → Watched → Quiet → Type 0
 Tells l w q = Alike w.state q.state w.last (heard l q.lines)
 

@@ -1,4 +1,4 @@
-//! What holds of what is said of a name in a start, by its definitions and the book of startup, apart from any code.
+//! What holds of what is reported of a name in a start, by its definitions and the book of startup, apart from any code.
 
 mod lacks;
 mod places;

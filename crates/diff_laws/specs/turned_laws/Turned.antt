@@ -64,7 +64,7 @@ turned (Data side kind bytes) = Data (other side) kind bytes
 turned (KeyOnly side keys path) = KeyOnly (other side) keys path
 turned line = line
 
--- what is said of the sets of two numbers, with all keys and values compared or without
+-- what is printed of the sets of two numbers, with all keys and values compared or without
 abbrev pub said_lines : Bool → Tree → ℕ → Tree → ℕ → List DiffLine
 said_lines all a n b m = closed (found_lines all a n b m)
 

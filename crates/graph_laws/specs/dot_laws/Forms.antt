@@ -87,7 +87,7 @@ IsStartLine (lines.EndedBy name) = AreUnits name
 IsStartLine (lines.Vital name) = AreUnits name
 IsStartLine line = ⊥
 
--- ---- what each form tells
+-- ---- what each form reports
 
 -- the objects tell the lines about the start, and the graph
 abbrev pub ObjectsTellGraph : Type 0
@@ -100,7 +100,7 @@ ObjectsTellGraph =
 abbrev pub as_printed : GraphNode → GraphNode
 as_printed node = record node { name = name_text node.name }
 
--- the text tells the lines about the start as one text, the nodes but for names that are printed alike, and the edges
+-- the text reports the lines about the start as one text, the nodes but for names that are printed alike, and the edges
 pub record SameDrawing (heads more : List WhyLine) (g f : Graph) : Type 0 where
   pub head : head_text heads ≡ head_text more
   pub nodes : map as_printed g.nodes ≡ map as_printed f.nodes

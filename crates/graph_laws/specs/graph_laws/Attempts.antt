@@ -29,7 +29,7 @@ pub record IsAttempt (lines : List Line) (node : GraphNode) (k : ℕ) : Type 0 w
   pub tried : TriedAt lines node.name k word
   pub state : node.state ≡ state_after word
 
--- a node with the number N tells of the N-th `try` line of the last start, whether a name is asked for or not
+-- a node with the number N reports the N-th `try` line of the last start, whether a name is asked for or not
 abbrev pub NumberIsAttempt : Type 0
 NumberIsAttempt =
     (choice : Option ℕ → Choice) (script : List Event) (placed : Woken) (last : ℕ × List Line)

@@ -1,4 +1,4 @@
-//! What the text of a start's graph tells of it.
+//! What the text of a start's graph reports of it.
 
 ghost use Rattle.graph_laws.specs.graph_laws.Told.{GraphIsOfStart};
 

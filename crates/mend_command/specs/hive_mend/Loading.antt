@@ -19,7 +19,7 @@ pub record IsLoadOf (image : Image) (hive : Loaded) (dirty : Bool) : Type 0 wher
   pub recovered : recovered_of image ≡ Ok (record { base = hive.base; bins = hive.bins; dirty = dirty })
   pub loads : Loads image (loaded_state hive) dirty
 
--- of an image: the hive that it holds and whether it was dirty, or its first fault; nothing is said of the other stops
+-- of an image: the hive that it holds and whether it was dirty, or its first fault; nothing is stated of the other stops
 abbrev pub LoadsFrom : Image → Result (Loaded × Bool) LoadStop → Type 0
 LoadsFrom image (Ok x) = IsLoadOf image x.0 x.1
 LoadsFrom image (Err stop) = StopsFrom image stop

@@ -1,4 +1,4 @@
--- What is said of a repair? This project's own.
+-- What is printed of a repair? This project's own.
 use Rattle.std.specs.Prelude.{ℕ, ◌++◌, Bool, if◌then◌else◌, List, [], length, Option, Some, None, codes}
 use Rattle.std.specs.Fmt.{decimal}
 use Rattle.nt_bytes.specs.declared.fault.HiveFault.{HiveFault}

@@ -66,7 +66,7 @@ impl LoadedHive {
         requires on { (D.state disk.old).on ≡ true }
         requires still { D.tells ≡ true → (D.state disk.old).flight ≡ [] }
         // It makes the calls of one recovery and no other: the reads, and then the writes of a dirty hive; of a
-        // hive with a fault the reads alone. Which sectors, is said of a disk that shows what it holds.
+        // hive with a fault the reads alone. Which sectors is stated of a disk that reports what it holds.
         ensures made { MakesRecovery (D.calls disk.old) (D.calls disk.new)
             (λ calls. D.tells ≡ true → AreOfLoad (D.state disk.old).held result calls) }
         // At Ok the hive is what the disk holds, and so is whether it was dirty; a fault is its first.

@@ -105,7 +105,7 @@ pub fn mend_hive<H: Host, D: Disk>(alloc: Global, host: &mut H, disk: &mut D) ->
     // A hive with a fault is not written, whatever the answer.
     ensures faulty { D.tells ≡ true → (fault : HiveFaultModel) → LoadFault (D.state disk.old).held fault
         → IsUntouched (D.state disk.old) (D.state disk.new) }
-    // A stop has its cause, a count that rose in this call; and none rose where no stop is told, unless what tells it was stopped.
+    // A stop has its cause, a count that rose in this call; and none rose where no stop is reported, unless the report of it was stopped.
     ensures disk { DiskGoes result (D.state disk.old) (D.state disk.new) }
     ensures host { HostGoes result (H.state host.old) (H.state host.new) }
 {

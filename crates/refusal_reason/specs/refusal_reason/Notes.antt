@@ -79,7 +79,7 @@ abbrev pub dirty_file : Files → Option Text → Option Bool
 dirty_file files None = None
 dirty_file files (Some name) = option_map is_dirty (files name)
 
--- Where the host reports: what was noted as said are the first bytes that were printed, as many as there is room for, if all could be said and
+-- Where the host reports: what was noted as printed are the first bytes that were printed, as many as there is room for, if all could be said and
 -- noted; and a hive of which it is noted is dirty or not as its file is.
 pub record IsNoted (words : List Text) (state : HostState) (notes : Notes) : Type 0 where
   pub room : notes.room ≡ room_for words

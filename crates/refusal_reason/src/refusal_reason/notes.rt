@@ -12,7 +12,7 @@ use std::alloc::{AllocError, Global};
 /// What was noted so far. A file is known by its place on the command line.
 #[derive(Drop)]
 pub struct Notes {
-    /// How many of the bytes that are said are noted.
+    /// How many of the bytes that are printed are noted.
     pub room: usize,
     /// The first bytes that were said.
     pub front: Bytes,
@@ -55,14 +55,14 @@ fn longest(words: &[&str]) -> usize
     most
 }
 
-/// How many of the bytes that are said are noted: enough for the line of each fault, and for the one that a file on the command line is absent.
+/// How many of the bytes that are printed are noted: enough for the line of each fault, and for the one that a file on the command line is absent.
 fn room_for(words: &[&str]) -> usize
     ensures { result ≡ room_for (map (λ w. w.now) words.now) }
 {
     longest(words) + 128
 }
 
-/// The first bytes, at most so many.
+/// The first bytes, at most that many.
 pub(crate) fn first(bytes: &[u8], most: usize) -> &[u8]
     ensures { result.now ≡ take most bytes.now }
 {

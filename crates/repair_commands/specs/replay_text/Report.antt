@@ -32,7 +32,7 @@ has_fault (line ∷ said) = is_fault line || has_fault said
 abbrev pub saving_line : Outcome → ReplayLine
 saving_line o = if o.first == o.second then lines.Saved o.first (length o.file) else lines.SaveRefused
 
--- what is said of the saving, where the command line asks for it
+-- what is printed of the saving, where the command line asks for it
 abbrev pub saving_lines : Bool → ReplayLine → List ReplayLine
 saving_lines asked line = if asked then line ∷ [] else []
 

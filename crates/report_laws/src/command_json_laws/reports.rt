@@ -1,4 +1,4 @@
-//! A law for each command: the object of each line of its report tells the line's text (`read`), which is one line (`lines`).
+//! A law for each command: the object of each line of its report determines the line's text (`read`), which is one line (`lines`).
 
 ghost use Rattle.std.specs.Prelude.{◌≡◌, ℕ, Bool, List, Option, map};
 ghost use Rattle.hive_model.specs.Tree.{Tree};
@@ -42,7 +42,7 @@ pub fn a_report_of_twin_is_read()
     ensures lines { (number : Option ℕ) (found : Recovered) (tree : Tree) → AreLines (twin.twin_said number found tree) }
 {}
 
-/// The lines of `import`, whatever it made of the edits.
+/// The lines of `import`, regardless of what became of the edits.
 pub fn a_report_of_import_is_read()
     ensures read { (said : ImportSaid) → IsReport import.import_reader (λ (form : ReportForm). said_text form said) (import.import_said said) }
     ensures lines { (said : ImportSaid) → AreLines (import.import_said said) }

@@ -35,7 +35,7 @@ pub fn a_depth_past_the_last_level_adds_nothing()
 {}
 
 /// With descriptors and a depth of at least the levels below a key, a text determines the key whole: where another text with
-/// descriptors, of any depth, is the same, its path leads to a key equal in all, spelled the same.
+/// descriptors, of any depth, is the same, its path leads to a key that is equal throughout, spelled the same.
 pub fn a_text_determines_its_key()
     ensures { (form : ReportForm) (root other : Tree) (path way : List (List ℕ)) (depth deep : ℕ) (place : Place) → IsHeld root → IsHeld other
         → place_of root path ≡ Some place → levels place.found ≤ depth + 1

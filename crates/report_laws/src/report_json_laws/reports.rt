@@ -1,4 +1,4 @@
-//! A law for each command: the object of each line of its report tells the line's text.
+//! A law for each command: the object of each line of its report determines the line's text.
 
 ghost use Rattle.std.specs.Prelude.{◌≡◌, ℕ, ◌≤◌, List, map};
 ghost use Rattle.std.specs.List.{AllByRecursion};

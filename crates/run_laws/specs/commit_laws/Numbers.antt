@@ -15,13 +15,13 @@ abbrev pub AreUnnumbered : List Line → Type 0
 AreUnnumbered [] = Unit {0}
 AreUnnumbered (l ∷ ls) = (number_of l ≡ None) × AreUnnumbered ls
 
--- the line tells of a stop: the verdict of a cut or a device fault
+-- the line reports a stop: the verdict of a cut or a device fault
 abbrev pub is_stop_line : Line → Bool
 is_stop_line (VerdictLine verdicts.Cut) = true
 is_stop_line (VerdictLine verdicts.Device) = true
 is_stop_line other = false
 
--- one of the lines tells of a stop
+-- one of the lines reports a stop
 abbrev pub tell_stop : List Line → Bool
 tell_stop [] = false
 tell_stop (l ∷ ls) = is_stop_line l || tell_stop ls

@@ -13,7 +13,7 @@ ghost use Rattle.start_model.specs.Fits.{ArePossible, MayLoad, woke_in, outcomes
 ghost use Rattle.run_laws.specs.commit_laws.Numbers.{number_of, AreUnnumbered, tell_stop, MayBeUnder, IsNext};
 
 /// After a line that says a number, of a commit or a load, the next line with a number says what follows (`IsNext`): a load the
-/// same number, or one more where a stop was told between them; a commit one more, and no stop was told. It holds of each run whose
+/// same number, or one more where a stop was reported between them; a commit one more, and no stop was reported. It holds of each run whose
 /// wakes may be (`run`), so of each report (`report`).
 pub fn each_number_in_a_report_follows_the_one_before()
     ensures run { (choice : Option ℕ → Choice) (script : List events.Event) (placed : Woken) (wakes : List Woken) (outcomes : List Outcome)
@@ -29,7 +29,7 @@ pub fn each_number_in_a_report_follows_the_one_before()
 {}
 
 /// After the last line of a report that says a number, each image that the disk may be left as loads under that number, or one more
-/// where a stop was told since (`report`). Of a run that gives out for want of a wake or an outcome, what the disk may load as
+/// where a stop was reported since (`report`). Of a run that gives out for want of a wake or an outcome, what the disk may load as
 /// there is under it or one more (`gives_out`): so each wake is, whether its load was done or not.
 pub fn the_disk_loads_under_the_last_number_or_the_next()
     ensures report { (choice : Option ℕ → Choice) (script : List events.Event) (placed : Woken) (images : List Image) (held : Image)

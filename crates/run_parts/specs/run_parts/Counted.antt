@@ -1,4 +1,4 @@
--- Is each stop that a disk counted told? (this project's own)
+-- Is each stop that a disk counted reported? (this project's own)
 --
 -- Numbers alone, as in the causes of the book: a disk counts the losses of power and the failed calls that it had. What a run
 -- reports are its notes.

@@ -33,7 +33,7 @@ pub record IsAfter (r : ViewedRun) (from moment : ℕ) (name : List ℕ) : Type 
   pub in_phase : from ≤ place
   pub is : moment ≡ place + 1
 
--- the line tells of the moment, of a phase that began at one
+-- the line reports the moment, of a phase that began at one
 abbrev pub TellsOf : ViewedRun → ℕ → ℕ → WhyLine → Type 0
 TellsOf r from moment lines.ReadyAtOnce = moment ≡ from
 TellsOf r from moment (lines.ReadyAfter name) = IsAfter r from moment name
@@ -41,7 +41,7 @@ TellsOf r from moment line = ⊥
 
 -- the entry at a place of the plan, attempted as the one at a place of all
 pub record IsExplained (r : ViewedRun) (from : ℕ) (v : PhaseView) (p : ℕ) (e : Entry) (k : ℕ) : Type 0 where
-  -- the `ready` line tells of this moment, up to which the entry was not ready; and afterwards it was
+  -- the `ready` line reports this moment, up to which the entry was not ready; and afterwards it was
   pub moment : ℕ
   pub line : TellsOf r from moment (ready_line r from (ready_at r (starts_of r) e))
   pub before : (n : ℕ) → from ≤ n → n < moment → is_ready_by r n e ≡ false

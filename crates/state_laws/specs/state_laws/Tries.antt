@@ -24,7 +24,7 @@ NamesAreTriedOnce =
     → last_start_in (book.quiet_run_of choice script placed).lines ≡ Some last → SetsAreHeld choice script placed
     → AllPairs (λ (a b : Attempt). folds_same a.name b.name ≡ false) (tries_in last.1)
 
--- the state of a name tells of the `try` line at each place that is of that name: its number, and how the attempt went
+-- the state of a name reports the `try` line at each place that is of that name: its number, and how the attempt went
 abbrev pub TriesAreStates : Type 0
 TriesAreStates =
     (choice : Option ℕ → Choice) (script : List Event) (placed : Woken) (last : ℕ × List Line)

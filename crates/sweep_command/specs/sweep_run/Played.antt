@@ -1,4 +1,4 @@
--- What is said of events that are played on a disk, and what is the disk left as?
+-- What is printed of events that are played on a disk, and what is the disk left as?
 use Rattle.std.specs.Prelude.{◌≡◌, ℕ, List, map, Option, Some, Result, Ok, Err}
 use Rattle.hive_model.specs.Image.{Log, Image, IsFileOf}
 use Rattle.hive_model.specs.Load.{Loads}

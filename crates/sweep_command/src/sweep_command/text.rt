@@ -32,7 +32,7 @@ fn log_bytes(log: &Option<Bytes>) -> &[u8]
     }
 }
 
-/// The report by what was said without the event and with it, and by the two logs.
+/// The report by what was printed without the event and with it, and by the two logs.
 fn report_by(
     alloc: Global,
     form: ReportForm,

@@ -1,4 +1,4 @@
--- The lines of an event as texts, without LF: which of them are told, and how? (this project's own)
+-- The lines of an event as texts, without LF: which of them are reported, and how? (this project's own)
 --
 -- The first word says which line it is, and the words after it are the fields of its object.
 use Rattle.std.specs.Prelude.{ℕ, Bool, not, ◌==◌, ◌&&◌, ◌||◌, if◌then◌else◌, List, [], ◌∷◌, ◌++◌, take, drop, codes}
@@ -42,7 +42,7 @@ refused_object words = object_text (codes "refused") ((codes "event", Text (word
 abbrev pub verdict_object : List ℕ → List ℕ
 verdict_object words = object_text (codes "verdict") ((codes "word", Text words) ∷ [])
 
--- the object of a line with this first word and these after it; none of a line that is not told
+-- the object of a line with this first word and these after it; none of a line that is not reported
 abbrev pub object_by : List ℕ → List ℕ → List ℕ
 object_by word words =
     if bytes_eq word (codes "load") then load_object words

@@ -14,15 +14,15 @@ ghost use Rattle.sweep_text.specs.sweep_lines.Pieces.{pieces_of, lines_between};
 ghost use Rattle.sweep_text.specs.sweep_lines.Swept.{state_after, lines_after, swept_by};
 
 /// Where the one report has the lines of the events before, and the other those and an event's, each with the probe's line and an end
-/// behind them, the lines between are the event's.
+/// after them, the lines between are the event's.
 pub fn the_lines_of_an_event_are_found()
     ensures { (front said : List Line) (first last : Option Start) (before whole : List ℕ) → before ≡ text_of (front ++ tail_of first)
         → whole ≡ text_of ((front ++ said) ++ tail_of last)
         → map (λ (t : List ℕ). t ++ 10 ∷ []) (lines_between (pieces_of before) (pieces_of whole)) ≡ map line_text said }
 {}
 
-/// The quiet runs of events and of the same with one more, each with the probe behind them, say such reports. The second ends in the
-/// state that the event comes to.
+/// The quiet runs of events and of the same with one more, each with the probe after them, say such reports. The second ends in the
+/// state that the event reaches.
 pub fn the_probe_parts_the_lines()
     ensures before { (choice : Option ℕ → Choice) (before : List Event) (placed : Woken)
         → (quiet_run_of choice (before ++ probe ∷ []) placed).lines

@@ -88,7 +88,7 @@ fn push_refused(out: &mut Vec<u8>, more: &[u8]) -> Result<(), AllocError>
     push_event(out, event, why)
 }
 
-/// Appends the object of a line with this first word and these after it, if it is told.
+/// Appends the object of a line with this first word and these after it, if it is reported.
 pub(crate) fn push_object(out: &mut Vec<u8>, word: &[u8], more: &[u8]) -> Result<(), AllocError>
     ensures { OnOk result (out.new.items ≡ out.old.items ++ object_by word.now more.now) }
 {

@@ -20,7 +20,7 @@ use std::alloc::{AllocError, Global};
 
 // ---- counts
 
-/// How many calls a recovery makes that takes so many sectors.
+/// How many calls a recovery makes that takes that many sectors.
 fn recovery_count(sectors: &[u32]) -> u32
     requires { length sectors.now ≤ 8388608 }
     ensures count { result ≡ calls_in (recovery_stages sectors.now) }

@@ -9,7 +9,7 @@ use crate::sweep_text::words::{is_told, says_commit, says_recovery, words};
 use report_text::line_text::ReportForm;
 use std::alloc::AllocError;
 
-/// Appends a line and its LF, if it is told.
+/// Appends a line and its LF, if it is reported.
 fn push_text(out: &mut Vec<u8>, text: &[u8]) -> Result<(), AllocError>
     ensures { OnOk result (out.new.items ≡ out.old.items ++ (if is_told_word (word_of text.now) then text.now ++ 10 ∷ [] else [])) }
 {
@@ -21,7 +21,7 @@ fn push_text(out: &mut Vec<u8>, text: &[u8]) -> Result<(), AllocError>
     Ok(())
 }
 
-/// Appends a line in one of the two forms, if it is told.
+/// Appends a line in one of the two forms, if it is reported.
 fn push_told(out: &mut Vec<u8>, form: ReportForm, text: &[u8]) -> Result<(), AllocError>
     ensures { OnOk result (out.new.items ≡ out.old.items ++ told_text form text.now) }
 {
@@ -34,7 +34,7 @@ fn push_told(out: &mut Vec<u8>, form: ReportForm, text: &[u8]) -> Result<(), All
     }
 }
 
-/// Appends those lines that are told.
+/// Appends those lines that are reported.
 pub(crate) fn push_said(
     out: &mut Vec<u8>,
     form: ReportForm,

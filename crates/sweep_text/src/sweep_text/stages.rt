@@ -171,7 +171,7 @@ fn push_stages(
     )
 }
 
-/// Appends the stages of a commit whose log has so many sectors of bits, with the numbers of the first write and the first sync.
+/// Appends the stages of a commit whose log has that many sectors of bits, with the numbers of the first write and the first sync.
 pub(crate) fn push_commit(
     alloc: Global,
     out: &mut Vec<u8>,

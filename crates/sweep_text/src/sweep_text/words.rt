@@ -37,7 +37,7 @@ pub(crate) fn words(text: &[u8]) -> (&[u8], &[u8])
     (word, without_first(rest))
 }
 
-/// Whether a line with this first word is told.
+/// Whether a line with this first word is reported.
 pub(crate) fn is_told(word: &[u8]) -> bool
     ensures { result ≡ is_told_word word.now }
 {

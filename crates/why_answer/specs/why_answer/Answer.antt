@@ -1,4 +1,4 @@
--- What is said of a name in the last start of a script? (this project's own)
+-- What is reported of a name in the last start of a script? (this project's own)
 use Rattle.std.specs.Prelude.{ℕ, List, [], ◌∷◌, ◌++◌, slice_get, codes, Option, None, Some}
 use Rattle.std.specs.Option.{option_map_or}
 use Rattle.hive_model.specs.Tree.{Tree, find_dword}
@@ -72,7 +72,7 @@ told_lines n name place b v e =
     ++ lines.State (state_of n.run name)
     ∷ unmet_lines n (state_of n.run name) (number_of n.run.views place)
 
--- the name as the plan has it, its entry, and what is told of it
+-- the name as the plan has it, its entry, and what is reported of it
 abbrev pub placed_lines : NeedsRun → List ℕ → ℕ × ℕ → BegunPhase → PhaseView → Entry → List WhyLine
 placed_lines n name place b v e = lines.Name e.name ∷ entry_line e ∷ told_lines n name place b v e
 
@@ -99,6 +99,6 @@ answer_of n name = head_lines n.run.run.start ++ name_lines n name ++ lines.End 
 unfoldable pub prepared : QuietRun → NeedsRun
 prepared run = needs_run_of (viewed_of run)
 
--- what is said of a name in what a script leaves of its last start
+-- what is reported of a name in what a script leaves of its last start
 unfoldable pub why_lines_of : QuietRun → List ℕ → List WhyLine
 why_lines_of run name = answer_of (prepared run) name

@@ -54,7 +54,7 @@ fn prepared(alloc: Global, run: QuietRun) -> Result<NeedsRun, AllocError>
     Ok(needs)
 }
 
-/// What is said of a name in what a script leaves of its last start. A hive must be able to hold the sets. Takes n log n time in their
+/// What is reported of a name in what a script leaves of its last start. A hive must be able to hold the sets. Takes n log n time in their
 /// services and needs.
 #[tactic(auto, unfolding(crate::specs::why_answer::Answer::why_lines_of))]
 pub fn why_lines(alloc: Global, run: QuietRun, name: &[u16]) -> Result<WhyLines, AllocError>

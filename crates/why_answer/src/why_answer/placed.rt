@@ -106,7 +106,7 @@ fn push_unmet(
     }
 }
 
-/// Puts what is told of an entry after the others.
+/// Puts what is reported of an entry after the others.
 fn push_told(
     alloc: Global,
     needs: &NeedsRun,

@@ -8,7 +8,7 @@ use Rattle.wait_cycles.specs.Waits.{needs_at}
 abbrev pub step : List (List (List ℕ)) → (ℕ → Bool) → ℕ → Option ℕ
 step waits freed p = option_and_then (λ ways. slice_get ways 0) (find (λ ways. not (list_any freed ways)) (needs_at waits p))
 
--- A walk comes to an item, after those of the path. Where it was there before, it went round the items from there on;
+-- A walk reaches an item, after those of the path. Where it was there before, it went round the items from there on;
 -- else it goes on, for at most that many items
 unfoldable pub gone_round : (ℕ → Option ℕ) → ℕ → List ℕ → ℕ → List ℕ
 gone_round next zero path p = []
@@ -16,6 +16,6 @@ gone_round next (suc n) path p =
     option_map_or (λ at. drop at path) (position (nat_eq p) path) (option_map_or (gone_round next n (path ++ p ∷ [])) (next p) [])
 
 -- The items that a walk from the first one goes round, from the one on to which it comes back; none where the first is freed.
--- It has come back when it comes to one item more than there are
+-- It has come back when it reaches one item more than there are
 abbrev pub cycle_of : List (List (List ℕ)) → (ℕ → Bool) → List ℕ
 cycle_of waits freed = if freed 0 then [] else gone_round (step waits freed) (length waits + 1) [] 0

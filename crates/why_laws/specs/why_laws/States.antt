@@ -28,7 +28,7 @@ failed_as judgements.Log = tries.Logged
 failed_as judgements.FallBack = tries.FallBack
 failed_as judgements.Stop = tries.Stop
 
--- the attempt that a state tells of: its number, and how it went
+-- the attempt that a state reports: its number, and how it went
 abbrev pub attempt_in : NameState → Option (ℕ × TryWord)
 attempt_in (states.Started number) = Some (number, tries.Ok)
 attempt_in (states.Failed number judgement) = Some (number, failed_as judgement)
@@ -47,7 +47,7 @@ pub record TriedAt (lines : List Line) (name : List ℕ) (k : ℕ) (word : TryWo
 abbrev pub view_from : (Option ℕ → Choice) → List Event → Woken → ViewedRun
 view_from choice script placed = viewed_of (quiet_run_of choice script placed.state.version placed.state.tree)
 
--- where a state tells of an attempt, the name's first `try` line of the last start is that of its number, and says the same
+-- where a state reports an attempt, the name's first `try` line of the last start is that of its number, and says the same
 abbrev pub AttemptIsReported : Type 0
 AttemptIsReported =
     (choice : Option ℕ → Choice) (script : List Event) (placed : Woken) (last : ℕ × List Line)
@@ -56,7 +56,7 @@ AttemptIsReported =
     → attempt_in (state_of (view_from choice script placed) name) ≡ Some (number, word)
     → (k : ℕ) × (number ≡ k + 1) × TriedAt last.1 name k word
 
--- where a phase has the name, and its first `try` line is one of those that were made when the last such phase ended, the state tells of that
+-- where a phase has the name, and its first `try` line is one of those that were made when the last such phase ended, the state reports that
 abbrev pub ReportedIsSaid : Type 0
 ReportedIsSaid =
     (choice : Option ℕ → Choice) (script : List Event) (placed : Woken) (last : ℕ × List Line)

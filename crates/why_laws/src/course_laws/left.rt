@@ -1,4 +1,4 @@
-//! Who was left at the end of a phase, and what is told of it.
+//! Who was left at the end of a phase, and what is reported of it.
 
 ghost use Rattle.why_laws.specs.course_laws.Left.{ItemsAreLeft, LeftHasLack};
 

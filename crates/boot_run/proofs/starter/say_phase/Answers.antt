@@ -11,7 +11,7 @@ use Rattle.boot_run.proofs.starter.say_phase.Given.{Over}
 use Rattle.boot_run.proofs.starter.say_phase.Goals as goal
 use Rattle.boot_run.proofs.starter.say_phase.Goals.{After-say_unmet}
 
--- the names that are said are those that wait
+-- the names that are printed are those that wait
 names : (g : Over) (c : After-say_unmet g) {s : Start} → c.args.runner.now.machine.start ≡ Some s
     → c.as_slice.result.now ≡ unmet_in s
 names g c is =

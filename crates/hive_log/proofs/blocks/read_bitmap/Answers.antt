@@ -8,7 +8,7 @@ use Rattle.hive_log.proofs.blocks.read_bitmap.Given.{Over}
 use Rattle.hive_log.proofs.blocks.read_bitmap.Goals as goal
 use Rattle.hive_log.proofs.blocks.read_bitmap.Goals.{After-read_log_run, In_ok-more}
 
--- after its front the bitmap goes on for so many sectors
+-- after its front the bitmap goes on for that many sectors
 rest_follows : (g : Over) (c : After-read_log_run g) → g.D.Disk.tells ≡ true → (more : List Address)
     → asked_sector (log_at 1) (front_in (g.D.Disk.state c.args.disk.now).held)
     (one_by_one (g.D.Disk.state c.read_bitmap_front.new.disk).held (run_at Log 2 (c.bitmap_sectors.result - 1)) more)

@@ -18,7 +18,7 @@ use Rattle.hive_pack.proofs.bins.pack.Goals.{In_ok-append_zeros, In_ok-_end, In_
 header_room : (c : In_ok-append_zeros) → c.append_zeros.new.self ≡ zeros 32
 header_room c = c.in_ok-append_zeros.ensures.ok ∙ ap (λ (o : List ℕ). o ++ zeros 32) c.new-out.ensures
 
--- what was written behind it is as long as the whole
+-- what was written after it is as long as the whole
 written_long : (c : In_ok-write_key) → length c.write_key.new.out ≡ whole c.args.version c.args.tree.now
 written_long c =
     length_whole c.args.version c.deref.result.now c.args.tree.now c.append_zeros.new.self c.write_key.new.out
