@@ -10,10 +10,10 @@ def cell(payload):
     return struct.pack("<i", -size) + payload + bytes(size - 4 - len(payload))
 
 
-def node(name, children, child_list, values, value_list):
-    """A key node with a narrow name."""
+def node(name, children, child_list, values, value_list, stamp=0):
+    """A key node with a narrow name; the stamp is in 100 ns since 1601."""
     return (
-        b"nk" + struct.pack("<HQII", 0x20, 0, 0, NONE) + struct.pack("<IIII", children, 0, child_list, NONE)
+        b"nk" + struct.pack("<HQII", 0x20, stamp, 0, NONE) + struct.pack("<IIII", children, 0, child_list, NONE)
         + struct.pack("<IIII", values, value_list, NONE, NONE) + bytes(20) + struct.pack("<HH", len(name), 0) + name
     )
 
@@ -122,8 +122,8 @@ def strings(name, items):
 
 
 def layout(key, at):
-    """The cells of a key `(name, values, children)` with all below it, from this offset on, and where they end."""
-    name, values, children = key
+    """The cells of a key `(name, values, children)`, perhaps with its stamp after them, with all below it, from this offset on, and where they end."""
+    name, values, children, *stamp = key
     begin = at
     at += len(cell(node(name, 0, 0, 0, 0)))
     value_list = at if values else NONE
@@ -161,7 +161,7 @@ def layout(key, at):
     for i in range(len(parts)):
         part = entries[500 * i : 500 * i + 500]
         out.append(cell(b"lf" + struct.pack("<H", len(part)) + b"".join(part)))
-    first = cell(node(name, len(children), child_list, len(values), value_list))
+    first = cell(node(name, len(children), child_list, len(values), value_list, *stamp))
     cells = first + b"".join(out) + b"".join(made)
     assert at == begin + len(cells)
     return cells, at

@@ -15,7 +15,7 @@ READING = os.path.join(TOP, "crates", "command_words", "src", "reading.rt")
 MEND_PAGES = os.path.join(TOP, "crates", "ntmend", "src", "pages.rt")
 FOLDER = os.path.join(TOP, "docs", "completions")
 # Options of any text that name no file.
-TEXTS = ("--key", "--of")
+TEXTS = ("--key", "--of", "--text")
 HEAD = "Completions of ntboot's words for {}. Made by tests/completions.py from crates/command_words/src/table.rt; edit neither by hand."
 
 

@@ -20,9 +20,8 @@ def checks(ntboot, ntmend, short):
     yield ["labs/runs.py", "--with", ntboot]
     yield ["tests/students.py", ntboot]
     yield ["tests/recipes.py", ntboot]
-    if short:
-        # (a browser is no part of the gate)
-        yield ["tests/view_page.py"]
+    yield ["tests/library.py"]
+    yield ["tests/view_page.py"]
     for name in PAGES:
         yield [f"tests/{name}.py"]
 

@@ -1,6 +1,7 @@
 #!/usr/bin/env python3
 """The report of each run of tests/runs as JSON lines: tests/json_lines.py [--with NTBOOT NTMEND]. Each line of the wanted text is made an object by the
-tables of docs/texts.md, and with --json the run must print these. Left out are `graph`, `show`, `key`, and `diff` with all that differs."""
+tables of docs/texts.md, and with --json the run must print these. Of `graph`, `show`, `key`, `diff` with all that differs, and a report whose text cuts bytes
+off, it is asked only that docs/lines.schema.json takes each line, as it takes each other one."""
 import json
 import re
 import sys
@@ -9,14 +10,21 @@ from programs import fresh, judged, main, said
 from schema import misfit
 
 # A field `{name}` is a word, and `{name:X}` is: N a number, W a number or a word, I a word or nothing, S a name as a report writes it, Q a text in quotes,
-# P a path, V what one side of `diff` has. `{name=word}` is that word, which the line has; `{name!word}` is one that it doesn't have. An object's line is the
-# text's first word, if no field has that name.
+# P a path, T a text in quotes or as it is, V what one side of `diff` has, X a number by its eight hexadecimal digits; of the data that `find` has D a number, L a
+# list, E whether a text is ended, H bytes; F what `services` says of a value, O its overrides, M its marks. `{name=word}` is that word, which the line has;
+# `{name!word}` is one that it doesn't have, and `null` nothing. An object's line is the text's first word, if no field has that name.
 STARTS = ["start {number:N}", "set {number:N} {by}", "verdict {word}", "vital {name:S} missing"]
 REPORT = [
     *STARTS, "entry {number:N} {path:S}", "load {sequence:N} {state}", "commit {what} {sequence:N}",
     "select {current:N} {default:N} {failed:N} {good:N}", "phase {name}", "try {name:S} failed {outcome}", "try {name:S} {outcome=ok}", "unmet {name:S}",
     "save refused {refused}", "refused {event} {word}", "logon", "edit ok", "flush nothing", "end",
 ]
+# A driver with the number of its state, where that has one.
+DRIVER = ["{name:Q} {state=ok} {start:N}", "{name:Q} {state=beyond} {start:N}", "{name:Q} {state=kind} {type:N}", "{name:Q} {state}"]
+ENTRY = (
+    "entry {kind} {name:Q} start {start:F} type {type:F} control {control:F} group {group:F} tag {tag:F} account {account:F} image {image:F} dll {dll:F} "
+    "order PLACE written {written}OWN{override:O}{marks:M}"
+)
 FORMS = {
     "run": REPORT,
     "make": ["made {services:N} started {started:N} failed {failed:N} unmet {unmet:N} verdict {verdict} sequence {sequence:N}"],
@@ -43,6 +51,18 @@ FORMS = {
         "no-control {name:S}", "control-beyond {control:N} {name:S}", "no-image {name:S}", "no-service {need:Q} {name:S}", "never {start:N} {need:Q} {name:S}",
         "later {start:N} {need:Q} {name:S}", "no-member {group:Q} {name:S}", "tag-unlisted {tag:N} {group:Q} {name:S}", "group-unlisted {count:N} {group:S}",
         "cycle {number:N} {name:S}", "found {count:N}", "end",
+    ],
+    "devices": [
+        "set {number:N}", "no-set {number:N}", *(f"of {driver}" for driver in DRIVER), "no-database", "no-enum", "device {state} none {path:P}",
+        "device {state} {class:Q} {path:P}", "description {text:Q}", "flags {flags:X}", "malformed {field}", *(f"load {{role}} {driver}" for driver in DRIVER),
+        "no-service", *(f"bound {{entry:Q}} {driver}" for driver in DRIVER), "unbound", "class-malformed {field} {class:Q} {key:Q}",
+        *(f"class-filter {{role}} {{class:Q}} {{key:Q}} {driver}" for driver in DRIVER), *(f"critical {{entry:Q}} {driver}" for driver in DRIVER),
+        "devices {count:N} of {of:N}", "found {count:N}", "end",
+    ],
+    "find": [
+        "root {name:T}", "key {path:P}", "value {name:Q} in {path:P}", "data {name:Q} {type} {number:D} in {path:P}",
+        "data {name:Q} {type} {list:L} in {path:P}", "data {name:Q} {type} {text:Q}{ended:E} in {path:P}",
+        "data {name:Q} {type} hex {length:N}{hex:H} in {path:P}", "refused {command} {word}", "found {count:N}", "end",
     ],
     "diff": [
         "no-set {side} {number:N}", "sets {first:N} {second:N}",
@@ -74,6 +94,13 @@ FORMS = {
         "fault {kind} file {file:N} {part} {path:P}", "root none", "root file {file:N}", "found {keys:N} {path:P}",
         "salvaged {keys:N} keys {values:N} values lost {lost:N}", "saved {sequence:N} {bytes:N}", "save refused {refused}", "end",
     ],
+    "services": [
+        "no-set {number:N}", "set {number:N}", "no-services",
+        *(ENTRY.replace("PLACE", place).replace("OWN", own)
+          for place in ("{phase} {number:N}", "{phase} unmet{number!null}", "-{phase!null}{number!null}") for own in (" own-dll {own:F}", "{own!null}")),
+        "listed {count:N} of {of:N} driver {driver:N} service {service:N} other {other:N} boot {boot:N} system {system:N} automatic {automatic:N} "
+        "demand {demand:N} disabled {disabled:N} beyond {beyond:N} none {none:N}", "end",
+    ],
 }
 # The objects whose text is not parted here, by the object alone, each field with its type in line_schema.py.
 VALUES = ["{number:number}", "{list:list}", "{text:name} {ended:flag}", "{length:number} {hex:hex}"]
@@ -94,10 +121,15 @@ OBJECTS = {
 }
 FIELD = re.compile(r"\{(\w+)(?:([:=!])([\w-]+))?\}")
 QUOTED = r'"(?:[^"\\]|\\.)*"'
+DATA = rf"hex 0|hex \d+ [0-9a-f]+|\d+ 0x[0-9a-f]+|\d+(?: {QUOTED})*|{QUOTED}(?: unended)?"
+VALUE = rf"-|\d+|{QUOTED}|\((?:\w+) (?:{DATA})\)"
+MARKS = "no-image|image-outside|no-dll|dll-outside"
 # What a field of each type looks like.
 TYPES = {
     "N": r"\d+", "W": r"\d+|none|unlisted|idle", "I": r"[^ \"]+", "S": ".+", "Q": QUOTED, "P": f"{QUOTED}|[^\"].*",
-    "V": rf"-|\d+(?:,\d+)*|{QUOTED}(?:,{QUOTED})*", None: r"[^ \"]+",
+    "T": f"{QUOTED}|[^\"].*", "V": rf"-|\d+(?:,\d+)*|{QUOTED}(?:,{QUOTED})*", "D": r"\d+ 0x[0-9a-f]+", "L": rf"\d+(?: {QUOTED})*",
+    "E": "(?: unended)?", "H": "(?: [0-9a-f]+)?", "X": "0x[0-9a-f]{8}", None: r"[^ \"]+",
+    "F": VALUE, "O": rf"(?: override \d+ (?:{VALUE}))*", "M": f"(?: (?:{MARKS}))*",
 }
 LISTS = ("DependOnService", "DependOnGroup")
 
@@ -113,12 +145,46 @@ def path_of(text):
     return whole.split("\\") if whole else []
 
 
+def written_of(text):
+    """A text, in quotes where it is no plain one."""
+    return json.loads(text) if text.startswith('"') else text
+
+
+def list_of(text):
+    """The items of a list, after their count."""
+    items = [json.loads(item) for item in re.findall(QUOTED, text)]
+    return items if text.split(" ")[0] == str(len(items)) else None
+
+
 def side_of(text, is_list):
     """What one side of `diff` has: nothing, a number, a text or a list of them."""
     if text == "-":
         return [] if is_list else None
     items = json.loads(f"[{text}]")
     return items if is_list else items[0]
+
+
+def data_of(kind, text):
+    """The object of a value's data after its type, as `key` prints them."""
+    texts = [json.loads(part) for part in re.findall(QUOTED, text)]
+    if text.startswith("hex"):
+        length, digits = [*text.split(" ")[1:], ""][:2]
+        return {"type": kind, "length": int(length), "hex": digits}
+    if text.startswith('"'):
+        return {"type": kind, "text": texts[0], "ended": not text.endswith(" unended")}
+    return {"type": kind, "number": int(text.split(" ")[0])} if " 0x" in text else {"type": kind, "list": texts}
+
+
+def field_of(text):
+    """What `services` says of a value: nothing, a number, a text, or its type and data."""
+    if text.startswith("("):
+        return data_of(*text[1:-1].split(" ", 1))
+    return None if text == "-" else json.loads(text)
+
+
+def overrides_of(text):
+    """The overrides of an entry of `services`."""
+    return [{"name": name, "value": field_of(value)} for name, value in re.findall(rf" override (\d+) ({VALUE})", text)]
 
 
 def value_of(kind, text, is_list):
@@ -129,7 +195,13 @@ def value_of(kind, text, is_list):
         return side_of(text, is_list)
     if kind == "I" and text == "-":
         return None
-    return {"S": name_of, "Q": json.loads, "P": path_of}.get(kind, str)(text)
+    return READERS.get(kind, str)(text)
+
+
+READERS = {
+    "S": name_of, "Q": json.loads, "P": path_of, "T": written_of, "L": list_of, "D": lambda text: int(text.split(" ")[0]), "E": lambda text: text == "",
+    "H": str.strip, "X": lambda digits: int(digits, 16), "F": field_of, "O": overrides_of, "M": str.split,
+}
 
 
 def pattern_of(form):
@@ -155,7 +227,10 @@ def object_of(command, line):
         if found:
             fields = {name: (mark, what) for name, mark, what in FIELD.findall(form)}
             is_list = line.startswith("tags ") or found.groupdict().get("field") in LISTS
-            told = {name: what if mark == "!" else value_of(what if mark == ":" else None, found[name], is_list) for name, (mark, what) in fields.items()}
+            told = {
+                name: (what if what != "null" else None) if mark == "!" else value_of(what if mark == ":" else None, found[name], is_list)
+                for name, (mark, what) in fields.items()
+            }
             return {"line": line.split(" ")[0], **told}
     return None
 
@@ -168,7 +243,9 @@ def spelled(value):
         return "[" + ",".join(map(spelled, value)) + "]"
     if isinstance(value, dict):
         return "{" + ",".join(f"{spelled(name)}:{spelled(part)}" for name, part in value.items()) + "}"
-    return {None: "null", True: "true", False: "false"}[value] if value in (None, True, False) and not isinstance(value, int) else str(value)
+    if value is None or isinstance(value, bool):
+        return {None: "null", True: "true", False: "false"}[value]
+    return str(value)
 
 
 def shown(told):
@@ -193,9 +270,6 @@ def wrong_objects(programs, run):
     return misfits(run.words[0], lines)
 
 
-# Each line of each run is also judged by docs/lines.schema.json; of a run whose text is not parted here that is all.
-
-
 def misfits(command, lines):
     """The first of these lines that the schema does not take."""
     return next(filter(None, (misfit(command, json.loads(line)) for line in lines)), "")
@@ -215,6 +289,12 @@ def has_json(run):
     return run.is_done() and not run.is_of_ntmend() and "--help" not in run.words
 
 
+def has_forms(run):
+    """A run with an answer in text, all of which the tables have."""
+    is_cut = any(cut in run.wanted.out for cut in (b".. in ", b"..)"))
+    return has_json(run) and run.words[0] in FORMS and not {"--json", "--all"} & set(run.words) and not is_cut
+
+
 def objects_of(run):
     """The objects that a run wants, as far as it has them or the tables make them of its text."""
     lines = run.wanted.out.decode().splitlines()
@@ -230,11 +310,6 @@ def row_of(programs, run):
     if has_forms(run):
         return run.name, wrong_objects, programs, run
     return f"{run.name} --json in the schema", wrong_lines, programs, run
-
-
-def has_forms(run):
-    """A run with an answer in text, all of which the tables have."""
-    return run.is_done() and run.words[0] in FORMS and not {"--json", "--all", "--help", "-h"} & set(run.words)
 
 
 def check(programs):

@@ -478,6 +478,21 @@ def short_log():
     return log_of(open_hive(), whole_hive(), 6)[:-100]
 
 
+def dead_keyboard():
+    """A keyboard and a mouse, each with its class. The class of the keyboard still names a filter driver whose program was removed."""
+    keyboard, mouse = "{4D36E96B-E325-11CE-BFC1-08002BE10318}", "{4D36E96F-E325-11CE-BFC1-08002BE10318}"
+    classes = [
+        Key(keyboard, [text("Class", "Keyboard"), texts("UpperFilters", ["kbdclass", "HotKeys"])]),
+        Key(mouse, [text("Class", "Mouse"), texts("UpperFilters", ["mouclass"])]),
+    ]
+    devices = [
+        Key("PNP0303", [], [Key("4&1d2b1ac5&0", [text("Service", "i8042prt"), text("ClassGUID", keyboard), text("DeviceDesc", "Standard Keyboard")])]),
+        Key("PNP0F13", [], [Key("4&1d2b1ac5&0", [text("Service", "i8042prt"), text("ClassGUID", mouse), text("DeviceDesc", "PS/2 Compatible Mouse")])]),
+    ]
+    below = [Key("Control", [], [Key("Class", [], classes)]), Key("Enum", [], [Key("ACPI", [], devices)])]
+    return packed(system([set_key(1, [service_key(name, SYSTEM) for name in ("i8042prt", "kbdclass", "mouclass")], below)], 1, 1, 0, 0))
+
+
 MADE = [
     ("tests/runs/lists_of_lists/hive", lists_of_lists),
     ("tests/runs/show_names_and_values/hive", names_and_values),
@@ -526,6 +541,7 @@ MADE = [
     ("examples/groups_and_tags/SYSTEM", groups_and_tags),
     ("examples/unmet_dependencies/SYSTEM", unmet_dependencies),
     ("examples/disabled_driver/SYSTEM", disabled_driver),
+    ("examples/dead_keyboard/SYSTEM", dead_keyboard),
     ("examples/dirty_hive/SYSTEM", dirty_hive),
     ("examples/dirty_hive/SYSTEM.LOG", log_of_dirty_hive),
 ]

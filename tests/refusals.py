@@ -86,6 +86,19 @@ ROWS = [
     ("replay --hive z --save-hive x", b"", 5, NOT_REGF),
     ("salvage --hive none --save-hive x", b"", 2, "no file none"),
     ("salvage --hive z --log none --save-hive x", b"", 2, "no file none"),
+    # devices, find and services
+    ("devices --hive h --save-hive x", b"", 1, "bad usage"),
+    ("devices --hive none --set 7", b"", 2, "no file none"),
+    ("devices --hive z --log none", b"", 2, "no file none"),
+    ("devices --hive z --set 7", b"", 5, NOT_REGF),
+    ("find --hive h", b"", 1, "bad usage"),
+    ("find --hive none --text Disk --key None", b"", 2, "no file none"),
+    ("find --hive z --hex 00 --log none", b"", 2, "no file none"),
+    ("find --hive z --text Disk --key None", b"", 5, NOT_REGF),
+    ("services --hive h --since 2012-02-30", b"", 1, "bad usage"),
+    ("services --hive none --start 5", b"", 2, "no file none"),
+    ("services --hive z --log none --sort order", b"", 2, "no file none"),
+    ("services --hive z --set 7", b"", 5, NOT_REGF),
 ]
 
 

@@ -4,7 +4,7 @@ _ntboot() {
     local current=${COMP_WORDS[COMP_CWORD]} before=${COMP_WORDS[COMP_CWORD-1]} command=${COMP_WORDS[1]} options= word i
     COMPREPLY=()
     if [ "$COMP_CWORD" -eq 1 ]; then
-        COMPREPLY=($(compgen -W "run show make safe control twin export import key replay check whatif salvage diff why graph sweep help version" -- "$current"))
+        COMPREPLY=($(compgen -W "run show make safe control twin export import key replay check whatif salvage diff why graph sweep devices find services help version" -- "$current"))
         return
     fi
     # --name=value comes as three words
@@ -27,7 +27,10 @@ _ntboot() {
         why) options="--hive --log --boot-ini --system --script --json --verbose" ;;
         graph) options="--hive --log --boot-ini --system --script --of --json --verbose" ;;
         sweep) options="--hive --script --log --boot-ini --system --json --verbose" ;;
-        help) [ "$COMP_CWORD" -eq 2 ] && COMPREPLY=($(compgen -W "run show make safe control twin export import key replay check whatif salvage diff why graph sweep help version exits script report" -- "$current")); return ;;
+        devices) options="--hive --log --set --of --findings --ids --critical --json --verbose" ;;
+        find) options="--hive --log --text --hex --names --data --exact --key --json --verbose" ;;
+        services) options="--hive --log --set --start --kind --since --sort --json --verbose" ;;
+        help) [ "$COMP_CWORD" -eq 2 ] && COMPREPLY=($(compgen -W "run show make safe control twin export import key replay check whatif salvage diff why graph sweep devices find services help version exits script report" -- "$current")); return ;;
         *) return ;;
     esac
     case $before in
@@ -38,7 +41,9 @@ _ntboot() {
         --scheme) COMPREPLY=($(compgen -W "alt log" -- "$current")); return ;;
         --encoding) COMPREPLY=($(compgen -W "utf-16 utf-8" -- "$current")); return ;;
         --current) COMPREPLY=($(compgen -W "default" -- "$current")); return ;;
-        --system|--default|--key|--depth|--set|--of|--with-set) return ;;
+        --kind) COMPREPLY=($(compgen -W "driver service" -- "$current")); return ;;
+        --sort) COMPREPLY=($(compgen -W "name written order" -- "$current")); return ;;
+        --system|--default|--key|--depth|--set|--of|--with-set|--text|--hex|--start|--since) return ;;
     esac
     # an option is given once
     for word in $options; do

@@ -11,8 +11,8 @@ function __ntboot_asks_help
     test (count $words) -eq 2; and test $words[2] = help
 end
 complete -c ntboot -f
-complete -c ntboot -n 'test (count (commandline -opc)) -eq 1' -a 'run show make safe control twin export import key replay check whatif salvage diff why graph sweep help version'
-complete -c ntboot -n '__ntboot_asks_help' -a 'run show make safe control twin export import key replay check whatif salvage diff why graph sweep help version exits script report'
+complete -c ntboot -n 'test (count (commandline -opc)) -eq 1' -a 'run show make safe control twin export import key replay check whatif salvage diff why graph sweep devices find services help version'
+complete -c ntboot -n '__ntboot_asks_help' -a 'run show make safe control twin export import key replay check whatif salvage diff why graph sweep devices find services help version exits script report'
 complete -c ntboot -n '__ntboot_can run hive' -l hive -r -F
 complete -c ntboot -n '__ntboot_can run script' -l script -r -F
 complete -c ntboot -n '__ntboot_can run log' -l log -r -F
@@ -130,3 +130,31 @@ complete -c ntboot -n '__ntboot_can sweep boot-ini' -l boot-ini -r -F
 complete -c ntboot -n '__ntboot_can sweep system' -l system -x
 complete -c ntboot -n '__ntboot_can sweep json' -l json
 complete -c ntboot -n '__ntboot_can sweep verbose' -l verbose
+complete -c ntboot -n '__ntboot_can devices hive' -l hive -r -F
+complete -c ntboot -n '__ntboot_can devices log' -l log -r -F
+complete -c ntboot -n '__ntboot_can devices set' -l set -x
+complete -c ntboot -n '__ntboot_can devices of' -l of -x
+complete -c ntboot -n '__ntboot_can devices findings' -l findings
+complete -c ntboot -n '__ntboot_can devices ids' -l ids
+complete -c ntboot -n '__ntboot_can devices critical' -l critical
+complete -c ntboot -n '__ntboot_can devices json' -l json
+complete -c ntboot -n '__ntboot_can devices verbose' -l verbose
+complete -c ntboot -n '__ntboot_can find hive' -l hive -r -F
+complete -c ntboot -n '__ntboot_can find log' -l log -r -F
+complete -c ntboot -n '__ntboot_can find text' -l text -x
+complete -c ntboot -n '__ntboot_can find hex' -l hex -x
+complete -c ntboot -n '__ntboot_can find names' -l names
+complete -c ntboot -n '__ntboot_can find data' -l data
+complete -c ntboot -n '__ntboot_can find exact' -l exact
+complete -c ntboot -n '__ntboot_can find key' -l key -x
+complete -c ntboot -n '__ntboot_can find json' -l json
+complete -c ntboot -n '__ntboot_can find verbose' -l verbose
+complete -c ntboot -n '__ntboot_can services hive' -l hive -r -F
+complete -c ntboot -n '__ntboot_can services log' -l log -r -F
+complete -c ntboot -n '__ntboot_can services set' -l set -x
+complete -c ntboot -n '__ntboot_can services start' -l start -x
+complete -c ntboot -n '__ntboot_can services kind' -l kind -x -a 'driver service'
+complete -c ntboot -n '__ntboot_can services since' -l since -x
+complete -c ntboot -n '__ntboot_can services sort' -l sort -x -a 'name written order'
+complete -c ntboot -n '__ntboot_can services json' -l json
+complete -c ntboot -n '__ntboot_can services verbose' -l verbose
