@@ -13,10 +13,10 @@ use Rattle.nt_edge.specs.Crash.{EachCrash}
 use Rattle.nt_edge.specs.Host.{SaysFront}
 use Rattle.nt_edge.specs.Bench.{turned_off}
 use Rattle.hive_store.specs.Session.{Session, next_bins}
+use Rattle.hive_store.specs.Changes.{carried_by, carried_after, IsEdited}
 use Rattle.hive_store.specs.Commits as store
 use Rattle.hive_store.proofs.Holding.{clean, held_by, carried}
-use Rattle.hive_commit.specs.Stages.{LoadsAsEither}
-use Rattle.hive_commit.specs.Stages.{next_number}
+use Rattle.hive_commit.specs.Stages.{LoadsAsEither, IsBeforeOrAfter, next_number}
 use Rattle.report_words.specs.declared.words.Verdict.{Verdict}
 use Rattle.report_words.specs.declared.words.CommitWord.{CommitWord}
 use Rattle.report_words.specs.declared.line.Line.TheVariants.{Commit as CommitLine, Verdict as VerdictLine}
@@ -25,22 +25,21 @@ use Rattle.start_model.specs.Causes.{HasCause}
 use Rattle.report_text.specs.line_objects.Objects.{printed}
 use Rattle.run_parts.specs.run_parts.Counted.{CountedIn}
 use Rattle.start_model.specs.Machine.{ended}
-use Rattle.start_model.specs.Possible.{Possible, Outcome, Finished, settled_at, open_between}
-use Rattle.start_model.specs.Act.{Act, done, say, mark, Held, RunState, next_state, start_over, end_with}
+use Rattle.start_model.specs.Possible.{Outcome, Finished, settled_at, open_between}
+use Rattle.start_model.specs.Act.{Act, done, say, mark, Held, Ended, RunState, next_state, start_over, end_with}
 use Rattle.start_model.specs.Commit.{committed_state, opened_state, committed, commit}
-use Rattle.start_model.specs.Run.{play}
 use Rattle.run_parts.specs.run_parts.Parts.{Stays, since_wake, tally_now}
-use Rattle.run_parts.specs.printed_parts.Logged.{IsLogged}
+use Rattle.run_parts.specs.printed_parts.Chain.{Place, StandsAt}
 use Rattle.run_parts.specs.printed_parts.Parts.{Told, Tells}
 use Rattle.run_parts.proofs.CountLemmas.{alone-by}
-use Rattle.run_parts.proofs.LoggedLemmas.{LogsWhere}
-use Rattle.run_parts.proofs.GoesLemmas.{goes-then, goes-told, goes-held}
+use Rattle.run_parts.proofs.ChainLemmas.{still_leaves, IsMade, made-committed, made-stopped}
+use Rattle.run_parts.proofs.GoesLemmas.{goes-told, goes-committed}
 use Rattle.run_parts.proofs.BreakLemmas.{or-breaks, breaks-silent, breaks-told}
 use Rattle.boot_run.specs.Agrees.{IsDown, LoadsAny, IsStored, IsLive, Counts, CommitLeft}
 use Rattle.boot_run.specs.Views.{RunsTo}
 use Rattle.boot_run.specs.declared.stop.RunStop.{RunStop}
 use Rattle.boot_run.specs.declared.runner.Runner.{Runner}
-use Rattle.boot_run.proofs.DiskLemmas.{still_leaves, settled_loads, open_loads, alone-off, counted-off, left-off}
+use Rattle.boot_run.proofs.DiskLemmas.{settled_loads, open_loads, alone-off, counted-off, left-off}
 use Rattle.boot_run.proofs.PlayLemmas.{seen}
 
 -- the state that the session commits is the book's
@@ -51,6 +50,10 @@ next_is m s d live = λ i. record
 
 -- what the session's commit says, whatever its answer
 pub record Committed (s : Session) (d e : DiskState) : Type 0 where
+  pub still : d.flight ≡ []
+  pub opened : Carries d.held s.base s.bins
+  pub change : IsEdited s
+  pub either : EachCrash e (IsBeforeOrAfter s.base s.bins (store.next_base s) (next_bins s))
   pub crash : (before : HiveState) (dirty : Bool) → Loads d.held before dirty
       → EachCrash e (LoadsAsEither before (store.committed_state s))
   pub history : e.history ≡ d.history
@@ -63,7 +66,6 @@ pub record IsDone (s : Session) (d e : DiskState) (after : Session) (number : �
   pub raised : number ≡ next_number s.base.first
   pub none : e.flight ≡ []
   pub loads : Loads e.held (store.committed_state s) false
-  pub opened : Carries d.held s.base s.bins
   pub closed : Carries e.held (store.next_base s) (next_bins s)
   pub log : HasLog e.held (store.session_log s)
   pub quiet : tally_now e ≡ tally_now d
@@ -130,39 +132,24 @@ module _ (m : RunState) (next : RunState → Act) (what : CommitWord) {s : Sessi
       loads = commit_loads;
     }
 
-    commit_logged : IsLogged e.held m.disk.settled (next_state m s.tree)
-    commit_logged = record {
-      opened = s.base;
-      old = s.bins;
-      closed = store.next_base s;
-      new = next_bins s;
-      was = carried_holds d.held s.base s.bins m.disk.settled c.opened live.loads;
-      is = carried_holds e.held (store.next_base s) (next_bins s) (next_state m s.tree) c.closed commit_loads;
-      carries = c.closed;
-      log = c.log;
-    }
-
-    commit_logs : LogsWhere (open_between m.disk.settled (next_state m s.tree)) Finished e
-    commit_logs = λ before after done opened.
-        let first : m.disk.settled ≡ before = ap (λ (p : Possible). p.settled) opened in
-        let other : Some (next_state m s.tree) ≡ Some after = ap (λ (p : Possible). p.other) opened in
-        let second : next_state m s.tree ≡ after = cc in
-        let P : HiveState → Type 0 = λ t. IsLogged e.held t (next_state m s.tree) in
-        let Q : HiveState → Type 0 = λ t. IsLogged e.held before t in
-        still_leaves e (λ (image : Image). IsLogged image before after) c.none
-        (subst Q second (subst P first commit_logged))
+    -- its links, with the note of the tree that is held then
+    commit_made : (start : Place) → StandsAt start d
+        → IsMade (open_between m.disk.settled (next_state m s.tree)) Finished (Ended Finished ∷ Held s.tree ∷ []) start e
+    commit_made start stands =
+        made-committed (Ended Finished ∷ Held s.tree ∷ []) c.left.change.0 (carried_by s) (carried_after s) m.disk.settled
+        (next_state m s.tree) start d e stands c.left.still c.left.opened c.left.change.1
+        (carried_holds d.held s.base s.bins m.disk.settled c.left.opened live.loads)
+        (carried_holds e.held (store.next_base s) (next_bins s) (next_state m s.tree) c.closed commit_loads) refl c.none
+        c.closed c.log
 
     pub commit_plays : {a b : Told} (r : Runner) → Tells a b (CommitLine what number ∷ [])
         → Counts (committed_state m s.tree) r
         → RunsTo (commit what s.tree m next) (seen a d) (seen b e) (Ok (Some after)) (CommitLeft m s.tree next r e)
     commit_plays {a = a} {b = b} now said counts =
-        let r : Act = mark (Held s.tree) (next (committed_state m s.tree)) in
         let P : ℕ → Type 0 = λ n. Tells a b (CommitLine what n ∷ []) in
-        let goes = goes-then (play (commit what s.tree m next)) (play r) (play (next (committed_state m s.tree))) a b b d e e
-        (goes-told (open_between m.disk.settled (next_state m s.tree)) (committed what s.tree m next)
-        (CommitLine what (next_state m s.tree).sequence) Finished r a b d e
-        (alone-by d e c.left.history c.left.counts) tt c.quiet commit_logs refl refl (subst P commit_number said))
-        (goes-held s.tree (next (committed_state m s.tree)) b e) in
+        let goes = goes-committed (open_between m.disk.settled (next_state m s.tree)) (committed what s.tree m next)
+        (CommitLine what (next_state m s.tree).sequence) s.tree (next (committed_state m s.tree)) a b d e
+        (alone-by d e c.left.history c.left.counts) c.quiet commit_made refl refl (subst P commit_number said) in
         record { is = (next (committed_state m s.tree), (goes, (refl, (counts, commit_live)))) }
 
     pub commit_breaks : {a b : Told} {T : Type 0} {r : Result T RunStop} {Left : T → Act → Type 0} → is_err r ≡ true
@@ -175,7 +162,7 @@ module _ (m : RunState) (next : RunState → Act) (what : CommitWord) {s : Sessi
           is = or-breaks Left r h (commit what s.tree m next) a b d e
               (breaks-told (open_between m.disk.settled (next_state m s.tree)) (committed what s.tree m next)
               (CommitLine what (next_state m s.tree).sequence) Finished rest a b.said d e
-              (alone-by d e c.left.history c.left.counts) tt c.quiet commit_logs refl refl (subst P commit_number f)
+              (alone-by d e c.left.history c.left.counts) tt c.quiet refl refl (subst P commit_number f)
               (commit_open c.left) (λ image crash. stays (committed_state m s.tree) image refl
               (still_leaves e (MayLoad (settled_at (next_state m s.tree))) c.none
               (settled_loads e.held (next_state m s.tree) commit_loads) image crash)));
@@ -187,13 +174,20 @@ module _ (m : RunState) (next : RunState → Act) (what : CommitWord) {s : Sessi
     stop_cause : HasCause u (since_wake d) (tally_now f)
     stop_cause = let P : DiskState → Type 0 = λ t. HasCause u (since_wake d) (tally_now t) in subst P (sym c.off) c.cause
 
-    -- it left no commit that is done
-    stop_logs : LogsWhere (open_between m.disk.settled (next_state m s.tree)) u f
-    stop_logs = λ before after finished opened.
+    -- it is no commit that is done
+    stop_undone : u ≡ Finished → ⊥
+    stop_undone finished =
         let e : say (CommitLine what (next_state m s.tree).sequence) (mark (Held s.tree) (next (committed_state m s.tree)))
         ≡ end_with verdict false (opened_state m s.tree) =
         sym (ap (committed what s.tree m next) finished) ∙ is in
-        absurd cc
+        cc
+
+    stop_made : (start : Place) → StandsAt start d
+        → IsMade (open_between m.disk.settled (next_state m s.tree)) u (Ended u ∷ []) start f
+    stop_made start stands =
+        made-stopped (open_between m.disk.settled (next_state m s.tree)) u (Ended u ∷ []) c.left.change.0 (carried_by s)
+        (carried_after s) s.tree start d f stop_undone stands c.left.still c.left.opened c.left.change.1 refl
+        (left-off e f (IsBeforeOrAfter s.base s.bins (store.next_base s) (next_bins s)) c.off c.left.either)
 
     stop_open : EachCrash f (MayLoad (open_between m.disk.settled (next_state m s.tree)))
     stop_open = left-off e f (MayLoad (open_between m.disk.settled (next_state m s.tree))) c.off (commit_open c.left)
@@ -205,7 +199,7 @@ module _ (m : RunState) (next : RunState → Act) (what : CommitWord) {s : Sessi
         let over : RunState = start_over false (opened_state m s.tree) in
         let goes = goes-told (open_between m.disk.settled (next_state m s.tree)) (committed what s.tree m next)
         (VerdictLine verdict) u (done over) a b d f (alone-off d e f (alone-by d e c.left.history c.left.counts) c.off)
-        stop_cause (counted-off u d e f c.counted c.off) stop_logs told is said in
+        stop_cause (counted-off u d e f c.counted c.off) stop_made told is said in
         record {
           is = (
             done over,
@@ -221,7 +215,7 @@ module _ (m : RunState) (next : RunState → Act) (what : CommitWord) {s : Sessi
           (breaks-told (open_between m.disk.settled (next_state m s.tree)) (committed what s.tree m next)
           (VerdictLine verdict) u (done (start_over false (opened_state m s.tree))) a b.said d f
           (alone-off d e f (alone-by d e c.left.history c.left.counts) c.off)
-          stop_cause (counted-off u d e f c.counted c.off) stop_logs told is front stop_open stop_open);
+          stop_cause (counted-off u d e f c.counted c.off) told is front stop_open stop_open);
     }
 
 -- ---- that the disk loads, whatever it wakes up with

@@ -20,16 +20,17 @@ use Rattle.start_model.specs.EventActs.{cut_act, arm_act}
 use Rattle.start_model.specs.Run.{play}
 use Rattle.run_parts.specs.run_parts.Counted.{with_cut}
 use Rattle.run_parts.specs.run_parts.Parts.{Grew, IsMarked, NoLess, since_wake, tally_now, cuts_behind}
+use Rattle.run_parts.specs.printed_parts.Chain.{StandsAt}
 use Rattle.run_parts.specs.printed_parts.Parts.{Told, Tells, Goes, GoesBut, Breaks, TellsOr}
 use Rattle.run_parts.proofs.CountLemmas.{still, no_less-same, no_less-bounded, rises-since}
-use Rattle.run_parts.proofs.LoggedLemmas.{not_empty, logged-none, logged-stop}
+use Rattle.run_parts.proofs.LoggedLemmas.{not_empty, logged-stop}
+use Rattle.run_parts.proofs.ChainLemmas.{still_leaves, linked-kept, chained-still}
 use Rattle.run_parts.proofs.GoesLemmas.{tells-nothing}
 use Rattle.run_parts.proofs.BreakLemmas.{breaks-silent, breaks-front}
 use Rattle.boot_run.specs.declared.runner.Runner.{Runner}
 use Rattle.boot_run.specs.Agrees.{LoadsAny, IsDown, IsUp, IsLive, IsSound, Counts, OffLeft}
 use Rattle.boot_run.specs.Views.{Moment, RunsTo}
 use Rattle.boot_run.specs.declared.stop.RunStop.{RunStop}
-use Rattle.boot_run.proofs.DiskLemmas.{still_leaves}
 use Rattle.boot_run.proofs.PlayLemmas.{live_left, here_turn}
 
 next_rises : (n : ℕ) → n ≤ 18446744073709551615 → Rises n (next n)
@@ -67,22 +68,33 @@ module _ (d f : DiskState) (bounded : IsBounded d) (marked : IsMarked d) (is : f
   cut_once = ap (λ (t : DiskState). tally_now t) is
 
   -- the verdict is reported
+  cut_part : (m : RunState) (x y : Told) → Tells x y (VerdictLine verdicts.Cut ∷ [])
+      → GoesBut [] (play (cut_act m)) (play (done (start_over false m))) x y d f
+  cut_part m x y said = record {
+    lines = VerdictLine verdicts.Cut ∷ [];
+    notes = Cuts ∷ Ended PowerCut ∷ [];
+    added = [];
+    woken = [];
+    tells = said;
+    grew = grew-cut (Cuts ∷ Ended PowerCut ∷ []) refl refl (cut_cause, tt);
+    fits = tt;
+    goes = λ w o. refl;
+    adds_up = cut_once;
+  }
+
   cut_goes : (m : RunState) (x y : Told) → Tells x y (VerdictLine verdicts.Cut ∷ [])
       → Goes (play (cut_act m)) (play (done (start_over false m))) x y d f
+  unfolding cut_part
   cut_goes m x y said = record {
-    part = record {
-      lines = VerdictLine verdicts.Cut ∷ [];
-      notes = Cuts ∷ Ended PowerCut ∷ [];
-      added = [];
-      woken = [];
-      tells = said;
-      grew = grew-cut (Cuts ∷ Ended PowerCut ∷ []) refl refl (cut_cause, tt);
-      fits = tt;
-      goes = λ w o. refl;
-      adds_up = cut_once;
-    };
-    kept = λ none. absurd (not_empty [] PowerCut [] none);
-    logged = logged-stop (play (cut_act m)) [] PowerCut f (λ h. cc);
+    part = cut_part m x y said;
+    chained = λ start stands.
+        let P : DiskState → Type 0 = λ t. StandsAt start t in
+        let k = linked-kept (Cuts ∷ Ended PowerCut ∷ []) PowerCut start f (subst P (sym is) stands) refl in
+        record {
+          linked = k;
+          kept = λ none. absurd (not_empty [] PowerCut [] none);
+          logged = logged-stop (play (cut_act m)) [] PowerCut k.links (λ h. cc);
+        };
   }
 
   -- it is not
@@ -110,7 +122,7 @@ cut_told {x = x} {y = y} (Err stop) m Left bounded marked is left over said =
     let act : Outcome → Act = λ outcome. end_with verdicts.Cut false m in
     record {
       is = breaks-front (cut_act m) (ask m.disk act) (done (start_over false m)) (VerdictLine verdicts.Cut) [] PowerCut x.told
-          y.told.said x.disk y.disk (λ z told. cut_goes x.disk y.disk bounded marked is m x.told z told)
+          y.told.said x.disk y.disk (λ z told. cut_part x.disk y.disk bounded marked is m x.told z told)
           (cut_untold x.disk y.disk bounded marked is m act x.told) refl said left left;
     }
 
@@ -165,8 +177,8 @@ armed_goes arming m x d e is =
             goes = λ w o. refl;
             adds_up = refl;
           };
-          kept = λ none. record { asleep = refl; left = λ image h. h };
-          logged = logged-none (play (arm_act arming m)) [] [] (armed arming d) refl;
+          chained = chained-still (play (arm_act arming m)) [] [] (Ordered arming ∷ []) d (armed arming d) refl refl
+              (λ image h. h);
         }),
         refl,
       ),

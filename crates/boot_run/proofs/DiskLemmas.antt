@@ -1,7 +1,7 @@
 -- What a disk with nothing in flight may be left as, and what remains when it is turned off.
-use Rattle.std.proofs.Common.{◌≡◌, ◌⊎◌, inl, inr, ⊎_elim, false, List, [], ◌∷◌, refl, sym, ap, subst}
+use Rattle.std.proofs.Common.{◌≡◌, ◌⊎◌, inl, inr, ⊎_elim, false, List, [], ◌∷◌, map, refl, sym, ap, subst}
 use Rattle.std.specs.Prelude.{Result, Ok, Err, IsErrOf}
-use Rattle.hive_model.specs.Image.{Image, Write, Address, IsCrashImage}
+use Rattle.hive_model.specs.Image.{Image}
 use Rattle.hive_model.specs.State.{HiveState}
 use Rattle.hive_model.specs.Load.{Loads, LoadsAs}
 use Rattle.nt_edge.specs.Disk.{DiskState, CountsGrow, History, Wake}
@@ -18,22 +18,15 @@ use Rattle.nt_edge.specs.Bench.{turned_off, woken}
 use Rattle.start_model.specs.Causes.{Tally, HasCause}
 use Rattle.start_model.specs.Act.{Note}
 use Rattle.start_model.specs.Report.{Going}
-use Rattle.start_model.specs.Fits.{MayLoad}
+use Rattle.start_model.specs.Fits.{MayLoad, outcomes_in}
 use Rattle.start_model.specs.Possible.{Outcome, PowerCut, DeviceFault, settled_at, open_between}
 use Rattle.run_parts.specs.run_parts.Counted.{CountedIn}
 use Rattle.run_parts.specs.run_parts.Parts.{Grew, Later, IsMarked, since_wake, tally_now, tally_at}
+use Rattle.run_parts.specs.run_parts.Reports.{LeftOf}
 use Rattle.run_parts.specs.printed_parts.Parts.{Told, Goes, GoesBut}
 use Rattle.run_parts.proofs.CountLemmas.{Alone, later-same, no_less-then, no_less-bounded, rises-since, since-grown}
-use Rattle.run_parts.proofs.GoesLemmas.{Idle}
-
--- with nothing in flight a cut leaves what is held
-pub still_leaves : (d : DiskState) (P : Image → Type 0) → d.flight ≡ [] → P d.held → EachCrash d P
-still_leaves d P none here c crash =
-    let Q : List Write → Type 0 = λ ws. IsCrashImage d.held ws c in
-    let left : IsCrashImage d.held [] c = subst Q none crash in
-    let at : (a : Address) → d.held a ≡ c a = λ a. ⊎_elim (λ e. sym e) (λ h. absurd h) (left a) in
-    let same : d.held ≡ c = λ i a. at a i in
-    subst P same here
+use Rattle.run_parts.proofs.GoesLemmas.{Idle, image_at}
+use Rattle.run_parts.proofs.ChainLemmas.{chained-left}
 
 -- an image that loads clean as a state is one that the disk may load as
 pub settled_loads : (image : Image) (s : HiveState) → Loads image s false → MayLoad (settled_at s) image
@@ -121,8 +114,8 @@ goes-off a b x y d e f off g =
     let P : DiskState → Type 0 = λ t. Goes a b x y d t in
     let here : Goes a b x y d (turned_off e) = record {
       part = part-off [] a b x y d e g.part;
-      kept = λ none. record { asleep = (g.kept none).asleep; left = (g.kept none).left };
-      logged = g.logged;
+      chained = chained-left a g.part.woken (outcomes_in g.part.lines) g.part.notes (map image_at g.part.added) d e
+          (turned_off e) (λ image left. left) g.chained;
     } in
     subst P (sym off) here
 
@@ -161,6 +154,9 @@ commit-failed (Err stop) d e g h = (g.goes_on.no_cut (λ q. absurd cc), g.goes_o
 
 pub left-off : (d e : DiskState) (P : Image → Type 0) → e ≡ turned_off d → EachCrash d P → EachCrash e P
 left-off d e P off h = let Q : DiskState → Type 0 = λ t. EachCrash t P in subst Q (sym off) h
+
+pub may_be-off : (d e : DiskState) → e ≡ turned_off d → (image : Image) → LeftOf e image → LeftOf d image
+may_be-off d e off image = let Q : DiskState → Type 0 = λ t. LeftOf t image → LeftOf d image in subst Q (sym off) (λ h. h)
 
 -- calls of the disk alone leave it counted no less than at its last wake
 pub marked-by : (d e : DiskState) → e.history ≡ d.history → CountsGrow d e → IsMarked d → IsMarked e

@@ -27,7 +27,8 @@ use Rattle.boot_run.specs.Agrees.{IsUp, IsStored, IsLive, IsSound, IsRunningBy, 
 use Rattle.boot_run.specs.Hosts.{LeavesHost}
 use Rattle.boot_run.specs.Turns.{Stage, Turns, Ends}
 use Rattle.boot_run.specs.Views.{Moment, moment, RunsTo}
-use Rattle.boot_run.proofs.DiskLemmas.{still_leaves, settled_loads}
+use Rattle.run_parts.proofs.ChainLemmas.{still_leaves}
+use Rattle.boot_run.proofs.DiskLemmas.{settled_loads}
 
 -- what was reported, and the disk
 abbrev pub seen : Told → DiskState → Moment

@@ -138,13 +138,18 @@ module _ (choice : Option ℕ → Choice) where
   unfolding goes-before
   goes-within es a b x y d e p = record {
     part = goes-before [] es a b x y d e p.part;
-    kept = p.kept;
-    logged = λ was now m. p.logged was now (record {
-      first = m.first;
-      last = m.last;
-      opened = stops-before es a b p.part.woken (outcomes_in p.part.lines) m.first p.part.lines p.part.notes
-          (open_between was now) m.last (p.part.goes [] []) (play a p.part.woken m.first).rest refl m.opened;
-    });
+    chained = λ start stands.
+        let k = p.chained start stands in
+        record {
+          linked = k.linked;
+          kept = k.kept;
+          logged = λ was now m. k.logged was now (record {
+            first = m.first;
+            last = m.last;
+            opened = stops-before es a b p.part.woken (outcomes_in p.part.lines) m.first p.part.lines p.part.notes
+                (open_between was now) m.last (p.part.goes [] []) (play a p.part.woken m.first).rest refl m.opened;
+          });
+        };
   }
 
   goes-event : (ev : Event) (es : List Event) (m after : RunState) (rest : Act) (x y : Told) (d e : DiskState)
@@ -349,7 +354,7 @@ in_form form run x y d e r = record {
   said_is = r.said_is;
   grew = r.grew;
   adds_up = r.adds_up;
-  logged = r.logged;
+  chained = r.chained;
   summary = r.summary;
 }
 

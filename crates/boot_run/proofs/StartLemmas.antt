@@ -32,7 +32,7 @@ use Rattle.report_text.specs.line_objects.Objects.{printed}
 use Rattle.run_parts.specs.run_parts.Parts.{Stays}
 use Rattle.run_parts.specs.printed_parts.Parts.{Told, Tells, Goes, TellsOr}
 use Rattle.run_parts.proofs.CountLemmas.{alone}
-use Rattle.run_parts.proofs.LoggedLemmas.{logged-none}
+use Rattle.run_parts.proofs.ChainLemmas.{chained-still}
 use Rattle.run_parts.proofs.GoesLemmas.{idle, outcomes_in-append, tells-nothing, tells-then}
 use Rattle.boot_run.specs.declared.stop.RunStop.{RunStop}
 use Rattle.boot_run.specs.declared.runner.Runner.{Runner}
@@ -242,8 +242,7 @@ goes_all ls act x y d quiet told = record {
         ∙ play_all ls act w o;
     adds_up = refl;
   };
-  kept = λ none. record { asleep = refl; left = λ image h. h };
-  logged = logged-none (play (say_all ls act)) [] (outcomes_in ls) d (quiet_none ls quiet);
+  chained = chained-still (play (say_all ls act)) [] (outcomes_in ls) [] d d (quiet_none ls quiet) refl (λ image h. h);
 }
 
 -- they were reported, and the rest was played

@@ -23,8 +23,7 @@ use Rattle.start_model.specs.Summary.{with_line}
 use Rattle.run_parts.specs.run_parts.Parts.{HasNoLineFeed, since_wake, tally_now}
 use Rattle.run_parts.specs.printed_parts.Parts.{Told, Tells, Goes, GoesBut, Breaks, PlaysOr}
 use Rattle.run_parts.proofs.CountLemmas.{Alone, Still, still}
-use Rattle.run_parts.proofs.LoggedLemmas.{LogsWhere}
-use Rattle.run_parts.proofs.GoesLemmas.{Idle, goes-untold, goes-but, goes-line, goes-told}
+use Rattle.run_parts.proofs.GoesLemmas.{Idle, goes-untold, goes-but, goes-line, told_part}
 
 -- ---- a prefix of a line
 
@@ -160,7 +159,7 @@ breaks-line l r x y d e s none f left =
 -- part of it.
 pub breaks-front : (whole rest r : Act) (l : Line) (more : List Line) (u : Outcome) (x : Told) (y : List ℕ)
     (d e : DiskState)
-    → ((m : Told) → Tells x m (l ∷ []) → Goes (play whole) (play r) x m d e)
+    → ((m : Told) → Tells x m (l ∷ []) → GoesBut [] (play whole) (play r) x m d e)
     → GoesBut (Ended u ∷ []) (play whole) (play rest) x x d e
     → (play rest [] (u ∷ [])).lines ≡ l ∷ more
     → SaysFront x.said y (printed x.form l)
@@ -169,7 +168,7 @@ breaks-front whole rest r l more u x y d e told untold says f opened left =
     let m : Told = told_with l x in
     let P : List ℕ → Type 0 = λ t. Breaks whole x t d e in
     let all : Breaks whole x m.said d e =
-    breaks-then whole r x m m.said d e e (told m (tells-line l x)) (breaks-silent r m e e (still e) left) in
+    breaks-after whole r x m m.said d e e (told m (tells-line l x)) (breaks-silent r m e e (still e) left) in
     let Whole : y ≡ x.said ++ printed x.form l → Breaks whole x y d e = λ q. subst P (sym q) all in
     let Part : IsCutOff (printed x.form l) x.said y → Breaks whole x y d e = λ q.
     record {
@@ -195,12 +194,12 @@ breaks-front whole rest r l more u x y d e told untold says f opened left =
 pub breaks-told : (disk : Possible) (next : Outcome → Act) (l : Line) (u : Outcome) (r : Act) (x : Told) (y : List ℕ)
     (d e : DiskState)
     → Alone d e → HasCause u (since_wake d) (tally_now e) → CountedIn u (tally_now d) (tally_now e)
-    → LogsWhere disk u e → outcomes_in (l ∷ []) ≡ u ∷ [] → next u ≡ say l r
+    → outcomes_in (l ∷ []) ≡ u ∷ [] → next u ≡ say l r
     → SaysFront x.said y (printed x.form l)
     → EachCrash e (MayLoad disk) → EachCrash e (MayLoad (play r [] []).disk) → Breaks (ask disk next) x y d e
-breaks-told disk next l u r x y d e s cause counted logs told is f opened left =
+breaks-told disk next l u r x y d e s cause counted told is f opened left =
     breaks-front (ask disk next) (ask disk next) r l (play r [] []).lines u x y d e
-    (λ m said. goes-told disk next l u r x m d e s cause counted logs told is said)
+    (λ m said. told_part disk next l u r x m d e s cause counted told is said)
     (goes-untold u (play (ask disk next)) x d e s counted) (ap (λ (a : Act). (play a [] []).lines) is) f opened left
 
 -- ---- answers

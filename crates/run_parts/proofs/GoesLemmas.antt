@@ -21,10 +21,12 @@ use Rattle.report_text.specs.declared.line_text.form.ReportForm.{ReportForm}
 use Rattle.report_text.specs.line_objects.Objects.{printed, printed_lines}
 use Rattle.run_parts.specs.run_parts.Parts.{tallies, tally_now, since_wake, Grew}
 use Rattle.run_parts.specs.run_parts.Reports.{LeftOf}
-use Rattle.run_parts.specs.printed_parts.Logged.{EndsInCommit, LeavesLogged}
-use Rattle.run_parts.specs.printed_parts.Parts.{Told, Tells, Goes, GoesBut, IsKept}
+use Rattle.run_parts.specs.printed_parts.Chain.{Place, StandsAt, Link, marks_in, IsLinked}
+use Rattle.run_parts.specs.printed_parts.Logged.{LeavesLogged, Chains}
+use Rattle.run_parts.specs.printed_parts.Parts.{Told, Tells, Goes, GoesBut}
 use Rattle.run_parts.proofs.CountLemmas.{Alone, Still, alone, still, grew-then, adds-then, tallies-append}
-use Rattle.run_parts.proofs.LoggedLemmas.{LogsWhere, not_empty, logged-none, logged-ask, logged-then}
+use Rattle.run_parts.proofs.LoggedLemmas.{LogsWhere, not_empty, logged-ask, logged-then}
+use Rattle.run_parts.proofs.ChainLemmas.{IsMade, chained-still, chained-ask, chained-then}
 
 -- ---- lists
 
@@ -130,11 +132,12 @@ idle d = record { still = still d; left = λ image h. h }
 
 -- a part in which no operation ended, on a disk to which nothing was done
 quiet : (a b : Going) (x y : Told) (d e : DiskState) (p : GoesBut [] a b x y d e) → outcomes_in p.lines ≡ []
-    → p.woken ≡ [] → ((image : Image) → LeftOf e image → LeftOf d image) → Goes a b x y d e
-quiet a b x y d e p none asleep left = record {
+    → p.added ≡ [] → marks_in p.notes ≡ [] → ((image : Image) → LeftOf e image → LeftOf d image) → Goes a b x y d e
+quiet a b x y d e p none asleep unmarked left = record {
   part = p;
-  kept = λ h. record { asleep = asleep; left = left };
-  logged = logged-none a p.woken (outcomes_in p.lines) e none;
+  chained =
+      let P : List Wake → Type 0 = λ ws. Chains a p.woken (outcomes_in p.lines) p.notes (map image_at ws) d e in
+      subst P (sym asleep) (chained-still a p.woken (outcomes_in p.lines) p.notes d e none unmarked left);
 }
 
 -- nothing happened
@@ -150,7 +153,7 @@ goes-nothing a x d e s =
       fits = tt;
       goes = λ w o. refl;
       adds_up = s.still.same;
-    }) refl refl s.left
+    }) refl refl refl s.left
 
 -- an operation ended, and that is not reported yet
 pub goes-untold : (u : Outcome) (a : Going) (x : Told) (d e : DiskState) → Alone d e
@@ -206,53 +209,30 @@ goes-but untold a b c x y z d e f p q =
       adds_up = subst S (sym (append_assoc p.notes q.notes untold)) (subst T (sym (tallies-append p.added q.added)) both);
     }
 
--- A part in which an operation ended, after another: what the disk is left as is known from the second.
-pub goes-after : (a b c : Going) (x y z : Told) (d e f : DiskState) (p : GoesBut [] a b x y d e)
-    (q : GoesBut [] b c y z e f) (u : Outcome) (us : List Outcome) → outcomes_in q.lines ≡ u ∷ us
-    → LeavesLogged b q.woken (outcomes_in q.lines) f → Goes a c x z d f
-unfolding goes-but
-goes-after a b c x y z d e f p q u us is logged =
-    let all : outcomes_in (p.lines ++ q.lines) ≡ outcomes_in p.lines ++ (u ∷ us) =
-    outcomes_in-append p.lines q.lines ∙ ap (λ (os : List Outcome). outcomes_in p.lines ++ os) is in
-    let P : List Outcome → Type 0 = λ os. LeavesLogged b q.woken os f in
-    let Q : List Outcome → Type 0 = λ os. LeavesLogged a (p.woken ++ q.woken) os f in
-    record {
-      part = goes-but [] a b c x y z d e f p q;
-      kept = λ none. absurd (not_empty (outcomes_in p.lines) u us (sym all ∙ none));
-      logged = subst Q (sym all)
-          (logged-then a b p.woken q.woken (outcomes_in p.lines) u us f
-          (λ o. ap (λ (r : RunResult). r.disk) (p.goes q.woken o)) (subst P is logged));
-    }
-
--- A part after another, by the operations that ended in it: none, or some.
-goes-by : (a b c : Going) (x y z : Told) (d e f : DiskState) → Goes a b x y d e → (q : Goes b c y z e f)
-    → (os : List Outcome) → outcomes_in q.part.lines ≡ os → Goes a c x z d f
-unfolding goes-but
-goes-by a b c x y z d e f p q [] none =
-    let k : IsKept q.part.woken e f = q.kept none in
-    let wakes : p.part.woken ++ q.part.woken ≡ p.part.woken =
-    ap (λ (ws : List Woken). p.part.woken ++ ws) k.asleep ∙ append-nil p.part.woken in
-    let same : outcomes_in (p.part.lines ++ q.part.lines) ≡ outcomes_in p.part.lines =
-    outcomes_in-append p.part.lines q.part.lines
-    ∙ ap (λ (os : List Outcome). outcomes_in p.part.lines ++ os) none ∙ append-nil (outcomes_in p.part.lines) in
-    record {
-      part = goes-but [] a b c x y z d e f p.part q.part;
-      kept = λ h.
-          let m : IsKept p.part.woken d e = p.kept (sym same ∙ h) in
-          record { asleep = wakes ∙ m.asleep; left = λ image left. m.left image (k.left image left) };
-      logged = λ before after m.
-          let here : EndsInCommit a p.part.woken (outcomes_in p.part.lines) before after = record {
-            first = m.first;
-            last = sym same ∙ m.last;
-            opened = ap (λ (ws : List Woken). (a ws m.first).disk) (sym wakes) ∙ m.opened;
-          } in
-          λ image left. p.logged before after here image (k.left image left);
-    }
-goes-by a b c x y z d e f p q (u ∷ us) is = goes-after a b c x y z d e f p.part q.part u us is q.logged
+-- where there is no image, the disk did not wake
+asleep_by : (is : List Image) (ws : List Woken) (ps : List Possible) → Fits is ws ps → is ≡ [] → ws ≡ []
+asleep_by [] [] ps f none = refl
+asleep_by [] (w ∷ ws) ps f none = absurd f
+asleep_by (i ∷ is) ws ps f none = absurd cc
 
 pub goes-then : (a b c : Going) (x y z : Told) (d e f : DiskState) → Goes a b x y d e → Goes b c y z e f
     → Goes a c x z d f
-goes-then a b c x y z d e f p q = goes-by a b c x y z d e f p q (outcomes_in q.part.lines) refl
+unfolding goes-but
+goes-then a b c x y z d e f p q =
+    let v : List Woken = p.part.woken ++ q.part.woken in
+    let ns : List Note = p.part.notes ++ q.part.notes in
+    let P : List Outcome → Type 0 =
+    λ os. Chains a v os ns (map image_at p.part.added ++ map image_at q.part.added) d f in
+    let Q : List Image → Type 0 = λ is. Chains a v (outcomes_in (p.part.lines ++ q.part.lines)) ns is d f in
+    record {
+      part = goes-but [] a b c x y z d e f p.part q.part;
+      chained = subst Q (sym (map-append image_at p.part.added q.part.added))
+          (subst P (sym (outcomes_in-append p.part.lines q.part.lines))
+          (chained-then a b p.part.woken q.part.woken (outcomes_in p.part.lines) (outcomes_in q.part.lines) p.part.notes q.part.notes
+          (map image_at p.part.added) (map image_at q.part.added) d e f
+          (λ o. ap (λ (r : RunResult). r.disk) (p.part.goes q.part.woken o))
+          (asleep_by (map image_at q.part.added) q.part.woken (woke_in q.part.notes) q.part.fits) p.chained q.chained));
+    }
 
 -- a line that reports no outcome
 pub goes-line : (l : Line) (r : Act) (x y : Told) (d e : DiskState) → Idle d e → outcomes_in (l ∷ []) ≡ []
@@ -269,7 +249,7 @@ goes-line l r x y d e s none said =
       fits = tt;
       goes = λ w o. ap (λ (os : List Outcome). play (say l r) w (os ++ o)) none;
       adds_up = s.still.same;
-    }) none refl s.left
+    }) none refl refl s.left
 
 -- what was done to the disk where an operation ended so, and nothing else
 pub grew-ended : (u : Outcome) (d e : DiskState) → Alone d e → HasCause u (since_wake d) (tally_now e)
@@ -286,7 +266,7 @@ grew-ended u d e s cause =
     }
 
 -- an operation of the disk, and the line that reports its outcome
-told_part : (disk : Possible) (next : Outcome → Act) (l : Line) (u : Outcome) (r : Act) (x y : Told)
+pub told_part : (disk : Possible) (next : Outcome → Act) (l : Line) (u : Outcome) (r : Act) (x y : Told)
     (d e : DiskState)
     → Alone d e → HasCause u (since_wake d) (tally_now e) → CountedIn u (tally_now d) (tally_now e)
     → outcomes_in (l ∷ []) ≡ u ∷ [] → next u ≡ say l r
@@ -310,33 +290,21 @@ told_part disk next l u r x y d e s cause counted told is said =
 pub goes-told : (disk : Possible) (next : Outcome → Act) (l : Line) (u : Outcome) (r : Act) (x y : Told)
     (d e : DiskState)
     → Alone d e → HasCause u (since_wake d) (tally_now e) → CountedIn u (tally_now d) (tally_now e)
-    → LogsWhere disk u e → outcomes_in (l ∷ []) ≡ u ∷ [] → next u ≡ say l r
+    → ((start : Place) → StandsAt start d → IsMade disk u (Ended u ∷ []) start e) → outcomes_in (l ∷ []) ≡ u ∷ []
+    → next u ≡ say l r
     → Tells x y (l ∷ [])
     → Goes (play (ask disk next)) (play r) x y d e
 unfolding told_part
-goes-told disk next l u r x y d e s cause counted logs told is said =
+goes-told disk next l u r x y d e s cause counted made told is said =
     record {
       part = told_part disk next l u r x y d e s cause counted told is said;
-      kept = λ none. absurd (not_empty [] u [] (sym told ∙ none));
-      logged = logged-ask disk next u (outcomes_in (l ∷ [])) e told logs;
+      chained = chained-ask disk next u (outcomes_in (l ∷ [])) (Ended u ∷ []) d e told made;
     }
 
--- the same after a part in which no operation ended
-pub goes-begun : (a : Going) (disk : Possible) (next : Outcome → Act) (l : Line) (u : Outcome) (r : Act) (x y z : Told)
-    (d e f : DiskState) → GoesBut [] a (play (ask disk next)) x y d e
-    → Alone e f → HasCause u (since_wake e) (tally_now f) → CountedIn u (tally_now e) (tally_now f)
-    → LogsWhere disk u f → outcomes_in (l ∷ []) ≡ u ∷ [] → next u ≡ say l r
-    → Tells y z (l ∷ [])
-    → Goes a (play r) x z d f
-unfolding told_part
-goes-begun a disk next l u r x y z d e f p s cause counted logs told is said =
-    goes-after a (play (ask disk next)) (play r) x y z d e f p
-    (told_part disk next l u r y z e f s cause counted told is said) u [] told
-    (logged-ask disk next u (outcomes_in (l ∷ [])) f told logs)
-
--- a tree that the disk holds, or a clone that was saved: the disk has no part in the note
-pub goes-held : (t : Tree) (r : Act) (x : Told) (d : DiskState) → Goes (play (mark (Held t) r)) (play r) x x d d
-goes-held t r x d =
+-- a tree that the disk holds: the disk has no part in the note
+held_part : (t : Tree) (r : Act) (x : Told) (d : DiskState)
+    → GoesBut [] (play (mark (Held t) r)) (play r) x x d d
+held_part t r x d =
     let s : Alone d d = alone d in
     let g : Grew (Held t ∷ []) [] d d =
     record {
@@ -348,7 +316,7 @@ goes-held t r x d =
       later = s.later;
       caused = tt;
     } in
-    quiet (play (mark (Held t) r)) (play r) x x d d (record {
+    record {
       lines = [];
       notes = Held t ∷ [];
       added = [];
@@ -358,7 +326,52 @@ goes-held t r x d =
       fits = tt;
       goes = λ w o. refl;
       adds_up = refl;
-    }) refl refl (λ image h. h)
+    }
+
+-- a commit that is done, the line that reports it, and the tree that the disk then holds
+pub goes-committed : (disk : Possible) (next : Outcome → Act) (l : Line) (t : Tree) (r : Act) (x y : Told)
+    (d e : DiskState)
+    → Alone d e → CountedIn Finished (tally_now d) (tally_now e)
+    → ((start : Place) → StandsAt start d → IsMade disk Finished (Ended Finished ∷ Held t ∷ []) start e)
+    → outcomes_in (l ∷ []) ≡ Finished ∷ [] → next Finished ≡ say l (mark (Held t) r)
+    → Tells x y (l ∷ [])
+    → Goes (play (ask disk next)) (play r) x y d e
+unfolding told_part held_part goes-but
+goes-committed disk next l t r x y d e s counted made told is said =
+    let m : Act = mark (Held t) r in
+    record {
+      part = goes-but [] (play (ask disk next)) (play m) (play r) x y y d e e
+          (told_part disk next l Finished m x y d e s tt counted told is said) (held_part t r y e);
+      chained = chained-ask disk next Finished (outcomes_in (l ∷ [])) (Ended Finished ∷ Held t ∷ []) d e told made;
+    }
+
+-- an operation that is no commit, after a part in which none ended
+pub goes-begun : (a : Going) (disk : Possible) (next : Outcome → Act) (l : Line) (u : Outcome) (r : Act) (x y z : Told)
+    (d e f : DiskState) (p : GoesBut [] a (play (ask disk next)) x y d e)
+    → Alone e f → HasCause u (since_wake e) (tally_now f) → CountedIn u (tally_now e) (tally_now f)
+    → ((start : Place) → StandsAt start d → IsLinked (p.notes ++ Ended u ∷ []) (map image_at (p.added ++ [])) start f)
+    → ((links : List Link) → LogsWhere disk u links) → outcomes_in (l ∷ []) ≡ u ∷ [] → next u ≡ say l r
+    → Tells y z (l ∷ [])
+    → Goes a (play r) x z d f
+unfolding told_part goes-but
+goes-begun a disk next l u r x y z d e f p s cause counted linked logs told is said =
+    let all : outcomes_in (p.lines ++ l ∷ []) ≡ outcomes_in p.lines ++ u ∷ [] =
+    outcomes_in-append p.lines (l ∷ []) ∙ ap (λ (os : List Outcome). outcomes_in p.lines ++ os) told in
+    record {
+      part = goes-but [] a (play (ask disk next)) (play r) x y z d e f p
+          (told_part disk next l u r y z e f s cause counted told is said);
+      chained = λ start stands.
+          let k : IsLinked (p.notes ++ Ended u ∷ []) (map image_at (p.added ++ [])) start f = linked start stands in
+          let P : List Outcome → Type 0 = λ os. LeavesLogged a (p.woken ++ []) os k.links in
+          record {
+            linked = k;
+            kept = λ none. absurd (not_empty (outcomes_in p.lines) u [] (sym all ∙ none));
+            logged = subst P (sym all)
+                (logged-then a (play (ask disk next)) p.woken [] (outcomes_in p.lines) u [] [] k.links
+                (λ o. ap (λ (r : RunResult). r.disk) (p.goes [] o))
+                (logged-ask disk next u (u ∷ []) k.links refl (logs k.links)));
+          };
+    }
 
 pub goes-saved : (t : Tree) (r : Act) (x : Told) (d : DiskState) → Goes (play (mark (Saved t) r)) (play r) x x d d
 goes-saved t r x d =
@@ -383,4 +396,4 @@ goes-saved t r x d =
       fits = tt;
       goes = λ w o. refl;
       adds_up = refl;
-    }) refl refl (λ image h. h)
+    }) refl refl refl (λ image h. h)

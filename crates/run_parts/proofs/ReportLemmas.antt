@@ -19,7 +19,7 @@ use Rattle.run_parts.specs.run_parts.Counted.{AddsUp}
 use Rattle.run_parts.specs.run_parts.Parts.{Grew, HasNoLineFeed, tallies, tally_now}
 use Rattle.run_parts.specs.run_parts.Parts as texts
 use Rattle.run_parts.specs.run_parts.Reports as texts_of
-use Rattle.run_parts.specs.printed_parts.Logged.{LeavesLogged}
+use Rattle.run_parts.specs.printed_parts.Logged.{Chains}
 use Rattle.run_parts.specs.printed_parts.Parts.{Told, Goes, RunBreaks}
 use Rattle.run_parts.specs.printed_parts.Reports.{Reports, ReportsFront, part_text}
 use Rattle.run_parts.proofs.GoesLemmas.{image_at, printed-append}
@@ -44,7 +44,8 @@ reports_of run last x y d e all left =
     let P : List Note → Type 0 = λ ns. Grew ns g.added d e in
     let Q : List Note → Type 0 = λ ns. Fits (map image_at g.added) g.woken (woke_in ns) in
     let R : List Note → Type 0 = λ ns. AddsUp ns (tallies g.added) (tally_now d) (tally_now e) in
-    let S : List Outcome → Type 0 = λ os. LeavesLogged run g.woken os e in
+    let S : List Outcome → Type 0 = λ os. Chains run g.woken os g.notes (map image_at g.added) d e in
+    let C : List Note → Type 0 = λ ns. Chains run g.woken (outcomes_of t) ns (map image_at g.added) d e in
     record {
       text = t;
       added = g.added;
@@ -59,7 +60,7 @@ reports_of run last x y d e all left =
       said_is = g.tells.said ∙ ap (λ (ls : List Line). x.said ++ printed_lines x.form ls) lines;
       grew = subst P notes g.grew;
       adds_up = subst R notes (subst R (append-nil g.notes) g.adds_up);
-      logged = subst S (sym (outcomes-whole g.lines)) all.logged;
+      chained = subst C notes (subst S (sym (outcomes-whole g.lines)) all.chained);
       summary = g.tells.summary ∙ ap (with_lines x.summary) lines;
     }
 

@@ -1,3 +1,4 @@
+pub mod Chain
 pub mod Logged
 pub mod Parts
 pub mod Reports

@@ -1,4 +1,5 @@
 pub mod EndLemmas
+pub mod CommittedLemmas
 pub mod PlayLemmas
 pub mod AnswerLemmas
 pub mod EventLemmas

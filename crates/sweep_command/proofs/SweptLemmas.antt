@@ -5,6 +5,7 @@ use Rattle.std.proofs.lemmas.List.{append_assoc, map-append}
 use Rattle.boot_script.specs.declared.boot_script.event.Event.{Event}
 use Rattle.boot_machine.specs.boot_machine.Views.{event_in}
 use Rattle.boot_run.specs.Choices.{choices}
+use Rattle.command_parts.specs.command_parts.Placed.{image_in}
 use Rattle.report_text.specs.declared.line_text.form.ReportForm.{ReportForm}
 use Rattle.start_model.specs.Boot.{Choice}
 use Rattle.start_model.specs.Events.{Event as Happening}
@@ -43,8 +44,8 @@ whole_in before event =
 -- ---- what was printed
 
 module _ (inputs : SweepInputs) (first second : Played) (placed : Woken)
-    (without : IsPlayed (choices inputs.ini inputs.system) (inputs.script.before ++ probe_event ∷ []) placed first)
-    (with' : IsPlayed (choices inputs.ini inputs.system) ((inputs.script.before ++ inputs.script.event ∷ []) ++ probe_event ∷ []) placed second)
+    (without : IsPlayed (choices inputs.ini inputs.system) (image_in inputs.hive) (inputs.script.before ++ probe_event ∷ []) placed first)
+    (with' : IsPlayed (choices inputs.ini inputs.system) (image_in inputs.hive) ((inputs.script.before ++ inputs.script.event ∷ []) ++ probe_event ∷ []) placed second)
   where
     abbrev choice : Option ℕ → Choice
     choice = choices inputs.ini inputs.system

@@ -2,11 +2,10 @@
 --
 -- What happened beside the lines are the notes of the book. They tell what was done to the disk from outside: its wakes, the
 -- stops that were ordered and the cuts of the script; and each stop that the part reports has its cause, a count of the disk
--- that rose since the start's own wake. Of a part that was played the converse holds too: each stop that came is reported. And where its last
--- operation is a commit, the log is that commit's.
+-- that rose since the start's own wake. Of a part that was played the converse holds too: each stop that came is reported. And what
+-- its operations made of the bytes on the disk is a chain: after each commit the log is that commit's.
 use Rattle.std.specs.Prelude.{◌≡◌, ℕ, List, [], ◌∷◌, ◌++◌, map, Result, Ok, Err}
 use Rattle.nt_bytes.specs.Front.{IsFront}
-use Rattle.hive_model.specs.Image.{Image}
 use Rattle.nt_edge.specs.Disk.{DiskState, Wake}
 use Rattle.nt_edge.specs.Crash.{EachCrash}
 use Rattle.nt_edge.specs.Host.{SaysFront}
@@ -21,8 +20,7 @@ use Rattle.report_text.specs.declared.line_text.form.ReportForm.{ReportForm}
 use Rattle.report_text.specs.line_objects.Objects.{printed, printed_lines}
 use Rattle.run_parts.specs.run_parts.Counted.{AddsUp}
 use Rattle.run_parts.specs.run_parts.Parts.{Grew, HasNoLineFeed, tallies, tally_now}
-use Rattle.run_parts.specs.run_parts.Reports.{LeftOf}
-use Rattle.run_parts.specs.printed_parts.Logged.{LeavesLogged}
+use Rattle.run_parts.specs.printed_parts.Logged.{Chains}
 
 -- ---- what was reported
 
@@ -53,17 +51,10 @@ pub record GoesBut (untold : List Note) (whole rest : Going) (told told' : Told)
   pub goes : (w : List Woken) (o : List Outcome) → whole (woken ++ w) (outcomes_in lines ++ o) ≡ behind lines notes (rest w o)
   pub adds_up : AddsUp (notes ++ untold) (tallies added) (tally_now old) (tally_now new)
 
--- the disk did not wake, and a loss of power leaves nothing of it that it could not have left before
-pub record IsKept (woken : List Woken) (old new : DiskState) : Type 0 where
-  pub asleep : woken ≡ []
-  pub left : (image : Image) → LeftOf new image → LeftOf old image
-
--- And each stop that came is reported. Where no operation ended, the disk was kept; and where the last one that ended is a commit, the disk
--- has the image of that.
+-- And each stop that came is reported. What the operations made of the bytes on the disk is a chain.
 pub record Goes (whole rest : Going) (told told' : Told) (old new : DiskState) : Type 0 where
   pub part : GoesBut [] whole rest told told' old new
-  pub kept : outcomes_in part.lines ≡ [] → IsKept part.woken old new
-  pub logged : LeavesLogged whole part.woken (outcomes_in part.lines) new
+  pub chained : Chains whole part.woken (outcomes_in part.lines) part.notes (map (λ w. w.image) part.added) old new
 
 -- ---- a part that was given up
 

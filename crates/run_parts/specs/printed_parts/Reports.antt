@@ -17,12 +17,11 @@ use Rattle.report_text.specs.line_objects.Objects.{printed_lines}
 use Rattle.run_parts.specs.run_parts.Counted.{AddsUp}
 use Rattle.run_parts.specs.run_parts.Parts.{Grew, HasNoLineFeed, tallies, tally_now}
 use Rattle.run_parts.specs.run_parts.Reports.{LeftOf}
-use Rattle.run_parts.specs.printed_parts.Logged.{LeavesLogged}
+use Rattle.run_parts.specs.printed_parts.Logged.{Chains}
 use Rattle.run_parts.specs.printed_parts.Parts.{Told}
 
 -- What was printed since are the lines of the run on the wakes that were added, whose text is the whole report; and what was done to the disk
--- are its notes: with these its counts add up, so each stop that came is reported. Where its last operation is a commit, the disk has the image
--- of that.
+-- are its notes: with these its counts add up, so each stop that came is reported. What its operations made of the bytes on the disk is a chain.
 pub record Reports (run : Going) (told told' : Told) (old new : DiskState) : Type 0 where
   pub text : List ℕ
   pub added : List Wake
@@ -30,7 +29,7 @@ pub record Reports (run : Going) (told told' : Told) (old new : DiskState) : Typ
   pub said_is : told'.said ≡ told.said ++ printed_lines told.form (run report.woken (outcomes_of text)).lines
   pub grew : Grew (run report.woken (outcomes_of text)).notes added old new
   pub adds_up : AddsUp (run report.woken (outcomes_of text)).notes (tallies added) (tally_now old) (tally_now new)
-  pub logged : LeavesLogged run report.woken (outcomes_of text) new
+  pub chained : Chains run report.woken (outcomes_of text) (run report.woken (outcomes_of text)).notes (map (λ w. w.image) added) old new
   pub summary : told'.summary ≡ with_lines told.summary (run report.woken (outcomes_of text)).lines
 
 -- the text of a line of which a part was printed: an object that was cut off has none

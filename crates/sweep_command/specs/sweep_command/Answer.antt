@@ -10,6 +10,7 @@ use Rattle.nt_bytes.specs.declared.fault.ReadStop.TheVariants as read
 use Rattle.nt_edge.specs.Disk.{new_state}
 use Rattle.nt_edge.specs.Host.{HostState}
 use Rattle.nt_edge.specs.declared.host.HostStop.TheVariants.{Memory as NoMemory}
+use Rattle.hive_model.specs.Carries.{IsRecoveredAs}
 use Rattle.hive_model.specs.Image.{Image}
 use Rattle.hive_model.specs.Load.{Loads, LoadFault}
 use Rattle.hive_model.specs.State.{HiveState}
@@ -17,6 +18,7 @@ use Rattle.boot_script.specs.declared.boot_script.event.Event.{Event}
 use Rattle.boot_script.specs.declared.boot_script.event.Event.TheVariants.{Make}
 use Rattle.boot_machine.specs.boot_machine.Views.{event_in}
 use Rattle.boot_run.specs.Agrees.{LoadsAny}
+use Rattle.hive_store.specs.Changes.{Carried}
 use Rattle.boot_run.specs.Choices.{choices}
 use Rattle.start_model.specs.Boot.{Choice}
 use Rattle.start_model.specs.EventActs.{event_step_of}
@@ -75,9 +77,12 @@ last_swept inputs placed =
     let choice = choices inputs.ini inputs.system in
     last_in None (event_step_of choice (event_in inputs.script.event) (state_after choice (map event_in inputs.script.before) (first_state placed)))
 
--- where that is a commit, the log is its own: it lists exactly the sectors that differ
+-- where that is a commit, the log is its own: it lists exactly the sectors in which what the commit wrote differs from what it was made of, and
+-- that the commits before it led to, from what the placed hive is recovered as
 abbrev pub IsItsLog : SweepInputs → Woken → List ℕ → Type 0
-IsItsLog inputs placed log = (before after : HiveState) → last_swept inputs placed ≡ Some (open_between before after) → IsLogBetween before after log
+IsItsLog inputs placed log =
+    (before after : HiveState) → last_swept inputs placed ≡ Some (open_between before after) → (c : Carried)
+    → IsRecoveredAs (image_in inputs.hive) c.base c.bins → IsLogBetween c before after log
 
 -- the text is the report, with what the log of a disk lists that loads as the state after the event
 abbrev pub IsSwept : ReportForm → SweepInputs → Woken → List ℕ → Type 0
@@ -130,7 +135,7 @@ probe_event = Make (codes "Select" ∷ [])
 -- these events were played, from whatever the hive loads as
 abbrev pub PlaysAll : (Option ℕ → Choice) → HiveFiles → List Event → Played → Type 0
 PlaysAll choice hive events played =
-    (placed : Woken) → Loads (image_in hive) placed.state placed.dirty → IsPlayed choice events placed played
+    (placed : Woken) → Loads (image_in hive) placed.state placed.dirty → IsPlayed choice (image_in hive) events placed played
 
 -- they were played with the probe after them, and are given back
 abbrev pub PlaysProbed : (Option ℕ → Choice) → HiveFiles → List Event → Played × List Event → Type 0
@@ -140,5 +145,5 @@ PlaysProbed choice hive events r = (r.1 ≡ events) × PlaysAll choice hive (eve
 abbrev pub ArePlayed : (Option ℕ → Choice) → HiveFiles → SweepScript → Played × Played → Type 0
 ArePlayed choice hive script r =
     (placed : Woken) → Loads (image_in hive) placed.state placed.dirty
-    → IsPlayed choice (script.before ++ probe_event ∷ []) placed r.0
-    × IsPlayed choice ((script.before ++ script.event ∷ []) ++ probe_event ∷ []) placed r.1
+    → IsPlayed choice (image_in hive) (script.before ++ probe_event ∷ []) placed r.0
+    × IsPlayed choice (image_in hive) ((script.before ++ script.event ∷ []) ++ probe_event ∷ []) placed r.1

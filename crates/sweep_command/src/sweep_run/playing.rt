@@ -88,7 +88,7 @@ pub fn play<B: Bench>(
     requires counts { All HasCounts script.now }
     requires unordered { AreUnordered (map event_in script.now) }
     ensures { IfOk result (λ played. (placed : Woken) → Loads (image_in hive.now) placed.state placed.dirty
-        → IsPlayed (choices ini.now system.now) script.now placed played) }
+        → IsPlayed (choices ini.now system.now) (image_in hive.now) script.now placed played) }
 {
     if place(hive, disk).is_err() {
         return Err(AllocError);

@@ -8,9 +8,9 @@ use Rattle.report_words.specs.declared.words.CommitWord.TheVariants as commits
 use Rattle.start_model.specs.Sets.{SetPlan, stepped}
 use Rattle.start_model.specs.Commit.{commit}
 use Rattle.start_model.specs.Boot.{begin_start}
+use Rattle.run_parts.proofs.ChainLemmas.{still_leaves}
 use Rattle.boot_run.specs.Agrees.{LoadsAny}
 use Rattle.boot_run.specs.Begins.{IsTaken}
-use Rattle.boot_run.proofs.DiskLemmas.{still_leaves}
 use Rattle.boot_run.proofs.PlayLemmas.{plays-as, rests-silent, live_left, turns}
 use Rattle.boot_run.proofs.SaveLemmas.{refused_why, up_by, stored_by}
 use Rattle.boot_run.proofs.BeginLemmas.{planned_stays, taken_made, begin_made, begin_full}

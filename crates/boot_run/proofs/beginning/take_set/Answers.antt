@@ -1,6 +1,6 @@
 use Rattle.std.proofs.Common.{◌∙◌, sym, rules}
+use Rattle.run_parts.proofs.ChainLemmas.{still_leaves}
 use Rattle.boot_run.specs.Agrees.{LoadsAny}
-use Rattle.boot_run.proofs.DiskLemmas.{still_leaves}
 use Rattle.boot_run.proofs.PlayLemmas.{plays-as, plays-err, plays-on, live_left, turns}
 use Rattle.boot_run.proofs.beginning.take_set.Goals as goal
 

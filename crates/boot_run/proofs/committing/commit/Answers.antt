@@ -16,6 +16,10 @@ use Rattle.boot_run.proofs.committing.commit.Goals.{After-commit, In-Ok, After-e
 left : (g : Over) (c : After-commit g)
     → Committed c.args.hive (g.B.Disk.state c.args.bench.now) (g.B.Disk.state c.commit.new.disk)
 left g c = record {
+  still = c.requires.up.still;
+  opened = c.requires.up.carries;
+  change = c.commit.ensures.change;
+  either = λ image cut. (c.commit.ensures.cut g.met.B.Bench.told image cut).either;
   crash = c.commit.ensures.crash g.met.B.Bench.told;
   history = c.commit.ensures.ends.goes.goes_on.history;
   counts = c.commit.ensures.ends.goes.goes_on.counts;
@@ -31,7 +35,6 @@ done g c =
       raised = c.in-Ok.ensures.committed.number;
       none = c.in-Ok.ensures.committed.clean.still told;
       loads = c.in-Ok.ensures.committed.loads told;
-      opened = c.requires.up.carries;
       closed = c.in-Ok.ensures.committed.clean.carries told;
       log = c.in-Ok.ensures.committed.logged told;
       quiet = commit-done _ (g.B.Disk.state c.args.bench.now) (g.B.Disk.state c.commit.new.disk) c.in-Ok.ensures.ends.goes;

@@ -33,7 +33,9 @@ left : (g : Over) (c : After-load_judged g)
     → Loaded (image g (goal.at.After-load_judged g c).In-Ok) (g.B.Disk.state c.args.bench.now)
     (g.B.Disk.state c.power_on.new.self) (g.B.Disk.state c.load_judged.new.disk)
 left g c = record {
+  may_be = c.in-Ok.ensures.woken.1;
   woke = c.in-Ok.ensures.woken.2;
+  keeps = c.load_judged.ensures.cut g.met.B.Bench.told;
   crash = λ s dirty l. let P : Image → Type 0 = λ i. Loads i s dirty in
       c.load_judged.ensures.crash g.met.B.Bench.told s dirty
       (subst P (sym (held g (goal.at.After-load_judged g c).In-Ok)) l);

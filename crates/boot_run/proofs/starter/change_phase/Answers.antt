@@ -3,9 +3,9 @@ use Rattle.report_words.specs.declared.words.Verdict.TheVariants as verdicts
 use Rattle.start_model.specs.Machine.{Start}
 use Rattle.start_model.specs.Act.{RunState, Act, say_all, end_with}
 use Rattle.start_model.specs.Starter.{phase_step}
+use Rattle.run_parts.proofs.ChainLemmas.{still_leaves}
 use Rattle.boot_run.specs.Agrees.{LoadsAny, Counts}
 use Rattle.boot_run.specs.Starts.{stop_lines}
-use Rattle.boot_run.proofs.DiskLemmas.{still_leaves}
 use Rattle.boot_run.proofs.PlayLemmas.{plays-as, plays-ok, plays-err, rests-silent, live_left}
 use Rattle.boot_run.proofs.StartLemmas.{gone_act, missing_at, none_missing, stopped_act}
 use Rattle.boot_run.proofs.StepLemmas.{step_may}
