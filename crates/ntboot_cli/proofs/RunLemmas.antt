@@ -17,9 +17,11 @@ use Rattle.boot_machine.specs.boot_machine.Views.{event_in}
 use Rattle.boot_script.specs.declared.boot_script.event.Event.{Event}
 use Rattle.report_words.specs.declared.line.Line.{Line}
 use Rattle.start_model.specs.Possible.{Woken}
+use Rattle.start_model.specs.Fits.{outcomes_of}
 use Rattle.start_model.specs.Run.{run_of}
 use Rattle.start_model.specs.Summary.{no_summary}
 use Rattle.run_parts.specs.run_parts.Reports.{LeftOf}
+use Rattle.run_parts.specs.printed_parts.Chain.{placed_at}
 use Rattle.run_parts.specs.printed_parts.Reports.{Reports, ReportsFront, ReportsOr}
 use Rattle.run_parts.proofs.ReportLemmas.{as_text, text_report}
 use Rattle.report_text.specs.declared.line_text.form.ReportForm.{ReportForm}
@@ -30,6 +32,7 @@ use Rattle.start_laws.proofs.ReportLemmas.{report-quiet}
 use Rattle.kept_laws.proofs.QuietLemmas.{reports-finished}
 use Rattle.kept_laws.proofs.ToldLemmas.{reports-counted}
 use Rattle.ntboot_cli.proofs.GoodLemmas.{whole_good, front_good}
+use Rattle.run_parts.proofs.ChainLemmas.{still_leaves, chained-left}
 use Rattle.boot_run.specs.declared.stop.RunStop.{RunStop}
 use Rattle.boot_run.specs.declared.stop.RunStop.TheVariants as stops
 use Rattle.boot_run.specs.declared.summary.Summary.{Summary}
@@ -38,8 +41,8 @@ use Rattle.boot_run.specs.Begins.{untold, answered}
 use Rattle.boot_run.specs.Choices.{choices}
 use Rattle.boot_run.specs.Hosts.{LeavesHost, CountsStop}
 use Rattle.boot_run.specs.Views.{summary_in}
-use Rattle.boot_run.proofs.DiskLemmas.{still_leaves}
 use Rattle.boot_run.proofs.LoadLemmas.{no_fault}
+use Rattle.sweep_command.proofs.PlayLemmas.{placed_stands}
 use Rattle.command_words.specs.Words.{asks, run, RunAsked}
 use Rattle.command_parts.specs.declared.command_parts.refusal.Obstacle.TheVariants.{Stopped}
 use Rattle.ntboot_cli.specs.Inputs.{inputs_in}
@@ -88,7 +91,8 @@ Says form inputs script old r mid before left =
 
 -- ---- the whole report was printed
 
-module _ (form : ReportForm) (inputs : Inputs) (saves : Saves) (w : Woken) (before : DiskState) where
+module _ (form : ReportForm) (inputs : Inputs) (saves : Saves) (w : Woken) (before : DiskState)
+    (placed : before ≡ placed_disk inputs.hive) where
   whole : (summary : Summary) (taken : ℕ) (old mid new : List ℕ) (left after : DiskState)
       → Reports (run_in inputs w) (told form old no_summary) (told form mid (summary_in summary)) before left
       → new ≡ mid → Settles taken left after → RunsWhole form inputs w taken before after old new
@@ -118,7 +122,10 @@ module _ (form : ReportForm) (inputs : Inputs) (saves : Saves) (w : Woken) (befo
               settles.cuts ∙ ap (λ (t : Tally). t.cuts) same,
               settles.faults ∙ ap (λ (t : Tally). t.faults) same,
             );
-        logged = λ first second ends image held. all.logged first second ends image (settles.left image held);
+        chained = λ c found.
+            chained-left (run_in inputs w) all.report.woken (outcomes_of all.text)
+            (run_in inputs w all.report.woken (outcomes_of all.text)).notes (map (λ w. w.image) all.added) before left after
+            settles.left all.chained (placed_at c) (placed_stands inputs.hive before c placed found);
         good = whole_good choice script w x y before left all;
       }
 
@@ -156,7 +163,7 @@ saved_decides form inputs saves script summary r status old mid new before left 
               λ es. Reports (run_of (choices inputs.ini inputs.system) (map event_in es) any.0) (untold form old)
               (answered form mid (Ok summary)) before left in
               let reports = subst P same (report any.0 tells (placed_loads inputs.hive before any.0 placed any.1)) in
-              let here = ends_saved form inputs saves any.0 before r summary old mid new left after reports
+              let here = ends_saved form inputs saves any.0 before placed r summary old mid new left after reports
               (s.host.unsaid (host.keeps.tells ∙ tells)) s in
               inr (inl (
                 any.0,

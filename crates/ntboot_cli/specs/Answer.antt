@@ -7,9 +7,11 @@ use Rattle.nt_bytes.specs.declared.fault.ReadStop.{ReadStop}
 use Rattle.nt_bytes.specs.declared.fault.ReadStop.TheVariants as read
 use Rattle.nt_edge.specs.Disk.{DiskState, new_state}
 use Rattle.nt_edge.specs.Host.{Files, HostState, KeepsOthers}
+use Rattle.hive_model.specs.Carries.{IsRecoveredAs}
 use Rattle.hive_model.specs.Image.{Image}
 use Rattle.hive_model.specs.Load.{Loads, LoadFault}
 use Rattle.hive_model.specs.Size.{bulk_of}
+use Rattle.hive_store.specs.Changes.{Carried}
 use Rattle.boot_machine.specs.boot_machine.Views.{event_in}
 use Rattle.start_model.specs.Fits.{outcomes_of, KeepsGood}
 use Rattle.start_model.specs.Report.{Going}
@@ -18,7 +20,8 @@ use Rattle.start_model.specs.Run.{run_of}
 use Rattle.start_model.specs.Quiet.{Quiet, quiet_run_of}
 use Rattle.start_model.specs.Summary.{Summary, no_summary}
 use Rattle.run_laws.specs.run_laws.Quiet.{AllFinished}
-use Rattle.run_parts.specs.printed_parts.Logged.{LeavesLogged}
+use Rattle.run_parts.specs.printed_parts.Chain.{placed_at}
+use Rattle.run_parts.specs.printed_parts.Logged.{IsChained}
 use Rattle.run_parts.specs.printed_parts.Reports.{Reports, ReportsFront}
 use Rattle.boot_run.specs.Agrees.{LoadsAny}
 use Rattle.boot_run.specs.Choices.{choices}
@@ -84,9 +87,10 @@ abbrev pub quiet_in : Inputs → Woken → Quiet
 quiet_in inputs placed = quiet_run_of (choices inputs.ini inputs.system) (map event_in inputs.script) placed
 
 -- The whole report was printed in this form. The disk as the run left it then settled, and that many files were taken from it. Where it had
--- no cut and no fault, the lines are those of the quiet run; and where the report says no stop, it counted none. Where the run's last operation
--- is a commit that is done, the disk has the image of that, whose log lists exactly the sectors that differ. LastKnownGood names a good set in
--- each tree that was held, and in each that the disk may load as.
+-- no cut and no fault, the lines are those of the quiet run; and where the report says no stop, it counted none. What the run's operations made
+-- of the bytes on the disk is a chain, which begins with what the placed hive is recovered as: the log of each commit that is done lists exactly
+-- the sectors that differ from what the commit was made of, whose cells were edited in place, or repacked for want of room. LastKnownGood names a good set in each tree that was held, and in each
+-- that the disk may load as.
 pub record RunsWhole (form : ReportForm) (inputs : Inputs) (placed : Woken) (taken : ℕ) (before after : DiskState) (old new : List ℕ) : Type 0 where
   pub summary : Summary
   pub left : DiskState
@@ -94,7 +98,9 @@ pub record RunsWhole (form : ReportForm) (inputs : Inputs) (placed : Woken) (tak
   pub settles : Settles taken left after
   pub quiet : after.cuts ≡ 0 → after.faults ≡ 0 → new ≡ old ++ printed_lines form (quiet_in inputs placed).lines
   pub counted : AllFinished (outcomes_of reports.text) → (after.cuts ≡ before.cuts) × (after.faults ≡ before.faults)
-  pub logged : LeavesLogged (run_in inputs placed) reports.report.woken (outcomes_of reports.text) after
+  pub chained : let report = reports.report in (c : Carried) → IsRecoveredAs (image_in inputs.hive) c.base c.bins
+      → IsChained (run_in inputs placed) report.woken (outcomes_of reports.text) (run_in inputs placed report.woken (outcomes_of reports.text)).notes
+      (map (λ w. w.image) reports.added) (placed_at c) after
   pub good : let r = run_in inputs placed reports.report.woken (outcomes_of reports.text) in KeepsGood r.notes r.disk
 
 -- A prefix of the report was printed, and LastKnownGood names a good set up to where nothing more happened. No file was taken from the disk.
