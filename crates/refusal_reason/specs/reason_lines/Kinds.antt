@@ -76,12 +76,12 @@ bins_rows =
 -- of a log
 abbrev pub log_rows : List Row
 log_rows =
-    row (codes "log-absent") (codes "the hive is dirty, and there is no log")
-    ∷ row (codes "log-base") (codes "the log has no valid base block")
-    ∷ row (codes "log-sequence") (codes "the log belongs to another state of the hive")
-    ∷ row (codes "log-dirt") (codes "the log has no bitmap of sectors")
-    ∷ row (codes "log-short") (codes "the log is shorter than its bitmap says")
-    ∷ row (codes "log-unreadable") (codes "a sector of the log that can't be read")
+    row (codes "log-absent") (codes "the hive is dirty, and there is no log; try replay with logs of Windows, or salvage")
+    ∷ row (codes "log-base") (codes "the log has no valid base block; try replay with logs of Windows, or salvage")
+    ∷ row (codes "log-sequence") (codes "the log belongs to another state of the hive; try replay with logs of Windows, or salvage")
+    ∷ row (codes "log-dirt") (codes "the log has no bitmap of sectors; try replay with logs of Windows, or salvage")
+    ∷ row (codes "log-short") (codes "the log is shorter than its bitmap says; try replay with logs of Windows, or salvage")
+    ∷ row (codes "log-unreadable") (codes "a sector of the log that can't be read; try replay with logs of Windows, or salvage")
     ∷ []
 
 -- the reason of a word, where a row has it

@@ -98,15 +98,30 @@ static BINS: &[Row] = &[
 ];
 
 static LOG: &[Row] = &[
-    row!("log-absent", "the hive is dirty, and there is no log"),
-    row!("log-base", "the log has no valid base block"),
+    row!(
+        "log-absent",
+        "the hive is dirty, and there is no log; try replay with logs of Windows, or salvage"
+    ),
+    row!(
+        "log-base",
+        "the log has no valid base block; try replay with logs of Windows, or salvage"
+    ),
     row!(
         "log-sequence",
-        "the log belongs to another state of the hive"
+        "the log belongs to another state of the hive; try replay with logs of Windows, or salvage"
     ),
-    row!("log-dirt", "the log has no bitmap of sectors"),
-    row!("log-short", "the log is shorter than its bitmap says"),
-    row!("log-unreadable", "a sector of the log that can't be read"),
+    row!(
+        "log-dirt",
+        "the log has no bitmap of sectors; try replay with logs of Windows, or salvage"
+    ),
+    row!(
+        "log-short",
+        "the log is shorter than its bitmap says; try replay with logs of Windows, or salvage"
+    ),
+    row!(
+        "log-unreadable",
+        "a sector of the log that can't be read; try replay with logs of Windows, or salvage"
+    ),
 ];
 
 /// Of a script, and of the commands of `control`.
