@@ -1,7 +1,9 @@
+pub mod GiverLemmas
 pub mod HeldLemmas
 pub mod LayerLemmas
 pub mod ListedLemmas
 pub mod NameLemmas
+pub mod NearLemmas
 pub mod OffLemmas
 pub mod OpeningLemmas
 pub mod PlayLemmas

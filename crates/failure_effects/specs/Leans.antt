@@ -13,6 +13,7 @@ use Rattle.failure_effects.specs.declared.lines.NeedWord.TheVariants.{Service, G
 use Rattle.failure_effects.specs.declared.leaning.Layer.{Layer}
 use Rattle.failure_effects.specs.declared.leaning.Walk.{Walk}
 use Rattle.failure_effects.specs.declared.told.Told.{Told}
+use Rattle.failure_effects.specs.Givers.{rest_of}
 use Rattle.failure_effects.specs.Lost.{has_name}
 use Rattle.failure_effects.specs.States.{state_in}
 
@@ -52,9 +53,9 @@ leans_from (suc n) steps plain layer rest =
     else map (leans_line plain steps layer) near ++ leans_from n (steps + 1) plain (layer_of near) (filter (λ e. not (needs_one layer e)) rest)
 
 -- the same from where a walk has got, if it goes on
-abbrev pub leans_on : ℕ → ℕ → List Told → Option Walk → List EffectLine
-leans_on n steps plain None = []
-leans_on n steps plain (Some walk) = leans_from n steps plain walk.layer walk.rest
+abbrev pub leans_on : ℕ → ℕ → List Told → List Entry → Option Walk → List EffectLine
+leans_on n steps plain entries None = []
+leans_on n steps plain entries (Some walk) = leans_from n steps plain walk.layer (rest_of entries walk.left.rest.items)
 
 -- the lines of all entries of a set that lean on a name; there are no more layers than entries
 abbrev pub leans_lines : List Told → List ℕ → List Entry → List EffectLine

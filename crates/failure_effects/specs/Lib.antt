@@ -1,5 +1,6 @@
 pub mod Codes
 pub mod Effects
+pub mod Givers
 pub mod Leans
 pub mod Lost
 pub mod Opening

@@ -1,17 +1,19 @@
 //! Who leans on a name.
 
-ghost use Rattle.std.specs.Prelude.{◌≡◌, ◌<◌, ◌^◌, ◌+◌, ◌++◌, ◌∷◌, [], ℕ, suc, not, map, filter, IfOk, OnOk, if◌then◌else◌};
+ghost use Rattle.std.specs.Prelude.{◌≡◌, ◌<◌, ◌^◌, ◌+◌, ◌++◌, ◌∷◌, [], ℕ, suc, not, map, filter, IfOk, IfSome, OnOk};
 ghost use Rattle.std.specs.List.{filter_map, list_any, cons_option};
 ghost use Rattle.failure_effects.specs.Lost.{has_name as has};
 ghost use Rattle.hive_model.specs.Valid.{HoldsKeys};
 ghost use Rattle.nt_bytes.specs.Folding.{folds_same};
 ghost use Rattle.start_model.specs.Entries.{entries_of};
-ghost use Rattle.failure_effects.specs.Leans.{layer_of, first_layer, names_one, groups_one, needs_one, need_word, leans_line, leans_from, leans_on, leans_lines};
+ghost use Rattle.failure_effects.specs.Givers.{AreLeft, rest_of};
+ghost use Rattle.failure_effects.specs.Leans.{layer_of, first_layer, names_one, need_word, leans_line, leans_from, leans_on, leans_lines};
 
+use crate::givers::{Left, Needers};
 use crate::lines::{EffectLine, EffectLines, NeedWord};
 use crate::lost::has_name;
 use crate::states::States;
-use boot_phases::service_entries::{Entries, Entry, entries};
+use boot_phases::service_entries::{Entry, entries};
 use nt_bytes::{Names, Units, same_folded};
 use nt_names::name_places::NamePlaces;
 use reg_tree::Key;
@@ -28,7 +30,7 @@ pub struct Layer {
 #[derive(Drop)]
 pub struct Walk {
     pub layer: Layer,
-    pub rest: Entries,
+    pub left: Left,
 }
 
 /// Says who of the set leans on a name.
@@ -44,66 +46,71 @@ pub(crate) fn push_leaning(
 {
     let table = entries(alloc, set)?;
     let count = table.len();
-    let walk = first_walk(alloc, table.into_entries(alloc)?, name)?;
-    push_layers(alloc, states, count, walk, lines)
+    let needers = Needers::new(alloc, table.into_entries(alloc)?)?;
+    let walk = first_walk(alloc, &needers, name)?;
+    push_layers(alloc, states, count, &needers, walk, lines)
 }
 
 /// The name itself with the groups of its entry, and the other entries.
-fn first_walk(alloc: Global, entries: Entries, name: &Units) -> Result<Walk, AllocError>
-    ensures layer { IfOk result (λ walk. walk.layer ≡ first_layer name.now entries) }
-    ensures rest { IfOk result (λ walk. walk.rest ≡ filter (λ e. not (folds_same name.now e.name)) entries) }
+fn first_walk(alloc: Global, needers: &Needers, name: &Units) -> Result<Walk, AllocError>
+    ensures layer { IfOk result (λ walk. walk.layer ≡ first_layer name.now needers.now) }
+    ensures rest { IfOk result (λ walk. rest_of needers.now walk.left.rest.items ≡ filter (λ e. not (folds_same name.now e.name)) needers.now) }
+    ensures left { IfOk result (λ walk. AreLeft needers.now walk.left) }
 {
-    let (named, rest) = split_named(alloc, name.as_slice(), entries)?;
-    let mut names = Names::new(alloc);
-    names.push(name.copy(alloc)?)?;
-    let groups = groups_of(alloc, named.as_slice())?;
-    let layer = layer_with(alloc, names, groups)?;
-    Ok(Walk { layer, rest })
+    let layer = first_layer(alloc, needers.as_slice(), name)?;
+    let others = others(alloc, needers.as_slice(), name.as_slice())?;
+    let left = needers.unseen(alloc, others)?;
+    Ok(Walk { layer, left })
 }
 
-fn layer_with(alloc: Global, names: Names, groups: Names) -> Result<Layer, AllocError>
-    ensures names { IfOk result (λ layer. layer.names ≡ names) }
-    ensures groups { IfOk result (λ layer. layer.groups ≡ groups) }
+/// The name itself with the groups of its entry.
+fn first_layer(alloc: Global, entries: &[Entry], name: &Units) -> Result<Layer, AllocError>
+    ensures { IfOk result (λ layer. layer ≡ first_layer name.now entries.now) }
 {
+    let mut names = Names::new(alloc);
+    names.push(name.copy(alloc)?)?;
     Ok(Layer {
         names: NamePlaces::new(alloc, names)?,
-        groups: NamePlaces::new(alloc, groups)?,
+        groups: NamePlaces::new(alloc, named_groups(alloc, entries, name.as_slice())?)?,
     })
 }
 
-/// The entries of the name, and the others.
-fn split_named(
-    alloc: Global,
-    name: &[u16],
-    entries: Entries,
-) -> Result<(Entries, Entries), AllocError>
-    ensures named { IfOk result (λ r. r.0 ≡ filter (λ e. folds_same name.now e.name) entries) }
-    ensures others { IfOk result (λ r. r.1 ≡ filter (λ e. not (folds_same name.now e.name)) entries) }
+/// The groups of the entries of the name.
+fn named_groups(alloc: Global, entries: &[Entry], name: &[u16]) -> Result<Names, AllocError>
+    ensures { IfOk result (λ names. names ≡ filter_map (λ e. e.group) (filter (λ e. folds_same name.now e.name) entries.now)) }
 {
-    let mut named = Entries::new(alloc);
-    let mut others = Entries::new(alloc);
-    for entry in entries.into_vec() {
-        let is_named = same_folded(name, entry.name.as_slice());
-        put(entry, is_named, &mut named, &mut others)?;
+    let mut names = Names::new(alloc);
+    for entry in entries {
+        push_group_where(alloc, name, entry, &mut names)?;
     }
-    Ok((named, others))
+    Ok(names)
 }
 
-/// Puts an entry after those of its kind.
-fn put(
-    entry: Entry,
-    passes: bool,
-    passing: &mut Entries,
-    others: &mut Entries,
+/// Puts the group that the entry is a member of after the others, if it has the name.
+fn push_group_where(
+    alloc: Global,
+    name: &[u16],
+    entry: &Entry,
+    names: &mut Names,
 ) -> Result<(), AllocError>
-    ensures passing { OnOk result (passing.new ≡ passing.old ++ (if passes then entry ∷ [] else [])) }
-    ensures others { OnOk result (others.new ≡ others.old ++ (if not passes then entry ∷ [] else [])) }
+    ensures { OnOk result (names.new ≡ names.old ++ filter_map (λ e. e.group) (filter (λ e. folds_same name.now e.name) (entry.now ∷ []))) }
 {
-    if passes {
-        passing.push(entry)
+    if same_folded(name, entry.name.as_slice()) {
+        push_group(alloc, entry, names)
     } else {
-        others.push(entry)
+        Ok(())
     }
+}
+
+/// For each entry, whether it is another one.
+fn others(alloc: Global, entries: &[Entry], name: &[u16]) -> Result<Vec<bool>, AllocError>
+    ensures { IfOk result (λ others. others.items ≡ map (λ e. not (folds_same name.now e.name)) entries.now) }
+{
+    let mut others = Vec::new(alloc);
+    for entry in entries {
+        others.push(!same_folded(name, entry.name.as_slice()))?;
+    }
+    Ok(others)
 }
 
 /// The names of the entries, in their order.
@@ -155,25 +162,11 @@ fn names_one(layer: &Layer, entry: &Entry) -> bool
     any_named(&layer.names, entry.services.as_slice())
 }
 
-/// Whether DependOnGroup names a group of the layer.
-fn groups_one(layer: &Layer, entry: &Entry) -> bool
-    ensures { result ≡ groups_one layer.now entry.now }
-{
-    any_named(&layer.groups, entry.groups.as_slice())
-}
-
 /// Whether one of these names is among those.
 fn any_named(names: &NamePlaces, wanted: &[Units]) -> bool
     ensures { result ≡ list_any (has names.now) wanted.now }
 {
     wanted.iter().any(|name| has_name(names, name.as_slice()))
-}
-
-/// Whether the entry needs one of the layer.
-fn needs_one(layer: &Layer, entry: &Entry) -> bool
-    ensures { result ≡ needs_one layer.now entry.now }
-{
-    names_one(layer, entry) || groups_one(layer, entry)
 }
 
 /// How the entry needs one of the layer.
@@ -185,20 +178,6 @@ fn need_word(layer: &Layer, entry: &Entry) -> NeedWord
     } else {
         NeedWord::Group
     }
-}
-
-/// The entries that need one of the layer, and the others.
-fn split(alloc: Global, layer: &Layer, entries: Entries) -> Result<(Entries, Entries), AllocError>
-    ensures near { IfOk result (λ r. r.0 ≡ filter (needs_one layer.now) entries) }
-    ensures far { IfOk result (λ r. r.1 ≡ filter (λ e. not (needs_one layer.now e)) entries) }
-{
-    let mut near = Entries::new(alloc);
-    let mut far = Entries::new(alloc);
-    for entry in entries.into_vec() {
-        let is_near = needs_one(layer, &entry);
-        put(entry, is_near, &mut near, &mut far)?;
-    }
-    Ok((near, far))
 }
 
 fn leans_line(
@@ -240,22 +219,24 @@ fn next_layer(
     alloc: Global,
     states: &States<'_>,
     steps: usize,
+    needers: &Needers,
     walk: Walk,
     lines: &mut EffectLines,
 ) -> Result<Option<Walk>, AllocError>
-    ensures { IfOk result (λ next. (n : ℕ) → lines.new ++ leans_on n (steps + 1) states.now next ≡ lines.old ++ leans_from (suc n) steps states.now walk.layer walk.rest) }
+    requires { AreLeft needers.now walk.left }
+    ensures lines { IfOk result (λ next. (n : ℕ) → lines.new ++ leans_on n (steps + 1) states.now needers.now next
+        ≡ lines.old ++ leans_from (suc n) steps states.now walk.layer (rest_of needers.now walk.left.rest.items)) }
+    ensures left { IfOk result (λ next. IfSome next (λ w. AreLeft needers.now w.left)) }
 {
-    let Walk { layer, rest } = walk;
-    let (near, far) = split(alloc, &layer, rest)?;
+    let Walk { layer, left } = walk;
+    let mut left = left;
+    let near = needers.near(alloc, &layer, &mut left)?;
     if near.is_empty() {
         return Ok(None);
     }
     push_near(alloc, states, steps, &layer, near.as_slice(), lines)?;
     let next = layer_of(alloc, near.as_slice())?;
-    Ok(Some(Walk {
-        layer: next,
-        rest: far,
-    }))
+    Ok(Some(Walk { layer: next, left }))
 }
 
 /// Says layer after layer, at most that many.
@@ -263,15 +244,17 @@ fn push_layers(
     alloc: Global,
     states: &States<'_>,
     count: usize,
+    needers: &Needers,
     walk: Walk,
     lines: &mut EffectLines,
 ) -> Result<(), AllocError>
-    requires { count < 2 ^ 32 }
-    ensures { OnOk result (lines.new ≡ lines.old ++ leans_from count 1 states.now walk.layer walk.rest) }
+    requires count { count < 2 ^ 32 }
+    requires left { AreLeft needers.now walk.left }
+    ensures { OnOk result (lines.new ≡ lines.old ++ leans_from count 1 states.now walk.layer (rest_of needers.now walk.left.rest.items)) }
 {
     let mut walk = walk;
     for steps in 0..count {
-        match next_layer(alloc, states, steps + 1, walk, lines)? {
+        match next_layer(alloc, states, steps + 1, needers, walk, lines)? {
             Some(next) => walk = next,
             None => return Ok(()),
         }

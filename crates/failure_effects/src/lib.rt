@@ -7,6 +7,7 @@
 
 mod blocks;
 mod course;
+mod givers;
 mod leaning;
 mod lines;
 mod lost;
