@@ -1,5 +1,5 @@
 -- What is met in the graph is the least set of freed items.
-use Rattle.std.proofs.Common.{◌≡◌, ℕ, zero, suc, ◌<◌, ◌≤◌, Bool, true, false, not, ◌&&◌, ◌||◌, List, [], ◌∷◌, length, take, map, get_or, cond, refl, sym, ap, ◌∙◌, inl, inr, subst, arith}
+use Rattle.std.proofs.Common.{◌≡◌, ℕ, zero, suc, ◌<◌, ◌≤◌, Bool, true, false, not, ◌&&◌, ◌||◌, List, [], ◌∷◌, length, take, map, get_or, cond, refl, sym, ap, ◌∙◌, inl, inr, arith}
 use Rattle.std.specs.Prelude.{nat_lt}
 use Rattle.std.specs.List.{list_any, list_all, range_with_len}
 use Rattle.std.proofs.lemmas.Bool.{cases_lt, lt-ltb, le-ltb}
@@ -11,8 +11,6 @@ use Rattle.wait_cycles.specs.Waits.{needs_at}
 use Rattle.wait_cycles.specs.Graph.{row_at, AreWaits, waits_in, IsMetBy, IsMet}
 use Rattle.wait_cycles.proofs.MetLemmas.{all_from, all_gives, any_gives, any_from, range_in, ripe_by_all, ripe_by_one, ripe_all, ripe_one}
 use Rattle.why_lacks.specs.why_cycle.Freed.{frees, has_freed, is_freed}
-use Rattle.why_lacks.specs.why_cycle.Rows.{all_needs, AreBelow, rows_of}
-use Rattle.why_lacks.proofs.RowsLemmas.{waits_are, waits_made}
 
 -- ---- lists
 
@@ -138,10 +136,6 @@ module _ (rows : List (List ℕ)) (places : ℕ) (marks : List Bool) (waits : Ar
   front_is p = same_bool (member front p) (is_freed (waits_in places rows) p) (freed_from p) (freed_gives p)
 
 -- the marks of the items
-pub freed_are : (waits : List (List (List ℕ))) (rows : List (List ℕ)) (marks cut : List Bool) → AreBelow (length waits) (all_needs waits)
-    → rows ≡ rows_of waits → IsMet rows (length waits) marks → cut ≡ take (length waits) marks → member cut ≡ is_freed waits
-freed_are waits rows marks cut below is met first =
-    ap member first
-    ∙ (λ j p. front_is (rows_of waits) (length waits) marks (waits_made waits below)
-    (subst (λ (r : List (List ℕ)). IsMet r (length waits) marks) is met) p j)
-    ∙ ap is_freed (waits_are waits)
+pub freed_are : (rows : List (List ℕ)) (places : ℕ) (marks cut : List Bool) → AreWaits places rows → IsMet rows places marks
+    → cut ≡ take places marks → member cut ≡ is_freed (waits_in places rows)
+freed_are rows places marks cut waits met first = ap member first ∙ (λ j p. front_is rows places marks waits met p j)

@@ -1,5 +1,6 @@
+pub mod GoneLemmas
 pub mod GrowLemmas
-pub mod RowsLemmas
 pub mod FreedLemmas
+pub mod SharedLemmas
 pub mod RoundLemmas
 pub mod WaitsLemmas

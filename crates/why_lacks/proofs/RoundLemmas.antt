@@ -13,7 +13,7 @@ no_place : (b : Bool) (n : ℕ) → cond b (Some n) None ≡ None → b ≡ fals
 no_place true n h = cc
 no_place false n h = refl
 
-not_on : {X : Type 0} (p : X → Bool) (xs : List X) → position p xs ≡ None → list_any p xs ≡ false
+pub not_on : {X : Type 0} (p : X → Bool) (xs : List X) → position p xs ≡ None → list_any p xs ≡ false
 not_on p xs h = sym (within p xs) ∙ no_place (ltb (position_or_len p xs) (length xs)) (position_or_len p xs) h
 
 -- what is not on it goes last

@@ -1,17 +1,13 @@
 -- What is gathered item by item, and that ways are places of items.
-use Rattle.std.proofs.Common.{◌≡◌, ℕ, zero, suc, ◌+◌, ◌-◌, ◌<◌, List, [], ◌∷◌, ◌++◌, length, take, map, get_or, Option, Some, None, refl, sym, ap, ◌∙◌, ◌⊎◌, inl, inr, subst, append_assoc, arith}
+use Rattle.std.proofs.Common.{◌≡◌, ℕ, ◌+◌, ◌<◌, List, [], ◌∷◌, ◌++◌, length, take, get_or, Option, Some, None, refl, ap, ◌∙◌, ◌⊎◌, inl, inr, append_assoc, arith}
 use Rattle.std.specs.Prelude.{Contains, nat_eq, position}
 use Rattle.std.specs.Option.{option_to_list}
 use Rattle.std.specs.List.{filter_map, cons_option}
-use Rattle.std.proofs.lemmas.Bool.{cases_lt}
-use Rattle.std.proofs.lemmas.List.{length-map, get_or_append_left, get_or-append_right}
 use Rattle.std.proofs.lemmas.List.Quantifiers.{position-Some}
 use Rattle.wait_cycles.proofs.InverseLemmas.{none_in}
 use Rattle.wait_cycles.proofs.CycleLemmas.{in_cons}
 use Rattle.why_needs.proofs.TakeLemmas.{taken_more}
-use Rattle.why_lacks.specs.declared.why_items.needs.NeedsRun.{NeedsRun}
-use Rattle.why_lacks.specs.why_cycle.Rows.{all_needs, AreBelow}
-use Rattle.why_lacks.specs.why_cycle.Needs.{needs_of, places_in, waits_at, waits_of}
+use Rattle.why_lacks.specs.why_cycle.Needs.{places_in}
 
 -- one more item after what was there before
 pub after_more : {A X : Type 0} (h : A → Option X) (items : List A) (i : ℕ) (a : A) (first out new : List X) → i < length items
@@ -32,32 +28,10 @@ place_in items number (Some place) rest v is i = elim (in_cons place rest v i) [
   | inr there ↦ inr there
 ]
 
-places_below : (items numbers : List ℕ) (v : ℕ) → Contains (places_in items numbers) v → v < length items
+pub places_below : (items numbers : List ℕ) (v : ℕ) → Contains (places_in items numbers) v → v < length items
 places_below items [] v i = absurd (none_in v i)
 places_below items (number ∷ numbers) v i =
     elim (place_in items number (position (nat_eq number) items) (places_in items numbers) v refl i) [
       | inl here ↦ here
       | inr there ↦ places_below items numbers v there
     ]
-
-placed_below : (items : List ℕ) (needs : List (List ℕ)) → AreBelow (length items) (map (places_in items) needs)
-placed_below items [] u v i = absurd (none_in v i)
-placed_below items (ways ∷ needs) zero v i = places_below items ways v i
-placed_below items (ways ∷ needs) (suc u) v i = placed_below items needs u v i
-
-both_below : (n : ℕ) (xs ys : List (List ℕ)) → AreBelow n xs → AreBelow n ys → AreBelow n (xs ++ ys)
-both_below n xs ys one two u v i = elim (cases_lt u (length xs)) [
-  | inl lt ↦ one u v (subst (λ (zs : List ℕ). Contains zs v) (get_or_append_left xs ys [] u lt) i)
-  | inr ge ↦ two (u - length xs) v (subst (λ (zs : List ℕ). Contains zs v) (get_or-append_right xs ys (length xs) u [] refl ge) i)
-]
-
-all_below : (n : NeedsRun) (items numbers : List ℕ) → AreBelow (length items) (all_needs (map (waits_at n items) numbers))
-all_below n items [] u v i = absurd (none_in v i)
-all_below n items (number ∷ numbers) u v i =
-    both_below (length items) (waits_at n items number) (all_needs (map (waits_at n items) numbers))
-    (placed_below items (needs_of n number)) (λ u v i. all_below n items numbers u v i) u v i
-
--- ways are places of items
-pub ways_below : (n : NeedsRun) (items : List ℕ) → AreBelow (length (waits_of n items)) (all_needs (waits_of n items))
-ways_below n items =
-    subst (λ (k : ℕ). AreBelow k (all_needs (waits_of n items))) (sym (length-map items (waits_at n items))) (all_below n items items)

@@ -1,5 +1,5 @@
 pub mod Freed
-pub mod Rows
 pub mod Walk
 pub mod Needs
 pub mod Cycle
+pub mod Shared

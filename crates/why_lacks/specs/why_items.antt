@@ -1,2 +1,3 @@
 pub mod Vertices
 pub mod Items
+pub mod Gone

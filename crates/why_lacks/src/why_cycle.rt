@@ -6,7 +6,7 @@
 mod freed;
 mod lines;
 mod needs;
-mod rows;
+mod shared;
 mod waits;
 mod walk;
 

@@ -7,6 +7,9 @@ mod finding;
 mod needs;
 mod vertices;
 
-pub use finding::{all_leads, items, next_of};
+pub(crate) use finding::first_place;
+pub use finding::{all_leads, items};
+pub(crate) use needs::has_members;
 pub use needs::{NeedsRun, lacks_groups, lacks_services, members_at, needs_run};
+pub(crate) use vertices::add;
 pub use vertices::{number_of, places_of};

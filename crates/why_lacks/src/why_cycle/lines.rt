@@ -8,7 +8,8 @@ ghost use Rattle.answer_lines.specs.declared.why_lines.lines.WhyLine.TheVariants
 ghost use Rattle.why_lacks.specs.why_cycle.Cycle.{item_line, place_line, cycle_places, cycle_lines};
 
 use crate::why_cycle::freed::freed;
-use crate::why_cycle::waits::{items_of, waits_of};
+use crate::why_cycle::shared::shared_rows;
+use crate::why_cycle::waits::items_of;
 use crate::why_cycle::walk::cycle_of;
 use crate::why_items::{NeedsRun, places_of};
 use answer_lines::why_lines::{WhyLine, WhyLines};
@@ -96,9 +97,9 @@ fn cycle_places(
 ) -> Result<Row<usize>, AllocError>
     ensures { IfOk result (λ places. places ≡ cycle_places needs.now items.now.keys) }
 {
-    let waits = waits_of(alloc, needs, items)?;
-    let freed = freed(alloc, waits.as_slice())?;
-    cycle_of(alloc, waits.as_slice(), freed.as_slice())
+    let rows = shared_rows(alloc, needs, items)?;
+    let freed = freed(alloc, rows.as_slice(), items.len())?;
+    cycle_of(alloc, rows.as_slice(), items.len(), freed.as_slice())
 }
 
 /// Puts the lines of the cycle after the others that keeps the first of these entries from its attempt; none where it is freed. The entries are

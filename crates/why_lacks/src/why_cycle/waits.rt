@@ -1,13 +1,10 @@
-//! The needs of items by the items' places.
+//! Items by their places.
 
-ghost use Rattle.std.specs.Prelude.{◌≡◌, ◌++◌, [], map, nat_eq, position, IfOk, OnOk};
+ghost use Rattle.std.specs.Prelude.{◌≡◌, ◌++◌, [], nat_eq, position, IfOk, OnOk};
 ghost use Rattle.std.specs.Option.{option_to_list};
 ghost use Rattle.indexmap.specs.IndexSet.{insert_all};
-ghost use Rattle.why_lacks.specs.why_cycle.Needs.{places_in, waits_at, waits_of};
+ghost use Rattle.why_lacks.specs.why_cycle.Needs.{places_in};
 
-use crate::why_cycle::needs::needs_of;
-use crate::why_cycle::rows::Waits;
-use crate::why_items::NeedsRun;
 use indexmap::IndexSet;
 use nt_bytes::Row;
 use std::alloc::{AllocError, Global};
@@ -50,7 +47,7 @@ fn push_place(
 }
 
 /// The places of items.
-fn places_in(
+pub(crate) fn places_in(
     alloc: Global,
     items: &IndexSet<usize>,
     numbers: &[usize],
@@ -62,47 +59,4 @@ fn places_in(
         push_place(items, *number, &mut out)?;
     }
     Ok(out)
-}
-
-/// The places of the ways of each need.
-fn placed(
-    alloc: Global,
-    items: &IndexSet<usize>,
-    needs: &[Row<usize>],
-) -> Result<Row<Row<usize>>, AllocError>
-    ensures { IfOk result (λ out. out ≡ map (places_in items.now.keys) needs.now) }
-{
-    let mut out = Row::new(alloc);
-    for ways in needs {
-        out.push(places_in(alloc, items, ways.as_slice())?)?;
-    }
-    Ok(out)
-}
-
-/// The needs of an item.
-fn waits_at(
-    alloc: Global,
-    needs: &NeedsRun,
-    items: &IndexSet<usize>,
-    number: usize,
-) -> Result<Row<Row<usize>>, AllocError>
-    ensures { IfOk result (λ out. out ≡ waits_at needs.now items.now.keys number) }
-{
-    let own = needs_of(alloc, needs, number)?;
-    placed(alloc, items, own.as_slice())
-}
-
-/// Those of each.
-pub(crate) fn waits_of(
-    alloc: Global,
-    needs: &NeedsRun,
-    items: &IndexSet<usize>,
-) -> Result<Waits, AllocError>
-    ensures { IfOk result (λ waits. waits ≡ waits_of needs.now items.now.keys) }
-{
-    let mut waits = Row::new(alloc);
-    for number in items.as_slice() {
-        waits.push(waits_at(alloc, needs, items, *number)?)?;
-    }
-    Ok(waits)
 }

@@ -1,25 +1,37 @@
 //! A walk among items that aren't freed.
 
-ghost use Rattle.std.specs.Prelude.{◌≡◌, ◌∷◌, ◌++◌, [], None, not, nat_eq, find, position, drop, IfOk, OnOk};
-ghost use Rattle.std.specs.Option.{option_copied};
+ghost use Rattle.std.specs.Prelude.{◌≡◌, ◌≤◌, ◌∷◌, ◌++◌, [], None, not, nat_eq, find, map, length, position, drop, slice_get, IfOk, OnOk};
+ghost use Rattle.std.specs.Option.{option_and_then};
 ghost use Rattle.std.specs.List.{list_any};
 ghost use Rattle.start_model.specs.Demand.{member};
+ghost use Rattle.wait_cycles.specs.Graph.{row_at, waits_in};
 ghost use Rattle.wait_cycles.specs.Waits.{needs_at};
 ghost use Rattle.why_lacks.specs.why_cycle.Walk.{step, gone_round, cycle_of};
 
 use crate::why_cycle::freed::is_freed;
-use crate::why_cycle::rows::add;
+use crate::why_items::add;
 use indexmap::IndexSet;
 use nt_bytes::Row;
 use std::alloc::{AllocError, Global};
 
-/// The needs of the item at a place; none past the last one.
-fn needs_at(waits: &[Row<Row<usize>>], place: usize) -> &[Row<usize>]
-    ensures { result.now ≡ needs_at waits.now place }
+/// The row at a place; none past the last one.
+fn row_at(rows: &[Row<usize>], place: usize) -> &[usize]
+    ensures { result.now ≡ row_at rows.now place }
 {
-    match waits.get(place) {
-        Some(needs) => needs.as_slice(),
+    match rows.get(place) {
+        Some(row) => row.as_slice(),
         None => &[],
+    }
+}
+
+/// The needs of the item at a place, of that many items.
+fn needs_at(rows: &[Row<usize>], count: usize, place: usize) -> &[usize]
+    ensures { map (row_at rows.now) result.now ≡ needs_at (waits_in count rows.now) place }
+{
+    if place < count {
+        row_at(rows, place)
+    } else {
+        &[]
     }
 }
 
@@ -37,21 +49,28 @@ fn is_held(freed: &[bool], ways: &[usize]) -> bool
     !is_any(freed, ways)
 }
 
-/// The first of the needs without a freed way.
-fn first_held<'a>(freed: &[bool], needs: &'a [Row<usize>]) -> Option<&'a Row<usize>>
-    ensures { option_copied result ≡ find (λ ways. not (list_any (member freed.now) ways)) needs.now }
+/// Where the first of the needs leads that is without a freed way.
+fn first_held(rows: &[Row<usize>], freed: &[bool], needs: &[usize]) -> Option<usize>
+    ensures { result ≡ option_and_then (λ ways. slice_get ways 0) (find (λ ways. not (list_any (member freed.now) ways)) (map (row_at rows.now) needs.now)) }
 {
-    needs.iter().find(|ways| is_held(freed, ways.as_slice()))
+    let mut rest = needs;
+    'need: loop {
+        let [need, more @ ..] = rest else {
+            return None;
+        };
+        let ways = row_at(rows, *need);
+        if is_held(freed, ways) {
+            return ways.first().copied();
+        }
+        rest = more;
+    }
 }
 
-/// A step from the item at a place.
-fn step(waits: &[Row<Row<usize>>], freed: &[bool], place: usize) -> Option<usize>
-    ensures { result ≡ step waits.now (member freed.now) place }
+/// A step from the item at a place, of that many.
+fn step(rows: &[Row<usize>], count: usize, freed: &[bool], place: usize) -> Option<usize>
+    ensures { result ≡ step (waits_in count rows.now) (member freed.now) place }
 {
-    match first_held(freed, needs_at(waits, place)) {
-        Some(ways) => ways.get(0).copied(),
-        None => None,
-    }
+    first_held(rows, freed, needs_at(rows, count, place))
 }
 
 /// The numbers from a place on.
@@ -83,11 +102,12 @@ fn put(place: usize, path: &mut IndexSet<usize>) -> Result<(), AllocError>
 /// The items that a walk from the first one goes round.
 fn gone_round(
     alloc: Global,
-    waits: &[Row<Row<usize>>],
+    rows: &[Row<usize>],
+    count: usize,
     freed: &[bool],
     most: usize,
 ) -> Result<Row<usize>, AllocError>
-    ensures { IfOk result (λ row. row ≡ gone_round (step waits.now (member freed.now)) most [] 0) }
+    ensures { IfOk result (λ row. row ≡ gone_round (step (waits_in count rows.now) (member freed.now)) most [] 0) }
 {
     let mut path = IndexSet::new(alloc);
     let mut place = 0;
@@ -97,7 +117,7 @@ fn gone_round(
             Some(at) => return from(alloc, path.as_slice(), at),
             None => put(place, &mut path)?,
         }
-        match step(waits, freed, place) {
+        match step(rows, count, freed, place) {
             Some(next) => place = next,
             None => return Ok(Row::new(alloc)),
         }
@@ -109,14 +129,16 @@ fn gone_round(
 /// The same, where the first one isn't freed.
 pub(crate) fn cycle_of(
     alloc: Global,
-    waits: &[Row<Row<usize>>],
+    rows: &[Row<usize>],
+    count: usize,
     freed: &[bool],
 ) -> Result<Row<usize>, AllocError>
-    ensures { IfOk result (λ row. row ≡ cycle_of waits.now (member freed.now)) }
+    requires { count ≤ length rows.now }
+    ensures { IfOk result (λ row. row ≡ cycle_of (waits_in count rows.now) (member freed.now)) }
 {
     if is_freed(freed, 0) {
         return Ok(Row::new(alloc));
     }
-    let most = add(waits.len(), 1)?;
-    gone_round(alloc, waits, freed, most)
+    let most = add(count, 1)?;
+    gone_round(alloc, rows, count, freed, most)
 }

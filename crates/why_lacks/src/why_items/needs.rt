@@ -1,6 +1,8 @@
 //! What an entry of a start lacked.
 
-ghost use Rattle.std.specs.Prelude.{◌≡◌, map, IfOk};
+ghost use Rattle.std.specs.Prelude.{◌≡◌, map, nat_lt, length, slice_get, IfOk};
+ghost use Rattle.std.specs.Option.{is_some};
+ghost use Rattle.std.specs.List.{list_any, filter_map};
 ghost use Rattle.quiet_run.specs.declared.last.BegunPhase.{BegunPhase as Begun};
 ghost use Rattle.quiet_run.specs.Play.{AreHeld};
 ghost use Rattle.why_needs.specs.why_needs.Members.{members_of};
@@ -99,5 +101,34 @@ pub fn members_at(
     match needs.members.get(at) {
         Some(members) => members.members(alloc, group),
         None => Ok(Names::new(alloc)),
+    }
+}
+
+fn is_there(names: &Names, place: usize) -> bool
+    ensures { result ≡ is_some (slice_get names.now place) }
+{
+    names.as_slice().get(place).is_some()
+}
+
+fn is_one_there(names: &Names, places: &[usize]) -> bool
+    ensures { result ≡ list_any (λ place. is_some (slice_get names.now place)) places.now }
+{
+    places.iter().any(|place| is_there(names, *place))
+}
+
+/// Whether one of these places has a name.
+fn has_names(names: &Names, places: &[usize]) -> bool
+    ensures { result ≡ nat_lt 0 (length (filter_map (slice_get names.now) places.now)) }
+{
+    is_one_there(names, places)
+}
+
+/// Whether a group has members, in the set that the phase at a place read. No name is copied.
+pub(crate) fn has_members(needs: &NeedsRun, at: usize, group: &[u16]) -> bool
+    ensures { result ≡ nat_lt 0 (length (members_at needs.now at group.now)) }
+{
+    match needs.members.get(at) {
+        Some(members) => has_names(&members.names, members.groups.places(group)),
+        None => false,
     }
 }

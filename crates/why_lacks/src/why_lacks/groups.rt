@@ -5,10 +5,10 @@ ghost use Rattle.why_needs.specs.why_needs.Lacking.{is_first};
 ghost use Rattle.why_lacks.specs.why_items.Items.{members_at};
 ghost use Rattle.why_lacks.specs.why_lacks.Lacks.{member_line, key_at, group_lines, groups_from};
 
-use crate::why_items::{NeedsRun, members_at};
+use crate::why_items::{NeedsRun, has_members, members_at};
 use crate::why_lacks::names::push_members;
 use answer_lines::why_lines::{WhyLine, WhyLines};
-use nt_bytes::{Names, Units};
+use nt_bytes::Units;
 use nt_names::name_places::NamePlaces;
 use std::alloc::{AllocError, Global};
 use why_needs::why_state::PhaseView;
@@ -32,14 +32,15 @@ fn push_where(
     needs: &NeedsRun,
     at: usize,
     view: &PhaseView,
-    members: &Names,
+    group: &Units,
     shown: bool,
     lines: &mut WhyLines,
 ) -> Result<(), AllocError>
     requires { at < length needs.now.run.views }
-    ensures { OnOk result (lines.new ≡ lines.old ++ (if shown then map (member_line needs.now at view.now) members.now else [])) }
+    ensures { OnOk result (lines.new ≡ lines.old ++ (if shown then map (member_line needs.now at view.now) (members_at needs.now at group.now) else [])) }
 {
     if shown {
+        let members = members_at(alloc, needs, at, group.as_slice())?;
         return push_members(alloc, needs, at, view, members.as_slice(), lines);
     }
     Ok(())
@@ -58,12 +59,11 @@ fn push_group(
     requires { at < length needs.now.run.views }
     ensures { OnOk result (lines.new ≡ lines.old ++ group_lines needs.now at view.now group.now shown) }
 {
-    let members = members_at(alloc, needs, at, group.as_slice())?;
     lines.push(WhyLine::LackGroup {
-        has_members: 0 < members.len(),
+        has_members: has_members(needs, at, group.as_slice()),
         name: group.copy(alloc)?,
     })?;
-    push_where(alloc, needs, at, view, &members, shown, lines)
+    push_where(alloc, needs, at, view, group, shown, lines)
 }
 
 /// Whether no name before this place folds as this one does.
