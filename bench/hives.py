@@ -213,6 +213,16 @@ def with_chained_services(count):
     return system([service(20 * i, 0, 0, [f"S{20 * (i + 1):06d}"] if i + 1 < count else []) for i in range(count)])
 
 
+def with_ringed_services(count):
+    """Boot drivers of which each needs the next one, and the last one the first."""
+    return system([service(i, 0, 0, [f"S{(i + 1) % count:06d}"]) for i in range(count)])
+
+
+def with_needed_group(count):
+    """Boot drivers that are all members of one group, which each of them needs."""
+    return system([(name, [*values, strings(b"DependOnGroup", ["G0"])], []) for name, values, _ in (service(i, 0, 0, []) for i in range(count))])
+
+
 def with_pulled_services(count):
     """Services of which one half pulls in the other: each of Start 2 names one of Start 3, which goes before it."""
     half = count // 2
